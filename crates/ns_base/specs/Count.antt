@@ -1,0 +1,6 @@
+-- Counts that never fall and stay at the greatest number of 64 bits.
+use Rattle.std.specs.Prelude.{ℕ, ◌+◌, ◌-◌, ◌^◌, ◌≤◌, min}
+
+-- The count went up, or stood at the greatest number already.
+abbrev pub Rose : ℕ → ℕ → Type 0
+Rose old new = min (old + 1) (2 ^ 64 - 1) ≤ new

@@ -1,0 +1,7 @@
+pub mod Count
+pub mod Files
+pub mod Limits
+pub mod Stored
+pub mod Shelf
+pub mod Sink
+pub mod Status
