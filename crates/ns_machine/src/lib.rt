@@ -1,0 +1,5 @@
+//! The run of a program.
+#![tactic(auto)]
+
+pub mod first;
+pub mod laws;

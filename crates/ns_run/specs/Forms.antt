@@ -1,0 +1,25 @@
+-- The forms of a command line as relations, apart from how words are read.
+use Rattle.std.specs.Prelude.{◌≡◌, ◌⊎◌, ℕ, ◌+◌, ◌<◌, ◌≤◌, List, [], ◌∷◌, ◌++◌, true, Some, codes, take, length}
+use Rattle.ns_run.specs.Words.{Command, Run, Help, Version, Bad, is_file_name, steps_of}
+
+-- The words are a form that spells the command: `run FILE`, `run --steps=N FILE`, `--help` or `--version`.
+abbrev pub IsForm : List (List ℕ) → Command → Type 0
+IsForm words (Run steps file) =
+    ((words ≡ codes "run" ∷ file ∷ []) × (steps ≡ 10000000) × (is_file_name file ≡ true))
+    ⊎ ((option : List ℕ) × (words ≡ codes "run" ∷ option ∷ file ∷ []) × (steps_of option ≡ Some steps) × (is_file_name file ≡ true))
+IsForm words Help = words ≡ codes "--help" ∷ []
+IsForm words Version = words ≡ codes "--version" ∷ []
+IsForm words (Bad word) = ⊥
+
+-- Some form begins with these words.
+abbrev pub Begins : List (List ℕ) → Type 0
+Begins words = (more : List (List ℕ)) × (command : Command) × IsForm (words ++ more) command
+
+-- The command is what the words spell; or its bad word is the first, counted from 0, such that no
+-- form begins with the words up to it, and the number of words where some form begins with them all.
+abbrev pub IsCommandOf : List (List ℕ) → Command → Type 0
+IsCommandOf words (Run steps file) = IsForm words (Run steps file)
+IsCommandOf words Help = IsForm words Help
+IsCommandOf words Version = IsForm words Version
+IsCommandOf words (Bad word) =
+    (word ≤ length words) × Begins (take word words) × (word < length words → Begins (take (word + 1) words) → ⊥)

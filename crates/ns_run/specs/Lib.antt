@@ -1,0 +1,10 @@
+pub mod Behind
+pub mod FirstForm
+pub mod FirstSpelling
+pub mod FirstTokens
+pub mod Forms
+pub mod Job
+pub mod Meaning
+pub mod Outcome
+pub mod Report
+pub mod Words

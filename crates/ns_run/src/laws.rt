@@ -1,0 +1,24 @@
+//! Laws over the definitions that the top call rests on. Each is the contract of a function that
+//! does nothing.
+
+ghost use Rattle.std.specs.Prelude.{◌≡◌, ◌↔◌, ℕ, List, Some};
+ghost use Rattle.ns_machine.specs.First.{Form};
+ghost use Rattle.ns_run.specs.FirstForm.{first_form};
+ghost use Rattle.ns_run.specs.FirstSpelling.{IsFirstForm};
+ghost use Rattle.ns_run.specs.Forms.{IsCommandOf, IsForm};
+ghost use Rattle.ns_run.specs.Words.{Command, command_of};
+
+/// The reader finds a form exactly where the text is of the first form and says that.
+pub fn first_form_law()
+    ensures { (source : List ℕ) (form : Form) → (first_form source ≡ Some form) ↔ IsFirstForm source form }
+{}
+
+/// The words of a form are read as what they spell.
+pub fn forms_are_read()
+    ensures { (words : List (List ℕ)) (command : Command) → IsForm words command → command_of words ≡ command }
+{}
+
+/// What is read of words is what they spell, or the first bad word.
+pub fn first_bad_word()
+    ensures { (words : List (List ℕ)) → IsCommandOf words (command_of words) }
+{}

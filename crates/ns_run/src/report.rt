@@ -1,0 +1,82 @@
+//! What a command is to write, and the status with which it ends.
+
+ghost use Rattle.std.specs.Prelude.{◌≡◌, IfOk, string_bytes};
+ghost use Rattle.ns_run.specs.Report.{bad_word as bad_word_lem, refused as refused_lem, refused_file as refused_file_lem, told as told_lem};
+
+use ns_base::no_memory::NoMemory;
+use ns_base::status::Status;
+use ns_base::text::Text;
+use std::alloc::Global;
+use std::fmt;
+
+/// The bytes for each stream, and the status.
+#[derive(Drop)]
+pub struct Report {
+    pub out: Text,
+    pub err: Text,
+    pub status: Status,
+}
+
+/// Why a file was refused.
+#[derive(Clone, Copy, Debug, PartialEq, Eq)]
+pub enum Cause {
+    /// There is no file of that name.
+    Missing,
+    /// The file has more bytes than a source may have.
+    TooLong,
+    /// The text is none that this version runs.
+    NotYet,
+}
+
+impl fmt::Display for Cause {
+    ghost use Rattle.std.specs.Prelude.{Some};
+    ghost use Rattle.ns_run.specs.Report.{cause_name};
+
+    ghost output = { λ cause. Some (cause_name cause) };
+
+    fn fmt<W: fmt::Write>(&self, f: &mut fmt::Formatter<W>) -> fmt::Result {
+        match self {
+            Cause::Missing => f.write_str("Missing"),
+            Cause::TooLong => f.write_str("TooLong"),
+            Cause::NotYet => f.write_str("NotYet"),
+        }
+    }
+}
+
+/// The report of a command line of which no form begins with the words up to this one.
+pub fn bad_word(alloc: Global, word: u64) -> Result<Report, NoMemory>
+    ensures { IfOk result (λ r. r ≡ bad_word_lem word) }
+{
+    let line = format!(in alloc; "nspk: bad word {word}\n")?;
+    Ok(refused(alloc, line))
+}
+
+/// The report of a file that was refused.
+pub fn refused_file(alloc: Global, file: &str, cause: Cause) -> Result<Report, NoMemory>
+    ensures { IfOk result (λ r. r ≡ refused_file_lem file.now cause) }
+{
+    let line = format!(in alloc; "{file}: {cause}\n")?;
+    Ok(refused(alloc, line))
+}
+
+/// The report of a command that was refused with this line.
+fn refused(alloc: Global, line: String) -> Report
+    ensures { result ≡ refused_lem (string_bytes line) }
+{
+    Report {
+        out: Text::from_vec(Vec::new(alloc)),
+        err: Text::from_vec(line.into_bytes()),
+        status: Status::Refused,
+    }
+}
+
+/// The report of a command that only tells this.
+pub fn told(alloc: Global, text: &str) -> Result<Report, NoMemory>
+    ensures { IfOk result (λ r. r ≡ told_lem text.now) }
+{
+    Ok(Report {
+        out: Text::of(alloc, text.as_bytes())?,
+        err: Text::from_vec(Vec::new(alloc)),
+        status: Status::Done,
+    })
+}

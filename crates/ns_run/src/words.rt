@@ -1,0 +1,162 @@
+//! The words of a command line, read as the form that they spell.
+
+ghost use Rattle.std.specs.Prelude.{◌≡◌, Ok, map, option_and_then, string_bytes};
+ghost use Rattle.ns_run.specs.Job.{seen};
+ghost use Rattle.ns_run.specs.Words.{after_option as after_option_lem, after_run as after_run_lem, alone as alone_lem, begins_bad as begins_bad_lem, command_of, ends as ends_lem, in_range, is_digit as is_digit_lem, is_file_name, number_of, steps_of, value_from};
+
+use ns_base::limits::Limits;
+
+/// What a command line asks for. The names are those of the words.
+#[derive(Drop)]
+pub enum Job<'a> {
+    /// Runs a file within so many steps.
+    Run { steps: u64, file: &'a str },
+    /// Tells how the program is used.
+    Help,
+    /// Tells the version of the program.
+    Version,
+}
+
+/// The number of the first word, counted from 0, such that no form begins with the words up to
+/// it. Where the words begin a form and more are needed, it is the number of words.
+#[derive(Clone, Copy, Debug, PartialEq, Eq)]
+pub struct BadWord(pub u64);
+
+/// The job that the words spell, or the first bad word. The forms are `run [--steps=N] FILE`,
+/// `--help` and `--version`.
+pub fn words(words: &[String]) -> Result<Job<'_>, BadWord>
+    ensures { seen result ≡ command_of (map string_bytes words.now) }
+{
+    match words {
+        [] => Err(BadWord(0)),
+        [first, rest @ ..] => {
+            if first.as_bytes() == b"run".as_slice() {
+                return after_run(rest);
+            }
+            if first.as_bytes() == b"--help".as_slice() {
+                return alone(Job::Help, rest);
+            }
+            if first.as_bytes() == b"--version".as_slice() {
+                return alone(Job::Version, rest);
+            }
+            Err(BadWord(0))
+        }
+    }
+}
+
+/// A form of one word.
+fn alone<'a>(job: Job<'a>, rest: &'a [String]) -> Result<Job<'a>, BadWord>
+    ensures { seen result ≡ alone_lem (seen (Ok job.entry)) (map string_bytes rest.now) }
+{
+    if rest.is_empty() {
+        Ok(job)
+    } else {
+        Err(BadWord(1))
+    }
+}
+
+fn after_run(words: &[String]) -> Result<Job<'_>, BadWord>
+    ensures { seen result ≡ after_run_lem (map string_bytes words.now) }
+{
+    match words {
+        [] => Err(BadWord(1)),
+        [word, rest @ ..] => {
+            if is_name(word.as_bytes()) {
+                return ends(Limits::DEFAULT.steps, word.as_str(), 2, rest);
+            }
+            match option_steps(word.as_bytes()) {
+                Some(steps) => after_option(steps, rest),
+                None => Err(BadWord(1)),
+            }
+        }
+    }
+}
+
+fn after_option(steps: u64, words: &[String]) -> Result<Job<'_>, BadWord>
+    ensures { seen result ≡ after_option_lem steps (map string_bytes words.now) }
+{
+    match words {
+        [] => Err(BadWord(2)),
+        [word, rest @ ..] => {
+            if is_name(word.as_bytes()) {
+                ends(steps, word.as_str(), 3, rest)
+            } else {
+                Err(BadWord(2))
+            }
+        }
+    }
+}
+
+/// The end of the words, of which the next would be number `k`.
+fn ends<'a>(steps: u64, file: &'a str, k: u64, words: &'a [String]) -> Result<Job<'a>, BadWord>
+    ensures { seen result ≡ ends_lem steps file.now k (map string_bytes words.now) }
+{
+    if words.is_empty() {
+        Ok(Job::Run { steps, file })
+    } else {
+        Err(BadWord(k))
+    }
+}
+
+/// Whether a word can be the name of a file.
+fn is_name(word: &[u8]) -> bool
+    ensures { result ≡ is_file_name word.now }
+{
+    !word.is_empty() && word[0] != b'-' && word.len() <= 4_294_967_295
+}
+
+/// The step limit that an option gives.
+fn option_steps(word: &[u8]) -> Option<u64>
+    ensures { result ≡ steps_of word.now }
+{
+    if word.len() < 8 {
+        return None;
+    }
+    let (front, rest) = word.split_at(8);
+    if front == b"--steps=".as_slice() {
+        number(rest)
+    } else {
+        None
+    }
+}
+
+/// The decimal number without a leading zero, from 1 to the greatest step limit.
+fn number(text: &[u8]) -> Option<u64>
+    ensures { result ≡ number_of text.now }
+{
+    if begins_bad(text) { None } else { value(text) }
+}
+
+fn begins_bad(text: &[u8]) -> bool
+    ensures { result ≡ begins_bad_lem text.now }
+{
+    text.is_empty() || text[0] == b'0'
+}
+
+/// The value of digits, up to the greatest step limit.
+#[tactic(auto, using(crate::proofs::NumberLaws::too_big))]
+fn value(text: &[u8]) -> Option<u64>
+    ensures { result ≡ option_and_then in_range (value_from 0 text.now) }
+{
+    let mut n: u64 = 0;
+    for b in text {
+        if !is_digit(*b) {
+            return None;
+        }
+        if Limits::GREATEST.steps < n {
+            return None;
+        }
+        n = n * 10 + (*b - b'0') as u64;
+    }
+    if n <= Limits::GREATEST.steps {
+        Some(n)
+    } else {
+        None
+    }
+}
+
+fn is_digit(b: u8) -> bool
+    ensures { result ≡ is_digit_lem b }
+{
+    b'0' <= b && b <= b'9'
+}

@@ -1,0 +1,11 @@
+pub mod Bytes
+pub mod Deep
+pub mod Flat
+pub mod Forms
+pub mod Grammar
+pub mod Lists
+pub mod Plain
+pub mod PlainOf
+pub mod Rule
+pub mod Tokens
+pub mod Tree

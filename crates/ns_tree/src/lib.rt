@@ -1,0 +1,7 @@
+//! Tokens and trees of Newspeak sources.
+#![tactic(auto)]
+
+pub mod deep;
+pub mod make;
+pub mod token;
+pub mod tree;

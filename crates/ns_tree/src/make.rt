@@ -1,0 +1,233 @@
+//! A maker for each node of a tree that holds a vector, a box or an option of nodes, and for the nodes
+//! around them. Each says the node's plain form, so that who makes a tree sees plain forms alone.
+
+ghost use Rattle.std.specs.Prelude.{◌≡◌, IfOk, option_map};
+ghost use Rattle.ns_tree.specs.Plain as p;
+ghost use Rattle.ns_tree.specs.PlainOf.{expr_of, message_of, key_expr_of, bin_of, un_of, primary_of, block_of, slot_of, init_of, statements_of, statement_of};
+ghost use Rattle.ns_tree.specs.PlainOf.{cascade_of, keys_of, opers_of, exprs_of, bars_of, statement_list_of, members_of, class_side_of};
+ghost use Rattle.ns_tree.specs.PlainOf.{pattern_of, clause_of, method_of, class_of, side_of, member_of, what_of, unit_of};
+
+use crate::tree::{
+    Access, Base, BinExpr, Block, Class, Expr, KeyExpr, Member, Message, Method, Named, Pattern,
+    Primary, Side, Slot, SlotInit, Statement, Statements, SuperClause, UnExpr, Unit, What,
+};
+use ns_base::no_memory::NoMemory;
+use ns_base::text::Text;
+use std::alloc::Global;
+
+/// Sets, an expression, and the messages of its cascade.
+pub fn expr(sets: Vec<Named>, first: KeyExpr, more: Vec<(u32, Message)>) -> Expr
+    ensures { expr_of result ≡ p.expr_with sets.items (key_expr_of first) (cascade_of more.items) }
+{
+    Expr { sets, first, more }
+}
+
+/// A binary message.
+pub fn binary(name: Named, argument: UnExpr) -> Message
+    ensures { message_of result ≡ p.binary name (un_of argument) }
+{
+    Message::Binary(name, argument)
+}
+
+/// A keyword message.
+pub fn keywords(keys: Vec<(Named, BinExpr)>) -> Message
+    ensures { message_of result ≡ p.keywords (keys_of keys.items) }
+{
+    Message::Keys(keys)
+}
+
+/// A receiver, and the keys of the message to it, if there are any.
+pub fn sent(receiver: BinExpr, keys: Vec<(Named, BinExpr)>) -> KeyExpr
+    ensures { key_expr_of result ≡ p.sent (bin_of receiver) (keys_of keys.items) }
+{
+    KeyExpr {
+        receiver: Some(receiver),
+        keys,
+    }
+}
+
+/// The keys of an implicit send.
+pub fn implicit(keys: Vec<(Named, BinExpr)>) -> KeyExpr
+    ensures { key_expr_of result ≡ p.implicit (keys_of keys.items) }
+{
+    KeyExpr {
+        receiver: None,
+        keys,
+    }
+}
+
+/// A receiver and binary messages to it.
+pub fn bin(first: UnExpr, more: Vec<(Named, UnExpr)>) -> BinExpr
+    ensures { bin_of result ≡ p.bin_with (un_of first) (opers_of more.items) }
+{
+    BinExpr { first, more }
+}
+
+/// A primary and unary messages to it.
+pub fn un(at: u32, primary: Primary, names: Vec<Named>) -> UnExpr
+    ensures { un_of result ≡ p.un_with at (primary_of primary) names.items }
+{
+    UnExpr { at, primary, names }
+}
+
+/// An expression in parentheses.
+pub fn paren(alloc: Global, inner: Expr) -> Result<Primary, NoMemory>
+    ensures { IfOk result (λ primary. primary_of primary ≡ p.paren (expr_of inner)) }
+{
+    Ok(Primary::Paren(Box::new(alloc, inner)?))
+}
+
+/// A block as a primary.
+pub fn block_literal(alloc: Global, block: Block) -> Result<Primary, NoMemory>
+    ensures { IfOk result (λ primary. primary_of primary ≡ p.block_literal (block_of block)) }
+{
+    Ok(Primary::Block(Box::new(alloc, block)?))
+}
+
+/// A tuple.
+pub fn tuple(items: Vec<Expr>, stop: bool) -> Primary
+    ensures { primary_of result ≡ p.tuple (exprs_of items.items) stop }
+{
+    Primary::Tuple { items, stop }
+}
+
+/// A block: parameters, locals, statements.
+pub fn block(params: Vec<Named>, slots: Option<Vec<Slot>>, body: Statements) -> Block
+    ensures { block_of result ≡ p.block_with params.items (bars_of slots) (statements_of body) }
+{
+    Block {
+        params,
+        slots,
+        body,
+    }
+}
+
+/// A slot or local.
+pub fn slot(access: Option<Access>, name: Named, init: SlotInit) -> Slot
+    ensures { slot_of result ≡ p.slot_with access name (init_of init) }
+{
+    Slot { access, name, init }
+}
+
+/// An immutable slot's beginning.
+pub fn fixed(value: Expr) -> SlotInit
+    ensures { init_of result ≡ p.fixed (expr_of value) }
+{
+    SlotInit::Fixed(value)
+}
+
+/// A mutable slot's beginning.
+pub fn mutable(value: Expr) -> SlotInit
+    ensures { init_of result ≡ p.mutable (expr_of value) }
+{
+    SlotInit::Mutable(value)
+}
+
+/// Statements.
+pub fn statements(list: Vec<Statement>, stop: bool) -> Statements
+    ensures { statements_of result ≡ p.statements_with (statement_list_of list.items) stop }
+{
+    Statements { list, stop }
+}
+
+/// A statement.
+pub fn statement(caret: Option<u32>, expr: Expr) -> Statement
+    ensures { statement_of result ≡ p.statement_with caret (expr_of expr) }
+{
+    Statement { caret, expr }
+}
+
+/// A pattern.
+pub fn pattern(parts: Vec<Named>, params: Vec<Named>) -> Pattern
+    ensures { pattern_of result ≡ p.pattern_with parts.items params.items }
+{
+    Pattern { parts, params }
+}
+
+/// A superclass clause.
+pub fn clause(head: Base, over: Option<Base>, message: Option<Message>) -> SuperClause
+    ensures { clause_of result ≡ p.clause_with head over (option_map message_of message) }
+{
+    SuperClause {
+        head,
+        over,
+        message,
+    }
+}
+
+/// A method.
+pub fn method(pattern: Pattern, slots: Option<Vec<Slot>>, body: Statements) -> Method
+    ensures { method_of result ≡ p.method_with (pattern_of pattern) (bars_of slots) (statements_of body) }
+{
+    Method {
+        pattern,
+        slots,
+        body,
+    }
+}
+
+/// A class declaration.
+pub fn class(
+    name: Named,
+    factory: Option<Pattern>,
+    clause: Option<SuperClause>,
+    slots: Option<Vec<Slot>>,
+    body: Statements,
+    side: Side,
+    class_side: Option<Side>,
+) -> Class
+    ensures { class_of result ≡ p.class_with name (option_map pattern_of factory) (option_map clause_of clause) (bars_of slots) (statements_of body) (side_of side) (class_side_of class_side) }
+{
+    Class {
+        name,
+        factory,
+        clause,
+        slots,
+        body,
+        side,
+        class_side,
+    }
+}
+
+/// One side of a class.
+pub fn side(members: Vec<Member>, tail: Vec<Text>) -> Side
+    ensures { side_of result ≡ p.side_with (members_of members.items) tail.items }
+{
+    Side { members, tail }
+}
+
+/// A member.
+pub fn member(categories: Vec<Text>, access: Option<Access>, what: What) -> Member
+    ensures { member_of result ≡ p.member_with categories.items access (what_of what) }
+{
+    Member {
+        categories,
+        access,
+        what,
+    }
+}
+
+/// A nested class as a member.
+pub fn class_member(alloc: Global, class: Class) -> Result<What, NoMemory>
+    ensures { IfOk result (λ what. what_of what ≡ p.class_member (class_of class)) }
+{
+    Ok(What::Class(Box::new(alloc, class)?))
+}
+
+/// A method as a member.
+pub fn method_member(method: Method) -> What
+    ensures { what_of result ≡ p.method_member (method_of method) }
+{
+    What::Method(method)
+}
+
+/// A file.
+pub fn unit(marker: bool, category: Option<Text>, class: Class) -> Unit
+    ensures { unit_of result ≡ p.unit_with marker category (class_of class) }
+{
+    Unit {
+        marker,
+        category,
+        class,
+    }
+}

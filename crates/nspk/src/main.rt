@@ -1,0 +1,30 @@
+//! The command `nspk`: the top call over the real files, the standard streams and the words of the
+//! command line.
+#![tactic(auto)]
+
+mod arguments;
+mod files;
+mod stream;
+#[cfg(test)]
+mod tests;
+
+use crate::arguments::arguments;
+use crate::files::Disk;
+use crate::stream::Stream;
+use ns_base::status::Status;
+use ns_run::top::nspk;
+use std::process::ExitCode;
+
+fn main(rt: HostRuntime) -> ExitCode {
+    let alloc = rt.alloc();
+    let mut out = Stream::new(rt.stdout());
+    let mut err = Stream::new(rt.stderr());
+    let status = match arguments(&rt, alloc) {
+        Ok(words) => {
+            let mut disk = Disk::new(rt);
+            nspk(alloc, words.as_slice(), &mut disk, &mut out, &mut err)
+        }
+        Err(_) => Status::Memory,
+    };
+    ExitCode::from(status.exit_code())
+}
