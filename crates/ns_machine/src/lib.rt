@@ -2,4 +2,5 @@
 #![tactic(auto)]
 
 pub mod first;
+pub mod form;
 pub mod laws;

@@ -1,11 +1,5 @@
-pub mod ClassLaws
-pub mod FormLaws
 pub mod NumberLaws
 pub mod PieceLaws
-pub mod QuoteLaws
-pub mod ReadLaws
 pub mod ReportLaws
-pub mod SpelledLaws
-pub mod SpeltFormLaws
-pub mod TokenLaws
+pub mod SourceLaws
 pub mod WordLaws

@@ -1,26 +1,35 @@
 -- What tells one report from another.
-use Rattle.std.proofs.Common.{◌≡◌, ℕ, ◌+◌, ◌<◌, ◌≤◌, List, [], ◌∷◌, ◌++◌, length, take, nat_lt, cond, Bool, true, false, Option, Some, None, option_map, Result, Ok, Err, refl, sym, ap, subst, ◌∙◌, arith, codes, inl, inr, IfOk, MatchResult, append_assoc}
+use Rattle.std.proofs.Common.{◌≡◌, ℕ, ◌+◌, ◌<◌, ◌≤◌, List, [], ◌∷◌, ◌++◌, length, take, nat_lt, cond, Bool, true, false, Option, Some, None, option_map, Result, Ok, Err, refl, sym, ap, subst, ◌∙◌, arith, codes, inl, inr, IfOk, MatchResult, append_assoc, reverse}
+use Rattle.std.specs.Bool.{OnTrue}
+use Rattle.std.specs.Fmt.{decimal}
 use Rattle.std.specs.Option.{IfSome}
 use Rattle.std.specs.Str.{bytes_eq}
 use Rattle.std.proofs.lemmas.Bool.{cases_lt, lt-ltb}
-use Rattle.std.proofs.lemmas.List.{take_all, length-take-le}
+use Rattle.std.proofs.lemmas.List.{take_all, length-take-le, append_cancel_left, reverse-append}
+use Rattle.ns_base.specs.Sink.{with_bytes}
 use Rattle.ns_base.specs.declared.no_memory.NoMemory.{NoMemory}
 use Rattle.ns_base.specs.declared.status.Status.{Status}
 use Rattle.ns_base.specs.declared.status.Status.TheVariants.{Done, ProgramError, Limit, Refused, ReadFault, WriteFault, Memory}
-use Rattle.ns_machine.specs.First.{Form, run_of, sends_of}
+use Rattle.ns_machine.specs.First.{first_run, form_of, is_first, sends_of}
 use Rattle.ns_machine.specs.Sends.{all_answered}
-use Rattle.ns_run.specs.FirstForm.{first_form}
-use Rattle.ns_run.specs.Meaning.{of_file, of_form, of_source, run_report}
-use Rattle.std.specs.Bool.{OnTrue}
-use Rattle.ns_base.specs.Sink.{with_bytes}
-use Rattle.ns_run.specs.Outcome.{IsDelivered, IsEnding, Leaves, NamesMissing, TellsMissing}
-use Rattle.ns_run.specs.Words.{Command, Run, Help, Version, Bad}
-use Rattle.ns_run.specs.Report.{cause_name, refused_file}
-use Rattle.ns_run.specs.declared.report.Cause.{Cause}
+use Rattle.ns_run.specs.Meaning.{of_file, of_reading, of_source, of_unit, run_report}
+use Rattle.ns_run.specs.Outcome.{IsDelivered, IsEnding, IsMissing, Leaves, NamesMissing, TellsMissing, Wrote}
+use Rattle.ns_run.specs.Place.{place_of}
+use Rattle.ns_run.specs.Report.{refused_file, refused_text}
+use Rattle.ns_run.specs.Source.{Reading, read}
+use Rattle.ns_run.specs.Words.{Command, Check, Show, Run, Help, Version, Bad}
+use Rattle.ns_run.specs.declared.place.LineColumn.{LineColumn}
 use Rattle.ns_run.specs.declared.report.Cause.TheVariants as cause
 use Rattle.ns_run.specs.declared.report.Report.{Report}
+use Rattle.ns_run.specs.declared.source.SourceError.TheVariants as source_error
+use Rattle.ns_run.specs.declared.source.SourceError.TheVariants.{At}
+use Rattle.ns_run.specs.declared.source.Spelling.{Spelling}
+use Rattle.ns_run.specs.declared.source.Spelling.TheVariants as spelling
+use Rattle.ns_run.specs.declared.task.Task.{Task}
+use Rattle.ns_run.specs.declared.task.Task.TheVariants as task
 use Rattle.ns_run.specs.declared.top.Stop.{Stop}
 use Rattle.ns_run.specs.declared.top.Stop.TheVariants as stop
+use Rattle.ns_tree.specs.Plain as p
 
 -- In one byte more than fits, a test of the length and a function see the same.
 pub cut_same : {X : Type 0} (n : ℕ) (xs : List ℕ) (x : X) (f : List ℕ → X) → cond (nat_lt n (length (take (n + 1) xs))) x (f (take (n + 1) xs)) ≡ cond (nat_lt n (length xs)) x (f xs)
@@ -35,12 +44,12 @@ cut_same n xs x f =
     ]
 
 -- What was loaded of a file means what the file means.
-pub file_cut : (steps : ℕ) (file : List ℕ) (there : Option (List ℕ)) (source : List ℕ) → option_map (take 1048577) there ≡ Some source → of_source steps file source ≡ of_file steps file there
-file_cut steps file None source h = cc
-file_cut steps file (Some whole) source h =
+pub file_cut : (task : Task) (file : List ℕ) (there : Option (List ℕ)) (source : List ℕ) → option_map (take 1048577) there ≡ Some source → of_source task file source ≡ of_file task file there
+file_cut task file None source h = cc
+file_cut task file (Some whole) source h =
     let e : take 1048577 whole ≡ source = cc in
-    ap (of_source steps file) (sym e)
-    ∙ cut_same 1048576 whole (refused_file file cause.TooLong) (λ ys. of_form steps file (first_form ys))
+    ap (of_source task file) (sym e)
+    ∙ cut_same 1048576 whole (refused_file file cause.TooLong) (λ ys. of_reading task file ys (read ys))
 
 pub IfSome_at : {X : Type 0} (o : Option X) (x : X) (P : X → Type 0) → o ≡ Some x → IfSome o P → P x
 IfSome_at o x P e h = subst (λ q. IfSome q P) e h
@@ -50,36 +59,93 @@ pub stop_keeps : (made : Result Report NoMemory) (res : Result Report Stop) (P :
 stop_keeps (Ok r) res P h p = subst (λ q. IfOk q P) (sym h) p
 stop_keeps (Err e) res P h p = subst (λ q. IfOk q P) (sym h) tt
 
--- Behind one front, equal texts have equal ends.
-pub same_end : (front a b : List ℕ) → front ++ a ≡ front ++ b → a ≡ b
-same_end [] a b h = h
-same_end (x ∷ front) a b h = same_end front a b cc
+-- ---- what no report but one says
 
--- The lines of two causes differ.
-pub other_cause : (file : List ℕ) (c d : Cause) → (cause_name c ++ 10 ∷ [] ≡ cause_name d ++ 10 ∷ [] → ⊥) → (refused_file file c).err ≡ (refused_file file d).err → ⊥
-other_cause file c d f h =
-    let front = file ++ codes ": " in
-    f (same_end front (cause_name c ++ 10 ∷ []) (cause_name d ++ 10 ∷ []) (sym (append_assoc front (cause_name c) (10 ∷ [])) ∙ h ∙ append_assoc front (cause_name d) (10 ∷ [])))
+-- the last five bytes of the line of a file that isn't there: `sing` and a line feed
+abbrev pub missing_end : List ℕ
+missing_end = 10 ∷ 103 ∷ 110 ∷ 105 ∷ 115 ∷ []
 
-pub not_refused : (b : Bool) → cond b Done Limit ≡ Refused → ⊥
-not_refused true h = cc
-not_refused false h = cc
+-- A line with another end is another line.
+pub other_end : (front end_of line : List ℕ) → bytes_eq (take 5 (reverse end_of ++ reverse front)) missing_end ≡ false → line ≡ front ++ end_of → bytes_eq (take 5 (reverse line)) missing_end ≡ true → ⊥
+other_end front end_of line d e t =
+    let f : true ≡ false = sym t ∙ ap (λ x. bytes_eq (take 5 x) missing_end) (ap reverse e ∙ reverse-append front end_of) ∙ d in cc
 
--- No report of a source refuses its file as one that isn't there.
-pub not_missing : (steps : ℕ) (file source : List ℕ) → (of_source steps file source).status ≡ Refused → (of_source steps file source).err ≡ (refused_file file cause.Missing).err → ⊥
-not_missing steps file source =
-    elim (nat_lt 1048576 (length source)) as (λ b. (cond b (refused_file file cause.TooLong) (of_form steps file (first_form source))).status ≡ Refused → (cond b (refused_file file cause.TooLong) (of_form steps file (first_form source))).err ≡ (refused_file file cause.Missing).err → ⊥) [
-      | true ↦ λ s h. other_cause file cause.TooLong cause.Missing (λ e. let f : false ≡ true = ap (λ x. bytes_eq x (codes "Missing" ++ 10 ∷ [])) e in cc) h
-      | false ↦ elim (first_form source) as (λ f. (of_form steps file f).status ≡ Refused → (of_form steps file f).err ≡ (refused_file file cause.Missing).err → ⊥) [
-        | None ↦ λ s h. other_cause file cause.NotYet cause.Missing (λ e. let f : false ≡ true = ap (λ x. bytes_eq x (codes "Missing" ++ 10 ∷ [])) e in cc) h
-        | Some form ↦ λ s h. not_refused (all_answered (sends_of form.texts) steps) s
-      ]
+pub missing_ends : (file : List ℕ) → bytes_eq (take 5 (reverse (refused_file file cause.Missing).err)) missing_end ≡ true
+missing_ends file =
+    ap (λ x. bytes_eq (take 5 (reverse x)) missing_end) (append_assoc (file ++ codes ": ") (codes "Missing") (10 ∷ []))
+    ∙ ap (λ x. bytes_eq (take 5 x) missing_end) (reverse-append (file ++ codes ": ") (codes "Missing" ++ 10 ∷ []))
+
+-- A refusal whose line ends otherwise doesn't say that the file isn't there.
+pub not_this : (file front name : List ℕ) → bytes_eq (take 5 (reverse (name ++ 10 ∷ []) ++ reverse front)) missing_end ≡ false → (front ++ name) ++ 10 ∷ [] ≡ (refused_file file cause.Missing).err → ⊥
+not_this file front name d h =
+    other_end front (name ++ 10 ∷ []) ((front ++ name) ++ 10 ∷ []) d (append_assoc front name (10 ∷ []))
+    (ap (λ x. bytes_eq (take 5 (reverse x)) missing_end) h ∙ missing_ends file)
+
+-- what stands before the cause in the refusal of a text
+abbrev pub before_cause : List ℕ → LineColumn → List ℕ
+before_cause file place = file ++ codes ":" ++ decimal place.line ++ codes ":" ++ decimal place.column ++ codes ": "
+
+pub not_text : (file : List ℕ) (place : LineColumn) (c : Spelling) → (refused_text file place c).err ≡ (refused_file file cause.Missing).err → ⊥
+not_text file place spelling.BadByte = not_this file (before_cause file place) (codes "BadByte") refl
+not_text file place spelling.UnclosedComment = not_this file (before_cause file place) (codes "UnclosedComment") refl
+not_text file place spelling.UnclosedString = not_this file (before_cause file place) (codes "UnclosedString") refl
+not_text file place spelling.BigNumber = not_this file (before_cause file place) (codes "BigNumber") refl
+not_text file place spelling.TooDeep = not_this file (before_cause file place) (codes "TooDeep") refl
+not_text file place spelling.Syntax = not_this file (before_cause file place) (codes "Syntax") refl
+
+pub run_not_refused : (b : Bool) → cond b Done Limit ≡ Refused → ⊥
+run_not_refused true h = cc
+run_not_refused false h = cc
+
+pub unit_not_missing : (t : Task) (file : List ℕ) (unit : p.SourceUnit) → IsMissing file (of_unit t file unit) → ⊥
+unit_not_missing task.Check file unit = λ m. cc (m.0)
+unit_not_missing task.Show file unit = λ m. cc (m.0)
+unit_not_missing (task.Run steps) file unit =
+    elim (is_first unit) as (λ b. IsMissing file (cond b (run_report (first_run unit steps)) (refused_file file cause.NotYet)) → ⊥) [
+      | true ↦ λ m. run_not_refused (all_answered (sends_of (form_of unit).texts) steps) m.0
+      | false ↦ λ m. not_this file (file ++ codes ": ") (codes "NotYet") refl m.1
     ]
 
--- A run ends as a report may.
-pub run_ends : (form : Form) (steps : ℕ) → IsEnding (run_report (run_of form steps)).status
-run_ends form steps =
-    elim (all_answered (sends_of form.texts) steps) as (λ b. IsEnding (cond b Done Limit)) [ true ↦ tt | false ↦ tt ]
+pub reading_not_missing : (t : Task) (file source : List ℕ) (r : Reading) → IsMissing file (of_reading t file source r) → ⊥
+reading_not_missing t file source (Ok unit) m = unit_not_missing t file unit m
+reading_not_missing t file source (Err (At c offset)) m = not_text file (place_of source offset) c m.1
+reading_not_missing t file source (Err source_error.Memory) m = absurd (cc (m.0))
+
+-- No report of a source refuses its file as one that isn't there.
+pub not_missing : (t : Task) (file source : List ℕ) → IsMissing file (of_source t file source) → ⊥
+not_missing t file source =
+    elim (nat_lt 1048576 (length source)) as (λ b. IsMissing file (cond b (refused_file file cause.TooLong) (of_reading t file source (read source))) → ⊥) [
+      | true ↦ λ m. not_this file (file ++ codes ": ") (codes "TooLong") refl m.1
+      | false ↦ reading_not_missing t file source (read source)
+    ]
+
+-- ---- how a report ends
+
+pub run_ends : (b : Bool) → IsEnding (cond b Done Limit)
+run_ends true = tt
+run_ends false = tt
+
+pub unit_ends : (t : Task) (file : List ℕ) (unit : p.SourceUnit) → IsEnding (of_unit t file unit).status
+unit_ends task.Check file unit = tt
+unit_ends task.Show file unit = tt
+unit_ends (task.Run steps) file unit =
+    elim (is_first unit) as (λ b. IsEnding (cond b (run_report (first_run unit steps)) (refused_file file cause.NotYet)).status) [
+      | true ↦ run_ends (all_answered (sends_of (form_of unit).texts) steps)
+      | false ↦ tt
+    ]
+
+pub reading_ends : (t : Task) (file source : List ℕ) (r : Reading) → IsEnding (of_reading t file source r).status
+reading_ends t file source (Ok unit) = unit_ends t file unit
+reading_ends t file source (Err (At c offset)) = tt
+reading_ends t file source (Err source_error.Memory) = tt
+
+-- A report of a source ends as a report may.
+pub source_ends : (t : Task) (file source : List ℕ) → IsEnding (of_source t file source).status
+source_ends t file source =
+    elim (nat_lt 1048576 (length source)) as (λ b. IsEnding (cond b (refused_file file cause.TooLong) (of_reading t file source (read source))).status) [
+      | true ↦ tt
+      | false ↦ reading_ends t file source (read source)
+    ]
 
 -- With a status that a report may have, all is written.
 pub leaves_delivered : (r : Report) (s : Status) (o o' e e' : Option (List ℕ)) → IsEnding s → IsDelivered r s o o' e e' → Leaves r s o o' e e'
@@ -113,13 +179,19 @@ pub on_true : (b : Bool) (P : Type 0) → b ≡ true → OnTrue b P → P
 on_true true P e h = h
 on_true false P e h = absurd (cc)
 
--- Where a refusal was written, and what was written says that the file isn't there, the refusal says so.
-pub names_missing : (command : Command) (r : Report) (old new : Option (List ℕ)) → r.status ≡ Refused → new ≡ with_bytes r.err old → TellsMissing command old new → NamesMissing command r
-names_missing (Run steps file) r old new s d (before, o, n) =
+-- Behind one front, equal texts have equal ends.
+pub names_file : (file : List ℕ) (r : Report) (old new : Option (List ℕ)) → r.status ≡ Refused → new ≡ with_bytes r.err old → Wrote (refused_file file cause.Missing).err old new → IsMissing file r
+names_file file r old new s d (before, o, n) =
     let line = (refused_file file cause.Missing).err in
     let e : with_bytes r.err (Some before) ≡ Some (before ++ line) = ap (with_bytes r.err) (sym o) ∙ sym d ∙ n in
     let f : before ++ r.err ≡ before ++ line = cc (e) in
-    (s, same_end before r.err line f)
+    (s, append_cancel_left before r.err line f)
+
+-- Where a refusal was written, and what was written says that the file isn't there, the refusal says so.
+pub names_missing : (command : Command) (r : Report) (old new : Option (List ℕ)) → r.status ≡ Refused → new ≡ with_bytes r.err old → TellsMissing command old new → NamesMissing command r
+names_missing (Check file) r old new s d t = names_file file r old new s d t
+names_missing (Show file) r old new s d t = names_file file r old new s d t
+names_missing (Run steps file) r old new s d t = names_file file r old new s d t
 names_missing Help r old new s d t = t
 names_missing Version r old new s d t = t
 names_missing (Bad word) r old new s d t = t

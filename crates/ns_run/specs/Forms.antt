@@ -1,9 +1,12 @@
 -- The forms of a command line as relations, apart from how words are read.
 use Rattle.std.specs.Prelude.{◌≡◌, ◌⊎◌, ℕ, ◌+◌, ◌<◌, ◌≤◌, List, [], ◌∷◌, ◌++◌, true, Some, codes, take, length}
-use Rattle.ns_run.specs.Words.{Command, Run, Help, Version, Bad, is_file_name, steps_of}
+use Rattle.ns_run.specs.Words.{Command, Check, Show, Run, Help, Version, Bad, is_file_name, steps_of}
 
--- The words are a form that spells the command: `run FILE`, `run --steps=N FILE`, `--help` or `--version`.
+-- The words are a form that spells the command: `check FILE`, `show FILE`, `run FILE`, `run --steps=N FILE`, `--help`
+-- or `--version`.
 abbrev pub IsForm : List (List ℕ) → Command → Type 0
+IsForm words (Check file) = (words ≡ codes "check" ∷ file ∷ []) × (is_file_name file ≡ true)
+IsForm words (Show file) = (words ≡ codes "show" ∷ file ∷ []) × (is_file_name file ≡ true)
 IsForm words (Run steps file) =
     ((words ≡ codes "run" ∷ file ∷ []) × (steps ≡ 10000000) × (is_file_name file ≡ true))
     ⊎ ((option : List ℕ) × (words ≡ codes "run" ∷ option ∷ file ∷ []) × (steps_of option ≡ Some steps) × (is_file_name file ≡ true))
@@ -18,6 +21,8 @@ Begins words = (more : List (List ℕ)) × (command : Command) × IsForm (words 
 -- The command is what the words spell; or its bad word is the first, counted from 0, such that no
 -- form begins with the words up to it, and the number of words where some form begins with them all.
 abbrev pub IsCommandOf : List (List ℕ) → Command → Type 0
+IsCommandOf words (Check file) = IsForm words (Check file)
+IsCommandOf words (Show file) = IsForm words (Show file)
 IsCommandOf words (Run steps file) = IsForm words (Run steps file)
 IsCommandOf words Help = IsForm words Help
 IsCommandOf words Version = IsForm words Version

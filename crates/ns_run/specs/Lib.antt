@@ -1,10 +1,8 @@
-pub mod Behind
-pub mod FirstForm
-pub mod FirstSpelling
-pub mod FirstTokens
 pub mod Forms
 pub mod Job
 pub mod Meaning
 pub mod Outcome
+pub mod Place
 pub mod Report
+pub mod Source
 pub mod Words

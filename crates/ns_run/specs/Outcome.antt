@@ -1,10 +1,10 @@
 -- What the streams have after a command.
-use Rattle.std.specs.Prelude.{◌≡◌, ◌⊎◌, ℕ, List, Option, Some, ◌++◌, IsSome}
+use Rattle.std.specs.Prelude.{◌≡◌, ◌⊎◌, ℕ, List, Option, Some, None, ◌++◌, IsSome, IsSomeAnd}
 use Rattle.ns_base.specs.Files.{Files}
 use Rattle.ns_base.specs.Sink.{WrotePrefix, with_bytes}
 use Rattle.ns_base.specs.declared.status.Status.{Status}
 use Rattle.ns_base.specs.declared.status.Status.TheVariants.{Done, ProgramError, Refused, Limit, ReadFault, WriteFault, Memory}
-use Rattle.ns_run.specs.Words.{Command, Run, Help, Version, Bad}
+use Rattle.ns_run.specs.Words.{Command, Check, Show, Run, Help, Version, Bad}
 use Rattle.ns_run.specs.Report.{refused_file}
 use Rattle.ns_run.specs.declared.report.Report.{Report}
 use Rattle.ns_run.specs.declared.report.Cause.TheVariants as cause
@@ -45,27 +45,31 @@ IsEnding ReadFault = ⊥
 IsEnding WriteFault = ⊥
 IsEnding Memory = ⊥
 
+-- the file of a command, if it has one
+abbrev pub file_of : Command → Option (List ℕ)
+file_of (Check file) = Some file
+file_of (Show file) = Some file
+file_of (Run steps file) = Some file
+file_of Help = None
+file_of Version = None
+file_of (Bad word) = None
+
 -- The command has a file, and it is there.
 abbrev pub HasItsFile : Command → Files → Type 0
-HasItsFile (Run steps file) files = IsSome (files file)
-HasItsFile Help files = ⊥
-HasItsFile Version files = ⊥
-HasItsFile (Bad word) files = ⊥
+HasItsFile command files = IsSomeAnd (file_of command) (λ file. IsSome (files file))
 
 -- These bytes were written, to a stream that tells its bytes.
 abbrev pub Wrote : List ℕ → (old new : Option (List ℕ)) → Type 0
 Wrote bytes old new = (before : List ℕ) × (old ≡ Some before) × (new ≡ Some (before ++ bytes))
 
+-- The report refuses the file as one that isn't there.
+abbrev pub IsMissing : List ℕ → Report → Type 0
+IsMissing file report = (report.status ≡ Refused) × (report.err ≡ (refused_file file cause.Missing).err)
+
 -- The report refuses the command's file as one that isn't there.
 abbrev pub NamesMissing : Command → Report → Type 0
-NamesMissing (Run steps file) report = (report.status ≡ Refused) × (report.err ≡ (refused_file file cause.Missing).err)
-NamesMissing Help report = ⊥
-NamesMissing Version report = ⊥
-NamesMissing (Bad word) report = ⊥
+NamesMissing command report = IsSomeAnd (file_of command) (λ file. IsMissing file report)
 
 -- The line was written that tells of the command's file that it isn't there.
 abbrev pub TellsMissing : Command → (err err' : Option (List ℕ)) → Type 0
-TellsMissing (Run steps file) err err' = Wrote (refused_file file cause.Missing).err err err'
-TellsMissing Help err err' = ⊥
-TellsMissing Version err err' = ⊥
-TellsMissing (Bad word) err err' = ⊥
+TellsMissing command err err' = IsSomeAnd (file_of command) (λ file. Wrote (refused_file file cause.Missing).err err err')

@@ -1,9 +1,12 @@
 -- The forms of a command line (this profile).
-use Rattle.std.specs.Prelude.{ℕ, ◌+◌, ◌-◌, ◌*◌, ◌&&◌, nat_le, not, List, [], ◌∷◌, Bool, true, false, Option, Some, None, option_and_then, take, drop, length, codes, nat_eq, if◌then◌else◌}
+use Rattle.std.specs.Prelude.{ℕ, ◌+◌, ◌-◌, ◌*◌, ◌&&◌, nat_le, not, List, [], ◌∷◌, Bool, true, false, Option, Some, None, option_and_then, take, drop, length, codes, nat_eq, Result, Ok, Err, if◌then◌else◌}
 use Rattle.std.specs.Str.{bytes_eq}
+use Rattle.ns_run.specs.declared.words.BadWord.{BadWord}
 
 -- What the words of a command line spell: a form, or the first bad word.
 pub data Command : Type 0 where
+  Check : (file : List ℕ) → Command
+  Show : (file : List ℕ) → Command
   Run : (steps : ℕ) (file : List ℕ) → Command
   Help : Command
   Version : Command
@@ -52,6 +55,17 @@ abbrev pub with_option : List (List ℕ) → Option ℕ → Command
 with_option words None = Bad 1
 with_option words (Some steps) = after_option steps words
 
+-- the one file that follows a command's first word
+abbrev pub one_file : List (List ℕ) → Result (List ℕ) BadWord
+one_file [] = Err (record { 0 = 1 })
+one_file (word ∷ []) = if is_file_name word then Ok word else Err (record { 0 = 1 })
+one_file (word ∷ next ∷ words) = if is_file_name word then Err (record { 0 = 2 }) else Err (record { 0 = 1 })
+
+-- a command for one file
+abbrev pub for_file : (List ℕ → Command) → Result (List ℕ) BadWord → Command
+for_file command (Ok file) = command file
+for_file command (Err word) = Bad word.0
+
 -- what follows `run`
 abbrev pub after_run : List (List ℕ) → Command
 after_run [] = Bad 1
@@ -66,7 +80,9 @@ alone command (word ∷ words) = Bad 1
 abbrev pub command_of : List (List ℕ) → Command
 command_of [] = Bad 0
 command_of (word ∷ words) =
-    if bytes_eq word (codes "run") then after_run words
+    if bytes_eq word (codes "check") then for_file Check (one_file words)
+    else (if bytes_eq word (codes "show") then for_file Show (one_file words)
+    else (if bytes_eq word (codes "run") then after_run words
     else (if bytes_eq word (codes "--help") then alone Help words
     else (if bytes_eq word (codes "--version") then alone Version words
-    else Bad 0))
+    else Bad 0))))

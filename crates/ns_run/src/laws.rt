@@ -1,17 +1,9 @@
 //! Laws over the definitions that the top call rests on. Each is the contract of a function that
 //! does nothing.
 
-ghost use Rattle.std.specs.Prelude.{◌≡◌, ◌↔◌, ℕ, List, Some};
-ghost use Rattle.ns_machine.specs.First.{Form};
-ghost use Rattle.ns_run.specs.FirstForm.{first_form};
-ghost use Rattle.ns_run.specs.FirstSpelling.{IsFirstForm};
+ghost use Rattle.std.specs.Prelude.{◌≡◌, ℕ, List};
 ghost use Rattle.ns_run.specs.Forms.{IsCommandOf, IsForm};
 ghost use Rattle.ns_run.specs.Words.{Command, command_of};
-
-/// The reader finds a form exactly where the text is of the first form and says that.
-pub fn first_form_law()
-    ensures { (source : List ℕ) (form : Form) → (first_form source ≡ Some form) ↔ IsFirstForm source form }
-{}
 
 /// The words of a form are read as what they spell.
 pub fn forms_are_read()

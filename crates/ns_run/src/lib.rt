@@ -2,10 +2,11 @@
 #![tactic(auto)]
 
 mod deliver;
-mod first_form;
-mod first_tokens;
 pub mod laws;
+pub mod place;
 pub mod report;
+pub mod source;
+pub mod task;
 pub mod top;
 pub mod usage;
 pub mod words;

@@ -1,8 +1,10 @@
 //! What a command is to write, and the status with which it ends.
 
 ghost use Rattle.std.specs.Prelude.{◌≡◌, IfOk, string_bytes};
-ghost use Rattle.ns_run.specs.Report.{bad_word as bad_word_lem, refused as refused_lem, refused_file as refused_file_lem, told as told_lem};
+ghost use Rattle.ns_run.specs.Report.{bad_word as bad_word_lem, refused as refused_lem, refused_file as refused_file_lem, refused_text as refused_text_lem, told as told_lem};
 
+use crate::place::LineColumn;
+use crate::source::Spelling;
 use ns_base::no_memory::NoMemory;
 use ns_base::status::Status;
 use ns_base::text::Text;
@@ -70,13 +72,27 @@ fn refused(alloc: Global, line: String) -> Report
     }
 }
 
-/// The report of a command that only tells this.
-pub fn told(alloc: Global, text: &str) -> Result<Report, NoMemory>
-    ensures { IfOk result (λ r. r ≡ told_lem text.now) }
+/// The report of a file whose text is wrong at that place.
+pub fn refused_text(
+    alloc: Global,
+    file: &str,
+    place: LineColumn,
+    cause: Spelling,
+) -> Result<Report, NoMemory>
+    ensures { IfOk result (λ r. r ≡ refused_text_lem file.now place cause) }
 {
-    Ok(Report {
-        out: Text::of(alloc, text.as_bytes())?,
+    let LineColumn { line, column } = place;
+    let line = format!(in alloc; "{file}:{line}:{column}: {cause}\n")?;
+    Ok(refused(alloc, line))
+}
+
+/// The report of a command that only tells this.
+pub fn told(alloc: Global, text: Text) -> Report
+    ensures { result ≡ told_lem text }
+{
+    Report {
+        out: text,
         err: Text::from_vec(Vec::new(alloc)),
         status: Status::Done,
-    })
+    }
 }

@@ -4,6 +4,8 @@
 pub const HELP: &str = "nspk runs Newspeak, in a profile with 64-bit integers
 
 usage:
+  nspk check FILE            says whether the syntax of FILE is right
+  nspk show FILE             writes the canonical source of FILE
   nspk run [--steps=N] FILE  runs the class in FILE, within N steps
   nspk --help                tells this
   nspk --version             tells the version

@@ -1,14 +1,19 @@
 //! The words of a command line, read as the form that they spell.
 
-ghost use Rattle.std.specs.Prelude.{◌≡◌, Ok, map, option_and_then, string_bytes};
+ghost use Rattle.std.specs.Prelude.{◌≡◌, Ok, Err, MatchResult, map, option_and_then, string_bytes};
 ghost use Rattle.ns_run.specs.Job.{seen};
-ghost use Rattle.ns_run.specs.Words.{after_option as after_option_lem, after_run as after_run_lem, alone as alone_lem, begins_bad as begins_bad_lem, command_of, ends as ends_lem, in_range, is_digit as is_digit_lem, is_file_name, number_of, steps_of, value_from};
+ghost use Rattle.ns_run.specs.Words.{after_option as after_option_lem, after_run as after_run_lem, alone as alone_lem, begins_bad as begins_bad_lem, command_of, ends as ends_lem, for_file, in_range, is_digit as is_digit_lem, is_file_name, number_of, one_file as one_file_lem, steps_of, value_from};
+ghost use Rattle.ns_run.specs.Words as Command;
 
 use ns_base::limits::Limits;
 
 /// What a command line asks for. The names are those of the words.
 #[derive(Drop)]
 pub enum Job<'a> {
+    /// Says whether a file is a program.
+    Check { file: &'a str },
+    /// Writes the canonical source of a file.
+    Show { file: &'a str },
     /// Runs a file within so many steps.
     Run { steps: u64, file: &'a str },
     /// Tells how the program is used.
@@ -22,14 +27,20 @@ pub enum Job<'a> {
 #[derive(Clone, Copy, Debug, PartialEq, Eq)]
 pub struct BadWord(pub u64);
 
-/// The job that the words spell, or the first bad word. The forms are `run [--steps=N] FILE`,
-/// `--help` and `--version`.
+/// The job that the words spell, or the first bad word. The forms are `check FILE`, `show FILE`,
+/// `run [--steps=N] FILE`, `--help` and `--version`.
 pub fn words(words: &[String]) -> Result<Job<'_>, BadWord>
     ensures { seen result ≡ command_of (map string_bytes words.now) }
 {
     match words {
         [] => Err(BadWord(0)),
         [first, rest @ ..] => {
+            if first.as_bytes() == b"check".as_slice() {
+                return check(rest);
+            }
+            if first.as_bytes() == b"show".as_slice() {
+                return show(rest);
+            }
             if first.as_bytes() == b"run".as_slice() {
                 return after_run(rest);
             }
@@ -40,6 +51,42 @@ pub fn words(words: &[String]) -> Result<Job<'_>, BadWord>
                 return alone(Job::Version, rest);
             }
             Err(BadWord(0))
+        }
+    }
+}
+
+fn check(words: &[String]) -> Result<Job<'_>, BadWord>
+    ensures { seen result ≡ for_file Command.Check (one_file_lem (map string_bytes words.now)) }
+{
+    match one_file(words) {
+        Ok(file) => Ok(Job::Check { file }),
+        Err(word) => Err(word),
+    }
+}
+
+fn show(words: &[String]) -> Result<Job<'_>, BadWord>
+    ensures { seen result ≡ for_file Command.Show (one_file_lem (map string_bytes words.now)) }
+{
+    match one_file(words) {
+        Ok(file) => Ok(Job::Show { file }),
+        Err(word) => Err(word),
+    }
+}
+
+/// The name of the one file behind a command's first word.
+fn one_file(words: &[String]) -> Result<&str, BadWord>
+    ensures { MatchResult result (λ file. one_file_lem (map string_bytes words.now) ≡ Ok file.now) (λ word. one_file_lem (map string_bytes words.now) ≡ Err word) }
+{
+    match words {
+        [] => Err(BadWord(1)),
+        [word, rest @ ..] => {
+            if !is_name(word.as_bytes()) {
+                return Err(BadWord(1));
+            }
+            if !rest.is_empty() {
+                return Err(BadWord(2));
+            }
+            Ok(word.as_str())
         }
     }
 }

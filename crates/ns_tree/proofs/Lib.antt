@@ -1,3 +1,3 @@
 pub mod Rows
 pub mod Nodes
-mod Tests
+mod Examples

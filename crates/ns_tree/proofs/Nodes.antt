@@ -3,7 +3,7 @@ use Rattle.std.proofs.Common.{◌≡◌, ◌∙◌, ap, rules, Bool, Option, Som
 use Rattle.std.specs.Global.{Vec}
 use Rattle.ns_tree.specs.Plain as p
 use Rattle.ns_tree.specs.PlainOf.{expr_of, message_of, key_expr_of, bin_of, un_of, primary_of, block_of, statements_of, statement_of, class_of, side_of}
-use Rattle.ns_tree.specs.PlainOf.{received, cascade_of, keys_of, opers_of, exprs_of, bars_of, statement_list_of, members_of, class_side_of, pattern_of, clause_of}
+use Rattle.ns_tree.specs.PlainOf.{received, cascade_of, keys_of, opers_of, exprs_of, slots_of, bars_of, statement_list_of, members_of, class_side_of, pattern_of, clause_of}
 use Rattle.ns_tree.specs.declared.tree.Message.TheBlock as b
 use Rattle.ns_tree.specs.declared.tree.Message.TheViews as m
 use Rattle.ns_tree.specs.declared.tree.What.TheBlock as c
@@ -58,6 +58,18 @@ key_expr_none e h = key_expr_out e ∙ ap (λ o. received o (keys_of (m.out-KeyE
 
 pub key_expr_some : (e : KeyExpr) (r : BinExpr) → (m.out-KeyExpr e).receiver ≡ Some r → key_expr_of e ≡ p.sent (bin_of r) (keys_of (m.out-KeyExpr e).keys.items)
 key_expr_some e r h = key_expr_out e ∙ ap (λ o. received o (keys_of (m.out-KeyExpr e).keys.items)) h
+
+pub block_none : (e : Block) → (m.out-Block e).slots ≡ None → block_of e ≡ p.block_with (m.out-Block e).params.items p.no_bars (statements_of (m.out-Block e).body)
+block_none e h = block_out e ∙ ap (λ o. p.block_with (m.out-Block e).params.items (bars_of o) (statements_of (m.out-Block e).body)) h
+
+pub block_some : (e : Block) (slots : Vec Slot) → (m.out-Block e).slots ≡ Some slots → block_of e ≡ p.block_with (m.out-Block e).params.items (p.bars_around (slots_of slots.items)) (statements_of (m.out-Block e).body)
+block_some e slots h = block_out e ∙ ap (λ o. p.block_with (m.out-Block e).params.items (bars_of o) (statements_of (m.out-Block e).body)) h
+
+pub class_none : (e : Class) → (w.out-Class e).class_side ≡ None → class_of e ≡ p.class_with (w.out-Class e).name (option_map pattern_of (w.out-Class e).factory) (option_map clause_of (w.out-Class e).clause) (bars_of (w.out-Class e).slots) (statements_of (w.out-Class e).body) (side_of (w.out-Class e).side) p.no_class_side
+class_none e h = class_out e ∙ ap (λ o. p.class_with (w.out-Class e).name (option_map pattern_of (w.out-Class e).factory) (option_map clause_of (w.out-Class e).clause) (bars_of (w.out-Class e).slots) (statements_of (w.out-Class e).body) (side_of (w.out-Class e).side) (class_side_of o)) h
+
+pub class_some : (e : Class) (side : Side) → (w.out-Class e).class_side ≡ Some side → class_of e ≡ p.class_with (w.out-Class e).name (option_map pattern_of (w.out-Class e).factory) (option_map clause_of (w.out-Class e).clause) (bars_of (w.out-Class e).slots) (statements_of (w.out-Class e).body) (side_of (w.out-Class e).side) (p.class_side_with (side_of side))
+class_some e side h = class_out e ∙ ap (λ o. p.class_with (w.out-Class e).name (option_map pattern_of (w.out-Class e).factory) (option_map clause_of (w.out-Class e).clause) (bars_of (w.out-Class e).slots) (statements_of (w.out-Class e).body) (side_of (w.out-Class e).side) (class_side_of o)) h
 
 -- ---- variants that hold a vector
 

@@ -188,13 +188,13 @@ flat_super None = []
 flat_super (Some clause) = flat_clause clause
 
 -- what stands before a class's side
-abbrev pub flat_head : Named → Option p.Pattern → Option p.SuperClause → p.Bars → p.Statements → List Kind
-flat_head name factory clause bars body =
+abbrev pub head : p.Class → List Kind
+head (p.class_with name factory clause bars body side other) =
     k.Word r.Class ∷ ident name ∷ (flat_factory factory ++ equals ∷ (flat_super clause ++ k.Open ∷ (flat_bars bars ++ (flat_statements body ++ k.Close ∷ []))))
 
 abbrev mutual
   pub flat_class : p.Class → List Kind
-  flat_class (p.class_with name factory clause bars body side class_side) = flat_head name factory clause bars body ++ (flat_side side ++ flat_class_side class_side)
+  flat_class (p.class_with name factory clause bars body side class_side) = head (p.class_with name factory clause bars body side class_side) ++ (flat_side side ++ flat_class_side class_side)
 
   pub flat_class_side : p.ClassSide → List Kind
   flat_class_side p.no_class_side = []

@@ -3,5 +3,7 @@
 
 pub mod deep;
 pub mod make;
+#[cfg(test)]
+mod tests;
 pub mod token;
 pub mod tree;

@@ -107,7 +107,7 @@ fn one_step_for_each_send(rt: HostRuntime) -> Result<(), Fail> {
 #[test]
 fn words_are_refused_at_the_first_bad_one(rt: HostRuntime) -> Result<(), Fail> {
     let alloc = rt.alloc();
-    let rows: [(&[&str], &str); 12] = [
+    let rows: [(&[&str], &str); 17] = [
         (&[], "nspk: bad word 0\n"),
         (&["run"], "nspk: bad word 1\n"),
         (&["run", "--steps=0", "A.ns"], "nspk: bad word 1\n"),
@@ -126,6 +126,11 @@ fn words_are_refused_at_the_first_bad_one(rt: HostRuntime) -> Result<(), Fail> {
         (&["run", ""], "nspk: bad word 1\n"),
         (&["--help", "run"], "nspk: bad word 1\n"),
         (&["walk", "A.ns"], "nspk: bad word 0\n"),
+        (&["check"], "nspk: bad word 1\n"),
+        (&["check", "-a"], "nspk: bad word 1\n"),
+        (&["check", "A.ns", "A.ns"], "nspk: bad word 2\n"),
+        (&["show"], "nspk: bad word 1\n"),
+        (&["show", "A.ns", "--steps=5"], "nspk: bad word 2\n"),
     ];
     for (words, err) in rows {
         let left = left_by(alloc, words, "A.ns", HELLO.as_bytes(), NONE)?;
@@ -156,8 +161,9 @@ fn other_texts_are_not_yet_run(rt: HostRuntime) -> Result<(), Fail> {
         "p console printLine: 'a'.",
         "p console printLine: 'a'. p console print: 'b'",
         "a console printLine: 'a'",
+        "(p console printLine: 'a')",
+        "| x | p console printLine: 'a'",
         "p console printLine: 3",
-        "(* a *) p console printLine: 'a'",
         "p console printLine: 'a'; printLine: 'b'",
         "",
     ] {
@@ -166,8 +172,88 @@ fn other_texts_are_not_yet_run(rt: HostRuntime) -> Result<(), Fail> {
         assert_eq!(rt; left.err.as_str(), "T.ns: NotYet\n", "body {body}");
         assert_eq!(rt; left.status, 2);
     }
-    let left = left_by(alloc, &["run", "E.ns"], "E.ns", b"", NONE)?;
-    assert_eq!(rt; left.err.as_str(), "E.ns: NotYet\n");
+    Ok(())
+}
+
+#[test]
+fn gaps_marker_and_categories_mean_nothing(rt: HostRuntime) -> Result<(), Fail> {
+    let alloc = rt.alloc();
+    let source = "Newspeak3 'Greetings'
+(* (* nested *) \" *)class Hello\tpackageUsing: manifest=()(\"first\"'starting'
+public main: platform args: args = (platform \"'\" console printLine:'Hello')'end' 'of it')";
+    let left = left_by(alloc, &["run", "H.ns"], "H.ns", source.as_bytes(), NONE)?;
+    assert_eq!(rt; left.out.as_str(), "Hello\n");
+    assert_eq!(rt; left.err.as_str(), "=> object Hello\n");
+    assert_eq!(rt; left.status, 0);
+    Ok(())
+}
+
+#[test]
+fn a_wrong_text_is_refused_at_its_place(rt: HostRuntime) -> Result<(), Fail> {
+    let alloc = rt.alloc();
+    for (source, err) in [
+        ("", "A.ns:1:1: Syntax\n"),
+        ("(* open", "A.ns:1:1: UnclosedComment\n"),
+        ("\n 'ab", "A.ns:2:2: UnclosedString\n"),
+        ("'ab''", "A.ns:1:1: UnclosedString\n"),
+        ("class A = () (\na = (^1.5))", "A.ns:2:8: BadByte\n"),
+        (
+            "class A = () (\na = (^9223372036854775809))",
+            "A.ns:2:7: BigNumber\n",
+        ),
+        ("class A = () (\na = (1 2))", "A.ns:2:8: Syntax\n"),
+        ("class A = () (", "A.ns:1:15: Syntax\n"),
+        ("class A = () (\n", "A.ns:2:1: Syntax\n"),
+        ("class A = () (a = ()) b", "A.ns:1:23: Syntax\n"),
+        ("\u{feff}class A = () ()", "A.ns:1:1: BadByte\n"),
+        ("class A\0= () ()", "A.ns:1:8: BadByte\n"),
+        ("class \u{e4} = () ()", "A.ns:1:7: BadByte\n"),
+    ] {
+        for command in ["check", "show", "run"] {
+            let left = left_by(alloc, &[command, "A.ns"], "A.ns", source.as_bytes(), NONE)?;
+            assert_eq!(rt; left.err.as_str(), err, "{command} of {source}");
+            assert_eq!(rt; left.out.as_str(), "", "{command} of {source}");
+            assert_eq!(rt; left.status, 2, "{command} of {source}");
+        }
+    }
+    Ok(())
+}
+
+#[test]
+fn a_hundred_brackets_may_be_open(rt: HostRuntime) -> Result<(), Fail> {
+    let alloc = rt.alloc();
+    for (brackets, out, err) in [(98, "ok\n", ""), (99, "", "T.ns:2:126: TooDeep\n")] {
+        let mut body = String::from_str(alloc, "^")?;
+        for _ in 0..brackets {
+            body.push('(')?;
+        }
+        body.push('1')?;
+        for _ in 0..brackets {
+            body.push(')')?;
+        }
+        let source = with_body(alloc, body.as_str())?;
+        let left = left_by(alloc, &["check", "T.ns"], "T.ns", source.as_bytes(), NONE)?;
+        assert_eq!(rt; left.out.as_str(), out);
+        assert_eq!(rt; left.err.as_str(), err);
+    }
+    Ok(())
+}
+
+#[test]
+fn a_file_is_checked_and_shown(rt: HostRuntime) -> Result<(), Fail> {
+    let alloc = rt.alloc();
+    for (command, out) in [
+        ("check", "ok\n"),
+        (
+            "show",
+            "class Hello packageUsing: manifest = ( ) ( public main: platform args: args = ( platform console printLine: 'Hello' ) )\n",
+        ),
+    ] {
+        let left = left_by(alloc, &[command, "H.ns"], "H.ns", HELLO.as_bytes(), NONE)?;
+        assert_eq!(rt; left.out.as_str(), out);
+        assert_eq!(rt; left.err.as_str(), "");
+        assert_eq!(rt; left.status, 0);
+    }
     Ok(())
 }
 
@@ -201,7 +287,7 @@ fn a_source_has_at_most_a_mebibyte(rt: HostRuntime) -> Result<(), Fail> {
     let alloc = rt.alloc();
     for (length, err) in [
         (1_048_577, "Z.ns: TooLong\n"),
-        (1_048_576, "Z.ns: NotYet\n"),
+        (1_048_576, "Z.ns:1:1048577: Syntax\n"),
     ] {
         let blanks = vec![in alloc; b' '; length]?;
         let left = left_by(alloc, &["run", "Z.ns"], "Z.ns", blanks.as_slice(), NONE)?;

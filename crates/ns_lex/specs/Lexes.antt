@@ -1,0 +1,76 @@
+-- Which tokens cut a source, and where a source stops to be cut: what the lexer answers, said of the whole source.
+use Rattle.std.specs.Prelude.{◌≡◌, ◌≢◌, ℕ, ◌+◌, ◌≤◌, ◌<◌, ◌⊎◌, true, false, List, [], ◌∷◌, ◌++◌, length, slice_index}
+use Rattle.ns_tree.specs.declared.token.Token.{Token}
+use Rattle.ns_tree.specs.declared.token.Kind.{Kind}
+use Rattle.ns_tree.specs.declared.token.Kind.TheVariants as k
+use Rattle.ns_lex.specs.declared.piece.Cause.{Cause}
+use Rattle.ns_lex.specs.declared.piece.Cause.TheVariants as cause
+use Rattle.ns_lex.specs.Bytes.{starts_name, is_digit}
+use Rattle.ns_lex.specs.Piece.{Text}
+use Rattle.ns_lex.specs.Number.{value, greatest}
+use Rattle.ns_lex.specs.Spells.{AllOf, IsName, Spells}
+use Rattle.ns_lex.specs.Gap.{IsGap, IsGapPart, BeginsNoGap}
+
+-- The text w with q behind it spells the token. A string ends at a quote that no quote follows.
+abbrev pub Stands : Text → Text → Kind → Type 0
+Stands w q (k.Str s) = Spells w (k.Str s) × (slice_index q 0 ≢ 39)
+Stands w q t = Spells w t
+
+-- No longer text from the same start spells a token.
+abbrev pub Longest : Text → Text → Type 0
+Longest w q = (p r : Text) (t : Kind) → w ++ q ≡ p ++ r → Stands p r t → length p ≤ length w
+
+-- An identifier's text stands directly before `::=`.
+abbrev pub BeforeSlotSet : Text → Text → Type 0
+BeforeSlotSet w q = IsName w × ((r : Text) × (q ≡ 58 ∷ 58 ∷ 61 ∷ r))
+
+-- The next token of a text is t, spelled by w with q behind it: the longest, but an identifier's text before `::=` is a token.
+abbrev pub IsNext : Text → Text → Kind → Type 0
+IsNext w q t = Stands w q t × (BeforeSlotSet w q ⊎ (Longest w q × ((p r : Text) → w ++ q ≡ p ++ r → BeforeSlotSet p r → ⊥)))
+
+-- The text is a run of digits, one at least.
+abbrev pub IsDigits : Text → Type 0
+IsDigits d = (0 < length d) × AllOf is_digit d
+
+-- A letter or _ stands first.
+abbrev pub BeginsName : Text → Type 0
+BeginsName q = starts_name (slice_index q 0) ≡ true
+
+-- A full stop and a digit stand first.
+abbrev pub BeginsFraction : Text → Type 0
+BeginsFraction q = (slice_index q 0 ≡ 46) × (is_digit (slice_index q 1) ≡ true)
+
+-- The byte begins no token and no gap.
+abbrev pub BeginsNothing : ℕ → Type 0
+BeginsNothing b = ((u : Text) (t : Kind) → Spells (b ∷ u) t → ⊥) × ((u : Text) → IsGapPart (b ∷ u) → ⊥)
+
+-- The text, which begins with no gap, has a fault of that cause at its byte n.
+abbrev pub IsFault : Text → Cause → ℕ → Type 0
+IsFault z cause.BadByte n =
+    ((d q : Text) × (z ≡ d ++ q) × IsDigits d × (BeginsName q ⊎ BeginsFraction q) × (n ≡ length d))
+    ⊎ ((q : Text) × (z ≡ 35 ∷ q) × ((p r s : Text) → z ≡ p ++ r → Spells p (k.Symbol s) → ⊥) × (n ≡ 0))
+    ⊎ ((b : ℕ) × (q : Text) × (z ≡ b ∷ q) × BeginsNothing b × (n ≡ 0))
+IsFault z cause.BigNumber n =
+    (d q : Text) × (z ≡ d ++ q) × IsDigits d × (is_digit (slice_index q 0) ≡ false) × (BeginsName q → ⊥) × (BeginsFraction q → ⊥) × (greatest < value d) × (n ≡ 0)
+IsFault z cause.UnclosedComment n = ((q : Text) × ((z ≡ 40 ∷ 42 ∷ q) ⊎ (z ≡ 34 ∷ q))) × (n ≡ 0)
+IsFault z cause.UnclosedString n = ((q : Text) × (z ≡ 39 ∷ q)) × ((p r s : Text) → z ≡ p ++ r → Stands p r (k.Str s) → ⊥) × (n ≡ 0)
+
+-- No fault is named for what begins here.
+abbrev pub BeginsNoFault : Text → Type 0
+BeginsNoFault z = (c : Cause) (n : ℕ) → IsFault z c n → ⊥
+
+-- The text z, which stands at a place of the source, is a gap, then each token's text followed by a gap, and then the rest,
+-- which stands at its own place. No gap can be longer, and no fault is named for what follows one.
+abbrev pub Cuts : ℕ → Text → List Token → ℕ → Text → Type 0
+Cuts at z [] behind rest = (g : Text) × IsGap g × (z ≡ g ++ rest) × BeginsNoGap rest × (behind ≡ at + length g)
+Cuts at z (t ∷ ts) behind rest =
+    (g w q : Text) × IsGap g × (z ≡ g ++ (w ++ q)) × BeginsNoGap (w ++ q) × BeginsNoFault (w ++ q) × IsNext w q t.kind
+    × (t.start ≡ at + length g) × (t.«end» ≡ at + length g + length w) × Cuts (at + length g + length w) q ts behind rest
+
+-- The source is cut into these tokens.
+abbrev pub Lexes : Text → List Token → Type 0
+Lexes source ts = Cuts 0 source ts (length source) []
+
+-- Tokens cut the source up to a place behind which it has a fault: of that cause, at byte n.
+abbrev pub LexStops : Text → ℕ → Cause → Type 0
+LexStops source n c = (ts : List Token) × (at : ℕ) × (rest : Text) × (m : ℕ) × Cuts 0 source ts at rest × IsFault rest c m × (n ≡ at + m)

@@ -1,0 +1,15 @@
+pub mod Bytes
+pub mod Piece
+pub mod Fault
+pub mod Word
+pub mod Number
+pub mod Quoted
+pub mod Comment
+pub mod Operator
+pub mod Symbol
+pub mod Single
+pub mod Next
+pub mod Scan
+pub mod Spells
+pub mod Gap
+pub mod Lexes

@@ -1,0 +1,4 @@
+pub mod Labels
+pub mod Lists
+pub mod Loops
+pub mod Steps

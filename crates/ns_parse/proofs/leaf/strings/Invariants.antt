@@ -1,0 +1,10 @@
+use Rattle.std.proofs.Common.{◌≤◌, length}
+use Rattle.ns_parse.specs.Leaf.{is_string, string}
+use Rattle.ns_parse.proofs.Loops.{Goes}
+use Rattle.ns_parse.proofs.leaf.strings.Given as goal
+
+abbrev pub invariant-texts : goal.invariant-texts
+invariant-texts l = Goes is_string string l.texts.items l.tokens.at l.tokens.rest.now l.fn.tokens.at l.fn.tokens.rest.now
+
+abbrev pub decreases-texts : goal.decreases-texts
+decreases-texts l = length l.tokens.rest.now

@@ -1,0 +1,12 @@
+use Rattle.std.proofs.Common.{length}
+use Rattle.ns_parse.specs.Mark.{is_mark}
+use Rattle.ns_parse.specs.Pattern.{param}
+use Rattle.ns_parse.specs.declared.mark.Mark.TheVariants.{Colon}
+use Rattle.ns_parse.proofs.Loops.{Goes}
+use Rattle.ns_parse.proofs.pattern.colon_params.Given as goal
+
+abbrev pub invariant-names : goal.invariant-names
+invariant-names l = Goes (is_mark Colon) param l.names.items l.tokens.at l.tokens.rest.now l.fn.tokens.at l.fn.tokens.rest.now
+
+abbrev pub decreases-names : goal.decreases-names
+decreases-names l = length l.tokens.rest.now

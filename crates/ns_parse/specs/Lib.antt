@@ -1,0 +1,10 @@
+pub mod Read
+pub mod Mark
+pub mod Name
+pub mod Leaf
+pub mod Pattern
+pub mod Expressions
+pub mod Classes
+pub mod Reads
+pub mod Views
+pub mod Parse

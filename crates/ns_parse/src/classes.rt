@@ -1,0 +1,388 @@
+//! Classes, their members, and the file: a function for each rule of the grammar. The depth is how many
+//! brackets may still open in an expression, the nesting how many classes may still nest.
+
+ghost use Rattle.std.specs.Prelude.{◌≡◌, ◌<◌, ◌≤◌, length, option_map, IfOk};
+ghost use Rattle.ns_tree.specs.PlainOf.{message_of, clause_of, method_of, class_of, side_of, what_of, class_side_of, unit_of};
+ghost use Rattle.ns_tree.specs.Tokens.{kinds};
+ghost use Rattle.ns_parse.specs.Classes as spec;
+ghost use Rattle.ns_parse.specs.Expressions as exprs;
+ghost use Rattle.ns_parse.specs.Read.{begins, read_maybe, read_mapped};
+ghost use Rattle.ns_parse.specs.Leaf as leaves;
+ghost use Rattle.ns_parse.specs.Pattern as patterns;
+ghost use Rattle.ns_parse.specs.Reads.{Reads};
+ghost use Rattle.ns_parse.specs.Views.{head_view, body_view, member_view};
+
+use crate::expressions::{Holder, bars, keys, statements};
+use crate::fault::ParseFault;
+use crate::leaf::{access, is_access, sees_string, string, strings};
+use crate::mark::{Mark, is_mark, sees, skip, skip_if};
+use crate::name::{Operators, Sort, is_name, name, sees_name};
+use crate::pattern::{base, factory, pattern, sees_base};
+use crate::tokens::Tokens;
+use ns_base::text::Text;
+use ns_tree::make;
+use ns_tree::token::Kind;
+use ns_tree::tree::{
+    Access, Base, Class, Member, Message, Method, Named, Pattern, Side, Slot, Statements,
+    SuperClause, Unit, What,
+};
+use std::alloc::Global;
+
+/// A side of a class.
+#[derive(Clone, Copy)]
+pub enum SideOf {
+    /// The members of its instances.
+    Instance,
+    /// The members of the class itself.
+    ClassObject,
+}
+
+fn starts_pattern(kind: &Kind) -> bool
+    ensures { result ≡ spec.starts_pattern kind.now }
+{
+    match kind {
+        Kind::Ident(_) => true,
+        Kind::Key(_) => true,
+        Kind::Oper(_) => true,
+        _ => false,
+    }
+}
+
+fn starts_what(side: SideOf, kind: &Kind) -> bool
+    ensures { result ≡ spec.starts_what side kind.now }
+{
+    match side {
+        SideOf::Instance => is_mark(Mark::ClassWord, kind) || starts_pattern(kind),
+        SideOf::ClassObject => starts_pattern(kind),
+    }
+}
+
+fn sees_member(tokens: &Tokens<'_>, side: SideOf) -> bool
+    ensures { result ≡ begins (spec.starts_member side) (kinds tokens.now.rest.now) }
+{
+    match tokens.rest {
+        [first, ..] => is_access(&first.kind) || starts_what(side, &first.kind),
+        [] => false,
+    }
+}
+
+/// Reads the message to the superclass, if there is one.
+#[tactic(auto, unfolding(crate::specs::Classes::super_message))]
+fn super_message(
+    alloc: Global,
+    tokens: &mut Tokens<'_>,
+    depth: usize,
+) -> Result<Option<Message>, ParseFault>
+    ensures reads { Reads (option_map message_of) (spec.super_message (exprs.primary depth) tokens.old.at (kinds tokens.old.rest.now)) result tokens.new.at tokens.new.rest.now }
+    ensures moves { IfOk result (λ _. length tokens.new.rest.now ≤ length tokens.old.rest.now) }
+{
+    if sees_name(tokens, Sort::Ident) {
+        let name = name(alloc, tokens, Sort::Ident)?;
+        Ok(Some(Message::Unary(name)))
+    } else if sees_name(tokens, Sort::Key) {
+        let keys = keys(alloc, tokens, depth, Operators::All)?;
+        Ok(Some(make::keywords(keys)))
+    } else {
+        Ok(None)
+    }
+}
+
+/// Reads the sign between a mixin and its superclass, and the superclass, if they are there.
+fn over(alloc: Global, tokens: &mut Tokens<'_>) -> Result<Option<Base>, ParseFault>
+    ensures reads { Reads (λ base. base) (spec.over tokens.old.at (kinds tokens.old.rest.now)) result tokens.new.at tokens.new.rest.now }
+    ensures moves { IfOk result (λ _. length tokens.new.rest.now ≤ length tokens.old.rest.now) }
+{
+    if sees(tokens, Mark::Over) {
+        skip(tokens, Mark::Over)?;
+        let base = base(alloc, tokens)?;
+        Ok(Some(base))
+    } else {
+        Ok(None)
+    }
+}
+
+/// Reads a superclass clause.
+#[tactic(auto, unfolding(crate::specs::Classes::clause))]
+fn clause(
+    alloc: Global,
+    tokens: &mut Tokens<'_>,
+    depth: usize,
+) -> Result<SuperClause, ParseFault>
+    ensures reads { Reads clause_of (spec.clause (exprs.primary depth) tokens.old.at (kinds tokens.old.rest.now)) result tokens.new.at tokens.new.rest.now }
+    ensures moves { IfOk result (λ _. length tokens.new.rest.now ≤ length tokens.old.rest.now) }
+{
+    let head = base(alloc, tokens)?;
+    let over = over(alloc, tokens)?;
+    let message = super_message(alloc, tokens, depth)?;
+    Ok(make::clause(head, over, message))
+}
+
+/// Reads a superclass clause, if there is one.
+fn maybe_clause(
+    alloc: Global,
+    tokens: &mut Tokens<'_>,
+    depth: usize,
+) -> Result<Option<SuperClause>, ParseFault>
+    ensures reads { Reads (option_map clause_of) (read_maybe patterns.starts_base (spec.clause (exprs.primary depth)) tokens.old.at (kinds tokens.old.rest.now)) result tokens.new.at tokens.new.rest.now }
+    ensures moves { IfOk result (λ _. length tokens.new.rest.now ≤ length tokens.old.rest.now) }
+{
+    if sees_base(tokens) {
+        let clause = clause(alloc, tokens, depth)?;
+        Ok(Some(clause))
+    } else {
+        Ok(None)
+    }
+}
+
+/// Reads slots and statements in parentheses.
+#[tactic(auto, unfolding(crate::specs::Classes::body))]
+fn body(
+    alloc: Global,
+    tokens: &mut Tokens<'_>,
+    depth: usize,
+    holder: Holder,
+) -> Result<(Option<Vec<Slot>>, Statements), ParseFault>
+    ensures reads { Reads body_view (spec.body (exprs.primary depth) holder tokens.old.at (kinds tokens.old.rest.now)) result tokens.new.at tokens.new.rest.now }
+    ensures moves { IfOk result (λ _. length tokens.new.rest.now < length tokens.old.rest.now) }
+{
+    skip(tokens, Mark::Open)?;
+    let slots = bars(alloc, tokens, depth, holder)?;
+    let body = statements(alloc, tokens, depth)?;
+    skip(tokens, Mark::Close)?;
+    Ok((slots, body))
+}
+
+/// Reads a method.
+#[tactic(auto, unfolding(crate::specs::Classes::method))]
+fn method(alloc: Global, tokens: &mut Tokens<'_>, depth: usize) -> Result<Method, ParseFault>
+    ensures reads { Reads method_of (spec.method (exprs.primary depth) tokens.old.at (kinds tokens.old.rest.now)) result tokens.new.at tokens.new.rest.now }
+    ensures moves { IfOk result (λ _. length tokens.new.rest.now < length tokens.old.rest.now) }
+{
+    let pattern = pattern(alloc, tokens)?;
+    skip(tokens, Mark::Equals)?;
+    let body = body(alloc, tokens, depth, Holder::Code)?;
+    Ok(make::method(pattern, body.0, body.1))
+}
+
+/// Reads a method as a member.
+fn method_member(alloc: Global, tokens: &mut Tokens<'_>, depth: usize) -> Result<What, ParseFault>
+    ensures reads { Reads what_of (spec.method_member (exprs.primary depth) tokens.old.at (kinds tokens.old.rest.now)) result tokens.new.at tokens.new.rest.now }
+    ensures moves { IfOk result (λ _. length tokens.new.rest.now < length tokens.old.rest.now) }
+{
+    let method = method(alloc, tokens, depth)?;
+    Ok(make::method_member(method))
+}
+
+/// Reads the name, the factory and the superclass clause of a class.
+#[tactic(auto, unfolding(crate::specs::Classes::head))]
+fn head(
+    alloc: Global,
+    tokens: &mut Tokens<'_>,
+    depth: usize,
+) -> Result<(Named, Option<Pattern>, Option<SuperClause>), ParseFault>
+    ensures reads { Reads head_view (spec.head (exprs.primary depth) tokens.old.at (kinds tokens.old.rest.now)) result tokens.new.at tokens.new.rest.now }
+    ensures moves { IfOk result (λ _. length tokens.new.rest.now < length tokens.old.rest.now) }
+{
+    skip(tokens, Mark::ClassWord)?;
+    let name = name(alloc, tokens, Sort::Ident)?;
+    let factory = factory(alloc, tokens)?;
+    skip(tokens, Mark::Equals)?;
+    let clause = maybe_clause(alloc, tokens, depth)?;
+    Ok((name, factory, clause))
+}
+
+/// Reads a class or a method of an instance side.
+#[cycle(classes)]
+#[tactic(auto, unfolding(crate::specs::Classes::what))]
+fn what(
+    alloc: Global,
+    tokens: &mut Tokens<'_>,
+    depth: usize,
+    nesting: usize,
+) -> Result<What, ParseFault>
+    ensures reads { Reads what_of (spec.what (exprs.primary depth) nesting tokens.old.at (kinds tokens.old.rest.now)) result tokens.new.at tokens.new.rest.now }
+    ensures moves { IfOk result (λ _. length tokens.new.rest.now < length tokens.old.rest.now) }
+{
+    if nesting == 0 {
+        let what = method_member(alloc, tokens, depth)?;
+        Ok(what)
+    } else {
+        let what = class_or_method(alloc, tokens, depth, nesting - 1)?;
+        Ok(what)
+    }
+}
+
+/// Reads a class within which so many may nest, or a method.
+#[cycle(classes)]
+#[tactic(auto, unfolding(crate::specs::Classes::class_or_method))]
+fn class_or_method(
+    alloc: Global,
+    tokens: &mut Tokens<'_>,
+    depth: usize,
+    nesting: usize,
+) -> Result<What, ParseFault>
+    ensures reads { Reads what_of (spec.class_or_method (exprs.primary depth) (spec.what (exprs.primary depth) nesting) tokens.old.at (kinds tokens.old.rest.now)) result tokens.new.at tokens.new.rest.now }
+    ensures moves { IfOk result (λ _. length tokens.new.rest.now < length tokens.old.rest.now) }
+{
+    if sees(tokens, Mark::ClassWord) {
+        let class = class(alloc, tokens, depth, nesting)?;
+        let what = make::class_member(alloc, class)?;
+        Ok(what)
+    } else {
+        let what = method_member(alloc, tokens, depth)?;
+        Ok(what)
+    }
+}
+
+/// Reads a class.
+#[cycle(classes)]
+#[tactic(auto, unfolding(crate::specs::Classes::class))]
+fn class(
+    alloc: Global,
+    tokens: &mut Tokens<'_>,
+    depth: usize,
+    nesting: usize,
+) -> Result<Class, ParseFault>
+    ensures reads { Reads class_of (spec.class (exprs.primary depth) (spec.what (exprs.primary depth) nesting) tokens.old.at (kinds tokens.old.rest.now)) result tokens.new.at tokens.new.rest.now }
+    ensures moves { IfOk result (λ _. length tokens.new.rest.now < length tokens.old.rest.now) }
+{
+    let (name, factory, clause) = head(alloc, tokens, depth)?;
+    let (slots, body) = body(alloc, tokens, depth, Holder::Object)?;
+    let side = side(alloc, tokens, depth, nesting, SideOf::Instance)?;
+    let class_side = class_side(alloc, tokens, depth, nesting)?;
+    Ok(make::class(
+        name, factory, clause, slots, body, side, class_side,
+    ))
+}
+
+/// Reads a colon and a class side, if they are there.
+#[cycle(classes)]
+#[tactic(auto, unfolding(crate::specs::Classes::class_side))]
+fn class_side(
+    alloc: Global,
+    tokens: &mut Tokens<'_>,
+    depth: usize,
+    nesting: usize,
+) -> Result<Option<Side>, ParseFault>
+    ensures reads { Reads class_side_of (spec.class_side (exprs.primary depth) (spec.what (exprs.primary depth) nesting) tokens.old.at (kinds tokens.old.rest.now)) result tokens.new.at tokens.new.rest.now }
+    ensures moves { IfOk result (λ _. length tokens.new.rest.now ≤ length tokens.old.rest.now) }
+{
+    if sees(tokens, Mark::Colon) {
+        skip(tokens, Mark::Colon)?;
+        let side = side(alloc, tokens, depth, nesting, SideOf::ClassObject)?;
+        Ok(Some(side))
+    } else {
+        Ok(None)
+    }
+}
+
+/// Reads a side of a class.
+#[cycle(classes)]
+#[tactic(auto, unfolding(crate::specs::Classes::side))]
+fn side(
+    alloc: Global,
+    tokens: &mut Tokens<'_>,
+    depth: usize,
+    nesting: usize,
+    side: SideOf,
+) -> Result<Side, ParseFault>
+    ensures reads { Reads side_of (spec.side (exprs.primary depth) (spec.what (exprs.primary depth) nesting) side tokens.old.at (kinds tokens.old.rest.now)) result tokens.new.at tokens.new.rest.now }
+    ensures moves { IfOk result (λ _. length tokens.new.rest.now < length tokens.old.rest.now) }
+{
+    skip(tokens, Mark::Open)?;
+    let members = members(alloc, tokens, depth, nesting, side)?;
+    skip(tokens, Mark::Close)?;
+    Ok(members)
+}
+
+/// Reads the members of a side with their categories, as many as there are, and the categories behind
+/// the last.
+#[cycle(classes)]
+fn members(
+    alloc: Global,
+    tokens: &mut Tokens<'_>,
+    depth: usize,
+    nesting: usize,
+    side: SideOf,
+) -> Result<Side, ParseFault>
+    ensures reads { Reads side_of (spec.members (exprs.primary depth) (spec.what (exprs.primary depth) nesting) side tokens.old.at (kinds tokens.old.rest.now)) result tokens.new.at tokens.new.rest.now }
+    ensures moves { IfOk result (λ _. length tokens.new.rest.now ≤ length tokens.old.rest.now) }
+{
+    let mut items = Vec::new(alloc);
+    let mut categories = strings(alloc, tokens)?;
+    'items: while sees_member(tokens, side) {
+        let (access, what) = member(alloc, tokens, depth, nesting, side)?;
+        let more = strings(alloc, tokens)?;
+        items.push(Member {
+            categories,
+            access,
+            what,
+        })?;
+        categories = more;
+    }
+    Ok(make::side(items, categories))
+}
+
+/// Reads a member, but for its categories.
+#[cycle(classes)]
+fn member(
+    alloc: Global,
+    tokens: &mut Tokens<'_>,
+    depth: usize,
+    nesting: usize,
+    side: SideOf,
+) -> Result<(Option<Access>, What), ParseFault>
+    ensures reads { Reads member_view (spec.member (exprs.primary depth) (spec.what (exprs.primary depth) nesting) side tokens.old.at (kinds tokens.old.rest.now)) result tokens.new.at tokens.new.rest.now }
+    ensures moves { IfOk result (λ _. length tokens.new.rest.now < length tokens.old.rest.now) }
+{
+    let access = access(tokens);
+    let what = what_of(alloc, tokens, depth, nesting, side)?;
+    Ok((access, what))
+}
+
+/// Reads what a member of that side is.
+#[cycle(classes)]
+fn what_of(
+    alloc: Global,
+    tokens: &mut Tokens<'_>,
+    depth: usize,
+    nesting: usize,
+    side: SideOf,
+) -> Result<What, ParseFault>
+    ensures reads { Reads what_of (spec.what_of (exprs.primary depth) (spec.what (exprs.primary depth) nesting) side tokens.old.at (kinds tokens.old.rest.now)) result tokens.new.at tokens.new.rest.now }
+    ensures moves { IfOk result (λ _. length tokens.new.rest.now < length tokens.old.rest.now) }
+{
+    match side {
+        SideOf::Instance => {
+            let what = what(alloc, tokens, depth, nesting)?;
+            Ok(what)
+        }
+        SideOf::ClassObject => {
+            let what = method_member(alloc, tokens, depth)?;
+            Ok(what)
+        }
+    }
+}
+
+/// Reads the category of a file, if there is one.
+fn category(alloc: Global, tokens: &mut Tokens<'_>) -> Result<Option<Text>, ParseFault>
+    ensures reads { Reads (λ text. text) (spec.category tokens.old.at (kinds tokens.old.rest.now)) result tokens.new.at tokens.new.rest.now }
+{
+    if sees_string(tokens) {
+        let text = string(alloc, tokens)?;
+        Ok(Some(text))
+    } else {
+        Ok(None)
+    }
+}
+
+/// Reads a file.
+#[tactic(auto, unfolding(crate::specs::Classes::file))]
+pub fn file(alloc: Global, tokens: &mut Tokens<'_>, depth: usize) -> Result<Unit, ParseFault>
+    ensures reads { Reads unit_of (spec.file depth tokens.old.at (kinds tokens.old.rest.now)) result tokens.new.at tokens.new.rest.now }
+{
+    let marker = skip_if(tokens, Mark::Newspeak3);
+    let category = category(alloc, tokens)?;
+    let class = class(alloc, tokens, depth, depth)?;
+    Ok(make::unit(marker, category, class))
+}

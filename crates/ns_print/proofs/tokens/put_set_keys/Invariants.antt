@@ -1,0 +1,7 @@
+use Rattle.std.proofs.Common.{◌≡◌, ◌++◌, drop, map}
+use Rattle.ns_print.specs.Printed.{lines}
+use Rattle.ns_tree.specs.Flat.{set_key}
+use Rattle.ns_print.proofs.tokens.put_set_keys.Given as goal
+
+abbrev pub invariant-loop-name : goal.invariant-loop-name
+invariant-loop-name l = l.out.items ++ lines (map set_key (drop l.name-index l.names)) ≡ l.fn.out.items ++ lines (map set_key l.names)

@@ -1,0 +1,9 @@
+//! The canonical source of a tree.
+#![tactic(auto)]
+
+mod declarations;
+mod expressions;
+pub mod print;
+#[cfg(test)]
+mod tests;
+mod tokens;
