@@ -103,8 +103,12 @@ abbrev pub has_no_bars : p.Bars → Bool
 has_no_bars p.no_bars = true
 has_no_bars (p.bars_around slots) = false
 
+-- no statement and no full stop
+abbrev pub is_nothing : p.StatementList → Bool → Bool
+is_nothing list stop = are_no_statements list && not stop
+
 abbrev pub has_no_statements : p.Statements → Bool
-has_no_statements (p.statements_with list stop) = are_no_statements list
+has_no_statements (p.statements_with list stop) = is_nothing list stop
 
 -- `main: PLATFORM args: ARGS`, where the parameters have different names
 abbrev pub is_main_pattern : p.Pattern → Bool

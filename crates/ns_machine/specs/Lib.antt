@@ -1,2 +1,3 @@
-pub mod Sends
 pub mod First
+pub mod FirstTokens
+pub mod Sends

@@ -52,7 +52,14 @@ fn has_no_bars(slots: &Option<Vec<Slot>>) -> bool
 fn has_no_statements(body: &Statements) -> bool
     ensures { result ≡ spec.has_no_statements (statements_of body.now) }
 {
-    are_no_statements(body.list.as_slice())
+    is_nothing(body.list.as_slice(), body.stop)
+}
+
+/// No statement and no full stop.
+fn is_nothing(list: &[Statement], stop: bool) -> bool
+    ensures { result ≡ spec.is_nothing (statement_list_of list.now) stop }
+{
+    are_no_statements(list) && !stop
 }
 
 fn are_no_statements(list: &[Statement]) -> bool
