@@ -13,4 +13,6 @@ pub mod status;
 pub mod stored;
 pub mod sure_shelf;
 pub mod sure_sink;
+#[cfg(test)]
+mod tests;
 pub mod text;
