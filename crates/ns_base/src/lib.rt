@@ -1,6 +1,7 @@
 //! What every crate speaks of: texts, places, limits, statuses, and the files and streams outside.
 #![tactic(auto)]
 
+pub mod items;
 pub mod limits;
 pub mod mem_shelf;
 pub mod mem_sink;

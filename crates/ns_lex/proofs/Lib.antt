@@ -1,3 +1,13 @@
+pub mod Cutting
 pub mod Digits
 pub mod Examples
+pub mod Faults
+pub mod Gaps
+pub mod Numbers
+pub mod Operators
+pub mod Pieces
+pub mod Singles
 pub mod Steps
+pub mod Strings
+pub mod Symbols
+pub mod Words

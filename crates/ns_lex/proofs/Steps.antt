@@ -9,7 +9,7 @@ use Rattle.ns_lex.specs.declared.piece.Cause.{Cause}
 use Rattle.ns_lex.specs.Fault.{fault_at}
 use Rattle.ns_lex.specs.Next.{next_piece}
 use Rattle.ns_lex.specs.Piece.{Moves, Text}
-use Rattle.ns_lex.specs.Scan.{Tokens, scan_from, before}
+use Rattle.ns_lex.specs.Scan.{Tokens, scan_from, before, InOrder}
 
 -- Skipping bytes is going on behind them.
 pub scan_skip : (n at : ℕ) (z : Text) → n ≤ length z → scan_from n at z ≡ scan_from 0 (at + n) (drop n z)
@@ -86,3 +86,17 @@ fault_loop s z at n cause p ts whole h here is fault inv = sym inv ∙ ap (befor
 -- the loop at its end
 pub end_loop : (s : Text) (at : ℕ) (ts : List Token) (whole : Tokens) → length s ≤ at → before ts (scan_from 0 at (drop at s)) ≡ whole → whole ≡ Ok ts
 end_loop s at ts whole h inv = sym inv ∙ ap (λ z. before ts (scan_from 0 at z)) (drop_all at s h) ∙ ap (before ts) (ends at) ∙ ap Ok (append-nil ts)
+
+-- Tokens that end before a place end before a later one.
+pub later : (from to more : ℕ) (ts : List Token) → to ≤ more → InOrder from to ts → InOrder from more ts
+later from to more [] h o = omega (arith, o)
+later from to more (t ∷ ts) h o = (o.0, o.1, later t.«end» to more ts h o.2)
+
+-- one token more
+pub one_more : (from to more : ℕ) (ts : List Token) (t : Token) → InOrder from to ts → to ≤ t.start → t.start < t.«end» → t.«end» ≤ more → InOrder from more (ts ++ t ∷ [])
+one_more from to more [] t o low some high = (omega (arith, o), some, high)
+one_more from to more (s ∷ ts) t o low some high = (o.0, o.1, one_more s.«end» to more ts t o.2 low some high)
+
+-- A token takes a byte at least.
+pub token_grows : (len at : ℕ) (p : Piece) (kind : Kind) (n : ℕ) → p ≡ piece.Token kind n → Moves len p → at < at + n
+token_grows len at p kind n is moves = let m : Moves len (piece.Token kind n) = subst (Moves len) is moves in omega (arith, m.0)

@@ -8,11 +8,10 @@ use Rattle.ns_lex.specs.declared.piece.Piece.{Piece}
 use Rattle.ns_lex.specs.declared.piece.Piece.TheVariants.{Token}
 use Rattle.ns_lex.specs.Piece.{Text}
 
--- how long the operator at the front is: the run of its characters, or the two of `<:` where the run is `<` alone
+-- how long the operator at the front is: the two of `<:`, else the run of its characters
 unfoldable pub operator_len : Text → ℕ
 operator_len z =
-    let n = prefix_len (is_in class.Operator) z in
-    if n == 1 && slice_index z 0 == 60 && slice_index z 1 == 58 then 2 else n
+    if slice_index z 0 == 60 && slice_index z 1 == 58 then 2 else prefix_len (is_in class.Operator) z
 
 -- the operator at the front
 unfoldable pub operator : Text → Piece

@@ -1,5 +1,5 @@
 -- The tokens of a source, or its first fault: a piece after a piece.
-use Rattle.std.specs.Prelude.{ℕ, zero, suc, ◌+◌, ◌-◌, List, [], ◌∷◌, ◌++◌, Result, Ok, Err}
+use Rattle.std.specs.Prelude.{ℕ, zero, suc, ◌+◌, ◌-◌, ◌≤◌, ◌<◌, List, [], ◌∷◌, ◌++◌, Result, Ok, Err}
 use Rattle.ns_tree.specs.declared.token.Token.{Token}
 use Rattle.ns_lex.specs.declared.piece.Piece.{Piece}
 use Rattle.ns_lex.specs.declared.piece.Piece.TheVariants as piece
@@ -31,3 +31,8 @@ scan_from (suc skip) at (b ∷ z) = scan_from skip (at + 1) z
 -- the tokens of a source, or its first fault
 abbrev pub scan : Text → Tokens
 scan = scan_from 0 0
+
+-- The tokens stand one behind the other, none of them empty, from one place up to another.
+abbrev pub InOrder : ℕ → ℕ → List Token → Type 0
+InOrder from to [] = from ≤ to
+InOrder from to (t ∷ ts) = (from ≤ t.start) × (t.start < t.«end») × InOrder t.«end» to ts

@@ -19,11 +19,10 @@ pub fn operator_len(text: &[u8]) -> usize
     ensures within { result ≤ length text.now }
     ensures moves { bytes.is_operator (slice_index text.now 0) ≡ true → 0 < result }
 {
-    let n = run(ByteClass::Operator, text);
-    if n == 1 && byte(text, 0) == b'<' && byte(text, 1) == b':' {
+    if byte(text, 0) == b'<' && byte(text, 1) == b':' {
         2
     } else {
-        n
+        run(ByteClass::Operator, text)
     }
 }
 

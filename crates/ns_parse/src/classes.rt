@@ -103,11 +103,7 @@ fn over(alloc: Global, tokens: &mut Tokens<'_>) -> Result<Option<Base>, ParseFau
 
 /// Reads a superclass clause.
 #[tactic(auto, unfolding(crate::specs::Classes::clause))]
-fn clause(
-    alloc: Global,
-    tokens: &mut Tokens<'_>,
-    depth: usize,
-) -> Result<SuperClause, ParseFault>
+fn clause(alloc: Global, tokens: &mut Tokens<'_>, depth: usize) -> Result<SuperClause, ParseFault>
     ensures reads { Reads clause_of (spec.clause (exprs.primary depth) tokens.old.at (kinds tokens.old.rest.now)) result tokens.new.at tokens.new.rest.now }
     ensures moves { IfOk result (λ _. length tokens.new.rest.now ≤ length tokens.old.rest.now) }
 {
@@ -250,9 +246,7 @@ fn class(
     let (slots, body) = body(alloc, tokens, depth, Holder::Object)?;
     let side = side(alloc, tokens, depth, nesting, SideOf::Instance)?;
     let class_side = class_side(alloc, tokens, depth, nesting)?;
-    Ok(make::class(
-        name, factory, clause, slots, body, side, class_side,
-    ))
+    Ok(make::class(name, factory, clause, slots, body, side, class_side))
 }
 
 /// Reads a colon and a class side, if they are there.

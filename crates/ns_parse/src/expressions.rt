@@ -137,11 +137,7 @@ fn primary(alloc: Global, tokens: &mut Tokens<'_>, depth: usize) -> Result<Prima
 /// Reads a primary within whose brackets so many may open.
 #[cycle(exprs)]
 #[tactic(auto, unfolding(crate::specs::Expressions::any_primary))]
-fn any_primary(
-    alloc: Global,
-    tokens: &mut Tokens<'_>,
-    depth: usize,
-) -> Result<Primary, ParseFault>
+fn any_primary(alloc: Global, tokens: &mut Tokens<'_>, depth: usize) -> Result<Primary, ParseFault>
     ensures reads { Reads primary_of (spec.any_primary (spec.primary depth) tokens.old.at (kinds tokens.old.rest.now)) result tokens.new.at tokens.new.rest.now }
     ensures moves { IfOk result (λ _. length tokens.new.rest.now < length tokens.old.rest.now) }
 {
@@ -470,11 +466,7 @@ pub fn bars(
 /// Reads a statement.
 #[cycle(exprs)]
 #[tactic(auto, unfolding(crate::specs::Expressions::statement))]
-fn statement(
-    alloc: Global,
-    tokens: &mut Tokens<'_>,
-    depth: usize,
-) -> Result<Statement, ParseFault>
+fn statement(alloc: Global, tokens: &mut Tokens<'_>, depth: usize) -> Result<Statement, ParseFault>
     ensures reads { Reads statement_of (spec.statement (spec.primary depth) tokens.old.at (kinds tokens.old.rest.now)) result tokens.new.at tokens.new.rest.now }
     ensures moves { IfOk result (λ _. length tokens.new.rest.now < length tokens.old.rest.now) }
 {
@@ -507,11 +499,7 @@ pub fn statements(
 
 /// Reads the elements of a tuple, as many as there are.
 #[cycle(exprs)]
-fn tuple_items(
-    alloc: Global,
-    tokens: &mut Tokens<'_>,
-    depth: usize,
-) -> Result<Primary, ParseFault>
+fn tuple_items(alloc: Global, tokens: &mut Tokens<'_>, depth: usize) -> Result<Primary, ParseFault>
     ensures reads { Reads primary_of (spec.tuple_items (spec.primary depth) tokens.old.at (kinds tokens.old.rest.now)) result tokens.new.at tokens.new.rest.now }
     ensures moves { IfOk result (λ _. length tokens.new.rest.now ≤ length tokens.old.rest.now) }
 {

@@ -172,11 +172,7 @@ fn is_simple(kind: &Kind) -> bool
         Kind::Symbol(_) => true,
         Kind::Word(word) => matches!(
             word,
-            Reserved::Nil
-                | Reserved::True
-                | Reserved::False
-                | Reserved::SelfWord
-                | Reserved::Super
+            Reserved::Nil | Reserved::True | Reserved::False | Reserved::SelfWord | Reserved::Super
         ),
         _ => false,
     }

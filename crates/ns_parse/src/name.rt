@@ -102,11 +102,7 @@ pub fn name(alloc: Global, tokens: &mut Tokens<'_>, sort: Sort) -> Result<Named,
 }
 
 /// Reads tokens of that sort, as many as there are.
-pub fn names(
-    alloc: Global,
-    tokens: &mut Tokens<'_>,
-    sort: Sort,
-) -> Result<Vec<Named>, ParseFault>
+pub fn names(alloc: Global, tokens: &mut Tokens<'_>, sort: Sort) -> Result<Vec<Named>, ParseFault>
     ensures reads { Reads (λ names. names.items) (spec.names sort tokens.old.at (kinds tokens.old.rest.now)) result tokens.new.at tokens.new.rest.now }
     ensures moves { IfOk result (λ _. length tokens.new.rest.now ≤ length tokens.old.rest.now) }
 {

@@ -1,3 +1,11 @@
-pub mod Rows
-pub mod Nodes
 mod Examples
+pub mod FileFlats
+pub mod FileFronts
+pub mod Flats
+pub mod Fronts
+pub mod GrammarFronts
+pub mod ListedFronts
+pub mod Made
+pub mod Nodes
+pub mod Rows
+pub mod TreeFronts

@@ -125,12 +125,20 @@ abbrev pub operator_form : Named → Named → List Named → List Named → Opt
 operator_form part param [] [] = Some (inr (inl (part, param)))
 operator_form part param parts params = None
 
-abbrev pub pattern_form : p.Pattern → Option (Named ⊎ ((Named × Named) ⊎ ParamsForm))
-pattern_form (p.pattern_with [] params) = None
-pattern_form (p.pattern_with (part ∷ []) []) = Some (inl part)
-pattern_form (p.pattern_with (part ∷ other ∷ parts) []) = None
-pattern_form (p.pattern_with (part ∷ parts) (param ∷ params)) =
+-- a name alone
+abbrev pub name_form : List Named → Option (Named ⊎ ((Named × Named) ⊎ ParamsForm))
+name_form (part ∷ []) = Some (inl part)
+name_form parts = None
+
+-- an operator or keys, with a parameter and more
+abbrev pub params_form : List Named → Named → List Named → Option (Named ⊎ ((Named × Named) ⊎ ParamsForm))
+params_form [] param params = None
+params_form (part ∷ parts) param params =
     if starts_name part.text then option_map (λ pairs. inr (inr ((part, param), pairs))) (paired parts params) else operator_form part param parts params
+
+abbrev pub pattern_form : p.Pattern → Option (Named ⊎ ((Named × Named) ⊎ ParamsForm))
+pattern_form (p.pattern_with parts []) = name_form parts
+pattern_form (p.pattern_with parts (param ∷ params)) = params_form parts param params
 
 -- a factory is no operator
 abbrev pub no_operator : Named ⊎ ((Named × Named) ⊎ ParamsForm) → Option (Named ⊎ ParamsForm)

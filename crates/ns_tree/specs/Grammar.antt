@@ -10,6 +10,7 @@ use Rattle.ns_tree.specs.declared.tree.Named.{Named}
 use Rattle.ns_tree.specs.declared.tree.Access.{Access}
 use Rattle.ns_tree.specs.declared.tree.Access.TheVariants as a
 use Rattle.ns_tree.specs.declared.tree.Base.{Base}
+use Rattle.ns_tree.specs.Bytes.{starts_name}
 use Rattle.ns_tree.specs.Flat.{bar, equals, over_sign, access_word}
 use Rattle.ns_tree.specs.Forms.{Leaf, leaf_of, Bracketed, KeysForm}
 use Rattle.ns_tree.specs.Forms.{primary_form, block_form, un_form, bin_form, key_expr_form, message_form, expr_form}
@@ -59,6 +60,21 @@ make_slot_oper n _ = None
 
 abbrev pub slot_oper : Rule Named
 slot_oper = one make_slot_oper (λ name. k.Oper name.text)
+
+-- in a pattern a key begins as a name does, and an operator doesn't: so its text says which of the two a part is
+abbrev pub make_part_key : ℕ → Kind → Option Named
+make_part_key n (k.Key text) = if starts_name text then Some (named n text) else None
+make_part_key n _ = None
+
+abbrev pub part_key : Rule Named
+part_key = one make_part_key (λ name. k.Key name.text)
+
+abbrev pub make_part_oper : ℕ → Kind → Option Named
+make_part_oper n (k.Oper text) = if starts_name text then None else Some (named n text)
+make_part_oper n _ = None
+
+abbrev pub part_oper : Rule Named
+part_oper = one make_part_oper (λ name. k.Oper name.text)
 
 abbrev pub make_string : ℕ → Kind → Option (List ℕ)
 make_string n (k.Str text) = Some text
@@ -199,10 +215,10 @@ primary (suc depth) = mapped primary_form (either leaf (bracketed (primary depth
 -- ---- declarations, over the primaries of their expressions
 
 abbrev pub pattern : Rule p.Pattern
-pattern = mapped pattern_form (either ident (either (oper & ident) (once_or_more (key & ident))))
+pattern = mapped pattern_form (either ident (either (part_oper & ident) (once_or_more (part_key & ident))))
 
 abbrev pub factory : Rule p.Pattern
-factory = mapped factory_form (either ident (once_or_more (key & ident)))
+factory = mapped factory_form (either ident (once_or_more (part_key & ident)))
 
 abbrev pub base : Rule Base
 base = mapped base_form (either ident (either (k.Word r.Super ▸ ident) (k.Word r.Outer ▸ (ident & ident))))

@@ -4,6 +4,7 @@ pub mod Flat
 pub mod Forms
 pub mod Grammar
 pub mod Lists
+pub mod Made
 pub mod Plain
 pub mod PlainOf
 pub mod Rule

@@ -46,3 +46,10 @@ pub record Front (kinds : List Kind) : Type 0 where
   pub depth : ℕ
   pub front : (file depth).Front 0 kinds
   pub told : AllHaveText kinds
+
+-- The kinds begin the tokens of some tree.
+pub record BeginsTree (kinds : List Kind) : Type 0 where
+  pub unit : p.SourceUnit
+  pub rest : List Kind
+  pub tree : Tree unit
+  pub begins : flat unit ≡ kinds ++ rest

@@ -2,6 +2,7 @@
 #![tactic(auto)]
 
 pub mod deep;
+pub mod laws;
 pub mod make;
 #[cfg(test)]
 mod tests;

@@ -12,12 +12,12 @@ use Rattle.ns_parse.proofs.classes.+classes.Goals as goal
 pub members-items-preserved : goal.members-items-preserved
 members-items-preserved t c =
     labels_on strings (x.starts_member c.args.side) (x.member (primary c.args.depth) (x.what (primary c.args.depth) c.args.nesting) c.args.side) (map member_pair c.items.items.items) (map member_pair c.push.new.self.items)
-      c.items.categories.items c.items.tokens.at c.items.tokens.rest.now _ _ _ (member_view (c.in_ok-access.access, c.in_ok-access.what)) c.member.new.tokens.at c.member.new.tokens.rest.now c.in_ok-more.more.items c.strings-in-items.new.tokens.at c.strings-in-items.new.tokens.rest.now
-      c.items.invariant (sym c.sees_member.ensures ∙ c.items-test.true) c.in_ok-access.ensures.reads c.in_ok-access.ensures.moves c.in_ok-more.ensures.reads c.in_ok-more.ensures.moves
-      (ap (map member_pair) c.in_ok-push.ensures.items ∙ map-append member_pair c.items.items.items (record { categories = c.items.categories; access = c.in_ok-access.access; what = c.in_ok-access.what } ∷ []))
+    c.items.categories.items c.items.tokens.at c.items.tokens.rest.now _ _ _ (member_view (c.in_ok-access.access, c.in_ok-access.what)) c.member.new.tokens.at c.member.new.tokens.rest.now c.in_ok-more.more.items c.strings-in-items.new.tokens.at c.strings-in-items.new.tokens.rest.now
+    c.items.invariant (sym c.sees_member.ensures ∙ c.items-test.true) c.in_ok-access.ensures.reads c.in_ok-access.ensures.moves c.in_ok-more.ensures.reads c.in_ok-more.ensures.moves
+    (ap (map member_pair) c.in_ok-push.ensures.items ∙ map-append member_pair c.items.items.items (record { categories = c.items.categories; access = c.in_ok-access.access; what = c.in_ok-access.what } ∷ []))
 
 pub members-returns-clause-reads : goal.members-returns-clause-reads
 members-returns-clause-reads t c =
     labels_end strings (x.starts_member c.args.side) (x.member (primary c.args.depth) (x.what (primary c.args.depth) c.args.nesting) c.args.side) x.side_from (map member_pair c.items.items.items)
-      c.items.categories.items c.items.tokens.at c.items.tokens.rest.now _ _ _ c.args.tokens.now.at (kinds c.args.tokens.now.rest.now) (side_of c.side.result)
-      c.in_ok-categories.ensures.reads c.items.invariant (sym c.sees_member.ensures ∙ c.items-test.false) (c.side.ensures ∙ side_same c.items.items.items c.items.categories.items)
+    c.items.categories.items c.items.tokens.at c.items.tokens.rest.now _ _ _ c.args.tokens.now.at (kinds c.args.tokens.now.rest.now) (side_of c.side.result)
+    c.in_ok-categories.ensures.reads c.items.invariant (sym c.sees_member.ensures ∙ c.items-test.false) (c.side.ensures ∙ side_same c.items.items.items c.items.categories.items)

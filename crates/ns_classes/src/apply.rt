@@ -1,0 +1,93 @@
+//! Making a class: the checks of its superclass in their order, then the charge.
+
+ghost use Rattle.std.specs.Prelude.{◌≡◌, ℕ, ◌≤◌, true, IsTrue, IsSome};
+ghost use Rattle.ns_world.specs.Cell.{ClassCell};
+ghost use Rattle.ns_world.specs.Heap.{find_cell, is_class, is_superclass, chain_of};
+ghost use Rattle.ns_world.specs.Lawful.{IsLive, IsLawful};
+ghost use Rattle.ns_classes.specs.Apply.{AppliesClass, class_fault, declared_fault, chain_fault, kernel_fault, is_object, Checks};
+ghost use Rattle.ns_world.specs.declared.value.Value.TheVariants.{Ref};
+
+use ns_code::program::CodeProgram;
+use ns_world::cell::NewCell;
+use ns_world::value::{KClass, Value};
+use ns_world::world::World;
+
+/// Why a class isn't made, in the order in which the causes are tried: its superclass is no class,
+/// or a kernel class other than Object; its chain would have 257 declared classes; its cell doesn't
+/// fit.
+#[derive(Clone, Copy, Debug, PartialEq, Eq)]
+pub enum MakeFault {
+    NotAClass,
+    KernelSuper,
+    ChainLimit,
+    CellLimit,
+}
+
+/// A new class of a declaration over a superclass. After a fault nothing has changed. Takes no
+/// memory.
+pub fn apply(
+    world: &mut World,
+    code: &CodeProgram,
+    decl: u32,
+    encl: Value,
+    holder: Value,
+    over: Value,
+) -> Result<u32, MakeFault>
+    requires lawful { IsLawful world.old.world code.now }
+    requires live { IsLive world.old.world.cells code.now over }
+    requires room { world.old.world.limits.cells ≤ world.old.cell_room }
+    ensures { AppliesClass (class_fault world.old.world.cells over) world.old (ClassCell decl encl holder over) result world.new }
+{
+    check_superclass(world, over)?;
+    match world.make(NewCell::Class {
+        decl,
+        encl,
+        holder,
+        over,
+    }) {
+        Ok(number) => Ok(number),
+        Err(_) => Err(MakeFault::CellLimit),
+    }
+}
+
+/// Whether a class can be made over this value.
+fn check_superclass(world: &World, over: Value) -> Result<(), MakeFault>
+    requires { (at : ℕ) → over ≡ Ref at → IsSome (find_cell world.now.world.cells at) }
+    ensures { Checks (class_fault world.now.world.cells over) (is_superclass world.now.world.cells over) result }
+{
+    match over {
+        Value::Kernel(class) => check_kernel(class),
+        Value::Ref(at) => check_declared(world, at),
+        _ => Err(MakeFault::NotAClass),
+    }
+}
+
+fn check_kernel(class: KClass) -> Result<(), MakeFault>
+    ensures { Checks (kernel_fault class) (is_object class) result }
+{
+    match class {
+        KClass::Object => Ok(()),
+        KClass::Array => Err(MakeFault::KernelSuper),
+    }
+}
+
+fn check_declared(world: &World, at: u32) -> Result<(), MakeFault>
+    requires { IsSome (find_cell world.now.world.cells at) }
+    ensures { Checks (declared_fault world.now.world.cells at) (is_class (find_cell world.now.world.cells at)) result }
+{
+    if world.is_class(at) {
+        check_chain(world, at)
+    } else {
+        Err(MakeFault::NotAClass)
+    }
+}
+
+fn check_chain(world: &World, class: u32) -> Result<(), MakeFault>
+    requires { IsTrue (is_class (find_cell world.now.world.cells class)) }
+    ensures { Checks (chain_fault (chain_of world.now.world.cells class)) true result }
+{
+    match world.chain(class, 255) {
+        Some(_) => Err(MakeFault::ChainLimit),
+        None => Ok(()),
+    }
+}

@@ -1,0 +1,5 @@
+pub mod Own
+pub mod Spelling
+pub mod Selector
+pub mod Fits
+pub mod Soundness

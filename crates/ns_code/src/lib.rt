@@ -1,0 +1,11 @@
+//! Code for the machine: instructions, bodies, class records, and the program that holds them.
+#![tactic(auto)]
+
+pub mod body;
+pub mod class;
+pub mod instruction;
+pub mod own;
+pub mod program;
+pub mod selector;
+#[cfg(test)]
+mod tests;

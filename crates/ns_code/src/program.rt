@@ -1,0 +1,17 @@
+//! A program in code.
+
+use crate::body::BodyCode;
+use crate::class::ClassCode;
+use ns_base::items::Items;
+use ns_base::text::Text;
+
+/// A program: the names of its files, its names and literal texts, its class declarations and
+/// its bodies. Each is known by its number in its list.
+#[derive(Drop)]
+pub struct CodeProgram {
+    pub files: Items<Text>,
+    pub names: Items<Text>,
+    pub texts: Items<Text>,
+    pub classes: Items<ClassCode>,
+    pub bodies: Items<BodyCode>,
+}

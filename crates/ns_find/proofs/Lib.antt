@@ -1,0 +1,6 @@
+pub mod RowSearch
+pub mod Colon
+pub mod Parts
+pub mod Keeping
+pub mod Staying
+pub mod Later

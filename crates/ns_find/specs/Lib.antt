@@ -1,0 +1,4 @@
+pub mod Members
+pub mod Rows
+pub mod Find
+pub mod Memo

@@ -1,0 +1,12 @@
+//! Looking a selector up.
+#![tactic(auto)]
+
+pub mod find;
+pub mod found;
+mod kernel;
+pub mod laws;
+mod members;
+pub mod memo;
+mod rows;
+#[cfg(test)]
+mod tests;

@@ -1,0 +1,180 @@
+//! Kept lookups: 1,024 places, each with a lookup and its answer, or nothing.
+
+ghost use Rattle.std.specs.Prelude.{◌≡◌, ◌<◌, All, Some, IsTrue, IfOk, IfSome, slice_set};
+ghost use Rattle.ns_world.specs.Lawful.{IsLawful};
+ghost use Rattle.ns_find.specs.Find.{found_from, is_start};
+ghost use Rattle.ns_find.specs.Memo.{IsEmpty, IsRight, IsKept};
+
+use crate::find::find;
+use crate::found::{Found, Sending};
+use ns_base::no_memory::NoMemory;
+use ns_base::selector::Sel;
+use ns_code::program::CodeProgram;
+use ns_world::kernel::{KernelRow, Start};
+use ns_world::world::World;
+use std::alloc::Global;
+use std::marker::Model;
+
+/// How many lookups are kept at most.
+const PLACES: usize = 1024;
+
+/// A lookup and its answer.
+#[derive(Clone, Copy)]
+pub struct Kept {
+    pub start: Start,
+    pub sel: Sel,
+    pub kind: Sending,
+    pub found: Found,
+}
+
+/// Lookups that were made. A clause sees the list of its places.
+#[derive(Drop)]
+pub struct Memo {
+    places: Vec<Option<Kept>>,
+}
+
+impl Model for Memo {
+    ghost use Rattle.std.specs.Prelude.{◌≡◌, List, Option, length};
+    ghost use Rattle.ns_find.specs.declared.memo.Kept.{Kept};
+
+    ghost Value = { List (Option Kept) };
+
+    ghost view = { λ m. m.places.items };
+
+    ghost invariant = { λ m. length m.places.items ≡ 1024 };
+}
+
+impl Memo {
+    /// A memo that keeps nothing.
+    pub fn new(alloc: Global) -> Result<Memo, NoMemory>
+        ensures { IfOk result (λ m. All IsEmpty m) }
+    {
+        let mut places = Vec::with_capacity(alloc, PLACES)?;
+        'places: for _ in 0..PLACES {
+            places.push(None)?;
+        }
+        Ok(Memo { places })
+    }
+
+    /// Forgets what it keeps.
+    pub fn clear(&mut self)
+        ensures { All IsEmpty self.new }
+    {
+        'places: for place in 0..PLACES {
+            self.places[place] = None;
+        }
+    }
+
+    /// The answer that is kept at a place for a lookup, if it is this lookup that is kept there.
+    fn kept(&self, place: usize, start: Start, sel: Sel, kind: Sending) -> Option<Found>
+        requires { place < 1024 }
+        ensures { IfSome result (λ found. IsKept self.now (record { start = start; sel = sel; kind = kind; found = found })) }
+    {
+        match self.places[place] {
+            Some(kept) => answer_of(kept, start, sel, kind),
+            None => None,
+        }
+    }
+
+    /// Keeps a lookup at a place.
+    fn keep(&mut self, place: usize, kept: Kept)
+        requires { place < 1024 }
+        ensures { self.new ≡ slice_set self.old place (Some kept) }
+    {
+        self.places[place] = Some(kept);
+    }
+}
+
+/// What `find` answers, from the place of this lookup where it is kept there; else it is made and
+/// kept. Takes no memory.
+pub fn find_kept(
+    world: &World,
+    code: &CodeProgram,
+    memo: &mut Memo,
+    start: Start,
+    sel: Sel,
+    kind: Sending,
+) -> Found
+    requires lawful { IsLawful world.now.world code.now }
+    requires start { IsTrue (is_start world.now.world.cells start) }
+    requires kept { All (IsRight world.now.world.cells code.now) memo.old }
+    ensures found { result ≡ found_from world.now.world.cells code.now start sel.0 kind }
+    ensures keeps { All (IsRight world.now.world.cells code.now) memo.new }
+{
+    let place = place_of(start, sel, kind);
+    match memo.kept(place, start, sel, kind) {
+        Some(found) => found,
+        None => {
+            let found = find(world, code, start, sel, kind);
+            memo.keep(
+                place,
+                Kept {
+                    start,
+                    sel,
+                    kind,
+                    found,
+                },
+            );
+            found
+        }
+    }
+}
+
+/// The answer of a lookup that is kept, if it is this lookup.
+fn answer_of(kept: Kept, start: Start, sel: Sel, kind: Sending) -> Option<Found>
+    ensures { IfSome result (λ found. kept ≡ record { start = start; sel = sel; kind = kind; found = found }) }
+{
+    if kept.start == start && kept.sel.0 == sel.0 && kept.kind == kind {
+        return Some(kept.found);
+    }
+    None
+}
+
+/// The place of a lookup, by its start, its selector and its kind.
+fn place_of(start: Start, sel: Sel, kind: Sending) -> usize
+    ensures { result < 1024 }
+{
+    let key = start_key(start)
+        .wrapping_mul(37)
+        .wrapping_add(sel.0.wrapping_mul(101));
+    (key.wrapping_add(kind_key(kind)) % 1024) as usize
+}
+
+fn kind_key(kind: Sending) -> u32 {
+    match kind {
+        Sending::Plain => 0,
+        Sending::Inner => 1,
+    }
+}
+
+fn start_key(start: Start) -> u32 {
+    match start {
+        Start::Instance(class) => class,
+        Start::ClassSide { class, .. } => class.wrapping_add(1),
+        Start::Kernel(row) => row_key(row),
+    }
+}
+
+fn row_key(row: KernelRow) -> u32 {
+    match row {
+        KernelRow::Object => 2,
+        KernelRow::ObjectClass => 5,
+        KernelRow::ArrayClass => 9,
+        KernelRow::Class => 14,
+        KernelRow::UndefinedObject => 20,
+        KernelRow::Boolean => 27,
+        KernelRow::Integer => 35,
+        KernelRow::String => 44,
+        KernelRow::Symbol => 54,
+        KernelRow::Array => 65,
+        KernelRow::Block => 77,
+        KernelRow::Manifest => 90,
+        KernelRow::Platform => 104,
+        KernelRow::Kernel => 119,
+        KernelRow::Console => 135,
+        KernelRow::Board => 152,
+        KernelRow::Mirrors => 170,
+        KernelRow::Mirror => 189,
+        KernelRow::Message => 209,
+    }
+}

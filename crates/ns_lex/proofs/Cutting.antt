@@ -1,0 +1,107 @@
+-- The tokens of a scan cut the source.
+use Rattle.std.proofs.Common.{◌≡◌, ℕ, zero, suc, ◌+◌, ◌-◌, ◌≤◌, ◌<◌, List, [], ◌∷◌, ◌++◌, Result, Ok, Err, inl, inr, length, take, drop, refl, sym, ap, subst, ◌∙◌, append_assoc, length-append, length-drop, arith}
+use Rattle.std.proofs.lemmas.List.{take-append-drop}
+use Rattle.ns_tree.specs.declared.token.Token.{Token}
+use Rattle.ns_tree.specs.declared.token.Kind.{Kind}
+use Rattle.ns_lex.specs.declared.piece.Piece.{Piece}
+use Rattle.ns_lex.specs.declared.piece.Piece.TheVariants as piece
+use Rattle.ns_lex.specs.declared.piece.Cause.{Cause}
+use Rattle.ns_lex.specs.declared.fault.LexFault.{LexFault}
+use Rattle.ns_lex.specs.Fault.{fault_at}
+use Rattle.ns_lex.specs.Next.{next_piece}
+use Rattle.ns_lex.specs.Piece.{Text}
+use Rattle.ns_lex.specs.Scan.{Tokens, scan, scan_from, before}
+use Rattle.ns_lex.specs.Gap.{IsGap, IsGapPart, BeginsNoGap}
+use Rattle.ns_lex.specs.Lexes.{Cuts, Lexes, BeginsNoFault, IsNext}
+use Rattle.ns_lex.proofs.Steps.{gap_goes, token_goes, fault_goes, ends}
+use Rattle.ns_lex.proofs.Words.{IsToken, length_taken}
+use Rattle.ns_lex.proofs.Gaps.{IsPart}
+use Rattle.ns_lex.proofs.Pieces.{next_gap, next_token, IsFirst}
+
+-- a part of a gap before a gap
+gap_more : (p g : Text) → IsGapPart p → IsGap g → IsGap (p ++ g)
+gap_more p g h (ps, x) = (p ∷ ps, (h, (g, refl, x)))
+
+-- tokens from a place on, from another that is equal to it
+at_place : (at to : ℕ) (z : Text) (ts : List Token) (behind : ℕ) (rest : Text) → at ≡ to → Cuts at z ts behind rest → Cuts to z ts behind rest
+at_place at to z ts behind rest e x = subst (λ i. Cuts i z ts behind rest) e x
+
+-- A part of a gap may stand before.
+pub cuts_gap : (at n : ℕ) (z : Text) (ts : List Token) (behind : ℕ) (rest : Text) → IsPart z n → Cuts (at + n) (drop n z) ts behind rest → Cuts at z ts behind rest
+cuts_gap at n z [] behind rest part (g, gap, cut, none, place) =
+    let size : length (take n z) ≡ n = length_taken z n part.size in
+    (take n z ++ g, gap_more (take n z) g part.part gap, sym (take-append-drop n z) ∙ ap (λ w. take n z ++ w) cut ∙ sym (append_assoc (take n z) g rest), none,
+     omega (arith, place, size, length-append (take n z) g))
+cuts_gap at n z (t ∷ ts) behind rest part (g, w, q, gap, cut, none, fault, next, start, end_at, more) =
+    let size : length (take n z) ≡ n = length_taken z n part.size in
+    let long : length (take n z ++ g) ≡ n + length g = omega (arith, size, length-append (take n z) g) in
+    (take n z ++ g, w, q, gap_more (take n z) g part.part gap, sym (take-append-drop n z) ∙ ap (λ v. take n z ++ v) cut ∙ sym (append_assoc (take n z) g (w ++ q)), none, fault, next,
+     omega (arith, start, long), omega (arith, end_at, long), at_place (at + n + length g + length w) (at + length (take n z ++ g) + length w) q ts behind rest (omega (arith, long)) more)
+
+abbrev token_of : Kind → ℕ → ℕ → Token
+token_of kind at n = record { kind = kind; start = at; «end» = at + n }
+
+-- A token may stand before.
+pub cuts_token : (at n : ℕ) (z : Text) (kind : Kind) (ts : List Token) (behind : ℕ) (rest : Text) → IsFirst z kind n → Cuts (at + n) (drop n z) ts behind rest → Cuts at z (token_of kind at n ∷ ts) behind rest
+cuts_token at n z kind ts behind rest x more =
+    let size : length (take n z) ≡ n = length_taken z n x.token.size in
+    let whole : z ≡ take n z ++ drop n z = sym (take-append-drop n z) in
+    ([], take n z, drop n z, ([], refl), whole, subst BeginsNoGap whole x.gap, subst BeginsNoFault whole x.fault, x.token.next,
+     omega arith, omega (arith, size), at_place (at + n) (at + 0 + length (take n z)) (drop n z) ts behind rest (omega (arith, size)) more)
+
+no_part_of : IsGapPart [] → ⊥
+no_part_of (inl (b, h, e)) = absurd cc
+no_part_of (inr (inl (i, m, e))) = absurd cc
+no_part_of (inr (inr (s, h, e))) = absurd cc
+
+abbrev ok_of : List Token → Tokens
+ok_of ts = Ok ts
+
+same_ok : (ts us : List Token) → ok_of ts ≡ ok_of us → ts ≡ us
+same_ok ts us e = cc
+
+no_part : (p : Text) → [] ≡ p → IsGapPart p → ⊥
+no_part p e h = no_part_of (subst IsGapPart (sym e) h)
+
+nothing : BeginsNoGap []
+nothing [] q cut x = no_part [] refl x
+nothing (b ∷ p) q cut x = absurd cc
+
+-- the tokens behind a first one
+before_ok : (t : Token) (r : Tokens) (ts : List Token) → before (t ∷ []) r ≡ Ok ts → (us : List Token) × (r ≡ Ok us) × (ts ≡ t ∷ us)
+before_ok t (Ok us) ts e = (us, refl, sym (let f : t ∷ us ≡ ts = cc in f))
+before_ok t (Err e) ts f = absurd cc
+
+longer : (z : Text) (n l : ℕ) → 0 < n → n ≤ length z → length z ≤ suc l → length (drop n z) ≤ l
+longer z n l some fits h = omega (arith, length-drop n z)
+
+-- what a scan of a text of at most so many bytes gives
+step_cuts : (l at b : ℕ) (y : Text) (p : Piece) (ts : List Token) → length (b ∷ y) ≤ suc l → next_piece (b ∷ y) ≡ p
+    → ((at : ℕ) (z : Text) (ts : List Token) → length z ≤ l → scan_from 0 at z ≡ Ok ts → Cuts at z ts (at + length z) []) → scan_from 0 at (b ∷ y) ≡ Ok ts → Cuts at (b ∷ y) ts (at + length (b ∷ y)) []
+step_cuts l at b y (piece.Gap n) ts h is after e =
+    let part : IsPart (b ∷ y) n = next_gap b y n is in
+    let rest : scan_from 0 (at + n) (drop n (b ∷ y)) ≡ Ok ts = sym (gap_goes (b ∷ y) n at (omega arith) (sym is) (omega (arith, part.some)) part.size) ∙ e in
+    let more : Cuts (at + n) (drop n (b ∷ y)) ts (at + n + length (drop n (b ∷ y))) [] = after (at + n) (drop n (b ∷ y)) ts (longer (b ∷ y) n l part.some part.size h) rest in
+    cuts_gap at n (b ∷ y) ts (at + length (b ∷ y)) [] part (subst (λ i. Cuts (at + n) (drop n (b ∷ y)) ts i []) (omega (arith, length-drop n (b ∷ y), part.size)) more)
+step_cuts l at b y (piece.Token kind n) ts h is after e =
+    let x : IsFirst (b ∷ y) kind n = next_token b y kind n is in
+    let whole : before (token_of kind at n ∷ []) (scan_from 0 (at + n) (drop n (b ∷ y))) ≡ Ok ts = sym (token_goes (b ∷ y) kind n at (omega arith) (sym is) (omega (arith, x.some)) x.token.size) ∙ e in
+    let us = before_ok (token_of kind at n) (scan_from 0 (at + n) (drop n (b ∷ y))) ts whole in
+    let more : Cuts (at + n) (drop n (b ∷ y)) us.0 (at + n + length (drop n (b ∷ y))) [] = after (at + n) (drop n (b ∷ y)) us.0 (longer (b ∷ y) n l x.some x.token.size h) us.1 in
+    subst (λ v. Cuts at (b ∷ y) v (at + length (b ∷ y)) []) (sym us.2)
+    (cuts_token at n (b ∷ y) kind us.0 (at + length (b ∷ y)) [] x (subst (λ i. Cuts (at + n) (drop n (b ∷ y)) us.0 i []) (omega (arith, length-drop n (b ∷ y), x.token.size)) more))
+step_cuts l at b y (piece.Fault cause n) ts h is after e = let f : Err (fault_at cause (at + n)) ≡ Ok ts = sym (fault_goes (b ∷ y) cause n at (omega arith) (sym is)) ∙ e in absurd cc
+
+end_cuts : (at : ℕ) (ts : List Token) → scan_from 0 at [] ≡ Ok ts → Cuts at [] ts (at + 0) []
+end_cuts at ts e =
+    let f : [] ≡ ts = same_ok [] ts (sym (ends at) ∙ e) in
+    subst (λ v. Cuts at [] v (at + 0) []) f ([], ([], refl), refl, nothing, refl)
+
+scan_cuts : (l at : ℕ) (z : Text) (ts : List Token) → length z ≤ l → scan_from 0 at z ≡ Ok ts → Cuts at z ts (at + length z) []
+scan_cuts l at [] ts h e = end_cuts at ts e
+scan_cuts zero at (b ∷ y) ts h e = absurd (omega (arith, h))
+scan_cuts (suc l) at (b ∷ y) ts h e = step_cuts l at b y (next_piece (b ∷ y)) ts h refl (scan_cuts l) e
+
+-- The tokens of a scan cut the source.
+pub scan_lexes : (source : Text) (ts : List Token) → scan source ≡ Ok ts → Lexes source ts
+scan_lexes source ts e = subst (λ i. Cuts 0 source ts i []) (omega arith) (scan_cuts (length source) 0 source ts (omega arith) e)

@@ -1,0 +1,5 @@
+use Rattle.ns_tree.proofs.TreeFronts as law
+use Rattle.ns_tree.proofs.laws.fronts_begin_trees.Goals as goal
+
+pub returns : goal.returns
+returns c = law.fronts_begin_trees

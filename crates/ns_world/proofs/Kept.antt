@@ -1,0 +1,46 @@
+-- The words of a heap stay laid out.
+use Rattle.std.proofs.Common.{◌≡◌, ℕ, ◌≤◌, List, ◌∷◌, ◌++◌, length, ap, sym, ◌∙◌, arith, ◌&&◌, true}
+use Rattle.ns_world.specs.declared.word.Word.{Word}
+use Rattle.ns_world.specs.Cell.{Cell}
+use Rattle.ns_world.specs.Heap.{Heap, heap_size, has_superclass, is_ordered, no_class}
+use Rattle.ns_world.specs.Words.{words_of, laid_out, cells_in}
+use Rattle.ns_world.specs.View.{HeapView, IsLaidOut}
+use Rattle.ns_world.proofs.LaidOut.{cells_in-laid_out, length-laid_out}
+
+-- words of a heap stand for it
+pub cells_in_words : (heap : Heap) (words : List Word) → laid_out heap ≡ words → cells_in words ≡ heap
+cells_in_words heap words e = ap cells_in (sym e) ∙ cells_in-laid_out heap
+
+-- a heap that was laid out, in order, with room
+pub keeps : (heap : Heap) (words : List Word) (capacity room : ℕ) → laid_out heap ≡ words → is_ordered heap ≡ true → room ≤ capacity → length words ≤ 64000000 → IsLaidOut words capacity room
+keeps heap words capacity room laid ordered fits small =
+    let is : cells_in words ≡ heap = cells_in_words heap words laid in
+    record { whole = ap laid_out is ∙ laid; ordered = ap is_ordered is ∙ ordered; room_kept = fits; small = small }
+
+-- one cell more
+pub laid_out-more : (heap : Heap) (cell : Cell) (words : List Word) → laid_out heap ≡ words → laid_out (cell ∷ heap) ≡ words ++ words_of cell
+laid_out-more heap cell words e = ap (λ ws. ws ++ words_of cell) e
+
+-- what is seen of laid out words is laid out
+pub seen_laid_out : (seen : HeapView) (words : List Word) (capacity room kept : ℕ) → (let shown : HeapView = record { cells = cells_in words; room = room } in shown) ≡ seen → IsLaidOut words capacity kept → laid_out seen.cells ≡ words
+seen_laid_out seen words capacity room kept e l = ap (λ (v : HeapView). laid_out v.cells) (sym e) ∙ l.whole
+
+pub seen_ordered : (seen : HeapView) (words : List Word) (capacity room kept : ℕ) → (let shown : HeapView = record { cells = cells_in words; room = room } in shown) ≡ seen → IsLaidOut words capacity kept → is_ordered seen.cells ≡ true
+seen_ordered seen words capacity room kept e l = ap (λ (v : HeapView). is_ordered v.cells) (sym e) ∙ l.ordered
+
+pub seen_size : (seen : HeapView) (words : List Word) (capacity room kept : ℕ) → (let shown : HeapView = record { cells = cells_in words; room = room } in shown) ≡ seen → IsLaidOut words capacity kept → length words ≡ heap_size seen.cells
+seen_size seen words capacity room kept e l = ap length (sym (seen_laid_out seen words capacity room kept e l)) ∙ length-laid_out seen.cells
+
+-- words that were laid out show their cells, in the room of before
+pub shows : (seen : HeapView) (before : List Word) (heap : Heap) (words : List Word) (room : ℕ) → (let shown : HeapView = record { cells = cells_in before; room = room } in shown) ≡ seen → laid_out heap ≡ words → (let now : HeapView = record { cells = cells_in words; room = room } in now) ≡ (let shown : HeapView = record { cells = heap; room = seen.room } in shown)
+shows seen before heap words room e laid =
+    let first : HeapView → HeapView = λ v. record { cells = heap; room = v.room } in
+    let f : Heap → HeapView = λ cells. record { cells = cells; room = room } in
+    ap f (cells_in_words heap words laid) ∙ ap first e
+
+pub ordered_more : (heap : Heap) (cell : Cell) → has_superclass heap cell ≡ true → is_ordered heap ≡ true → is_ordered (cell ∷ heap) ≡ true
+ordered_more heap cell s o = ap (λ b. b && is_ordered heap) s ∙ o
+
+-- the number of no class is past the cells used
+pub seen_small : (seen : HeapView) (words : List Word) (capacity room kept : ℕ) → (let shown : HeapView = record { cells = cells_in words; room = room } in shown) ≡ seen → IsLaidOut words capacity kept → heap_size seen.cells ≤ no_class
+seen_small seen words capacity room kept e l = omega (arith, seen_size seen words capacity room kept e l, l.small)

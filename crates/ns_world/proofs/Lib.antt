@@ -1,0 +1,15 @@
+pub mod Packing
+pub mod LaidOut
+pub mod Standing
+pub mod Freshly
+pub mod Replacing
+pub mod Chains
+pub mod Access
+pub mod Kept
+pub mod Bytes
+pub mod Shapes
+pub mod Above
+pub mod Seeking
+pub mod ShapeTests
+pub mod Changing
+pub mod Firsts

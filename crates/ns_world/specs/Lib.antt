@@ -1,0 +1,11 @@
+pub mod Cell
+pub mod Heap
+pub mod Words
+pub mod View
+pub mod Seek
+pub mod World
+pub mod Starts
+pub mod Layout
+pub mod Lawful
+pub mod Reach
+pub mod Alike

@@ -1,0 +1,58 @@
+//! What a cell is made of.
+
+use crate::value::Value;
+use ns_base::selector::Sel;
+
+/// A cell to be made: its kind, its size and its fixed parts. The words of an object, an
+/// environment and an array begin as nil, the bytes of a text as 0.
+#[derive(Clone, Copy, Debug, PartialEq, Eq)]
+pub enum NewCell {
+    Object {
+        class: u32,
+        words: u32,
+    },
+    Class {
+        decl: u32,
+        encl: Value,
+        holder: Value,
+        over: Value,
+    },
+    Block {
+        body: u32,
+        env: Value,
+        home: u64,
+        receiver: Value,
+        holder: u32,
+    },
+    Environment {
+        parent: Value,
+        locals: u32,
+    },
+    Array {
+        size: u32,
+    },
+    Text {
+        bytes: u32,
+    },
+    Facet(FacetKind),
+    Mirror(Value),
+    Message {
+        sel: Sel,
+        args: Value,
+    },
+}
+
+/// The objects that stand for what the program may use of the outside.
+#[derive(Clone, Copy, Debug, PartialEq, Eq)]
+pub enum FacetKind {
+    Manifest,
+    Platform,
+    Console,
+    Mirrors,
+    Kernel,
+    Board,
+}
+
+/// The cell's size would pass the limit on cells.
+#[derive(Clone, Copy, Debug, PartialEq, Eq)]
+pub struct CellLimit;

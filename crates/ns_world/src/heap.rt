@@ -1,0 +1,296 @@
+//! The heap: one vector of words, reserved once, in which a cell's number is its place.
+
+ghost use Rattle.std.specs.Prelude.{◌≡◌, ℕ, ◌+◌, ◌<◌, ◌≤◌, List, [], ◌∷◌, length, true, false, Some, slice_get, slice_index, slice_set, IsTrue, IsSome, OnOk, OnErr};
+ghost use Rattle.std.specs.List.{slice_index_or};
+ghost use Rattle.ns_world.specs.Cell.{cell_size, fresh};
+ghost use Rattle.ns_world.specs.Heap.{heap_size, has_superclass, words_at, word_at, open_words_at, write_word, bytes_at, byte_at, write_byte, find_cell, shape_at, is_class, chain_of, superclass_of, is_chain_start, declared_class};
+ghost use Rattle.ns_world.specs.Words.{shape_in, words_behind};
+ghost use Rattle.ns_world.specs.Seek.{first_such, is_sought};
+ghost use Rattle.ns_world.specs.declared.word.Word.TheVariants.{Bytes, Nil};
+
+use crate::cell::NewCell;
+use crate::kernel::NO_CLASS;
+use crate::lay::{lay, text_words};
+use crate::seek::{Sought, is_sought_at};
+use crate::value::Value;
+use crate::word::{Word, beside_in, value_in, word_of};
+use ns_base::no_memory::NoMemory;
+use std::alloc::Global;
+use std::marker::Model;
+
+/// The cells of a world, with room for so many that making one takes no memory.
+#[derive(Drop)]
+pub struct Heap {
+    words: Vec<Word>,
+    room: u64,
+}
+
+impl Model for Heap {
+    ghost use Rattle.ns_world.specs.View.{HeapView, IsLaidOut};
+    ghost use Rattle.ns_world.specs.Words.{cells_in};
+    ghost use Rattle.std.specs.Vec.{vec_capacity};
+
+    ghost Value = { HeapView };
+
+    ghost view = { λ h. record { cells = cells_in h.words.items; room = h.room } };
+
+    ghost invariant = { λ h. IsLaidOut h.words.items (vec_capacity h.words) h.room };
+}
+
+impl Heap {
+    /// A heap without cells and without room.
+    pub fn new(alloc: Global) -> Heap
+        ensures { result ≡ record { cells = []; room = 0 } }
+    {
+        Heap {
+            words: Vec::new(alloc),
+            room: 0,
+        }
+    }
+
+    /// Takes room for so many cells. After a refusal nothing has changed.
+    pub fn reserve(&mut self, cells: u64) -> Result<(), NoMemory>
+        ensures cells { self.new.cells ≡ self.old.cells }
+        ensures ok { OnOk result (cells ≤ self.new.room) }
+        ensures never_less { self.old.room ≤ self.new.room }
+        ensures err { OnErr result (self.new ≡ self.old) }
+    {
+        if cells <= self.room {
+            return Ok(());
+        }
+        let more = (cells as usize).saturating_sub(self.words.len());
+        self.words.reserve_exact(more)?;
+        self.room = cells;
+        Ok(())
+    }
+
+    /// The number of cells used.
+    pub fn size(&self) -> u64
+        ensures size { result ≡ heap_size self.now.cells }
+        ensures small { result ≤ 64000000 }
+    {
+        self.words.len() as u64
+    }
+
+    /// Makes a cell and gives its number, which is the number of cells used before.
+    pub fn make(&mut self, cell: NewCell) -> u32
+        requires room { heap_size self.old.cells + cell_size (fresh cell) ≤ self.old.room }
+        requires small { heap_size self.old.cells + cell_size (fresh cell) ≤ 64000000 }
+        requires superclass { IsTrue (has_superclass self.old.cells (fresh cell)) }
+        ensures number { result ≡ heap_size self.old.cells }
+        ensures cells { self.new ≡ record self.old { cells = fresh cell ∷ self.old.cells } }
+    {
+        let number = self.words.len() as u32;
+        lay(&mut self.words, cell);
+        number
+    }
+
+    /// A value behind the head of a cell.
+    pub fn read(&self, at: u32, word: u32) -> Value
+        requires { word < length (words_at self.now.cells at) }
+        ensures { result ≡ word_at self.now.cells at word }
+    {
+        value_in(self.words[at as usize + 1 + word as usize])
+    }
+
+    /// Writes a value of an object, an environment or an array.
+    pub fn write(&mut self, at: u32, word: u32, value: Value)
+        requires { word < length (open_words_at self.old.cells at) }
+        ensures cells { self.new ≡ record self.old { cells = write_word self.old.cells at word value } }
+        ensures size { heap_size self.new.cells ≡ heap_size self.old.cells }
+    {
+        self.words[at as usize + 1 + word as usize] = word_of(value, 0);
+    }
+
+    /// A byte of a text.
+    pub fn byte(&self, at: u32, place: u32) -> u8
+        requires { place < length (bytes_at self.now.cells at) }
+        ensures { result ≡ byte_at self.now.cells at place }
+    {
+        let word = at as usize + 1 + (place / 8) as usize;
+        byte_in(self.words[word], (place % 8) as usize)
+    }
+
+    /// Writes a byte of a text.
+    pub fn set_byte(&mut self, at: u32, place: u32, byte: u8)
+        requires { place < length (bytes_at self.old.cells at) }
+        ensures cells { self.new ≡ record self.old { cells = write_byte self.old.cells at place byte } }
+        ensures size { heap_size self.new.cells ≡ heap_size self.old.cells }
+    {
+        let word = at as usize + 1 + (place / 8) as usize;
+        self.words[word] = with_byte(self.words[word], (place % 8) as usize, byte);
+    }
+
+    /// The kind, the sizes and the fixed parts with which a cell was made.
+    pub fn cell(&self, at: u32) -> NewCell
+        requires { IsSome (find_cell self.now.cells at) }
+        ensures { result ≡ shape_at self.now.cells at }
+    {
+        let at = at as usize;
+        let next = word_or_nil(&self.words, at + 1);
+        let second = word_or_nil(&self.words, at + 2);
+        shape_in(
+            word_or_nil(&self.words, at),
+            next,
+            second,
+            word_or_nil(&self.words, at + 3),
+        )
+    }
+
+    /// The number of the superclass of a class, `NO_CLASS` where it is the kernel's.
+    pub fn superclass(&self, class: u32) -> u32
+        requires { IsTrue (is_class (find_cell self.now.cells class)) }
+        ensures class { result ≡ superclass_of self.now.cells class }
+        ensures chain { chain_of self.now.cells class ≡ class ∷ chain_of self.now.cells result }
+        ensures start { IsTrue (is_chain_start self.now.cells result) }
+    {
+        let _size = self.words.len();
+        declared_class(self.read(class, 2))
+    }
+
+    /// The class so many steps up the chain of a class, none past its end.
+    pub fn chain(&self, class: u32, k: u32) -> Option<u32>
+        requires { IsTrue (is_chain_start self.now.cells class) }
+        ensures { result ≡ slice_get (chain_of self.now.cells class) k }
+    {
+        let mut at = class;
+        'up: for _ in 0..k {
+            if self.is_past(at) {
+                return None;
+            }
+            at = self.superclass(at);
+        }
+        if self.is_past(at) { None } else { Some(at) }
+    }
+
+    /// Whether a chain has come to its end.
+    pub fn is_past(&self, class: u32) -> bool
+        requires { IsTrue (is_chain_start self.now.cells class) }
+        ensures past { result ≡ true → chain_of self.now.cells class ≡ [] }
+        ensures class { result ≡ false → IsTrue (is_class (find_cell self.now.cells class)) }
+        ensures first { result ≡ false → slice_get (chain_of self.now.cells class) 0 ≡ Some class }
+    {
+        let _size = self.words.len();
+        class == NO_CLASS
+    }
+
+    /// The number of the first cell that is sought, none where there is none.
+    pub fn first(&self, sought: Sought) -> Option<u32>
+        ensures { result ≡ first_such (is_sought sought) self.now.cells }
+    {
+        let mut at: usize = 0;
+        'walk: while at < self.words.len() {
+            let head = word_or_nil(&self.words, at);
+            if is_sought_at(sought, head, word_or_nil(&self.words, at + 1)) {
+                return Some(at as u32);
+            }
+            at += 1 + words_behind(head) as usize;
+        }
+        None
+    }
+
+    /// Forgets all cells and keeps the room.
+    pub fn clear(&mut self)
+        ensures { self.new ≡ record self.old { cells = [] } }
+    {
+        self.words.clear();
+    }
+}
+
+/// The word of that place, and the word of nil past the end.
+fn word_or_nil(words: &[Word], at: usize) -> Word
+    ensures { result ≡ slice_index_or words.now at (Nil 0) }
+{
+    match words.get(at) {
+        Some(word) => *word,
+        None => Word::Nil { beside: 0 },
+    }
+}
+
+/// What a head and the three words behind it tell.
+fn shape_in(head: Word, next: Word, second: Word, third: Word) -> NewCell
+    ensures { result ≡ shape_in head (next ∷ second ∷ third ∷ []) }
+{
+    match head {
+        Word::Bytes(_) => NewCell::Mirror(Value::Nil),
+        Word::Object { class, words } => NewCell::Object { class, words },
+        Word::Class { decl } => NewCell::Class {
+            decl,
+            encl: value_in(next),
+            holder: value_in(second),
+            over: value_in(third),
+        },
+        Word::Block { body, home } => NewCell::Block {
+            body,
+            env: value_in(second),
+            home,
+            receiver: value_in(next),
+            holder: beside_in(second),
+        },
+        Word::Array { size } => NewCell::Array { size },
+        Word::Text { bytes } => NewCell::Text { bytes },
+        Word::Facet(kind) => NewCell::Facet(kind),
+        Word::Mirror => NewCell::Mirror(value_in(next)),
+        Word::Message(sel) => NewCell::Message {
+            sel,
+            args: value_in(next),
+        },
+        parent => NewCell::Environment {
+            parent: value_in(parent),
+            locals: beside_in(parent),
+        },
+    }
+}
+
+/// How many words stand behind a head.
+fn words_behind(head: Word) -> u64
+    ensures { result ≡ words_behind head }
+{
+    match head {
+        Word::Bytes(_) => 0,
+        Word::Object { words, .. } => u64::from(words),
+        Word::Class { .. } => 3,
+        Word::Block { .. } => 2,
+        Word::Array { size } => u64::from(size),
+        Word::Text { bytes } => text_words(bytes),
+        Word::Facet(_) => 0,
+        Word::Mirror => 1,
+        Word::Message(_) => 2,
+        parent => u64::from(beside_in(parent)),
+    }
+}
+
+/// The class that a value refers to as a superclass, `NO_CLASS` where it refers to none.
+fn declared_class(over: Value) -> u32
+    ensures { result ≡ declared_class over }
+{
+    match over {
+        Value::Ref(class) => class,
+        _ => NO_CLASS,
+    }
+}
+
+/// One of the eight bytes of a word.
+fn byte_in(word: Word, place: usize) -> u8
+    requires { place < 8 }
+    ensures { (row : List ℕ) → word ≡ Bytes row → result ≡ slice_index row place }
+{
+    match word {
+        Word::Bytes(bytes) => bytes[place],
+        _ => 0,
+    }
+}
+
+/// The word with one of its eight bytes replaced.
+fn with_byte(word: Word, place: usize, byte: u8) -> Word
+    requires { place < 8 }
+    ensures { (row : List ℕ) → word ≡ Bytes row → result ≡ Bytes (slice_set row place byte) }
+{
+    match word {
+        Word::Bytes(mut bytes) => {
+            bytes[place] = byte;
+            Word::Bytes(bytes)
+        }
+        other => other,
+    }
+}

@@ -1,0 +1,15 @@
+//! The world of a run: values, the cells that they refer to, and the counters that are charged.
+#![tactic(auto)]
+
+pub mod cell;
+pub mod ending;
+mod heap;
+pub mod kernel;
+pub mod laws;
+mod lay;
+mod seek;
+#[cfg(test)]
+mod tests;
+pub mod value;
+mod word;
+pub mod world;
