@@ -1,11 +1,10 @@
 -- Entries of different holders in one chain stand at different words.
-use Rattle.std.proofs.Common.{◌≡◌, ℕ, zero, suc, ◌+◌, ◌<◌, ◌≤◌, List, [], ◌∷◌, length, get_or, refl, ap, sym, ◌∙◌, arith, true, subst}
+use Rattle.std.proofs.Common.{◌≡◌, ℕ, zero, suc, ◌<◌, length, get_or, ap, sym, ◌∙◌, arith, true}
 use Rattle.ns_code.specs.declared.program.CodeProgram.{CodeProgram}
-use Rattle.ns_world.specs.Heap.{Heap, is_chain_start, chain_of, superclass_of}
+use Rattle.ns_world.specs.Heap.{is_chain_start, chain_of, superclass_of}
 use Rattle.ns_world.specs.World.{World}
 use Rattle.ns_world.specs.Layout.{declaration_of, entries_of, layout_of, entry_word}
 use Rattle.ns_world.specs.Lawful.{IsLawful}
-use Rattle.ns_world.proofs.Above.{GoesOn}
 use Rattle.ns_classes.proofs.Entries.{started, along}
 
 -- an entry stands at or behind the entries above its class

@@ -1,16 +1,15 @@
 -- Classes and rows stay in a world that has made cells or written words since.
-use Rattle.std.proofs.Common.{◌≡◌, ◌≢◌, ℕ, ◌+◌, ◌<◌, ◌≤◌, List, [], ◌∷◌, refl, ap, sym, ◌∙◌, arith, Option, Some, None, IsSome, Bool, true, false, cond, eqb, ◌||◌}
+use Rattle.std.proofs.Common.{◌≡◌, ◌≢◌, ℕ, ◌<◌, ◌∷◌, refl, ap, sym, ◌∙◌, arith, Option, Some, None, Bool, true, false, eqb, ◌||◌}
 use Rattle.std.proofs.lemmas.Bool.{eqb-true, eq-eqb}
 use Rattle.ns_code.specs.declared.program.CodeProgram.{CodeProgram}
 use Rattle.ns_world.specs.declared.value.Value.{Value}
-use Rattle.ns_world.specs.declared.cell.FacetKind.{FacetKind}
 use Rattle.ns_world.specs.Cell.{Cell}
-use Rattle.ns_world.specs.Heap.{Heap, heap_size, find_cell, is_class, is_chain_start, chain_of, chain_at, no_class, write_word, write_byte}
+use Rattle.ns_world.specs.Heap.{Heap, heap_size, find_cell, is_class, chain_of, no_class, write_word, write_byte}
 use Rattle.ns_world.specs.World.{World}
 use Rattle.ns_world.specs.Lawful.{IsLawful}
 use Rattle.ns_world.specs.Seek.{first_such, is_facet, is_top}
 use Rattle.ns_world.proofs.Chains.{class_below, found_in_more, chain_in_more}
-use Rattle.ns_world.proofs.Changing.{Leaves, writing_leaves, byte_leaves, found_old, differs}
+use Rattle.ns_world.proofs.Changing.{writing_leaves, byte_leaves, found_old, differs}
 use Rattle.ns_world.proofs.Firsts.{found_past, first_without, first_behind, facets_after_word, tops_after_word, facets_after_byte, tops_after_byte}
 use Rattle.ns_find.specs.declared.memo.Kept.{Kept}
 use Rattle.ns_find.specs.Memo.{IsRight, AddsNoRow}

@@ -1,5 +1,5 @@
 -- A lookup finds the same in two worlds with the same classes and the same rows.
-use Rattle.std.proofs.Common.{◌≡◌, ◌≢◌, ℕ, zero, suc, ◌+◌, ◌<◌, ◌≤◌, List, [], ◌∷◌, ◌++◌, length, slice_get, refl, ap, sym, ◌∙◌, arith, Option, Some, None, IsSome, Bool, true, false, cond, eqb, ◌||◌, ◌&&◌, is_some, is_none, unwrap_or}
+use Rattle.std.proofs.Common.{◌≡◌, ℕ, ◌+◌, List, [], ◌∷◌, ◌++◌, slice_get, refl, ap, sym, ◌∙◌, Option, Some, None, Bool, true, false, eqb, ◌||◌, ◌&&◌, is_some, is_none, unwrap_or}
 use Rattle.std.specs.Option.{option_map_or}
 use Rattle.std.proofs.lemmas.Bool.{eqb-true}
 use Rattle.ns_code.specs.declared.program.CodeProgram.{CodeProgram}
@@ -13,8 +13,8 @@ use Rattle.ns_world.specs.declared.cell.FacetKind.{FacetKind}
 use Rattle.ns_world.specs.declared.cell.FacetKind.TheVariants as facet
 use Rattle.ns_world.specs.declared.cell.NewCell.TheVariants as new
 use Rattle.ns_world.specs.declared.value.Value.TheVariants as value
-use Rattle.ns_world.specs.Cell.{Cell, shape_of}
-use Rattle.ns_world.specs.Heap.{Heap, heap_size, find_cell, is_class, is_chain_start, chain_of, superclass_of, superclass_in, declared_class, shape_at, no_class}
+use Rattle.ns_world.specs.Cell.{shape_of}
+use Rattle.ns_world.specs.Heap.{Heap, find_cell, is_class, is_chain_start, chain_of, superclass_of, superclass_in, declared_class, no_class}
 use Rattle.ns_world.specs.Starts.{declaration_in}
 use Rattle.ns_world.specs.World.{World}
 use Rattle.ns_world.specs.Layout.{declaration_of, entries_of, entries_along, layout_of, entry_word}
@@ -22,14 +22,13 @@ use Rattle.ns_world.specs.Lawful.{IsLawful}
 use Rattle.ns_world.specs.Seek.{first_such, is_facet, is_top}
 use Rattle.ns_world.proofs.Above.{GoesOn, goes_on, chain_none, class_of_start}
 use Rattle.ns_classes.proofs.Bounds.{lawful_small}
-use Rattle.ns_find.specs.declared.found.Found.{Found}
 use Rattle.ns_find.specs.declared.found.Found.TheVariants.{Getter, Setter, Factory, Absent, Kernel}
 use Rattle.ns_find.specs.declared.found.Sending.{Sending}
 use Rattle.ns_find.specs.declared.members.Wanted.{Wanted}
 use Rattle.ns_find.specs.declared.members.Wanted.TheVariants.{Visible}
 use Rattle.ns_find.specs.declared.members.Side.{Side}
 use Rattle.ns_find.specs.declared.members.Side.TheVariants.{Instance, Class}
-use Rattle.ns_find.specs.Members.{Member, Numbered, SetterOf, search, is_wanted, slot_members, slots_members, nested_members, method_members, side_members, holder_members, members_along, factory_member, public_access}
+use Rattle.ns_find.specs.Members.{Member, Numbered, SetterOf, search, is_wanted, slots_members, nested_members, method_members, side_members, holder_members, members_along, factory_member, public_access}
 use Rattle.ns_find.specs.Rows.{kernel_rows, top_rows, manifest_row}
 use Rattle.ns_find.specs.Find.{members_from, found_from, is_start}
 

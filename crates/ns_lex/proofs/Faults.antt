@@ -1,20 +1,18 @@
 -- Where a token stands, no gap begins and no fault is named.
-use Rattle.std.proofs.Common.{◌≡◌, ◌≢◌, ℕ, zero, suc, ◌+◌, ◌≤◌, ◌<◌, ◌⊎◌, inl, inr, Bool, true, false, not, ◌==◌, ◌&&◌, cond, if◌then◌else◌, List, [], ◌∷◌, ◌++◌, length, take, drop, get_or, refl, sym, ap, subst, ◌∙◌, append_assoc, length-append, arith}
-use Rattle.std.proofs.lemmas.Bool.{eqb-true, eq-eqb}
+use Rattle.std.proofs.Common.{◌≡◌, ℕ, zero, suc, ◌+◌, ◌<◌, ◌⊎◌, inl, inr, Bool, true, false, ◌==◌, ◌&&◌, cond, [], ◌∷◌, ◌++◌, length, take, drop, get_or, refl, ap, subst, ◌∙◌, arith}
+use Rattle.std.proofs.lemmas.Bool.{eq-eqb}
 use Rattle.std.proofs.lemmas.Bool.Decides.{nat_tests}
-use Rattle.std.proofs.lemmas.List.{append-nil, take-append-drop}
 use Rattle.std.specs.List.{prefix_len}
 use Rattle.ns_tree.specs.declared.token.Kind.{Kind}
 use Rattle.ns_tree.specs.declared.token.Kind.TheVariants as k
-use Rattle.ns_lex.specs.Bytes.{is_blank, starts_name, is_digit, is_operator}
+use Rattle.ns_lex.specs.Bytes.{is_blank, starts_name, is_digit}
 use Rattle.ns_lex.specs.Piece.{Text}
 use Rattle.ns_lex.specs.Number.{number, value, greatest}
-use Rattle.ns_lex.specs.declared.piece.Cause.{Cause}
 use Rattle.ns_lex.specs.declared.piece.Cause.TheVariants as cause
 use Rattle.ns_lex.specs.declared.piece.Piece.TheVariants.{Token}
-use Rattle.ns_lex.specs.Spells.{AllOf, IsName, IsOperator, Spells, doubled}
-use Rattle.ns_lex.specs.Gap.{IsGapPart, BeginsNoGap, inside}
-use Rattle.ns_lex.specs.Lexes.{Stands, IsDigits, BeginsName, BeginsFraction, BeginsNothing, IsFault, BeginsNoFault}
+use Rattle.ns_lex.specs.Spells.{IsName, IsOperator, Spells}
+use Rattle.ns_lex.specs.Gap.{BeginsNoGap}
+use Rattle.ns_lex.specs.Lexes.{Stands, IsDigits, BeginsName, BeginsFraction, BeginsNoFault}
 use Rattle.ns_lex.proofs.Words.{IsToken, stands_spells, run_all, at_end}
 use Rattle.ns_lex.proofs.Singles.{clash, same_first}
 use Rattle.ns_lex.proofs.Numbers.{run, number_says}
@@ -116,9 +114,9 @@ pub number_digits : (b : ℕ) (y : Text) (t : Kind) (m : ℕ) → number (b ∷ 
 number_digits b y t m f d q cut digits = (
   λ bad. no_bad_end b y d q t m f cut (digits_run b y d q cut digits (bad_no_digit q bad)) bad,
   λ stop big.
-    let size : run (b ∷ y) ≡ length d = digits_run b y d q cut digits stop in
-    let whole : take (run (b ∷ y)) (b ∷ y) ≡ d = ap (λ i. take i (b ∷ y)) size ∙ ap (take (length d)) cut ∙ taken_front d q in
-    absurd (omega (arith, (number_says b y t m f).2, ap value whole, big)),
+      let size : run (b ∷ y) ≡ length d = digits_run b y d q cut digits stop in
+      let whole : take (run (b ∷ y)) (b ∷ y) ≡ d = ap (λ i. take i (b ∷ y)) size ∙ ap (take (length d)) cut ∙ taken_front d q in
+      absurd (omega (arith, (number_says b y t m f).2, ap value whole, big)),
 )
 
 -- `#` and quotes begin tokens that stand

@@ -1,21 +1,18 @@
 -- A piece of a gap is a blank, a comment or a remark.
-use Rattle.std.proofs.Common.{◌≡◌, ◌≢◌, ℕ, zero, suc, ◌+◌, ◌-◌, ◌≤◌, ◌<◌, ◌⊎◌, inl, inr, Bool, true, false, not, ◌==◌, ◌&&◌, cond, if◌then◌else◌, List, [], ◌∷◌, ◌++◌, length, take, drop, get_or, Option, Some, None, refl, sym, ap, subst, ◌∙◌, append_assoc, length-append, arith}
+use Rattle.std.proofs.Common.{◌≡◌, ℕ, zero, suc, ◌+◌, ◌-◌, ◌≤◌, ◌<◌, inl, inr, Bool, true, false, not, ◌==◌, if◌then◌else◌, [], ◌∷◌, ◌++◌, length, take, get_or, Option, Some, None, refl, sym, ap, subst, ◌∙◌, append_assoc, length-append, arith}
 use Rattle.std.proofs.lemmas.Bool.{eqb-true, eq-eqb}
 use Rattle.std.proofs.lemmas.Bool.Decides.{nat_tests}
-use Rattle.std.proofs.lemmas.List.{take_more, append-nil, get_or_past}
-use Rattle.std.specs.List.{prefix_len}
-use Rattle.std.proofs.lemmas.List.Sums.{prefix_len-le-length}
+use Rattle.std.proofs.lemmas.List.{take_more, get_or_past}
 use Rattle.ns_lex.specs.Bytes.{is_blank}
 use Rattle.ns_lex.specs.Piece.{Text}
 use Rattle.ns_lex.specs.Comment.{comment, comment_from, after, closed, remark, remark_len}
 use Rattle.ns_lex.specs.declared.comment.Last.{Last}
 use Rattle.ns_lex.specs.declared.comment.Last.TheVariants as last
-use Rattle.ns_lex.specs.declared.piece.Piece.{Piece}
 use Rattle.ns_lex.specs.declared.piece.Piece.TheVariants.{Gap, Fault}
 use Rattle.ns_lex.specs.declared.piece.Cause.TheVariants as cause
 use Rattle.ns_lex.specs.Spells.{AllOf}
-use Rattle.ns_lex.specs.Gap.{Inside, closes, byte, nested, inside, BeginsMark, Marked, IsComment, IsRemark, IsBlank, IsGapPart}
-use Rattle.ns_lex.proofs.Words.{run_of, length_taken}
+use Rattle.ns_lex.specs.Gap.{Inside, closes, byte, nested, inside, BeginsMark, Marked, IsGapPart}
+use Rattle.ns_lex.proofs.Words.{run_of}
 use Rattle.ns_lex.proofs.Singles.{clash}
 
 -- The first n bytes of the text are a part of a gap.

@@ -6,8 +6,10 @@ pub mod Gaps
 pub mod Numbers
 pub mod Operators
 pub mod Pieces
+pub mod Refused
 pub mod Singles
 pub mod Steps
+pub mod Stops
 pub mod Strings
 pub mod Symbols
 pub mod Words

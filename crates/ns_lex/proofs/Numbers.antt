@@ -1,5 +1,5 @@
 -- The piece at a digit is the next token.
-use Rattle.std.proofs.Common.{◌≡◌, ◌≢◌, ℕ, zero, suc, ◌+◌, ◌-◌, ◌≤◌, ◌<◌, ◌⊎◌, inl, inr, Bool, true, false, ◌==◌, ◌&&◌, cond, if◌then◌else◌, List, [], ◌∷◌, ◌++◌, length, take, drop, get_or, Option, Some, None, refl, sym, ap, subst, ◌∙◌, arith}
+use Rattle.std.proofs.Common.{◌≡◌, ℕ, ◌+◌, ◌≤◌, inr, Bool, true, false, ◌==◌, ◌&&◌, cond, if◌then◌else◌, [], ◌∷◌, ◌++◌, length, take, get_or, Option, Some, None, refl, sym, ap, subst, ◌∙◌, arith}
 use Rattle.std.specs.Prelude.{nat_lt}
 use Rattle.std.proofs.lemmas.Bool.Decides.{nat_tests}
 use Rattle.std.specs.List.{prefix_len}
@@ -11,10 +11,8 @@ use Rattle.ns_lex.specs.Bytes.{starts_name, is_digit, is_operator, is_in}
 use Rattle.ns_lex.specs.declared.bytes.ByteClass.TheVariants as class
 use Rattle.ns_lex.specs.Piece.{Text}
 use Rattle.ns_lex.specs.Number.{number, sized, at_most_greatest, value, greatest}
-use Rattle.ns_lex.specs.declared.piece.Piece.{Piece}
-use Rattle.ns_lex.specs.declared.piece.Piece.TheVariants.{Token, Fault}
-use Rattle.ns_lex.specs.Spells.{AllOf, IsName, IsOperator, Spells}
-use Rattle.ns_lex.specs.Lexes.{BeforeSlotSet, Stands}
+use Rattle.ns_lex.specs.declared.piece.Piece.TheVariants.{Token}
+use Rattle.ns_lex.specs.Spells.{Spells}
 use Rattle.ns_lex.proofs.Words.{IsToken, NoneLonger, longest_cut, run_of, run_all, moved, length_taken}
 use Rattle.ns_lex.proofs.Singles.{no_name, no_operator, first_not, same_first, no_slot_set, split}
 

@@ -1,7 +1,7 @@
 -- The piece at an operator is the next token.
-use Rattle.std.proofs.Common.{◌≡◌, ◌≢◌, ℕ, zero, suc, ◌+◌, ◌≤◌, ◌<◌, ◌⊎◌, inl, inr, Bool, true, false, ◌==◌, ◌||◌, ◌&&◌, cond, if◌then◌else◌, List, [], ◌∷◌, ◌++◌, length, take, drop, get_or, refl, sym, ap, subst, ◌∙◌, arith}
+use Rattle.std.proofs.Common.{◌≡◌, ℕ, ◌+◌, ◌≤◌, ◌<◌, ◌⊎◌, inl, inr, Bool, true, false, ◌==◌, ◌&&◌, cond, [], ◌∷◌, ◌++◌, length, take, drop, get_or, refl, sym, ap, subst, ◌∙◌, arith}
 use Rattle.std.proofs.lemmas.Bool.Decides.{nat_tests}
-use Rattle.std.proofs.lemmas.Bool.{eqb-true, eq-eqb}
+use Rattle.std.proofs.lemmas.Bool.{eqb-true}
 use Rattle.std.specs.List.{prefix_len}
 use Rattle.std.proofs.lemmas.List.{take-append-drop, append-nil}
 use Rattle.std.proofs.lemmas.List.Sums.{prefix_len-le-length}
@@ -12,8 +12,8 @@ use Rattle.ns_lex.specs.declared.bytes.ByteClass.TheVariants as class
 use Rattle.ns_lex.specs.Piece.{Text}
 use Rattle.ns_lex.specs.Operator.{operator, operator_len}
 use Rattle.ns_lex.specs.declared.piece.Piece.TheVariants.{Token}
-use Rattle.ns_lex.specs.Spells.{AllOf, IsName, IsOperator, Spells}
-use Rattle.ns_lex.specs.Lexes.{BeforeSlotSet, Stands}
+use Rattle.ns_lex.specs.Spells.{AllOf, IsName, Spells}
+use Rattle.ns_lex.specs.Lexes.{BeforeSlotSet}
 use Rattle.ns_lex.proofs.Words.{IsToken, NoneLonger, longest_cut, run_of, run_all, moved, length_taken}
 
 -- an operator's byte begins no name and no number
@@ -56,8 +56,8 @@ longest_run b z o other [] r t cut x = omega arith
 longest_run b z o other (c ∷ p) r t cut x =
     let e : c ≡ b = cc in
     elim (operator_spells c p r t (ap is_operator e ∙ o) x) [
-      inl short ↦ (let f : prefix_len is_operator ((c ∷ p) ++ r) ≡ run (b ∷ z) = ap (prefix_len is_operator) (sym cut) in omega (arith, short, f))
-    | inr over ↦ absurd (let f : is_over (b ∷ z) ≡ true = ap is_over (cut ∙ ap (λ w. w ++ r) over) in let g : true ≡ false = sym f ∙ other in cc)
+      | inl short ↦ (let f : prefix_len is_operator ((c ∷ p) ++ r) ≡ run (b ∷ z) = ap (prefix_len is_operator) (sym cut) in omega (arith, short, f))
+      | inr over ↦ absurd (let f : is_over (b ∷ z) ≡ true = ap is_over (cut ∙ ap (λ w. w ++ r) over) in let g : true ≡ false = sym f ∙ other in cc)
     ]
 
 -- where it is `<:`
@@ -66,8 +66,8 @@ longest_over z [] r t cut x = omega arith
 longest_over z (c ∷ p) r t cut x =
     let e : c ≡ 60 = cc in
     elim (operator_spells c p r t (ap is_operator e) x) [
-      inl short ↦ (let f : prefix_len is_operator ((c ∷ p) ++ r) ≡ 1 = ap (prefix_len is_operator) (sym cut) in omega (arith, short, f))
-    | inr over ↦ (let f : length (c ∷ p) ≡ 2 = ap length over in omega (arith, f))
+      | inl short ↦ (let f : prefix_len is_operator ((c ∷ p) ++ r) ≡ 1 = ap (prefix_len is_operator) (sym cut) in omega (arith, short, f))
+      | inr over ↦ (let f : length (c ∷ p) ≡ 2 = ap length over in omega (arith, f))
     ]
 
 no_slot_set : (b : ℕ) (z : Text) (m : ℕ) → is_operator b ≡ true → (p r : Text) → take m (b ∷ z) ++ drop m (b ∷ z) ≡ p ++ r → BeforeSlotSet p r → ⊥

@@ -1,10 +1,9 @@
 -- What the piece at the front of a text means.
-use Rattle.std.proofs.Common.{◌≡◌, ◌≢◌, ℕ, zero, suc, ◌+◌, ◌≤◌, ◌<◌, Bool, true, false, not, ◌==◌, ◌&&◌, if◌then◌else◌, List, [], ◌∷◌, ◌++◌, length, take, drop, get_or, Option, Some, None, refl, sym, ap, subst, ◌∙◌, arith}
+use Rattle.std.proofs.Common.{◌≡◌, ℕ, zero, suc, ◌+◌, ◌<◌, Bool, true, false, ◌==◌, ◌&&◌, [], ◌∷◌, take, drop, get_or, Option, Some, None, refl, sym, ap, ◌∙◌, arith}
 use Rattle.std.proofs.lemmas.Bool.{eqb-true, eq-eqb}
 use Rattle.std.proofs.lemmas.Bool.Decides.{nat_tests}
 use Rattle.std.proofs.lemmas.List.{take-append-drop}
 use Rattle.ns_tree.specs.declared.token.Kind.{Kind}
-use Rattle.ns_tree.specs.declared.token.Kind.TheVariants as k
 use Rattle.ns_lex.specs.Bytes.{is_blank, starts_name, is_digit, is_operator}
 use Rattle.ns_lex.specs.Piece.{Text}
 use Rattle.ns_lex.specs.Next.{next_piece}
@@ -19,9 +18,8 @@ use Rattle.ns_lex.specs.Symbol.{symbol, symbol_of, selector_len}
 use Rattle.ns_lex.specs.Single.{single}
 use Rattle.ns_lex.specs.declared.piece.Piece.{Piece}
 use Rattle.ns_lex.specs.declared.piece.Piece.TheVariants.{Gap, Token, Fault}
-use Rattle.ns_lex.specs.Spells.{Spells}
 use Rattle.ns_lex.specs.Gap.{BeginsNoGap}
-use Rattle.ns_lex.specs.Lexes.{Stands, BeginsNoFault}
+use Rattle.ns_lex.specs.Lexes.{BeginsNoFault, IsFault}
 use Rattle.ns_lex.proofs.Words.{IsToken, word_token, stands_spells}
 use Rattle.ns_lex.proofs.Singles.{split, clash, single_token}
 use Rattle.ns_lex.proofs.Numbers.{number_token, run}
@@ -29,6 +27,9 @@ use Rattle.ns_lex.proofs.Operators.{operator_token}
 use Rattle.ns_lex.proofs.Strings.{string_token, at_quote}
 use Rattle.ns_lex.proofs.Symbols.{symbol_token, at_mark}
 use Rattle.ns_lex.proofs.Gaps.{IsPart, blank_part, remark_part, comment_part}
+use Rattle.ns_lex.specs.declared.piece.Cause.{Cause}
+use Rattle.ns_lex.proofs.Stops.{IsStop, remark_stop, comment_stop}
+use Rattle.ns_lex.proofs.Refused.{number_fault, string_fault, symbol_fault, single_fault}
 use Rattle.ns_lex.proofs.Faults.{is_comment, no_gap, no_fault, no_digits, number_digits, token_first, NoBadDigits, MarkStands, QuoteStands}
 
 -- ---- pieces of a gap
@@ -135,7 +136,7 @@ mark_stands : (b : ℕ) (y : Text) (t : Kind) (n : ℕ) → IsToken (b ∷ y) t 
 mark_stands b y t zero x e = absurd (omega (arith, (token_first b y t zero x).1))
 mark_stands b y t (suc n) x e =
     at_mark b (take n y) t e (stands_spells (b ∷ take n y) (drop n y) t x.next.0)
-      (λ s form same. (b ∷ take n y, drop n y, s, sym (take-append-drop (suc n) (b ∷ y)), (form, ap (λ c. c ∷ take n y) e ∙ ap (λ w. 35 ∷ w) same)))
+    (λ s form same. (b ∷ take n y, drop n y, s, sym (take-append-drop (suc n) (b ∷ y)), (form, ap (λ c. c ∷ take n y) e ∙ ap (λ w. 35 ∷ w) same)))
 
 quote_stands : (b : ℕ) (y : Text) (t : Kind) (n : ℕ) → IsToken (b ∷ y) t n → QuoteStands b y
 quote_stands b y t zero x e = absurd (omega (arith, (token_first b y t zero x).1))
@@ -186,13 +187,46 @@ next_token b y t n f =
     (λ blank f. split (b == 34) _ _ _ f (λ e h. absurd (at_remark (b ∷ y) t n h))
     (λ remark f. split (is_comment (b ∷ y)) _ _ _ f (λ e h. absurd (at_comment (b ∷ y) t n h))
     (λ comment f. split (starts_name b) _ _ _ f
-      (λ e h. first_of b y t n blank remark comment (no_digits b y (word_digit b e)) (no_mark b y t n (word_mark b e)) (no_quote b y t n (word_quote b e)) (word_token b y t n e h))
+    (λ e h. first_of b y t n blank remark comment (no_digits b y (word_digit b e)) (no_mark b y t n (word_mark b e)) (no_quote b y t n (word_quote b e)) (word_token b y t n e h))
     (λ _ f. split (is_digit b) _ _ _ f
-      (λ e h. first_of b y t n blank remark comment (number_digits b y t n h) (no_mark b y t n (digit_mark b e)) (no_quote b y t n (digit_quote b e)) (number_token b y t n e h))
+    (λ e h. first_of b y t n blank remark comment (number_digits b y t n h) (no_mark b y t n (digit_mark b e)) (no_quote b y t n (digit_quote b e)) (number_token b y t n e h))
     (λ digit f. split (b == 39) _ _ _ f
-      (λ e h. first_of b y t n blank remark comment (no_digits b y digit) (no_mark b y t n (quote_mark b (eqb-true b 39 e))) (quote_stands b y t n) (string_token b y t n (eqb-true b 39 e) h))
+    (λ e h. first_of b y t n blank remark comment (no_digits b y digit) (no_mark b y t n (quote_mark b (eqb-true b 39 e))) (quote_stands b y t n) (string_token b y t n (eqb-true b 39 e) h))
     (λ quote f. split (b == 35) _ _ _ f
-      (λ e h. first_of b y t n blank remark comment (no_digits b y digit) (mark_stands b y t n) (no_quote b y t n quote) (symbol_token b y t n (eqb-true b 35 e) h))
+    (λ e h. first_of b y t n blank remark comment (no_digits b y digit) (mark_stands b y t n) (no_quote b y t n quote) (symbol_token b y t n (eqb-true b 35 e) h))
     (λ mark f. split (is_operator b) _ _ _ f
-      (λ e h. first_of b y t n blank remark comment (no_digits b y digit) (no_mark b y t n mark) (no_quote b y t n quote) (operator_token b y t n e h))
+    (λ e h. first_of b y t n blank remark comment (no_digits b y digit) (no_mark b y t n mark) (no_quote b y t n quote) (operator_token b y t n e h))
     (λ _ h. first_of b y t n blank remark comment (no_digits b y digit) (no_mark b y t n mark) (no_quote b y t n quote) (single_token b y t n h)))))))))
+
+-- ---- faults
+
+word_no_fault : (one two three : Bool) (n : ℕ) (z : Text) (c : Cause) (m : ℕ) → word_by one two three n z ≡ Fault c m → ⊥
+word_no_fault true true true n z c m f = absurd cc
+word_no_fault true true false n z c m f = absurd cc
+word_no_fault true false three n z c m f = absurd cc
+word_no_fault false two three n z c m f = absurd cc
+
+word_holds : (z : Text) (c : Cause) (m : ℕ) → word z ≡ Fault c m → ⊥
+unfolding word
+word_holds z c m f = word_no_fault (get_or z (name_len z) 0 == 58) (get_or z (name_len z + 1) 0 == 58) (get_or z (name_len z + 2) 0 == 61) (name_len z) z c m f
+
+operator_holds : (z : Text) (c : Cause) (m : ℕ) → operator z ≡ Fault c m → ⊥
+unfolding operator
+operator_holds z c m f = absurd cc
+
+stop_of : (b : ℕ) (y : Text) (c : Cause) (n : ℕ) → is_blank b ≡ false → (b == 34) ≡ false → is_comment (b ∷ y) ≡ false → IsFault (b ∷ y) c n → IsStop (b ∷ y) c n
+stop_of b y c n blank remark comment x = record { gap = no_gap b y blank remark comment; fault = x }
+
+-- A fault is named where it stands.
+pub next_fault : (b : ℕ) (y : Text) (c : Cause) (n : ℕ) → next_piece (b ∷ y) ≡ Fault c n → IsStop (b ∷ y) c n
+unfolding next_piece
+next_fault b y c n f =
+    split (is_blank b) _ _ _ f (λ e h. absurd cc)
+    (λ blank f. split (b == 34) _ _ _ f (λ e h. remark_stop b y c n (eqb-true b 34 e) h)
+    (λ remark f. split (is_comment (b ∷ y)) _ _ _ f (λ e h. comment_stop b y c n e h)
+    (λ comment f. split (starts_name b) _ _ _ f (λ e h. absurd (word_holds (b ∷ y) c n h))
+    (λ name f. split (is_digit b) _ _ _ f (λ e h. stop_of b y c n blank remark comment (number_fault b y c n e h))
+    (λ digit f. split (b == 39) _ _ _ f (λ e h. stop_of b y c n blank remark comment (string_fault b y c n (eqb-true b 39 e) h))
+    (λ quote f. split (b == 35) _ _ _ f (λ e h. stop_of b y c n blank remark comment (symbol_fault b y c n (eqb-true b 35 e) h))
+    (λ mark f. split (is_operator b) _ _ _ f (λ e h. absurd (operator_holds (b ∷ y) c n h))
+    (λ oper h. stop_of b y c n blank remark comment (single_fault b y c n (record { blank = blank; remark = remark; name = name; digit = digit; quote = quote; mark = mark; oper = oper }) h)))))))))

@@ -1,5 +1,5 @@
 -- The piece at a token of one spelling is the next token.
-use Rattle.std.proofs.Common.{◌≡◌, ◌≢◌, ℕ, zero, suc, ◌+◌, ◌≤◌, ◌<◌, ◌⊎◌, inl, inr, Bool, true, false, ◌==◌, ◌&&◌, cond, if◌then◌else◌, List, [], ◌∷◌, ◌++◌, length, take, drop, get_or, refl, sym, ap, subst, ◌∙◌, arith}
+use Rattle.std.proofs.Common.{◌≡◌, ℕ, ◌⊎◌, inl, inr, Bool, true, false, ◌==◌, ◌&&◌, if◌then◌else◌, [], ◌∷◌, ◌++◌, length, take, drop, get_or, refl, sym, ap, subst, ◌∙◌, arith}
 use Rattle.std.proofs.lemmas.Bool.{eqb-true}
 use Rattle.std.proofs.lemmas.List.{take-append-drop, append-nil}
 use Rattle.ns_tree.specs.declared.token.Kind.{Kind}
@@ -9,7 +9,7 @@ use Rattle.ns_lex.specs.Piece.{Text}
 use Rattle.ns_lex.specs.Single.{single}
 use Rattle.ns_lex.specs.declared.piece.Piece.{Piece}
 use Rattle.ns_lex.specs.declared.piece.Piece.TheVariants.{Token}
-use Rattle.ns_lex.specs.Spells.{AllOf, IsName, IsOperator, Spells}
+use Rattle.ns_lex.specs.Spells.{IsName, IsOperator, Spells}
 use Rattle.ns_lex.specs.Lexes.{BeforeSlotSet, Stands}
 use Rattle.ns_lex.proofs.Words.{IsToken, NoneLonger, longest_cut, moved}
 
@@ -63,8 +63,8 @@ longest_one b z a other [] r t cut x = omega arith
 longest_one b z a other (c ∷ p) r t cut x =
     let e : b ≡ c = same_first b c z (p ++ r) cut in
     elim (apart_spells c p t (subst Apart e a) x) [
-      inl one ↦ omega (arith, one)
-    | inr set ↦ absurd (other r (cut ∙ ap (λ w. w ++ r) set))
+      | inl one ↦ omega (arith, one)
+      | inr set ↦ absurd (other r (cut ∙ ap (λ w. w ++ r) set))
     ]
 
 longest_three : (z : Text) → Apart 58 → NoneLonger 3 (58 ∷ 58 ∷ 61 ∷ z)
@@ -72,8 +72,8 @@ longest_three z a [] r t cut x = omega arith
 longest_three z a (c ∷ p) r t cut x =
     let e : 58 ≡ c = same_first 58 c (58 ∷ 61 ∷ z) (p ++ r) cut in
     elim (apart_spells c p t (subst Apart e a) x) [
-      inl one ↦ omega (arith, one)
-    | inr set ↦ (let f : length (c ∷ p) ≡ 3 = ap length set in omega (arith, f))
+      | inl one ↦ omega (arith, one)
+      | inr set ↦ (let f : length (c ∷ p) ≡ 3 = ap length set in omega (arith, f))
     ]
 
 -- a sign of one byte

@@ -1,16 +1,15 @@
 -- The piece at a quote is the next token.
-use Rattle.std.proofs.Common.{◌≡◌, ◌≢◌, ℕ, zero, suc, ◌+◌, ◌≤◌, ◌<◌, Bool, true, false, not, ◌==◌, cond, if◌then◌else◌, List, [], ◌∷◌, ◌++◌, length, take, drop, get_or, Option, Some, None, inl, inr, refl, sym, ap, subst, ◌∙◌, append_assoc, length-append, arith}
+use Rattle.std.proofs.Common.{◌≡◌, ◌≢◌, ℕ, suc, ◌+◌, ◌≤◌, Bool, true, false, not, ◌==◌, cond, if◌then◌else◌, [], ◌∷◌, ◌++◌, length, take, drop, get_or, Option, Some, None, inr, refl, sym, ap, subst, ◌∙◌, append_assoc, length-append, arith}
 use Rattle.std.proofs.lemmas.Bool.{eqb-true, eq-eqb}
 use Rattle.std.proofs.lemmas.List.{append-nil, take-append-drop}
 use Rattle.ns_tree.specs.declared.token.Kind.{Kind}
 use Rattle.ns_tree.specs.declared.token.Kind.TheVariants as k
 use Rattle.ns_lex.specs.Piece.{Text}
 use Rattle.ns_lex.specs.Quoted.{quoted, quoted_from, closed}
-use Rattle.ns_lex.specs.declared.piece.Piece.{Piece}
-use Rattle.ns_lex.specs.declared.piece.Piece.TheVariants.{Token, Fault}
-use Rattle.ns_lex.specs.Spells.{IsName, IsOperator, Spells, doubled}
-use Rattle.ns_lex.specs.Lexes.{Stands, Longest, BeforeSlotSet}
-use Rattle.ns_lex.proofs.Words.{IsToken, moved, stands_spells, length_taken}
+use Rattle.ns_lex.specs.declared.piece.Piece.TheVariants.{Token}
+use Rattle.ns_lex.specs.Spells.{doubled}
+use Rattle.ns_lex.specs.Lexes.{Stands, Longest}
+use Rattle.ns_lex.proofs.Words.{IsToken, moved, length_taken}
 use Rattle.ns_lex.proofs.Singles.{no_name, no_operator, first_not, same_first, no_slot_set, clash}
 use Rattle.ns_lex.specs.Bytes.{starts_name, is_digit, is_operator}
 
@@ -92,7 +91,7 @@ says true held at (b ∷ y) p e = says_true held at b y p (b == 39) refl (says f
 
 -- ---- what it finds
 
-abbrev found : Text → ℕ → Option (Text × ℕ)
+abbrev pub found : Text → ℕ → Option (Text × ℕ)
 found s n = Some (s, n)
 
 stops_by : (held : Text) (at b : ℕ) (r : Text) (quote : Bool) → (b == 39) ≡ quote → b ≢ 39 → (if quote then quoted_from false (held ++ b ∷ []) (at + 1) r else found held at) ≡ found held at
@@ -104,7 +103,7 @@ stops_true held at [] other = refl
 stops_true held at (b ∷ r) other = stops_by held at b r (b == 39) refl other
 
 -- the answer at a string of that tail
-abbrev answer : Text → ℕ → Text → Option (Text × ℕ)
+abbrev pub answer : Text → ℕ → Text → Option (Text × ℕ)
 answer held at tail = found (held ++ tail) (at + length (doubled tail) + 1)
 
 held_more : (held tail : Text) (b n m : ℕ) → n ≡ m → found ((held ++ b ∷ []) ++ tail) n ≡ found (held ++ b ∷ tail) m

@@ -1,19 +1,18 @@
 -- The piece at `#` is the next token.
-use Rattle.std.proofs.Common.{◌≡◌, ◌≢◌, ℕ, zero, suc, ◌+◌, ◌≤◌, ◌<◌, ◌⊎◌, inl, inr, Bool, true, false, not, ◌==◌, cond, if◌then◌else◌, List, [], ◌∷◌, ◌++◌, length, take, drop, get_or, refl, sym, ap, subst, ◌∙◌, append_assoc, length-append, arith}
+use Rattle.std.proofs.Common.{◌≡◌, ◌≢◌, ℕ, suc, ◌+◌, ◌≤◌, ◌⊎◌, inl, inr, Bool, true, false, not, ◌==◌, cond, if◌then◌else◌, List, [], ◌∷◌, ◌++◌, length, take, refl, sym, ap, subst, ◌∙◌, append_assoc, length-append, arith}
 use Rattle.std.proofs.lemmas.Bool.{eqb-true, eq-eqb}
 use Rattle.std.proofs.lemmas.Bool.Decides.{nat_tests}
-use Rattle.std.proofs.lemmas.List.{append-nil, take-append-drop}
+use Rattle.std.proofs.lemmas.List.{append-nil}
 use Rattle.ns_tree.specs.declared.token.Kind.{Kind}
 use Rattle.ns_tree.specs.declared.token.Kind.TheVariants as k
 use Rattle.ns_lex.specs.Bytes.{starts_name, is_in_name, is_digit, is_operator}
 use Rattle.ns_lex.specs.Piece.{Text}
 use Rattle.ns_lex.specs.Word.{name_len}
 use Rattle.ns_lex.specs.Operator.{operator_len}
-use Rattle.ns_lex.specs.Symbol.{symbol, symbol_of, selector_len, keys_from}
+use Rattle.ns_lex.specs.Symbol.{symbol, selector_len, keys_from}
 use Rattle.ns_lex.specs.declared.piece.Piece.TheVariants.{Token, Fault}
 use Rattle.ns_lex.specs.declared.piece.Cause.TheVariants as cause
-use Rattle.ns_lex.specs.Spells.{AllOf, IsName, IsKey, IsKeys, IsOperator, Spells}
-use Rattle.ns_lex.specs.Lexes.{Stands}
+use Rattle.ns_lex.specs.Spells.{AllOf, IsName, IsKeys, IsOperator, Spells}
 use Rattle.ns_lex.proofs.Words.{IsToken, NoneLonger, longest_cut, moved, name_run, in_name, is_name, name_short}
 use Rattle.ns_lex.proofs.Singles.{no_name, no_operator, first_not, same_first, no_slot_set, clash}
 use Rattle.ns_lex.proofs.Operators.{operator_longest, operator_stands}
@@ -194,8 +193,8 @@ name_or_keys b y false m h s (inl low) =
     let begins : keys_from 0 false 0 (b ∷ y) ≡ keys_from 0 true 1 y = ap (λ v. if v then keys_from 0 true 1 y else 0) s in
     let size : name_len (b ∷ y) ≡ 1 + name_len y = ap (λ v. cond v (1 + name_len y) 0) (in_name b s) in
     elim (name_reach 0 1 y) [
-      inl none ↦ absurd (let f : (keys_from 0 false 0 (b ∷ y) == 0) ≡ true = eq-eqb (keys_from 0 false 0 (b ∷ y)) 0 (begins ∙ none) in clash (keys_from 0 false 0 (b ∷ y) == 0) h f)
-    | inr far ↦ omega (arith, far, begins, size, low)
+      | inl none ↦ absurd (let f : (keys_from 0 false 0 (b ∷ y) == 0) ≡ true = eq-eqb (keys_from 0 false 0 (b ∷ y)) 0 (begins ∙ none) in clash (keys_from 0 false 0 (b ∷ y) == 0) h f)
+      | inr far ↦ omega (arith, far, begins, size, low)
     ]
 
 no_oper : (b : ℕ) → starts_name b ≡ true → is_operator b ≡ false
@@ -262,7 +261,7 @@ longest_symbol b y h (c ∷ p) r t cut x =
     let same_byte : b ≡ c = same_first b c y (p ++ r) cut in
     let rest : y ≡ p ++ r = cc in
     at_mark c p t (sym same_byte ∙ h) x
-      (λ s form e. let low : length s ≤ selector_len (s ++ r) = selector_longest s r form in let f : selector_len (s ++ r) ≡ selector_len y = ap (λ w. selector_len (w ++ r)) (sym e) ∙ ap selector_len (sym rest) in omega (arith, low, f, ap length e))
+    (λ s form e. let low : length s ≤ selector_len (s ++ r) = selector_longest s r form in let f : selector_len (s ++ r) ≡ selector_len y = ap (λ w. selector_len (w ++ r)) (sym e) ∙ ap selector_len (sym rest) in omega (arith, low, f, ap length e))
 
 symbol_at : (b : ℕ) (y : Text) (n : ℕ) → b ≡ 35 → selector_len y ≡ n → n ≢ 0 → IsToken (b ∷ y) (k.Symbol (take n y)) (n + 1)
 symbol_at b y n h e some =

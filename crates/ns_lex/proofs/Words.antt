@@ -1,6 +1,5 @@
 -- The piece at a name is the longest token.
-use Rattle.std.proofs.Common.{◌≡◌, ℕ, zero, suc, ◌+◌, ◌≤◌, ◌<◌, ◌⊎◌, inl, inr, Bool, true, false, ◌≢◌, ◌==◌, ◌||◌, ◌&&◌, cond, not, List, [], ◌∷◌, ◌++◌, length, take, drop, get_or, drop-cons, Option, Some, None, refl, sym, ap, subst, ◌∙◌, append_assoc, length-append, arith}
-use Rattle.std.proofs.lemmas.Grind.{common_steps}
+use Rattle.std.proofs.Common.{◌≡◌, ℕ, suc, ◌+◌, ◌≤◌, ◌<◌, ◌⊎◌, inl, inr, Bool, true, false, ◌≢◌, ◌==◌, ◌||◌, cond, [], ◌∷◌, ◌++◌, length, take, drop, get_or, drop-cons, Option, Some, None, refl, sym, ap, subst, ◌∙◌, append_assoc, length-append, arith}
 use Rattle.std.proofs.lemmas.Bool.Decides.{nat_tests}
 use Rattle.std.specs.List.{prefix_len}
 use Rattle.std.proofs.lemmas.List.{get_or_past, take_more, take-append-drop, length-take}
@@ -13,9 +12,8 @@ use Rattle.ns_lex.specs.Bytes.{starts_name, is_in_name, is_digit, is_operator, i
 use Rattle.ns_lex.specs.declared.bytes.ByteClass.TheVariants as class
 use Rattle.ns_lex.specs.Piece.{Text}
 use Rattle.ns_lex.specs.Word.{reserved, name_len, word, word_by, named}
-use Rattle.ns_lex.specs.declared.piece.Piece.{Piece}
 use Rattle.ns_lex.specs.declared.piece.Piece.TheVariants.{Token}
-use Rattle.ns_lex.specs.Spells.{AllOf, IsName, IsKey, IsKeys, IsOperator, Spells, doubled}
+use Rattle.ns_lex.specs.Spells.{AllOf, IsName, Spells}
 use Rattle.ns_lex.specs.Lexes.{Stands, Longest, BeforeSlotSet, IsNext}
 
 -- a byte that begins a name begins no other token

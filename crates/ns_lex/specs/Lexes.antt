@@ -5,6 +5,8 @@ use Rattle.ns_tree.specs.declared.token.Kind.{Kind}
 use Rattle.ns_tree.specs.declared.token.Kind.TheVariants as k
 use Rattle.ns_lex.specs.declared.piece.Cause.{Cause}
 use Rattle.ns_lex.specs.declared.piece.Cause.TheVariants as cause
+use Rattle.ns_lex.specs.declared.fault.LexFault.{LexFault}
+use Rattle.ns_lex.specs.declared.fault.LexFault.TheVariants as fault
 use Rattle.ns_lex.specs.Bytes.{starts_name, is_digit}
 use Rattle.ns_lex.specs.Piece.{Text}
 use Rattle.ns_lex.specs.Number.{value, greatest}
@@ -74,3 +76,11 @@ Lexes source ts = Cuts 0 source ts (length source) []
 -- Tokens cut the source up to a place behind which it has a fault: of that cause, at byte n.
 abbrev pub LexStops : Text → ℕ → Cause → Type 0
 LexStops source n c = (ts : List Token) × (at : ℕ) × (rest : Text) × (m : ℕ) × Cuts 0 source ts at rest × IsFault rest c m × (n ≡ at + m)
+
+-- The source stops at that fault. Want of memory says nothing of the source.
+abbrev pub StopsAt : Text → LexFault → Type 0
+StopsAt source (fault.BadByte n) = LexStops source n cause.BadByte
+StopsAt source (fault.UnclosedComment n) = LexStops source n cause.UnclosedComment
+StopsAt source (fault.UnclosedString n) = LexStops source n cause.UnclosedString
+StopsAt source (fault.BigNumber n) = LexStops source n cause.BigNumber
+StopsAt source fault.Memory = Unit {0}

@@ -1,7 +1,7 @@
 //! Cuts a whole source into tokens.
 
 ghost use Rattle.std.specs.Prelude.{◌≡◌, ◌≢◌, ◌≤◌, length, drop, IfOk, MatchResult};
-ghost use Rattle.ns_lex.specs.Lexes.{Lexes};
+ghost use Rattle.ns_lex.specs.Lexes.{Lexes, StopsAt};
 ghost use Rattle.ns_lex.specs.Scan as spec;
 ghost use Rattle.ns_lex.specs.declared.fault.LexFault.TheVariants.{Memory};
 
@@ -23,7 +23,7 @@ fn rest_of(source: &[u8], at: usize) -> &[u8]
 pub fn lex(alloc: Global, source: &[u8]) -> Result<Vec<Token>, LexFault>
     requires { length source.now ≤ 1048576 }
     ensures exact { MatchResult result (λ tokens. spec.scan source.now ≡ Ok tokens.items) (λ fault. fault ≢ Memory → spec.scan source.now ≡ Err fault) }
-    ensures lexes { IfOk result (λ tokens. Lexes source.now tokens.items) }
+    ensures cuts { MatchResult result (λ tokens. Lexes source.now tokens.items) (λ fault. StopsAt source.now fault) }
     ensures in_order { IfOk result (λ tokens. spec.InOrder 0 (length source.now) tokens.items) }
     ensures count { IfOk result (λ tokens. length tokens.items ≤ length source.now) }
 {

@@ -1,12 +1,11 @@
 -- What a change of one cell leaves as it was.
-use Rattle.std.proofs.Common.{◌≡◌, ◌≢◌, ℕ, ◌+◌, ◌<◌, ◌≤◌, List, [], ◌∷◌, length, refl, ap, sym, ◌∙◌, arith, Option, Some, None, Bool, true, false, cond, eqb, length-set}
+use Rattle.std.proofs.Common.{◌≡◌, ◌≢◌, ℕ, ◌+◌, ◌≤◌, List, [], ◌∷◌, length, refl, ap, sym, ◌∙◌, arith, Option, Some, None, Bool, true, false, cond, eqb, length-set}
 use Rattle.std.proofs.lemmas.Bool.{eqb-true, eq-eqb}
 use Rattle.ns_world.specs.declared.value.Value.{Value}
 use Rattle.ns_world.specs.declared.value.Value.TheVariants.{Nil, True, False, Int, Sym, Kernel, Ref}
 use Rattle.ns_world.specs.Cell.{Cell, ObjectCell, ClassCell, BlockCell, EnvironmentCell, ArrayCell, TextCell, FacetCell, MirrorCell, MessageCell, cell_size, text_words, with_word, with_byte}
 use Rattle.ns_world.specs.Heap.{Heap, heap_size, find_cell, set_cell, is_class, chain_of, chain_at, chain_above, change_cell, write_word, write_byte}
-use Rattle.ns_world.proofs.Chains.{size_above}
-use Rattle.ns_world.proofs.Replacing.{Replaces, Stays, set_cell_stays, heap_size-replaced}
+use Rattle.ns_world.proofs.Replacing.{set_cell_stays}
 
 pub differs : (m n : ℕ) → m ≢ n → eqb m n ≡ false
 differs m n h = tested (eqb m n) refl

@@ -1,4 +1,4 @@
-use Rattle.ns_lex.proofs.Cutting.{scan_lexes}
+use Rattle.ns_lex.proofs.Cutting.{scan_lexes, scan_stops}
 use Rattle.ns_lex.proofs.Steps.{gap_loop, token_loop, fault_loop, end_loop, later, one_more, token_grows}
 use Rattle.std.proofs.Common.{ap, sym, subst, ◌+◌, ◌∙◌, Err, arith}
 use Rattle.ns_lex.specs.Scan.{InOrder}
@@ -20,5 +20,9 @@ returns-in-Fault-clause-exact c = λ _. fault_loop c.args.source.now c.rest_of.r
 pub returns-clause-exact : goal.returns-clause-exact
 returns-clause-exact c = end_loop c.args.source.now c.pieces.at c.pieces.tokens.items _ c.pieces-test.false c.pieces.invariant.scanned
 
-pub returns-clause-lexes : goal.returns-clause-lexes
-returns-clause-lexes c = scan_lexes c.args.source.now c.pieces.tokens.items (end_loop c.args.source.now c.pieces.at c.pieces.tokens.items _ c.pieces-test.false c.pieces.invariant.scanned)
+pub returns-clause-cuts : goal.returns-clause-cuts
+returns-clause-cuts c = scan_lexes c.args.source.now c.pieces.tokens.items (end_loop c.args.source.now c.pieces.at c.pieces.tokens.items _ c.pieces-test.false c.pieces.invariant.scanned)
+
+pub returns-in-Fault-clause-cuts : goal.returns-in-Fault-clause-cuts
+returns-in-Fault-clause-cuts c =
+    scan_stops c.args.source.now c.fault_at.result (fault_loop c.args.source.now c.rest_of.result.now c.pieces.at c.in-Fault.n c.in-Fault.cause c.in_ok-n.field-0 c.pieces.tokens.items _ c.pieces-test.true c.rest_of.ensures c.in_ok-n.ensures.value c.in-Fault.is c.pieces.invariant.scanned ∙ ap Err (sym c.fault_at.ensures))
