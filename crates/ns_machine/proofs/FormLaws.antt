@@ -1,5 +1,5 @@
 -- Lists in trees, by their length.
-use Rattle.std.proofs.Common.{◌≡◌, ℕ, ◌≤◌, List, [], ◌∷◌, true, false, length, refl, arith}
+use Rattle.std.proofs.Common.{◌≡◌, ℕ, ◌≤◌, List, [], ◌∷◌, false, length, refl, arith}
 use Rattle.std.proofs.lemmas.Bool.Decides.{nat_tests}
 use Rattle.std.specs.Prelude.{◌==◌, Option, Some, None}
 use Rattle.ns_machine.specs.First.{argument_of, are_no_messages, are_no_opers, are_no_statements, has_main_alone, is_print_line, key_text}

@@ -1,10 +1,10 @@
 -- The tokens of a unit of the first form.
 use Rattle.std.specs.Prelude.{◌≡◌, ◌≢◌, ℕ, ◌&&◌, List, [], ◌∷◌, ◌++◌, Bool, true, false, not, Option, Some, None, is_none, codes, map, refl}
-use Rattle.std.proofs.Common.{ap, sym, ◌∙◌, subst, append-nil, append_assoc}
+use Rattle.std.proofs.Common.{ap, sym, ◌∙◌, subst, append-nil}
 use Rattle.std.specs.Str.{bytes_eq}
 use Rattle.std.proofs.lemmas.Slice.Eq.{bytes_eq-Decides}
 use Rattle.ns_machine.specs.First as f
-use Rattle.ns_machine.specs.FirstTokens.{IsFirstForm, body_tokens, class_tokens, method_tokens, more_tokens, statement_tokens}
+use Rattle.ns_machine.specs.FirstTokens.{IsFirstForm, body_tokens, method_tokens, more_tokens, statement_tokens}
 use Rattle.ns_tree.specs.Flat as flats
 use Rattle.ns_tree.specs.Plain as p
 use Rattle.ns_tree.specs.declared.tree.Access.{Access}
@@ -12,7 +12,7 @@ use Rattle.ns_tree.specs.declared.tree.Access.TheVariants.{Public, Protected, Pr
 use Rattle.ns_tree.specs.declared.tree.Named.{Named}
 use Rattle.ns_tree.specs.declared.token.Reserved.TheVariants as words
 use Rattle.ns_tree.specs.declared.token.Kind.{Kind}
-use Rattle.ns_tree.specs.declared.token.Kind.TheVariants.{Ident, Word, Key, Oper, Str, Open, Close, Stop}
+use Rattle.ns_tree.specs.declared.token.Kind.TheVariants.{Ident, Word, Key, Oper, Str, Open, Close}
 
 pub both : (a b : Bool) → (a && b) ≡ true → (a ≡ true) × (b ≡ true)
 both true b h = (refl, h)
@@ -272,21 +272,21 @@ side_flat (p.side_with (p.more_members (p.member_with before access what) p.no_m
     }
 side_flat (p.side_with (p.more_members member (p.more_members next rest)) categories) h = absurd (cc (h))
 
-pub class_flat : (name : Named) (factory : Option p.Pattern) (clause : Option p.SuperClause) (bars : p.Bars) (body : p.Statements) (side : p.Side) (class_side : p.ClassSide) (manifest : List ℕ) (rest : List Kind)
-    → flats.flat_factory factory ≡ Key (codes "packageUsing:") ∷ Ident manifest ∷ [] → clause ≡ None → bars ≡ p.no_bars → body ≡ p.statements_with p.no_statements false → class_side ≡ p.no_class_side → flats.flat_side side ≡ rest
-    → flats.flat_class (p.class_with name factory clause bars body side class_side)
+pub class_flat : (name : Named) (factory : Option p.Pattern) (clause : Option p.SuperClause) (bars : p.Bars) (body : p.Statements) (side : p.Side) (on_class : p.ClassSide) (manifest : List ℕ) (rest : List Kind)
+    → flats.flat_factory factory ≡ Key (codes "packageUsing:") ∷ Ident manifest ∷ [] → clause ≡ None → bars ≡ p.no_bars → body ≡ p.statements_with p.no_statements false → on_class ≡ p.no_class_side → flats.flat_side side ≡ rest
+    → flats.flat_class (p.class_with name factory clause bars body side on_class)
     ≡ Word words.Class ∷ Ident name.text ∷ Key (codes "packageUsing:") ∷ Ident manifest ∷ Oper (codes "=") ∷ Open ∷ Close ∷ rest
-class_flat name factory clause bars body side class_side manifest rest m c n i o s =
+class_flat name factory clause bars body side on_class manifest rest m c n i o s =
     rw (c, n, i, o, m) (ap (λ x. Word words.Class ∷ Ident name.text ∷ Key (codes "packageUsing:") ∷ Ident manifest ∷ Oper (codes "=") ∷ Open ∷ Close ∷ x) (append-nil (flats.flat_side side) ∙ s))
 
 -- The tokens of a unit of the first form are a class of it.
 pub first_tokens : (unit : p.SourceUnit) → f.is_first unit ≡ true → IsFirstForm (flats.flat unit) (f.form_of unit)
-first_tokens (p.unit_with marker category (p.class_with name factory clause bars body side class_side)) h =
-    let a = both (f.takes_manifest factory && f.has_no_clause clause) ((f.has_no_bars bars && f.has_no_statements body) && (f.is_main_side side && f.has_no_class_side class_side)) h in
+first_tokens (p.unit_with marker category (p.class_with name factory clause bars body side on_class)) h =
+    let a = both (f.takes_manifest factory && f.has_no_clause clause) ((f.has_no_bars bars && f.has_no_statements body) && (f.is_main_side side && f.has_no_class_side on_class)) h in
     let b = both (f.takes_manifest factory) (f.has_no_clause clause) a.0 in
-    let d = both (f.has_no_bars bars && f.has_no_statements body) (f.is_main_side side && f.has_no_class_side class_side) a.1 in
+    let d = both (f.has_no_bars bars && f.has_no_statements body) (f.is_main_side side && f.has_no_class_side on_class) a.1 in
     let e = both (f.has_no_bars bars) (f.has_no_statements body) d.0 in
-    let g = both (f.is_main_side side) (f.has_no_class_side class_side) d.1 in
+    let g = both (f.is_main_side side) (f.has_no_class_side on_class) d.1 in
     let m = manifest_of factory b.0 in
     let s = side_flat side g.0 in
     record {
@@ -298,7 +298,7 @@ first_tokens (p.unit_with marker category (p.class_with name factory clause bars
       before = s.before;
       behind = s.behind;
       spelled = ap (λ x. flats.flat_marker marker ++ (flats.flat_category category ++ x))
-          (class_flat name factory clause bars body side class_side m.0 _ m.1 (no_clause clause b.1) (no_bars bars e.0) (nothing_is body e.1) (no_class_side class_side g.1) s.spelled);
+          (class_flat name factory clause bars body side on_class m.0 _ m.1 (no_clause clause b.1) (no_bars bars e.0) (nothing_is body e.1) (no_class_side on_class g.1) s.spelled);
       differ = s.differ;
       some = s.some;
     }

@@ -153,9 +153,9 @@ has_no_class_side p.no_class_side = true
 has_no_class_side (p.class_side_with side) = false
 
 abbrev pub is_first_class : p.Class → Bool
-is_first_class (p.class_with name factory clause bars body side class_side) =
+is_first_class (p.class_with name factory clause bars body side on_class) =
     (takes_manifest factory && has_no_clause clause)
-    && ((has_no_bars bars && has_no_statements body) && (is_main_side side && has_no_class_side class_side))
+    && ((has_no_bars bars && has_no_statements body) && (is_main_side side && has_no_class_side on_class))
 
 -- One class with the factory `packageUsing:`, without a superclass clause, slots, statements and a class side, whose
 -- one member is a public method `main:args:` of statements that print strings on the console of the platform. A
@@ -211,7 +211,7 @@ abbrev pub side_texts : p.Side → List (List ℕ)
 side_texts (p.side_with members categories) = members_texts members
 
 abbrev pub class_form : p.Class → Form
-class_form (p.class_with name factory clause bars body side class_side) = record { name = name.text; texts = side_texts side }
+class_form (p.class_with name _ _ _ _ side _) = record { name = name.text; texts = side_texts side }
 
 -- what a unit says, read as one of the first form
 abbrev pub form_of : p.SourceUnit → Form
