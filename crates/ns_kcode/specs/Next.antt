@@ -42,8 +42,8 @@ if_false_next receiver block last = Answer Nil
 
 -- `ifTrue:ifFalse:`, and with its blocks exchanged `ifFalse:ifTrue:`
 abbrev pub choice_next : Value → Value → Value → Option Value → KAction
-choice_next True on_true on_false last = value_of on_true last
-choice_next receiver on_true on_false last = value_of on_false last
+choice_next True chosen otherwise last = value_of chosen last
+choice_next receiver chosen otherwise last = value_of otherwise last
 
 -- what a loop's receiver answered, where that was evaluated last
 abbrev pub tested : ℤ → Option Value → Option Value

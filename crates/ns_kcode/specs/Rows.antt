@@ -62,8 +62,8 @@ module _ {W O : Type 0} (host : Host W O) where
 
   -- `ifTrue:ifFalse:`, and with its blocks exchanged `ifFalse:ifTrue:`
   abbrev pub choice_row : Value → Value → Value → W → O
-  choice_row True on_true on_false w = host.evaluates on_true None w host.answers
-  choice_row receiver on_true on_false w = host.evaluates on_false None w host.answers
+  choice_row True chosen otherwise w = host.evaluates chosen None w host.answers
+  choice_row receiver chosen otherwise w = host.evaluates otherwise None w host.answers
 
   -- a turn: its step, and then the block, whose value is dropped
   abbrev pub turn : Value → Option Value → W → (W → O) → O

@@ -97,12 +97,12 @@ fn if_false_next(receiver: Value, block: Value, last: Option<Value>) -> KAction
 }
 
 /// `ifTrue:ifFalse:`, and with its blocks exchanged `ifFalse:ifTrue:`.
-fn choice_next(receiver: Value, on_true: Value, on_false: Value, last: Option<Value>) -> KAction
-    ensures { result ≡ choice_next receiver on_true on_false last }
+fn choice_next(receiver: Value, chosen: Value, otherwise: Value, last: Option<Value>) -> KAction
+    ensures { result ≡ choice_next receiver chosen otherwise last }
 {
     match receiver {
-        Value::True => value_of(on_true, last),
-        _ => value_of(on_false, last),
+        Value::True => value_of(chosen, last),
+        _ => value_of(otherwise, last),
     }
 }
 

@@ -97,16 +97,16 @@ fn while_loops(rt: HostRuntime) -> Result<(), Fail> {
         (1, Some(Value::Nil), wrong, wrong),
         (1, Some(Value::Int(3)), wrong, wrong),
     ];
-    for (count, last, on_true, on_false) in table {
+    for (count, last, chosen, otherwise) in table {
         let state = state(BLOCK, OTHER, Value::Nil, count, last);
         assert_eq!(rt;
             next(KMethod::WhileTrue, state),
-            on_true,
+            chosen,
             "whileTrue: {count} {last:?}"
         );
         assert_eq!(rt;
             next(KMethod::WhileFalse, state),
-            on_false,
+            otherwise,
             "whileFalse: {count} {last:?}"
         );
     }
