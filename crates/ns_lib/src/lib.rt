@@ -1,0 +1,6 @@
+//! The library that a program may ask for.
+#![tactic(auto)]
+
+pub mod collections;
+#[cfg(test)]
+mod tests;
