@@ -5,6 +5,9 @@ pub mod items;
 pub mod limits;
 pub mod mem_shelf;
 pub mod mem_sink;
+pub mod names;
+#[cfg(test)]
+mod names_tests;
 pub mod no_memory;
 pub mod place;
 pub mod selector;
