@@ -1,0 +1,7 @@
+//! What a name means in a program: its members, its locals, and where each is seen.
+#![tactic(auto)]
+
+pub mod names;
+pub mod program;
+pub mod stack;
+pub mod table;
