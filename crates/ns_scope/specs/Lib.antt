@@ -1,2 +1,5 @@
+pub mod Bodies
 pub mod Names
+pub mod Resolve
+pub mod Scopes
 pub mod Table

@@ -3,5 +3,7 @@
 
 pub mod names;
 pub mod program;
+pub mod resolve;
+pub mod scope;
 pub mod stack;
 pub mod table;

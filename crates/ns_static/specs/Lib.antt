@@ -1,0 +1,3 @@
+pub mod Faults
+pub mod Least
+pub mod Rules

@@ -1,0 +1,4 @@
+//! The faults of a program that its text alone shows.
+#![tactic(auto)]
+
+pub mod fault;
