@@ -90,6 +90,10 @@ abbrev mutual
   pub statement_blocks : Scope → p.Statement → List Scope
   statement_blocks scope (p.statement_with caret expr) = expr_blocks scope expr
 
+-- the blocks in a block that sees this
+abbrev pub inside_blocks : Scope → p.Block → List Scope
+inside_blocks scope (p.block_with params bars body) = bars_blocks scope bars ++ statements_blocks scope body
+
 -- ---- declarations
 
 abbrev pub super_blocks : Scope → Option p.SuperClause → List Scope

@@ -1,4 +1,5 @@
 pub mod Bodies
+pub mod Chains
 pub mod Names
 pub mod Resolve
 pub mod Scopes

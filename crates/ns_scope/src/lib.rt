@@ -1,9 +1,12 @@
 //! What a name means in a program: its members, its locals, and where each is seen.
 #![tactic(auto)]
 
+pub mod blocks;
+pub mod chain;
 pub mod names;
 pub mod program;
 pub mod resolve;
+pub mod seen;
 pub mod scope;
 pub mod stack;
 pub mod table;

@@ -1,0 +1,11 @@
+-- The bodies of a block: itself, and those in it.
+use Rattle.std.proofs.Common.{◌≡◌, ◌∷◌, refl}
+use Rattle.ns_tree.specs.declared.tree.Block.{Block, out-Block}
+use Rattle.ns_tree.specs.PlainOf.{block_of, bars_of}
+use Rattle.ns_tree.proofs.Nodes.{block_out}
+use Rattle.ns_scope.specs.declared.scope.Scope.{Scope}
+use Rattle.ns_scope.specs.Scopes.{block_scope}
+use Rattle.ns_scope.specs.Bodies.{block_blocks, inside_blocks}
+
+pub block_and_inside : (scope : Scope) (e : Block) → block_blocks scope (block_of e) ≡ block_scope scope (out-Block e).params.items (bars_of (out-Block e).slots) ∷ inside_blocks (block_scope scope (out-Block e).params.items (bars_of (out-Block e).slots)) (block_of e)
+block_and_inside scope e = rw (block_out e) refl
