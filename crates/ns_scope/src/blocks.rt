@@ -15,12 +15,7 @@ use ns_tree::tree::{
 use std::alloc::Global;
 
 #[cycle(blocks)]
-fn put_expr(
-    alloc: Global,
-    all: &mut Vec<Seen>,
-    scope: &Seen,
-    expr: &Expr,
-) -> Result<(), NoMemory>
+fn put_expr(alloc: Global, all: &mut Vec<Seen>, scope: &Seen, expr: &Expr) -> Result<(), NoMemory>
     ensures { OnOk result (all.new.items ≡ all.old.items ++ expr_blocks scope.now (expr_of expr.now)) }
 {
     put_key_expr(alloc, all, scope, &expr.first)?;
@@ -93,12 +88,7 @@ fn put_keys(
 }
 
 #[cycle(blocks)]
-fn put_bin(
-    alloc: Global,
-    all: &mut Vec<Seen>,
-    scope: &Seen,
-    expr: &BinExpr,
-) -> Result<(), NoMemory>
+fn put_bin(alloc: Global, all: &mut Vec<Seen>, scope: &Seen, expr: &BinExpr) -> Result<(), NoMemory>
     ensures { OnOk result (all.new.items ≡ all.old.items ++ bin_blocks scope.now (bin_of expr.now)) }
 {
     put_un(alloc, all, scope, &expr.first)?;
@@ -122,12 +112,7 @@ fn put_opers(
 }
 
 #[cycle(blocks)]
-fn put_un(
-    alloc: Global,
-    all: &mut Vec<Seen>,
-    scope: &Seen,
-    expr: &UnExpr,
-) -> Result<(), NoMemory>
+fn put_un(alloc: Global, all: &mut Vec<Seen>, scope: &Seen, expr: &UnExpr) -> Result<(), NoMemory>
     ensures { OnOk result (all.new.items ≡ all.old.items ++ un_blocks scope.now (un_of expr.now)) }
 {
     put_primary(alloc, all, scope, &expr.primary)
@@ -230,12 +215,7 @@ fn put_slots(
 }
 
 #[cycle(blocks)]
-fn put_slot(
-    alloc: Global,
-    all: &mut Vec<Seen>,
-    scope: &Seen,
-    slot: &Slot,
-) -> Result<(), NoMemory>
+fn put_slot(alloc: Global, all: &mut Vec<Seen>, scope: &Seen, slot: &Slot) -> Result<(), NoMemory>
     ensures { OnOk result (all.new.items ≡ all.old.items ++ slot_blocks scope.now (slot_of slot.now)) }
 {
     match &slot.init {

@@ -2,11 +2,13 @@
 #![tactic(auto)]
 
 pub mod blocks;
+pub mod bodies;
 pub mod chain;
 pub mod names;
 pub mod program;
 pub mod resolve;
-pub mod seen;
 pub mod scope;
+pub mod scopes;
+pub mod seen;
 pub mod stack;
 pub mod table;

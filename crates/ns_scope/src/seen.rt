@@ -3,12 +3,12 @@
 ghost use Rattle.std.specs.Prelude.{◌≡◌, [], ◌∷◌, IfOk, option_map};
 ghost use Rattle.ns_tree.specs.PlainOf.{bars_of, class_of, pattern_of};
 ghost use Rattle.ns_tree.specs.Plain as p;
-ghost use Rattle.ns_scope.specs.Scopes.{class_scope, clause_scope, initialiser_scope, method_scope, block_scope};
+ghost use Rattle.ns_scope.specs.Scopes.{is_outside, class_scope, clause_scope, initialiser_scope, method_scope, block_scope};
 ghost use Rattle.ns_scope.specs.Resolve.{innermost, own_members, levels, is_private, member_or_self, local_or, resolve};
 
 use crate::chain::Chain;
-use crate::names::{class_members, instance_members, locals, table_of, Local};
-use crate::resolve::{innermost_local, innermost_member, Target};
+use crate::names::{Local, class_members, instance_members, locals, table_of};
+use crate::resolve::{Target, innermost_local, innermost_member};
 use crate::scope::{ClassScope, CodeSide};
 use crate::table::Table;
 use ns_base::no_memory::NoMemory;
@@ -18,8 +18,57 @@ use std::alloc::Global;
 use std::marker::Model;
 use std::rc::Rc;
 
-/// The declarations around code, innermost first.
-pub type Classes = Rc<Chain<ClassScope>>;
+/// The declarations around code, innermost first. A clause sees the list; what stands further out
+/// is shared.
+#[derive(Drop)]
+pub struct Classes {
+    all: Rc<Chain<ClassScope>>,
+}
+
+impl Model for Classes {
+    ghost use Rattle.std.specs.Prelude.{List};
+    ghost use Rattle.ns_scope.specs.declared.scope.ClassScope.{ClassScope};
+
+    ghost Value = { List ClassScope };
+
+    ghost view = { λ classes. classes.all.value };
+}
+
+impl Classes {
+    /// No declarations.
+    pub fn outside(alloc: Global) -> Result<Classes, NoMemory>
+        ensures { IfOk result (λ classes. classes ≡ []) }
+    {
+        Ok(Classes {
+            all: Chain::end(alloc)?,
+        })
+    }
+
+    /// A declaration in others.
+    pub fn inside(alloc: Global, class: ClassScope, outer: &Classes) -> Result<Classes, NoMemory>
+        ensures { IfOk result (λ classes. classes ≡ class ∷ outer.now) }
+    {
+        Ok(Classes {
+            all: Chain::inside(alloc, class, &outer.all)?,
+        })
+    }
+
+    /// Whether there are no declarations.
+    pub fn is_outside(&self) -> bool
+        ensures { result ≡ is_outside self.now }
+    {
+        self.all.split().is_none()
+    }
+
+    /// The same, which shares all.
+    fn share(&self) -> Result<Classes, NoMemory>
+        ensures { IfOk result (λ classes. classes ≡ self.now) }
+    {
+        Ok(Classes {
+            all: self.all.clone()?,
+        })
+    }
+}
 
 /// What is seen from a body. A clause sees the scope; what stands further out is shared.
 #[derive(Drop)]
@@ -36,21 +85,15 @@ impl Model for Seen {
 
     ghost Value = { Scope };
 
-    ghost view = { λ seen. record { bodies = seen.bodies.value; side = seen.side; in_method = seen.in_method; classes = seen.classes.value } };
+    ghost view = { λ seen. record { bodies = seen.bodies.value; side = seen.side; in_method = seen.in_method; classes = seen.classes } };
 }
 
 impl Seen {
     /// What the head of a nested class's clause sees, in these declarations.
     pub fn clause(alloc: Global, classes: &Classes) -> Result<Seen, NoMemory>
-        ensures { IfOk result (λ seen. seen ≡ clause_scope classes.now.value) }
+        ensures { IfOk result (λ seen. seen ≡ clause_scope classes.now) }
     {
-        Seen::outermost(
-            alloc,
-            Table::new(alloc),
-            CodeSide::Instance,
-            false,
-            classes,
-        )
+        Seen::outermost(alloc, Table::new(alloc), CodeSide::Instance, false, classes)
     }
 
     /// What an initialiser sees, in a class with this factory.
@@ -59,16 +102,10 @@ impl Seen {
         classes: &Classes,
         factory: &Option<Pattern>,
     ) -> Result<Seen, NoMemory>
-        ensures { IfOk result (λ seen. seen ≡ initialiser_scope classes.now.value (option_map pattern_of factory.now)) }
+        ensures { IfOk result (λ seen. seen ≡ initialiser_scope classes.now (option_map pattern_of factory.now)) }
     {
         match factory {
-            None => Seen::outermost(
-                alloc,
-                Table::new(alloc),
-                CodeSide::Instance,
-                false,
-                classes,
-            ),
+            None => Seen::outermost(alloc, Table::new(alloc), CodeSide::Instance, false, classes),
             Some(pattern) => {
                 let names = table_of(alloc, &locals(alloc, &pattern.params, &None)?)?;
                 Seen::outermost(alloc, names, CodeSide::Instance, false, classes)
@@ -84,7 +121,7 @@ impl Seen {
         params: &[Named],
         slots: &Option<Vec<Slot>>,
     ) -> Result<Seen, NoMemory>
-        ensures { IfOk result (λ seen. seen ≡ method_scope classes.now.value side params.now (bars_of slots.now)) }
+        ensures { IfOk result (λ seen. seen ≡ method_scope classes.now side params.now (bars_of slots.now)) }
     {
         let names = table_of(alloc, &locals(alloc, params, slots)?)?;
         Seen::outermost(alloc, names, side, true, classes)
@@ -104,7 +141,7 @@ impl Seen {
             bodies: Chain::inside(alloc, names, &outer.bodies)?,
             side: outer.side,
             in_method: outer.in_method,
-            classes: outer.classes.clone()?,
+            classes: outer.classes.share()?,
         })
     }
 
@@ -116,13 +153,13 @@ impl Seen {
         in_method: bool,
         classes: &Classes,
     ) -> Result<Seen, NoMemory>
-        ensures { IfOk result (λ seen. seen ≡ record { bodies = names ∷ []; side = side; in_method = in_method; classes = classes.now.value }) }
+        ensures { IfOk result (λ seen. seen ≡ record { bodies = names ∷ []; side = side; in_method = in_method; classes = classes.now }) }
     {
         Ok(Seen {
             bodies: Chain::inside(alloc, names, &Chain::end(alloc)?)?,
             side,
             in_method,
-            classes: classes.clone()?,
+            classes: classes.share()?,
         })
     }
 
@@ -134,7 +171,7 @@ impl Seen {
             bodies: self.bodies.clone()?,
             side: self.side,
             in_method: self.in_method,
-            classes: self.classes.clone()?,
+            classes: self.classes.share()?,
         })
     }
 
@@ -147,7 +184,7 @@ impl Seen {
                 hops,
                 index: local.index,
             },
-            None => member(&self.classes, self.side, name),
+            None => member(&self.classes.all, self.side, name),
         }
     }
 }
