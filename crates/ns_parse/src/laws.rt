@@ -1,0 +1,12 @@
+//! Laws on what is read, each as the contract of a function that does nothing.
+
+ghost use Rattle.std.specs.Prelude.{◌≡◌, List, Ok};
+ghost use Rattle.ns_parse.specs.Parse as spec;
+ghost use Rattle.ns_tree.specs.Plain as p;
+ghost use Rattle.ns_tree.specs.Tree.{AllHaveText, Spells};
+ghost use Rattle.ns_tree.specs.declared.token.Kind.{Kind};
+
+/// What is parsed of tokens that have texts is a tree of the grammar, which these tokens spell.
+pub fn trees_are_spelled()
+    ensures { (kinds : List Kind) (unit : p.SourceUnit) → AllHaveText kinds → spec.parse kinds ≡ Ok unit → Spells kinds unit }
+{}
