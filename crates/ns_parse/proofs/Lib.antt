@@ -9,3 +9,4 @@ pub mod SoundLists
 pub mod SoundPatterns
 pub mod SoundTokens
 pub mod Steps
+pub mod Texts
