@@ -1,3 +1,6 @@
+pub mod FirstFile
+pub mod FirstLaws
+pub mod FirstReads
 pub mod NumberLaws
 pub mod PieceLaws
 pub mod ReportLaws
