@@ -10,6 +10,7 @@ use Rattle.ns_parse.specs.declared.fault.ParseFault.{ParseFault}
 use Rattle.ns_parse.proofs.SoundFile.{parse_spelled}
 use Rattle.ns_parse.proofs.Texts.{cuts_told}
 use Rattle.ns_run.proofs.FirstFile.{IsParsedFirst, first_parsed}
+use Rattle.ns_run.proofs.Scanned.{lexes_scanned}
 use Rattle.ns_run.specs.FirstSource.{IsFirstSource, IsTakenFirst}
 use Rattle.ns_run.specs.Source.{parsed, read, read_tokens, scanned}
 use Rattle.ns_tree.specs.Flat.{flat}
@@ -39,8 +40,13 @@ scanned_first source (Err fault) unit s e first = absurd cc
 pub taken_is_first : (source : List ℕ) (form : Form) → IsTakenFirst source form → IsFirstSource source form
 taken_is_first source form x = subst (IsFirstSource source) x.says (scanned_first source (scan source) x.unit refl x.reads x.first)
 
--- Tokens of the first form that are scanned are read as a unit of it.
-pub first_is_taken : (source : List ℕ) (tokens : List Token) (form : Form) → scan source ≡ Ok tokens → IsFirstForm (kinds tokens) form → IsTakenFirst source form
-first_is_taken source tokens form s x =
-    let y : IsParsedFirst (kinds tokens) form = first_parsed (kinds tokens) form.name form.texts x in
-    record { unit = y.unit; reads = ap (λ t. scanned t (length source)) s ∙ ap (λ r. parsed r tokens (length source)) y.parses; first = y.first; says = y.says }
+-- A source of the first form is read as a unit of it.
+pub first_is_taken : (source : List ℕ) (form : Form) → IsFirstSource source form → IsTakenFirst source form
+first_is_taken source form x =
+    let y : IsParsedFirst (kinds x.tokens) form = first_parsed (kinds x.tokens) form.name form.texts x.spelled in
+    record {
+      unit = y.unit;
+      reads = ap (λ t. scanned t (length source)) (lexes_scanned source x.tokens x.cut) ∙ ap (λ r. parsed r x.tokens (length source)) y.parses;
+      first = y.first;
+      says = y.says;
+    }

@@ -1,6 +1,6 @@
 //! A real stream, as a sink that tells no bytes. Over a writer that tells its own, it passes on each.
 
-ghost use Rattle.std.specs.Prelude.{◌≡◌, ◌≤◌, OnOk, OnErr, true};
+ghost use Rattle.std.specs.Prelude.{◌≡◌, ◌≤◌, length, drop, OnOk, OnErr, true};
 ghost use Rattle.std.specs.Io.KnownBytes.{Appends};
 ghost use Rattle.ns_base.specs.Count.{Rose};
 ghost use Rattle.nspk.specs.Stream.{AppendsPrefix};
@@ -47,6 +47,14 @@ impl<W: Write> Sink for Stream<W> {
     }
 }
 
+/// The bytes from a place on.
+fn rest_of(bytes: &[u8], at: usize) -> &[u8]
+    requires { at ≤ length bytes.now }
+    ensures { result.now ≡ drop at bytes.now }
+{
+    &bytes[at..]
+}
+
 /// True where the stream took all bytes. One that takes none of some bytes has failed.
 fn write_all<W: Write>(to: &mut W, bytes: &[u8]) -> bool
     ensures whole { result ≡ true → Appends (W.contents to.old) (W.contents to.new) bytes.now }
@@ -54,7 +62,7 @@ fn write_all<W: Write>(to: &mut W, bytes: &[u8]) -> bool
 {
     let mut done = 0;
     while done < bytes.len() {
-        match to.write(&bytes[done..]) {
+        match to.write(rest_of(bytes, done)) {
             Ok(0) => return false,
             Ok(n) => done += n,
             Err(_) => return false,
