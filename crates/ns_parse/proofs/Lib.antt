@@ -6,6 +6,7 @@ pub mod SoundClasses
 pub mod SoundExpressions
 pub mod SoundFile
 pub mod SoundLists
+pub mod SoundMarks
 pub mod SoundPatterns
 pub mod SoundTokens
 pub mod Steps

@@ -2,7 +2,7 @@
 -- are put together.
 use Rattle.std.proofs.Common.{◌≡◌, ℕ, ◌+◌, List, [], ◌∷◌, ◌++◌, length, Option, Some, None, Bool, true, false, cond, refl, sym, ap, subst, ◌∙◌, append_assoc, length-append, arith}
 use Rattle.ns_tree.specs.declared.token.Kind.{Kind}
-use Rattle.ns_tree.specs.Rule.{Rule, token, ◌&◌, maybe, mapped, placed, ◌▸◌, ◌◂◌}
+use Rattle.ns_tree.specs.Rule.{Rule, token, ◌&◌, maybe, placed, ◌▸◌, ◌◂◌}
 use Rattle.ns_tree.specs.Tree.{HasText, AllHaveText}
 use Rattle.ns_parse.specs.Read.{Outcome, Reader, got, fault, and_then, taken, read_one, begins, read_none, read_never, read_mapped, read_both, read_after, read_until, read_placed, read_or, read_maybe}
 

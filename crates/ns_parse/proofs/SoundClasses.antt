@@ -1,17 +1,14 @@
 -- Methods, classes and files are spelled by their tokens.
-use Rattle.std.proofs.Common.{◌≡◌, ℕ, zero, suc, ◌+◌, ◌⊎◌, inl, inr, List, [], ◌∷◌, ◌++◌, length, Option, Some, None, Bool, true, false, refl, sym, ap, subst, ◌∙◌, append_assoc, length-append, arith}
-use Rattle.std.specs.Prelude.{codes}
+use Rattle.std.proofs.Common.{◌≡◌, ℕ, zero, suc, ◌+◌, inr, List, [], ◌∷◌, ◌++◌, length, Some, None, refl, sym, ap, subst, ◌∙◌, append_assoc, length-append, arith}
 use Rattle.ns_tree.specs.declared.token.Kind.{Kind}
 use Rattle.ns_tree.specs.declared.token.Kind.TheVariants as k
 use Rattle.ns_tree.specs.declared.token.Reserved.TheVariants as words
-use Rattle.ns_tree.specs.declared.tree.Named.{Named}
-use Rattle.ns_tree.specs.declared.tree.Access.{Access}
 use Rattle.ns_tree.specs.Flat.{equals, over_sign}
 use Rattle.ns_tree.specs.Forms as f
 use Rattle.ns_tree.specs.Grammar as g
 use Rattle.ns_tree.specs.Lists.{key_list, member_list}
 use Rattle.ns_tree.specs.Plain as p
-use Rattle.ns_tree.specs.Rule.{Rule, token, ◌&◌, many, flat_all, GoodAll, maybe, flat_option, GoodOption, either, mapped, flat_from, GoodFrom, ◌▸◌, ◌◂◌, flag}
+use Rattle.ns_tree.specs.Rule.{Rule, ◌&◌, many, flat_all, GoodAll, maybe, flat_option, either, mapped, ◌▸◌, ◌◂◌}
 use Rattle.ns_parse.specs.declared.classes.SideOf.{SideOf}
 use Rattle.ns_parse.specs.declared.classes.SideOf.TheVariants as sides
 use Rattle.ns_parse.specs.declared.expressions.Holder.{Holder}
@@ -26,9 +23,10 @@ use Rattle.ns_parse.specs.Leaf as leaves
 use Rattle.ns_parse.specs.Pattern.{starts_base}
 use Rattle.ns_parse.specs.Classes as x
 use Rattle.ns_parse.specs.Expressions as exprs
-use Rattle.ns_parse.proofs.Sound.{Sound, SoundIf, Becomes, sound_none, sound_mapped, if_mapped, sound_same, sound_both, sound_after, sound_until, sound_or, sound_or_if, sound_maybe}
-use Rattle.ns_parse.proofs.SoundLists.{labelled, flat_labelled, GoodLabelled, sound_labelled}
-use Rattle.ns_parse.proofs.SoundTokens.{sound_skip, sound_flag, sound_ident, sound_oper, sound_string, sound_strings, sound_access}
+use Rattle.ns_parse.proofs.Sound.{Sound, Becomes, sound_none, sound_mapped, if_mapped, sound_same, sound_both, sound_after, sound_until, sound_or, sound_or_if, sound_maybe}
+use Rattle.ns_parse.proofs.SoundLists.{labelled, sound_labelled}
+use Rattle.ns_parse.proofs.SoundMarks.{sound_skip, sound_flag}
+use Rattle.ns_parse.proofs.SoundTokens.{sound_ident, sound_oper, sound_string, sound_strings, sound_access}
 use Rattle.ns_parse.proofs.SoundPatterns.{sound_pattern, sound_factory, sound_base}
 use Rattle.ns_parse.proofs.SoundExpressions.{by_arm, some_keys, sound_some_keys, slot_rule, sound_bars, sound_statements, sound_primary}
 
@@ -112,10 +110,11 @@ module _ (primary : Reader p.Primary) (rule : Rule p.Primary) (P : Sound primary
         let ms : List p.Member = member_list (x.members_from rest) in
         let t : List (List ℕ) = x.tail_from rest in
         let h : side_inside.Good (n + length (flat_all g.string l) + length ((maybe g.access & what).flat a)) (ms, t) × (side_inside.flat (ms, t) ≡ members_rule.flat rest) =
-            members_become (n + length (flat_all g.string l) + length ((maybe g.access & what).flat a)) rest good.1.1 in
-        let w : List Kind = (g.member rule what).flat (p.member_with l a.0 a.1) in
-        (item_good n l a ms t good.0 good.1.0 h.0,
-        append_assoc w (flat_all (g.member rule what) ms) (flat_all g.string t) ∙ ap (λ v. w ++ v) h.1 ∙ append_assoc (flat_all g.string l) ((maybe g.access & what).flat a) (members_rule.flat rest))
+        members_become (n + length (flat_all g.string l) + length ((maybe g.access & what).flat a)) rest good.1.1 in
+        let w : List Kind = (g.member rule what).flat (p.member_with l a.0 a.1) in (
+          item_good n l a ms t good.0 good.1.0 h.0,
+          append_assoc w (flat_all (g.member rule what) ms) (flat_all g.string t) ∙ ap (λ v. w ++ v) h.1 ∙ append_assoc (flat_all g.string l) ((maybe g.access & what).flat a) (members_rule.flat rest),
+        )
 
     side_becomes : Becomes (k.Open ▸ mapped f.side_form side_inside ◂ k.Close) (g.side rule what) (λ a. a)
     side_becomes n (p.side_with members rest) good =
@@ -162,9 +161,28 @@ module _ (primary : Reader p.Primary) (rule : Rule p.Primary) (P : Sound primary
         let size : length (F ++ equals ∷ C) ≡ length F + length (equals ∷ C) = length-append F (equals ∷ C) in
         let more : length (head_rule.flat hd ++ B) ≡ length (head_rule.flat hd) + length B = length-append (head_rule.flat hd) B in
         let there : n + length (head_rule.flat hd) ≡ n + 1 + 1 + length F + 1 + length C = omega (arith, size) in
-        let behind : n + length (head_rule.flat hd ++ B) ≡ n + 1 + 1 + length F + 1 + length C + length B = omega (arith, size, more) in
-        (tt, (good.0.0.1.0, (good.0.0.1.1.0, (tt, (good.0.0.1.1.1.1, (subst (λ i. (body_rule h.Object).Good i bd) there good.0.1, (subst (λ i. (g.side rule rule_what).Good i sd) behind good.1.0,
-        subst (λ i. (class_side_rule (g.method_member rule)).Good (i + length ((g.side rule rule_what).flat sd)) cs) behind good.1.1)))))))
+        let behind : n + length (head_rule.flat hd ++ B) ≡ n + 1 + 1 + length F + 1 + length C + length B = omega (arith, size, more) in (
+          tt,
+          (
+            good.0.0.1.0,
+            (
+              good.0.0.1.1.0,
+              (
+                tt,
+                (
+                  good.0.0.1.1.1.1,
+                  (
+                    subst (λ i. (body_rule h.Object).Good i bd) there good.0.1,
+                    (
+                      subst (λ i. (g.side rule rule_what).Good i sd) behind good.1.0,
+                      subst (λ i. (class_side_rule (g.method_member rule)).Good (i + length ((g.side rule rule_what).flat sd)) cs) behind good.1.1,
+                    ),
+                  ),
+                ),
+              ),
+            ),
+          ),
+        )
 
     class_flat : (a : (x.ClassHead × (p.Bars × p.Statements)) × (p.Side × p.ClassSide)) → (g.class rule rule_what).flat (x.class_from a) ≡ class_parts.flat a
     class_flat ((hd, bd), (sd, cs)) =

@@ -1,15 +1,13 @@
 -- Expressions, slots, statements and blocks are spelled by their tokens.
-use Rattle.std.proofs.Common.{◌≡◌, ℕ, zero, suc, ◌+◌, ◌⊎◌, inl, inr, List, [], ◌∷◌, ◌++◌, length, Option, Some, None, option_map, Bool, true, false, refl, sym, ap, subst, ◌∙◌, append_assoc, arith}
-use Rattle.ns_tree.specs.declared.token.Kind.{Kind}
+use Rattle.std.proofs.Common.{◌≡◌, ℕ, zero, suc, ◌+◌, inr, List, [], ◌∷◌, ◌++◌, Option, Some, None, option_map, true, false, refl, sym, ap, subst, ◌∙◌, append_assoc}
 use Rattle.ns_tree.specs.declared.token.Kind.TheVariants as k
 use Rattle.ns_tree.specs.declared.tree.Named.{Named}
 use Rattle.ns_tree.specs.declared.tree.Access.{Access}
-use Rattle.ns_tree.specs.Flat.{bar, equals}
 use Rattle.ns_tree.specs.Forms as f
 use Rattle.ns_tree.specs.Grammar as g
-use Rattle.ns_tree.specs.Lists.{key_list, oper_list, message_list, expr_list, slot_list, statement_list, list_keys, list_opers, list_messages, list_exprs, list_slots, list_statements}
+use Rattle.ns_tree.specs.Lists.{key_list, oper_list, message_list, expr_list, slot_list, list_keys, list_opers, list_messages, list_slots}
 use Rattle.ns_tree.specs.Plain as p
-use Rattle.ns_tree.specs.Rule.{Rule, ◌&◌, many, maybe, either, mapped, flat_from, GoodFrom, placed, Listed, listed, ◌▸◌, ◌◂◌, once_or_more, flag}
+use Rattle.ns_tree.specs.Rule.{Rule, ◌&◌, many, either, mapped, flat_from, GoodFrom, Listed, listed, ◌▸◌, ◌◂◌}
 use Rattle.ns_tree.proofs.Made.{keys_back, opers_back, messages_back, exprs_back, slots_back, statements_back}
 use Rattle.ns_parse.specs.declared.expressions.Holder.{Holder}
 use Rattle.ns_parse.specs.declared.expressions.Holder.TheVariants as h
@@ -17,14 +15,15 @@ use Rattle.ns_parse.specs.declared.mark.Mark.TheVariants as m
 use Rattle.ns_parse.specs.declared.name.Sort.TheVariants as s
 use Rattle.ns_parse.specs.declared.name.Operators.{Operators}
 use Rattle.ns_parse.specs.declared.name.Operators.TheVariants as o
-use Rattle.ns_parse.specs.Read.{Reader, read_mapped, items, ends_separated}
+use Rattle.ns_parse.specs.Read.{Reader, items, ends_separated}
 use Rattle.ns_parse.specs.Mark as marks
 use Rattle.ns_parse.specs.Name as names
 use Rattle.ns_parse.specs.Leaf as leaves
 use Rattle.ns_parse.specs.Expressions as x
 use Rattle.ns_parse.proofs.Sound.{Sound, SoundIf, Becomes, sound_none, sound_never, sound_mapped, if_mapped, sound_same, sound_both, sound_after, sound_until, sound_placed, sound_or, sound_or_if}
 use Rattle.ns_parse.proofs.SoundLists.{some, sound_many, sound_some, sound_listed, listed_read}
-use Rattle.ns_parse.proofs.SoundTokens.{sound_skip, sound_semi, sound_caret, sound_flag, sound_name, sound_ident, sound_key, sound_set_key, sound_oper, sound_slot_oper, sound_names, sound_access, leaf, sound_leaf, mark_is}
+use Rattle.ns_parse.proofs.SoundMarks.{sound_skip, sound_semi, sound_caret, sound_flag, mark_is}
+use Rattle.ns_parse.proofs.SoundTokens.{sound_ident, sound_key, sound_set_key, sound_oper, sound_slot_oper, sound_names, sound_access, leaf, sound_leaf}
 use Rattle.ns_parse.proofs.SoundPatterns.{by_form, params, sound_params}
 
 -- ---- by the forms of a node
@@ -184,8 +183,9 @@ module _ (primary : Reader p.Primary) (rule : Rule p.Primary) (P : Sound primary
   block_becomes n (p.block_with names bars body) good = (
     (good.0, (good.1.0.0, (good.1.0.1.0, (good.1.0.1.1, tt)))),
     ap (λ w. k.OpenBlock ∷ w)
-      (ap (λ w. params.flat names ++ w) (sym (append_assoc ((g.bars rule (g.local rule)).flat bars) ((g.stmts rule).flat body) (k.CloseBlock ∷ [])))
-      ∙ sym (append_assoc (params.flat names) ((g.bars rule (g.local rule)).flat bars ++ (g.stmts rule).flat body) (k.CloseBlock ∷ []))))
+        (ap (λ w. params.flat names ++ w) (sym (append_assoc ((g.bars rule (g.local rule)).flat bars) ((g.stmts rule).flat body) (k.CloseBlock ∷ [])))
+        ∙ sym (append_assoc (params.flat names) ((g.bars rule (g.local rule)).flat bars ++ (g.stmts rule).flat body) (k.CloseBlock ∷ []))),
+  )
 
   tuple_arm : (n : ℕ) (l : Option (Listed p.Expr)) → GoodFrom tuple_form (listed (g.expr rule g.oper) k.Stop) (n + 1) l
       → GoodFrom f.primary_form (either g.leaf (g.bracketed rule)) n (option_map (λ y. inr (inr (inr y))) l)

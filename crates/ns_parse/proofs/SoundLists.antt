@@ -1,10 +1,10 @@
 -- What is read again and again is spelled as rules for lists say.
-use Rattle.std.proofs.Common.{◌≡◌, ℕ, zero, suc, ◌+◌, List, [], ◌∷◌, ◌++◌, length, Option, Some, None, option_map, Bool, true, false, cond, refl, sym, ap, subst, ◌∙◌, append_assoc, length-append, arith}
+use Rattle.std.proofs.Common.{◌≡◌, ℕ, zero, suc, ◌+◌, List, [], ◌∷◌, ◌++◌, length, Some, option_map, Bool, true, false, cond, refl, sym, ap, subst, ◌∙◌, append_assoc, length-append, arith}
 use Rattle.ns_tree.specs.declared.token.Kind.{Kind}
-use Rattle.ns_tree.specs.Forms.{OnceOrMore, once_or_more_of, listed_of}
-use Rattle.ns_tree.specs.Rule.{Rule, token, ◌&◌, many, flat_all, GoodAll, mapped, Listed, none, last, next, listed, flat_listed, GoodListed, once_or_more}
-use Rattle.ns_tree.specs.Tree.{HasText, AllHaveText}
-use Rattle.ns_parse.specs.Read.{Outcome, Reader, got, fault, and_then, begins, read_many, read_turns, put, read_listed, read_list_turns, behind, put_next, items, ends_there, ends_separated, Labelled, tail, item, read_labelled, read_label_turns, put_item}
+use Rattle.ns_tree.specs.Forms.{once_or_more_of, listed_of}
+use Rattle.ns_tree.specs.Rule.{Rule, ◌&◌, many, mapped, Listed, none, last, next, listed, flat_listed, GoodListed, once_or_more}
+use Rattle.ns_tree.specs.Tree.{AllHaveText}
+use Rattle.ns_parse.specs.Read.{Outcome, Reader, got, fault, and_then, begins, read_many, read_turns, put, read_listed, read_list_turns, behind, put_next, items, ends_separated, Labelled, tail, item, read_labelled, read_label_turns, put_item}
 use Rattle.ns_parse.proofs.Sound.{Took, Spelled, Sound, SoundIf, left_told, nothing, took_both, by_test}
 
 -- ---- any number of times

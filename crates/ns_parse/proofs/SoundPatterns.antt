@@ -1,22 +1,17 @@
 -- Patterns, factories, bases and block parameters are spelled by their tokens.
-use Rattle.std.proofs.Common.{◌≡◌, ℕ, ◌+◌, ◌⊎◌, inl, inr, List, [], ◌∷◌, ◌++◌, length, Option, Some, None, Bool, true, false, if◌then◌else◌, refl, sym, ap, subst, ◌∙◌, arith, eqb-true}
+use Rattle.std.proofs.Common.{◌≡◌, ℕ, ◌⊎◌, inl, inr, List, [], ◌∷◌, ◌++◌, Option, Some, None, Bool, true, false, if◌then◌else◌, refl, sym, ap, subst, ◌∙◌, eqb-true}
 use Rattle.std.specs.Prelude.{codes, ◌&&◌, ◌||◌, not, nat_eq, IsTrue}
 use Rattle.std.specs.List.{list_all, list_any}
 use Rattle.std.specs.Str.{bytes_eq}
 use Rattle.std.proofs.lemmas.Slice.Eq.{bytes_eq-Decides}
-use Rattle.ns_tree.specs.declared.token.Kind.{Kind}
 use Rattle.ns_tree.specs.declared.token.Kind.TheVariants as k
-use Rattle.ns_tree.specs.declared.token.Reserved.TheVariants as words
 use Rattle.ns_tree.specs.declared.tree.Named.{Named}
-use Rattle.ns_tree.specs.declared.tree.Base.{Base}
 use Rattle.ns_tree.specs.declared.tree.Origin.TheVariants as from
 use Rattle.ns_tree.specs.Bytes.{starts_name, begins_name, is_digit, is_name, is_operator, is_operator_byte}
 use Rattle.ns_tree.specs.Flat.{bar}
 use Rattle.ns_tree.specs.Forms as f
 use Rattle.ns_tree.specs.Grammar as g
-use Rattle.ns_tree.specs.Plain as p
-use Rattle.ns_tree.specs.Rule.{Rule, ◌&◌, many, maybe, either, mapped, flat_from, GoodFrom, ◌▸◌, ◌◂◌, once_or_more}
-use Rattle.ns_tree.specs.Tree.{HasText, IsKey}
+use Rattle.ns_tree.specs.Rule.{Rule, ◌&◌, maybe, either, mapped, flat_from, GoodFrom, ◌▸◌, ◌◂◌, once_or_more}
 use Rattle.ns_tree.proofs.Made as back
 use Rattle.ns_parse.specs.declared.mark.Mark.TheVariants as m
 use Rattle.ns_parse.specs.declared.name.Sort.TheVariants as s
@@ -25,8 +20,9 @@ use Rattle.ns_parse.specs.Mark as marks
 use Rattle.ns_parse.specs.Name as names
 use Rattle.ns_parse.specs.Pattern as x
 use Rattle.ns_parse.proofs.Sound.{Sound, SoundIf, Becomes, sound_none, sound_never, sound_mapped, if_mapped, sound_both, sound_after, if_until, if_same, sound_or, sound_or_if}
-use Rattle.ns_parse.proofs.SoundLists.{some, sound_many, sound_some}
-use Rattle.ns_parse.proofs.SoundTokens.{sound_skip, sound_name, sound_ident}
+use Rattle.ns_parse.proofs.SoundLists.{some, sound_some}
+use Rattle.ns_parse.proofs.SoundMarks.{sound_skip}
+use Rattle.ns_parse.proofs.SoundTokens.{sound_name, sound_ident}
 
 -- ---- keys and operators before parameters
 

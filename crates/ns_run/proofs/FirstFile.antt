@@ -278,7 +278,7 @@ pub first_parsed : (ts : List Kind) (name : List ℕ) (texts : List (List ℕ)) 
 first_parsed ts name [] x = absurd (x.some refl)
 first_parsed ts name (text ∷ texts) x =
     let same : ts ≡ flat_marker x.marker ++ (flat_category x.category ++ first_tokens name x.manifest x.platform x.args x.before x.behind (text ∷ texts)) =
-        x.spelled ∙ ap (λ w. flat_marker x.marker ++ (flat_category x.category ++ w)) (same_tokens name x.manifest x.platform x.args x.before x.behind (text ∷ texts)) in
+    x.spelled ∙ ap (λ w. flat_marker x.marker ++ (flat_category x.category ++ w)) (same_tokens name x.manifest x.platform x.args x.before x.behind (text ∷ texts)) in
     subst (λ us. IsParsedFirst us (form_with name (text ∷ texts))) (sym same)
     (file_parsed _ (form_with name (text ∷ texts)) (file_shallow x.marker x.category name x.manifest x.platform x.args x.before x.behind (text ∷ texts))
     (file_reads x.marker x.category name x.manifest x.platform x.args x.before x.behind text texts x.differ))

@@ -187,7 +187,7 @@ cuts_one at z (t ∷ ts) [] b c (g, w, q, gap, cut, none, fault, next, start, st
 cuts_one at z (t ∷ ts) (u ∷ us) b c (g, w, q, gap, cut, none, fault, next, start, stop, more) (g', v, r, gap', cut', none', fault', next', start', stop', more') =
     let s = step_same z g w q g' v r t.kind u.kind gap gap' cut cut' none none' next next' in
     let first : t ≡ u = token_same t u (one_kind w v q r t.kind u.kind s.text next.0 next'.0) (start ∙ ap (λ x. at + length x) s.gap ∙ sym start')
-        (stop ∙ ap (λ x. at + length x + length w) s.gap ∙ ap (λ x. at + length g' + length x) s.text ∙ sym stop') in
+    (stop ∙ ap (λ x. at + length x + length w) s.gap ∙ ap (λ x. at + length g' + length x) s.text ∙ sym stop') in
     ap (λ x. x ∷ ts) first ∙ ap (λ xs. u ∷ xs) (cuts_one (at + length g + length w) q ts us b c more (after_step at g w q g' v r us c [] s more'))
 
 -- a fault isn't named where a text ends

@@ -2,15 +2,15 @@
 use Rattle.std.proofs.Common.{◌≡◌, ℕ, zero, suc, ◌+◌, ◌≤◌, ◌<◌, List, [], ◌∷◌, ◌++◌, length, take, drop, Option, Some, None, IfSome, refl, sym, ap, subst, ◌∙◌, append_assoc, append-nil, arith}
 use Rattle.std.specs.Io.KnownBytes.{Appends, Keeps, Consumes, IsAtEnd}
 
+no_bytes : (n : ℕ) → take {A = ℕ} n [] ≡ []
+no_bytes zero = refl
+no_bytes (suc n) = refl
+
 -- the first bytes, and then the next ones
-pub take_two : (i n : ℕ) (xs : List ℕ) → take (i + n) xs ≡ take i xs ++ take n (drop i xs)
+take_two : (i n : ℕ) (xs : List ℕ) → take (i + n) xs ≡ take i xs ++ take n (drop i xs)
 take_two zero n xs = ap (λ j. take j xs) (omega arith)
-take_two (suc i) n [] = ap (λ j. take j []) (let e : suc i + n ≡ suc (i + n) = omega arith in e) ∙ sym (no_bytes n)
-  where
-    no_bytes : (n : ℕ) → take n [] ≡ []
-    no_bytes zero = refl
-    no_bytes (suc n) = refl
-take_two (suc i) n (x ∷ xs) = ap (λ j. take j (x ∷ xs)) (let e : suc i + n ≡ suc (i + n) = omega arith in e) ∙ ap (λ ys. x ∷ ys) (take_two i n xs)
+take_two (suc i) n [] = no_bytes (suc i + n) ∙ sym (no_bytes n)
+take_two (suc i) n (x ∷ xs) = let e : suc i + n ≡ suc (i + n) = omega arith in ap (λ j. take j (x ∷ xs)) e ∙ ap (λ ys. x ∷ ys) (take_two i n xs)
 
 -- ---- what a writer holds
 

@@ -1,12 +1,11 @@
 //! The real files, as a shelf that tells no bytes.
 
-ghost use Rattle.std.specs.Prelude.{◌≡◌, ◌≤◌, ◌+◌, length, take, IfOk, IfSome, IsErrOf};
-ghost use Rattle.nspk.specs.Files as spec;
+ghost use Rattle.std.specs.Prelude.{◌≡◌, ◌≢◌, ◌⊎◌, ◌≤◌, ◌+◌, length, take, IfOk, IfSome, IsErrOf};
 
 use ns_base::shelf::{Shelf, ShelfFault};
 use std::alloc::Global;
 use std::fs::File;
-use std::io::{self, Read, Write};
+use std::io::{self, ErrorKind, Read, Write};
 
 /// How many bytes are read at once.
 const READ_BYTES: u64 = 16_384;
@@ -83,11 +82,12 @@ fn load(rt: &HostRuntime, alloc: Global, name: &str, most: u64) -> Result<Vec<u8
 }
 
 /// A file that can't be opened isn't there where its path leads to nothing.
-fn opening_fault(kind: io::ErrorKind) -> ShelfFault
-    ensures { result ≡ spec.opening_fault kind }
+fn opening_fault(kind: ErrorKind) -> ShelfFault
+    ensures missing { result ≡ ShelfFault.Missing → (kind ≡ ErrorKind.NotFound) ⊎ ((kind ≡ ErrorKind.NotADirectory) ⊎ (kind ≡ ErrorKind.InvalidFilename)) }
+    ensures failed { result ≢ ShelfFault.Missing → (result ≡ ShelfFault.Failed) × (kind ≢ ErrorKind.NotFound) × (kind ≢ ErrorKind.NotADirectory) × (kind ≢ ErrorKind.InvalidFilename) }
 {
     match kind {
-        io::ErrorKind::NotFound | io::ErrorKind::NotADirectory | io::ErrorKind::InvalidFilename => {
+        ErrorKind::NotFound | ErrorKind::NotADirectory | ErrorKind::InvalidFilename => {
             ShelfFault::Missing
         }
         _ => ShelfFault::Failed,
