@@ -1,5 +1,11 @@
+pub mod FirstFile
+pub mod FirstLaws
+pub mod FirstReads
 pub mod NumberLaws
+pub mod OneCut
+pub mod OneKind
 pub mod PieceLaws
 pub mod ReportLaws
+pub mod Scanned
 pub mod SourceLaws
 pub mod WordLaws
