@@ -5,10 +5,10 @@ ghost use Rattle.std.specs.Prelude.{◌≡◌, ◌++◌, flat_map, OnOk};
 ghost use Rattle.ns_tree.specs.Plain as p;
 ghost use Rattle.ns_tree.specs.PlainOf.{expr_of, cascade_of, message_of, key_expr_of, keys_of, bin_of, opers_of, un_of, primary_of};
 ghost use Rattle.ns_tree.specs.PlainOf.{exprs_of, block_of, slots_of, slot_of, init_of, bars_of, statements_of, statement_list_of, statement_of};
-ghost use Rattle.ns_static.specs.Rules.{set_found, bare_found, outer_found};
+ghost use Rattle.ns_static.specs.Rules.{set_found, bare_found, outer_found, number_found};
 ghost use Rattle.ns_static.specs.Faults.{expr_faults, cascade_faults, message_faults, key_expr_faults, keys_faults, bin_faults, opers_faults, un_faults, primary_faults};
-ghost use Rattle.ns_static.specs.Faults.{keywords_found, items_faults, block_faults, bars_faults, slots_faults, slot_faults, init_faults, statements_faults, list_faults, statement_faults};
-ghost use Rattle.ns_static.specs.Walk.{with_found};
+ghost use Rattle.ns_static.specs.Faults.{keywords_found, elements_found, items_faults, block_faults, bars_faults, slots_faults, slot_faults, init_faults, statements_faults, list_faults, statement_faults};
+ghost use Rattle.ns_static.specs.Walk.{with_found, standing, outside};
 
 use crate::bodies::{enter_block, leave_block};
 use crate::checker::Checker;
@@ -203,13 +203,26 @@ fn block_faults(checker: &mut Checker<'_>, block: &Block) -> Result<(), NoMemory
     ensures { OnOk result (checker.new ≡ with_found checker.old (block_faults checker.old.scope (block_of block.now))) }
 {
     enter_block(checker, &block.params, &block.slots)?;
-    bars_faults(checker, &block.slots)?;
-    statements_faults(checker, &block.body)?;
+    match &block.slots {
+        None => block_end_faults(checker, &block.body),
+        Some(slots) => {
+            slots_faults(checker, slots)?;
+            block_end_faults(checker, &block.body)
+        }
+    }
+}
+
+/// The statements of a block, behind which it is left.
+#[cycle(expressions)]
+fn block_end_faults(checker: &mut Checker<'_>, body: &Statements) -> Result<(), NoMemory>
+    ensures { OnOk result (checker.new ≡ standing (outside checker.old.scope) (with_found checker.old (statements_faults checker.old.scope (statements_of body.now)))) }
+{
+    statements_faults(checker, body)?;
     leave_block(checker);
     Ok(())
 }
 
-#[cycle(expressions)]
+/// The slots of a method or an initialiser.
 pub fn bars_faults(checker: &mut Checker<'_>, slots: &Option<Vec<Slot>>) -> Result<(), NoMemory>
     ensures { OnOk result (checker.new ≡ with_found checker.old (bars_faults checker.old.scope (bars_of slots.now))) }
 {
