@@ -1,5 +1,5 @@
--- The faults between bars, or without them.
-use Rattle.std.proofs.Common.{◌≡◌, ap, List, [], Option, Some, None}
+-- The faults between bars.
+use Rattle.std.proofs.Common.{◌≡◌, ap, Option, Some}
 use Rattle.std.specs.Global.{Vec}
 use Rattle.ns_tree.specs.declared.tree.Slot.{Slot}
 use Rattle.ns_tree.specs.PlainOf.{bars_of, slots_of}
