@@ -1,4 +1,3 @@
-pub mod Accepted
 pub mod Check
 pub mod Faults
 pub mod Least

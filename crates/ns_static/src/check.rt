@@ -2,7 +2,6 @@
 
 ghost use Rattle.std.specs.Prelude.{◌≡◌, None, IfOk, MatchResult};
 ghost use Rattle.ns_static.specs.Check.{fault_of, Told};
-ghost use Rattle.ns_static.specs.Accepted.{program_of};
 
 use crate::fault::{Placed, StaticFault};
 use crate::units::{Before, unit_faults};
@@ -10,18 +9,34 @@ use ns_base::no_memory::NoMemory;
 use ns_scope::program::Program;
 use ns_scope::table::Table;
 use std::alloc::Global;
+use std::marker::Model;
 
-/// A program without static faults.
+/// A program without static faults. A clause sees the program.
 #[derive(Drop)]
 pub struct Checked {
     program: Program,
-    ghost faultless: { fault_of program ≡ None },
+}
+
+impl Model for Checked {
+    ghost use Rattle.std.specs.Prelude.{◌≡◌, None};
+    ghost use Rattle.std.specs.Coded.{codes};
+    ghost use Rattle.ns_tree.specs.contracts.tree.Class as class;
+    ghost use Rattle.ns_scope.specs.declared.program.Program.{Program};
+    ghost use Rattle.ns_static.specs.Check.{fault_of};
+
+    ghost Value = { Program };
+
+    ghost coded = { Prim.hlevel (codes, class.the_row.coded) };
+
+    ghost view = { λ checked. checked.program };
+
+    ghost invariant = { λ checked. fault_of checked.program ≡ None };
 }
 
 impl Checked {
     /// The program.
     pub fn program(&self) -> &Program
-        ensures program { result.now ≡ program_of self.now }
+        ensures program { result.now ≡ self.now }
         ensures faultless { fault_of result.now ≡ None }
     {
         &self.program
@@ -30,7 +45,7 @@ impl Checked {
 
 /// The program, where it has no static fault; else its least one.
 pub fn check(alloc: Global, program: Program) -> Result<Checked, StaticFault>
-    ensures program { IfOk result (λ checked. program_of checked ≡ program) }
+    ensures program { IfOk result (λ checked. checked ≡ program) }
     ensures exact { MatchResult result (λ _. fault_of program ≡ None) (λ fault. Told (fault_of program) fault) }
 {
     match least_fault(alloc, &program) {
