@@ -1,21 +1,20 @@
 -- What the readers give of a file of the first form.
-use Rattle.std.proofs.Common.{◌≡◌, ◌≢◌, ℕ, zero, suc, ◌+◌, ◌≤◌, List, [], ◌∷◌, ◌++◌, length, map, Option, Some, None, Bool, true, false, cond, ◌&&◌, not, Ok, refl, sym, ap, subst, ◌∙◌, append_assoc, length-append, codes, arith}
+use Rattle.std.proofs.Common.{◌≡◌, ◌≢◌, ℕ, zero, suc, ◌+◌, ◌≤◌, List, [], ◌∷◌, ◌++◌, length, map, Option, Some, None, Bool, true, false, cond, ◌&&◌, not, Ok, refl, sym, ap, subst, ◌∙◌, append_assoc, codes, arith}
 use Rattle.std.specs.Str.{bytes_eq}
 use Rattle.std.proofs.lemmas.Slice.Eq.{bytes_eq-Decides}
 use Rattle.ns_machine.specs.First as machine
-use Rattle.ns_machine.specs.FirstTokens.{IsFirstForm, statement_tokens, more_tokens, body_tokens, method_tokens, class_tokens}
+use Rattle.ns_machine.specs.FirstTokens.{IsFirstForm, more_tokens, body_tokens, method_tokens, class_tokens}
 use Rattle.ns_parse.specs.declared.classes.SideOf.TheVariants as sides
-use Rattle.ns_parse.specs.declared.expressions.Holder.TheVariants as h
 use Rattle.ns_parse.specs.declared.mark.Mark.TheVariants as m
 use Rattle.ns_parse.specs.Classes as x
 use Rattle.ns_parse.specs.Expressions as e
 use Rattle.ns_parse.specs.Leaf.{is_string, string, strings}
-use Rattle.ns_parse.specs.Mark.{is_mark, skip}
+use Rattle.ns_parse.specs.Mark.{skip}
 use Rattle.ns_parse.specs.Name.{named}
 use Rattle.ns_parse.specs.Parse as parse
-use Rattle.ns_parse.specs.Pattern.{pattern, factory, keyword}
-use Rattle.ns_parse.specs.Read.{Outcome, Reader, got, fault, and_then, begins, read_turns, put, Labelled, tail, item, read_label_turns, put_item}
-use Rattle.ns_run.proofs.FirstReads.{BodyRead, body_reads}
+use Rattle.ns_parse.specs.Pattern.{pattern, factory}
+use Rattle.ns_parse.specs.Read.{Outcome, Reader, got, and_then, begins, read_turns, put, Labelled, tail, read_label_turns, put_item}
+use Rattle.ns_run.proofs.FirstReads.{body_reads}
 use Rattle.ns_tree.specs.Deep.{deep, deep_from}
 use Rattle.ns_tree.specs.Flat.{flat_category, flat_marker}
 use Rattle.ns_tree.specs.Plain as p
@@ -23,7 +22,6 @@ use Rattle.ns_tree.specs.declared.token.Kind.{Kind}
 use Rattle.ns_tree.specs.declared.token.Kind.TheVariants as k
 use Rattle.ns_tree.specs.declared.token.Reserved.TheVariants as words
 use Rattle.ns_tree.specs.declared.tree.Access.TheVariants.{Public}
-use Rattle.ns_tree.specs.declared.tree.Named.{Named}
 
 -- ---- the method
 

@@ -12,8 +12,7 @@ use Rattle.ns_parse.proofs.Texts.{cuts_told}
 use Rattle.ns_run.proofs.FirstFile.{IsParsedFirst, first_parsed}
 use Rattle.ns_run.proofs.Scanned.{lexes_scanned}
 use Rattle.ns_run.specs.FirstSource.{IsFirstSource, IsTakenFirst}
-use Rattle.ns_run.specs.Source.{parsed, read, read_tokens, scanned}
-use Rattle.ns_tree.specs.Flat.{flat}
+use Rattle.ns_run.specs.Source.{parsed, read_tokens, scanned}
 use Rattle.ns_tree.specs.Plain as p
 use Rattle.ns_tree.specs.Tokens.{kinds}
 use Rattle.ns_tree.specs.Tree.{Spells}

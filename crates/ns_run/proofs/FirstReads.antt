@@ -1,28 +1,22 @@
 -- What the readers give of the tokens of the first form.
-use Rattle.std.proofs.Common.{◌≡◌, ◌≢◌, ℕ, zero, suc, ◌+◌, ◌≤◌, List, [], ◌∷◌, ◌++◌, length, map, Option, Some, None, Bool, true, false, ◌&&◌, not, refl, sym, ap, subst, ◌∙◌, append_assoc, codes, arith}
+use Rattle.std.proofs.Common.{◌≡◌, ℕ, zero, suc, ◌+◌, ◌≤◌, List, [], ◌∷◌, ◌++◌, length, None, Bool, true, false, ◌&&◌, not, refl, ap, ◌∙◌, codes, arith}
 use Rattle.std.specs.Str.{bytes_eq}
 use Rattle.std.proofs.lemmas.Slice.Eq.{bytes_eq-Decides}
 use Rattle.ns_machine.specs.First as machine
-use Rattle.ns_machine.specs.FirstTokens.{statement_tokens, more_tokens, body_tokens}
-use Rattle.ns_parse.specs.declared.classes.SideOf.TheVariants as sides
+use Rattle.ns_machine.specs.FirstTokens.{more_tokens, body_tokens}
 use Rattle.ns_parse.specs.declared.expressions.Holder.TheVariants as h
 use Rattle.ns_parse.specs.declared.mark.Mark.TheVariants as m
 use Rattle.ns_parse.specs.Classes as x
 use Rattle.ns_parse.specs.Expressions as e
-use Rattle.ns_parse.specs.Leaf.{is_string, string, strings, leaf}
+use Rattle.ns_parse.specs.Leaf.{leaf}
 use Rattle.ns_parse.specs.Mark.{is_mark, skip}
 use Rattle.ns_parse.specs.Name.{named}
-use Rattle.ns_parse.specs.Pattern.{pattern, factory, unary, keyword}
-use Rattle.ns_parse.specs.Read.{Outcome, Reader, got, fault, and_then, begins, read_turns, put, read_list_turns, behind, put_next, items, ends_there, ends_separated, Labelled, tail, item, read_label_turns, put_item}
+use Rattle.ns_parse.specs.Read.{Outcome, Reader, got, and_then, read_list_turns, behind, put_next, items, ends_there, ends_separated}
 use Rattle.ns_tree.specs.Lists.{list_statements}
 use Rattle.ns_tree.specs.Plain as p
-use Rattle.ns_tree.specs.Rule.{Listed, none, last, next}
+use Rattle.ns_tree.specs.Rule.{Listed, last, next}
 use Rattle.ns_tree.specs.declared.token.Kind.{Kind}
 use Rattle.ns_tree.specs.declared.token.Kind.TheVariants as k
-use Rattle.ns_tree.specs.declared.token.Reserved.TheVariants as words
-use Rattle.ns_tree.specs.declared.tree.Access.{Access}
-use Rattle.ns_tree.specs.declared.tree.Access.TheVariants.{Public}
-use Rattle.ns_tree.specs.declared.tree.Named.{Named}
 
 same_text : (text : List ℕ) → bytes_eq text text ≡ true
 same_text text = (bytes_eq-Decides text text).1 refl

@@ -3,6 +3,7 @@ pub mod FirstLaws
 pub mod FirstReads
 pub mod NumberLaws
 pub mod OneCut
+pub mod OneGap
 pub mod OneKind
 pub mod PieceLaws
 pub mod ReportLaws

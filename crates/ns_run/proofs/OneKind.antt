@@ -1,15 +1,14 @@
 -- A text spells at most one token: from its first byte on it says which.
-use Rattle.std.proofs.Common.{◌≡◌, ℕ, ◌<◌, ◌==◌, ◌⊎◌, inl, inr, List, [], ◌∷◌, ◌++◌, length, Option, Some, None, Bool, true, false, cond, ◌||◌, if◌then◌else◌, refl, sym, ap, subst, ◌∙◌, arith, append_assoc}
+use Rattle.std.proofs.Common.{◌≡◌, ℕ, ◌<◌, ◌==◌, inl, inr, [], ◌∷◌, ◌++◌, length, Bool, true, false, cond, ◌||◌, if◌then◌else◌, refl, sym, ap, subst, ◌∙◌, arith}
 use Rattle.std.proofs.lemmas.Bool.{eqb-true}
 use Rattle.std.proofs.lemmas.Bool.Decides.{nat_tests}
 use Rattle.ns_lex.specs.Bytes.{starts_name, is_in_name, is_digit, is_operator}
 use Rattle.ns_lex.specs.Number.{value}
 use Rattle.ns_lex.specs.Piece.{Text}
-use Rattle.ns_lex.specs.Spells.{AllOf, IsName, IsKey, IsOperator, Spells, doubled}
+use Rattle.ns_lex.specs.Spells.{AllOf, IsName, IsOperator, Spells, doubled}
 use Rattle.ns_lex.specs.Word.{reserved, named}
 use Rattle.ns_tree.specs.declared.token.Kind.{Kind}
 use Rattle.ns_tree.specs.declared.token.Kind.TheVariants as k
-use Rattle.ns_tree.specs.declared.token.Reserved.{Reserved}
 
 -- ---- the token that a text can only spell
 

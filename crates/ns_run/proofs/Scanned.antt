@@ -1,12 +1,11 @@
 -- The tokens that cut a source are those of its scan.
-use Rattle.std.proofs.Common.{◌≡◌, ℕ, zero, suc, ◌+◌, ◌-◌, List, [], ◌∷◌, Ok, Err, refl, sym, ap}
+use Rattle.std.proofs.Common.{◌≡◌, ℕ, zero, suc, ◌+◌, ◌-◌, List, [], ◌∷◌, Ok, Err, refl, ap}
 use Rattle.ns_tree.specs.declared.token.Token.{Token}
 use Rattle.ns_lex.specs.Fault.{fault_at}
 use Rattle.ns_lex.specs.Lexes.{Lexes}
 use Rattle.ns_lex.specs.Next.{next_piece}
 use Rattle.ns_lex.specs.Piece.{Text}
 use Rattle.ns_lex.specs.Scan.{Tokens, scan, scan_from, before, step}
-use Rattle.ns_lex.specs.declared.fault.LexFault.{LexFault}
 use Rattle.ns_lex.specs.declared.fault.LexFault.TheVariants as fault
 use Rattle.ns_lex.specs.declared.piece.Piece.{Piece}
 use Rattle.ns_lex.specs.declared.piece.Piece.TheVariants as piece

@@ -1,6 +1,6 @@
 -- What the words of a command line spell, and the first bad word.
-use Rattle.std.specs.Prelude.{◌≡◌, ◌⊎◌, ℕ, nat_eq, not, ◌&&◌, nat_le, length, List, [], ◌∷◌, ◌++◌, Bool, true, false, Option, Some, None, cond, codes, take, drop, refl, Result, Ok, Err}
-use Rattle.std.proofs.Common.{◌≤◌, ◌<◌, ◌+◌, zero, suc, arith, ap, sym, ◌∙◌, inl, inr, subst}
+use Rattle.std.specs.Prelude.{◌≡◌, ◌⊎◌, ℕ, nat_eq, not, ◌&&◌, nat_le, length, List, [], ◌∷◌, true, false, Some, None, cond, codes, take, drop, refl, Ok, Err}
+use Rattle.std.proofs.Common.{arith, ap, sym, ◌∙◌, inl, inr, subst}
 use Rattle.std.proofs.lemmas.Slice.Eq.{bytes_eq-Decides}
 use Rattle.std.proofs.lemmas.Option.{none-some}
 use Rattle.std.specs.Str.{bytes_eq}

@@ -1,5 +1,5 @@
 -- What the text of a file is read as.
-use Rattle.std.specs.Prelude.{◌≡◌, ℕ, List, Option, Some, None, Result, Ok, Err, length, map, codes, slice_get}
+use Rattle.std.specs.Prelude.{ℕ, List, Option, Some, None, Result, Ok, Err, length, codes, slice_get}
 use Rattle.ns_lex.specs.Scan.{Tokens, scan}
 use Rattle.ns_lex.specs.declared.fault.LexFault.{LexFault}
 use Rattle.ns_lex.specs.declared.fault.LexFault.TheVariants as lexing
