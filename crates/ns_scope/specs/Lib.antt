@@ -7,3 +7,4 @@ pub mod Resolve
 pub mod Resolved
 pub mod Scopes
 pub mod Table
+pub mod Whole
