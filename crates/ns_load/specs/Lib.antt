@@ -1,0 +1,4 @@
+pub mod Place
+pub mod Source
+pub mod Loaded
+pub mod Answer
