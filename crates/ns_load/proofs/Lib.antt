@@ -1,4 +1,5 @@
+pub mod Files
+pub mod Lengths
+pub mod Loads
 pub mod Places
 pub mod Sources
-pub mod Files
-pub mod Loads
