@@ -1,8 +1,7 @@
 -- A loop that reads items with labels before each, while the next token begins one.
-use Rattle.std.proofs.Common.{◌≡◌, ℕ, zero, suc, ◌+◌, ◌-◌, ◌≤◌, ◌<◌, cond, List, [], ◌∷◌, ◌++◌, length, map, Bool, true, false, Option, refl, sym, ap, ◌∙◌, length-append, arith}
+use Rattle.std.proofs.Common.{◌≡◌, ℕ, zero, suc, ◌+◌, ◌-◌, ◌≤◌, ◌<◌, cond, List, [], ◌∷◌, ◌++◌, length, map, Bool, true, false, refl, sym, ap, ◌∙◌, length-append, arith}
 use Rattle.ns_tree.specs.declared.token.Kind.{Kind}
 use Rattle.ns_tree.specs.declared.token.Token.{Token}
-use Rattle.ns_tree.specs.declared.tree.Access.{Access}
 use Rattle.ns_tree.specs.declared.tree.Member.{Member}
 use Rattle.ns_tree.specs.Plain as p
 use Rattle.ns_tree.specs.PlainOf.{what_of, members_of}

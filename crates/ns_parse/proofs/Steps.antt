@@ -1,5 +1,5 @@
 -- The lists of a tree, by their plain items.
-use Rattle.std.proofs.Common.{◌≡◌, ℕ, List, [], ◌∷◌, map, Bool, true, false, not, ◌==◌, vec_len, refl, sym, ap, ◌∙◌, length, arith}
+use Rattle.std.proofs.Common.{◌≡◌, ℕ, List, [], ◌∷◌, map, Bool, false, not, ◌==◌, vec_len, refl, ap, ◌∙◌, length, arith}
 use Rattle.std.proofs.lemmas.Bool.Decides.{nat_tests}
 use Rattle.std.specs.Global.{Vec}
 use Rattle.ns_tree.specs.declared.tree.Named.{Named}

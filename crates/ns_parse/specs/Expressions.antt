@@ -1,5 +1,5 @@
 -- Expressions, slots, statements and blocks: a reader for each rule of the grammar, over the reader of primaries.
-use Rattle.std.specs.Prelude.{ℕ, zero, suc, List, [], ◌∷◌, Option, Some, None, Bool, ◌||◌}
+use Rattle.std.specs.Prelude.{ℕ, zero, suc, List, Option, None, Bool, ◌||◌}
 use Rattle.ns_tree.specs.declared.token.Kind.{Kind}
 use Rattle.ns_tree.specs.declared.tree.Named.{Named}
 use Rattle.ns_tree.specs.declared.tree.Access.{Access}

@@ -6,7 +6,6 @@ use Rattle.ns_tree.specs.declared.token.Kind.TheVariants as k
 use Rattle.ns_tree.specs.declared.tree.Named.{Named}
 use Rattle.ns_parse.specs.declared.name.Sort.{Sort}
 use Rattle.ns_parse.specs.declared.name.Sort.TheVariants as s
-use Rattle.ns_parse.specs.declared.name.Operators.{Operators}
 use Rattle.ns_parse.specs.declared.name.Operators.TheVariants as o
 use Rattle.ns_parse.specs.Read.{Reader, read_one, read_many}
 

@@ -1,6 +1,6 @@
 -- Readers. A reader takes the number of the next token and the kinds of the tokens that are left. It gives a value, the
 -- number of the token behind it and the tokens left there; or the number of the token with which it can't go on.
-use Rattle.std.specs.Prelude.{ℕ, zero, suc, ◌+◌, List, [], ◌∷◌, ◌++◌, Option, Some, None, Bool, true, false, cond, length}
+use Rattle.std.specs.Prelude.{ℕ, zero, suc, ◌+◌, List, [], ◌∷◌, Option, Some, None, Bool, true, false, cond, length}
 use Rattle.ns_tree.specs.declared.token.Kind.{Kind}
 use Rattle.ns_tree.specs.Rule.{Listed, none, last, next}
 

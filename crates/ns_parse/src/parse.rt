@@ -1,8 +1,9 @@
 //! The tree of a file.
 
-ghost use Rattle.std.specs.Prelude.{◌≡◌, ◌≢◌, ◌≤◌, length, MatchResult};
+ghost use Rattle.std.specs.Prelude.{◌≡◌, ◌≢◌, ◌≤◌, length, IfOk, MatchResult};
 ghost use Rattle.ns_tree.specs.PlainOf.{unit_of};
 ghost use Rattle.ns_tree.specs.Tokens.{kinds};
+ghost use Rattle.ns_tree.specs.Tree.{AllHaveText, Spells};
 ghost use Rattle.ns_parse.specs.Parse as spec;
 ghost use Rattle.ns_parse.specs.declared.fault.ParseFault.TheVariants.{Memory};
 
@@ -36,7 +37,8 @@ fn whole(alloc: Global, tokens: &[Token]) -> Result<Unit, ParseFault>
 #[tactic(auto, unfolding(crate::specs::Parse::parse))]
 pub fn parse(alloc: Global, tokens: &[Token]) -> Result<Unit, ParseFault>
     requires { length tokens.now ≤ 1048576 }
-    ensures { MatchResult result (λ unit. spec.parse (kinds tokens.now) ≡ Ok (unit_of unit)) (λ fault. fault ≢ Memory → spec.parse (kinds tokens.now) ≡ Err fault) }
+    ensures exact { MatchResult result (λ unit. spec.parse (kinds tokens.now) ≡ Ok (unit_of unit)) (λ fault. fault ≢ Memory → spec.parse (kinds tokens.now) ≡ Err fault) }
+    ensures spelled { AllHaveText (kinds tokens.now) → IfOk result (λ unit. Spells (kinds tokens.now) (unit_of unit)) }
 {
     match deep(tokens) {
         Some(at) => Err(ParseFault::TooDeep(at)),

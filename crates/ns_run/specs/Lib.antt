@@ -1,3 +1,4 @@
+pub mod FirstSource
 pub mod Forms
 pub mod Job
 pub mod Meaning

@@ -1,1 +1,4 @@
+pub mod Examples
+pub mod Inside
+pub mod Numbers
 pub mod Tables

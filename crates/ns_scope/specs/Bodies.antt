@@ -90,6 +90,10 @@ abbrev mutual
   pub statement_blocks : Scope → p.Statement → List Scope
   statement_blocks scope (p.statement_with caret expr) = expr_blocks scope expr
 
+-- the blocks in a block that sees this
+abbrev pub inside_blocks : Scope → p.Block → List Scope
+inside_blocks scope (p.block_with params bars body) = bars_blocks scope bars ++ statements_blocks scope body
+
 -- ---- declarations
 
 abbrev pub super_blocks : Scope → Option p.SuperClause → List Scope
@@ -104,21 +108,23 @@ clause_bodies [] (Some clause) = []
 clause_bodies (outer ∷ classes) (Some clause) = clause_scope (outer ∷ classes) ∷ []
 
 -- An initialiser has the superclass message, the slots and the expressions.
-abbrev pub initialiser_bodies : List ClassScope → Option p.Pattern → Option p.SuperClause → p.Bars → p.Statements → List Scope
-initialiser_bodies classes factory clause bars body =
-    let scope = initialiser_scope classes factory in
-    scope ∷ (super_blocks scope clause ++ (bars_blocks scope bars ++ statements_blocks scope body))
+abbrev pub initialiser_bodies : List ClassScope → p.Class → List Scope
+initialiser_bodies classes (p.class_with name factory clause bars body members others) =
+    initialiser_scope classes factory ∷ (super_blocks (initialiser_scope classes factory) clause ++ (bars_blocks (initialiser_scope classes factory) bars ++ statements_blocks (initialiser_scope classes factory) body))
 
 abbrev pub method_bodies : List ClassScope → CodeSide → p.Method → List Scope
 method_bodies classes side (p.method_with (p.pattern_with parts params) bars body) =
-    let scope = method_scope classes side params bars in
-    scope ∷ (bars_blocks scope bars ++ statements_blocks scope body)
+    method_scope classes side params bars ∷ (bars_blocks (method_scope classes side params bars) bars ++ statements_blocks (method_scope classes side params bars) body)
+
+-- the bodies of a member, if it is a method
+abbrev pub member_methods : List ClassScope → CodeSide → p.What → List Scope
+member_methods classes side (p.class_member class) = []
+member_methods classes side (p.method_member method) = method_bodies classes side method
 
 -- the bodies of the methods among the members
 abbrev pub methods_bodies : List ClassScope → CodeSide → p.Members → List Scope
 methods_bodies classes side p.no_members = []
-methods_bodies classes side (p.more_members (p.member_with categories access (p.class_member class)) rest) = methods_bodies classes side rest
-methods_bodies classes side (p.more_members (p.member_with categories access (p.method_member method)) rest) = method_bodies classes side method ++ methods_bodies classes side rest
+methods_bodies classes side (p.more_members (p.member_with categories access what) rest) = member_methods classes side what ++ methods_bodies classes side rest
 
 abbrev pub side_bodies : List ClassScope → CodeSide → p.Side → List Scope
 side_bodies classes side (p.side_with members tail) = methods_bodies classes side members
@@ -127,28 +133,37 @@ abbrev pub class_side_bodies : List ClassScope → p.ClassSide → List Scope
 class_side_bodies classes p.no_class_side = []
 class_side_bodies classes (p.class_side_with other) = side_bodies classes side.Class other
 
--- a class's own bodies
+-- the initialiser and the methods of a class, which stand in these declarations, the innermost of which is the class
 abbrev pub own_bodies : List ClassScope → p.Class → List Scope
-own_bodies outer (p.class_with name factory clause bars body members others) =
-    let classes = class_scope (p.class_with name factory clause bars body members others) ∷ outer in
-    clause_bodies outer clause ++ (initialiser_bodies classes factory clause bars body ++ (side_bodies classes side.Instance members ++ class_side_bodies classes others))
+own_bodies classes (p.class_with name factory clause bars body members others) =
+    initialiser_bodies classes (p.class_with name factory clause bars body members others) ++ (side_bodies classes side.Instance members ++ class_side_bodies classes others)
 
 abbrev mutual
   -- the bodies of a class and of those in it
   pub class_bodies : List ClassScope → p.Class → List Scope
   class_bodies outer (p.class_with name factory clause bars body side others) =
-      own_bodies outer (p.class_with name factory clause bars body side others) ++ nested_bodies (class_scope (p.class_with name factory clause bars body side others) ∷ outer) side
+      clause_bodies outer clause
+      ++ (own_bodies (class_scope (p.class_with name factory clause bars body side others) ∷ outer) (p.class_with name factory clause bars body side others)
+      ++ nested_bodies (class_scope (p.class_with name factory clause bars body side others) ∷ outer) side)
 
   pub nested_bodies : List ClassScope → p.Side → List Scope
   nested_bodies classes (p.side_with members tail) = members_bodies classes members
 
   pub members_bodies : List ClassScope → p.Members → List Scope
   members_bodies classes p.no_members = []
-  members_bodies classes (p.more_members (p.member_with categories access what) rest) = what_bodies classes what ++ members_bodies classes rest
+  members_bodies classes (p.more_members member rest) = member_nested classes member ++ members_bodies classes rest
+
+  pub member_nested : List ClassScope → p.Member → List Scope
+  member_nested classes (p.member_with categories access what) = what_bodies classes what
 
   pub what_bodies : List ClassScope → p.What → List Scope
   what_bodies classes (p.class_member class) = class_bodies classes class
   what_bodies classes (p.method_member method) = []
+
+-- the bodies that stand in a class
+abbrev pub class_inside : List ClassScope → p.Class → List Scope
+class_inside classes (p.class_with name factory clause bars body side others) =
+    own_bodies classes (p.class_with name factory clause bars body side others) ++ nested_bodies classes side
 
 abbrev pub unit_bodies : p.SourceUnit → List Scope
 unit_bodies (p.unit_with marker category class) = class_bodies [] class

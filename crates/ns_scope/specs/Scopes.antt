@@ -1,5 +1,5 @@
 -- Where code stands: what is seen from the bodies of a program.
-use Rattle.std.specs.Prelude.{true, false, List, [], ◌∷◌, Option, Some, None}
+use Rattle.std.specs.Prelude.{Bool, true, false, List, [], ◌∷◌, Option, Some, None}
 use Rattle.ns_tree.specs.declared.tree.Named.{Named}
 use Rattle.ns_tree.specs.Plain as p
 use Rattle.ns_scope.specs.declared.scope.ClassScope.{ClassScope}
@@ -11,6 +11,11 @@ use Rattle.ns_scope.specs.Names.{table_of, locals_of, instance_members, class_me
 abbrev pub class_scope : p.Class → ClassScope
 class_scope (p.class_with name factory clause bars body members others) =
     record { name = name.text; instance = table_of (instance_members bars members); class_side = table_of (class_members others) }
+
+-- whether there is no declaration around
+abbrev pub is_outside : List ClassScope → Bool
+is_outside [] = true
+is_outside (class ∷ outer) = false
 
 -- A clause's head stands in the declarations around the class, and declares nothing.
 abbrev pub clause_scope : List ClassScope → Scope

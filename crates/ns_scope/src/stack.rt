@@ -1,6 +1,6 @@
 //! Stacks.
 
-ghost use Rattle.std.specs.Prelude.{◌≡◌, [], ◌∷◌, OnOk, drop};
+ghost use Rattle.std.specs.Prelude.{◌≡◌, [], ◌∷◌, OnOk, drop, reverse};
 
 use ns_base::no_memory::NoMemory;
 use std::alloc::Global;
@@ -43,5 +43,12 @@ impl<T: Drop> Stack<T> {
         ensures { self.new ≡ drop 1 self.old }
     {
         self.all.pop();
+    }
+
+    /// Its items, the oldest first.
+    pub fn oldest_first(&self) -> &[T]
+        ensures { self.now ≡ reverse result.now }
+    {
+        self.all.as_slice()
     }
 }

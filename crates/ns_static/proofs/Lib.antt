@@ -1,0 +1,4 @@
+pub mod Bars
+pub mod ClassParts
+pub mod Past
+pub mod Shapes

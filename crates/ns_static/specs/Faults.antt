@@ -9,13 +9,14 @@ use Rattle.ns_scope.specs.declared.scope.ClassScope.{ClassScope}
 use Rattle.ns_scope.specs.declared.scope.Scope.{Scope}
 use Rattle.ns_scope.specs.declared.scope.CodeSide.{CodeSide}
 use Rattle.ns_scope.specs.declared.scope.CodeSide.TheVariants as side
+use Rattle.ns_scope.specs.Table.{TableOf}
 use Rattle.ns_scope.specs.Names.{locals_of, instance_members, class_members}
 use Rattle.ns_scope.specs.Scopes.{class_scope, initialiser_scope, method_scope, block_scope, factory_params}
 use Rattle.ns_static.specs.declared.fault.StaticCause.TheVariants as c
 use Rattle.ns_static.specs.declared.fault.Many.TheVariants as many
 use Rattle.ns_static.specs.declared.fault.Role.{Role}
 use Rattle.ns_static.specs.declared.fault.Role.TheVariants as r
-use Rattle.ns_static.specs.Rules.{Found, found_if, found_past, members_found, locals_found, params_found, set_found, return_found, bare_found, outer_found, number_found, cascade_found, top_found, top_name_found}
+use Rattle.ns_static.specs.Rules.{Found, has_names, has_opers, has_keys, found_if, found_past, members_found, locals_found, params_found, set_found, return_found, bare_found, outer_found, number_found, cascade_found, top_found, top_name_found}
 
 -- ---- expressions
 
@@ -23,18 +24,6 @@ use Rattle.ns_static.specs.Rules.{Found, found_if, found_past, members_found, lo
 abbrev pub receiver_if : Bool → Role → Role
 receiver_if true role = r.Receiver
 receiver_if false role = role
-
-abbrev pub has_names : List Named → Bool
-has_names [] = false
-has_names (name ∷ names) = true
-
-abbrev pub has_opers : p.Opers → Bool
-has_opers p.no_opers = false
-has_opers (p.more_opers name argument rest) = true
-
-abbrev pub has_keys : p.Keys → Bool
-has_keys p.no_keys = false
-has_keys (p.more_keys name argument rest) = true
 
 abbrev pub key_places : p.Keys → List ℕ
 key_places p.no_keys = []
@@ -44,16 +33,29 @@ key_places (p.more_keys name argument rest) = name.at ∷ key_places rest
 abbrev pub keywords_found : p.Keys → List Found
 keywords_found keys = found_past 63 many.Parameters (key_places keys)
 
+abbrev pub bin_start : p.BinExpr → ℕ
+bin_start (p.bin_with (p.un_with at primary names) opers) = at
+
+abbrev pub keys_start : p.Keys → ℕ
+keys_start p.no_keys = 0
+keys_start (p.more_keys name argument rest) = name.at
+
+abbrev pub key_expr_start : p.KeyExpr → ℕ
+key_expr_start (p.sent receiver keys) = bin_start receiver
+key_expr_start (p.implicit keys) = keys_start keys
+
 -- the number of an expression's first token
 abbrev pub expr_start : p.Expr → ℕ
+expr_start (p.expr_with [] first more) = key_expr_start first
 expr_start (p.expr_with (name ∷ sets) first more) = name.at
-expr_start (p.expr_with [] (p.sent (p.bin_with (p.un_with at primary names) opers) keys) more) = at
-expr_start (p.expr_with [] (p.implicit p.no_keys) more) = 0
-expr_start (p.expr_with [] (p.implicit (p.more_keys name argument rest)) more) = name.at
 
 abbrev pub expr_starts : p.Exprs → List ℕ
 expr_starts p.no_exprs = []
 expr_starts (p.more_exprs expr rest) = expr_start expr ∷ expr_starts rest
+
+-- TooMany(Elements) past 255 elements of a tuple
+abbrev pub elements_found : p.Exprs → List Found
+elements_found items = found_past 255 many.Elements (expr_starts items)
 
 abbrev mutual
   pub expr_faults : Scope → p.Expr → List Found
@@ -93,7 +95,7 @@ abbrev mutual
   primary_faults scope role at (p.outer_name name) = bare_found role at ++ outer_found scope.classes name
   primary_faults scope role at (p.paren inner) = expr_faults scope inner
   primary_faults scope role at (p.block_literal block) = block_faults scope block
-  primary_faults scope role at (p.tuple items stop) = found_past 255 many.Elements (expr_starts items) ++ items_faults scope items
+  primary_faults scope role at (p.tuple items stop) = elements_found items ++ items_faults scope items
   primary_faults scope role at (p.name text) = []
   primary_faults scope role at (p.string text) = []
   primary_faults scope role at (p.symbol text) = []
@@ -150,16 +152,22 @@ abbrev pub over_faults : List ClassScope → Option Base → List Found
 over_faults classes None = []
 over_faults classes (Some base) = base_faults classes base
 
+abbrev pub clause_faults : List ClassScope → p.SuperClause → List Found
+clause_faults outer (p.clause_with head over message) = top_found outer (p.clause_with head over message) ++ (base_faults outer head ++ over_faults outer over)
+
 -- the head of a clause, which stands in the declarations around the class
 abbrev pub head_faults : List ClassScope → Option p.SuperClause → List Found
 head_faults outer None = []
-head_faults outer (Some (p.clause_with head over message)) = top_found outer (p.clause_with head over message) ++ (base_faults outer head ++ over_faults outer over)
+head_faults outer (Some clause) = clause_faults outer clause
+
+abbrev pub clause_message_faults : Scope → p.SuperClause → List Found
+clause_message_faults scope (p.clause_with head over None) = []
+clause_message_faults scope (p.clause_with head over (Some message)) = message_faults scope message
 
 -- the message of a clause, which belongs to the initialiser
 abbrev pub super_faults : Scope → Option p.SuperClause → List Found
 super_faults scope None = []
-super_faults scope (Some (p.clause_with head over None)) = []
-super_faults scope (Some (p.clause_with head over (Some message))) = message_faults scope message
+super_faults scope (Some clause) = clause_message_faults scope clause
 
 abbrev pub initialiser_faults : List ClassScope → Option p.Pattern → Option p.SuperClause → p.Bars → p.Statements → List Found
 initialiser_faults classes factory clause bars body =
@@ -171,14 +179,22 @@ method_faults classes side (p.method_with (p.pattern_with parts params) bars bod
     params_found params ++ (locals_found (locals_of params bars)
     ++ (bars_faults (method_scope classes side params bars) bars ++ statements_faults (method_scope classes side params bars) body))
 
+-- what is wrong with the members of a class
+abbrev pub class_members_found : p.Class → List Found
+class_members_found (p.class_with name factory clause bars body members others) = members_found (instance_members bars members) ++ members_found (class_members others)
+
+-- what is wrong with the members of a class and the head of its clause
+abbrev pub class_found : List ClassScope → p.Class → List Found
+class_found outer (p.class_with name factory clause bars body members others) =
+    class_members_found (p.class_with name factory clause bars body members others) ++ head_faults outer clause
+
 abbrev mutual
   pub class_faults : List ClassScope → p.Class → List Found
   class_faults outer (p.class_with name factory clause bars body members others) =
-      members_found (instance_members bars members) ++ (members_found (class_members others)
-      ++ (head_faults outer clause
+      class_found outer (p.class_with name factory clause bars body members others)
       ++ (initialiser_faults (class_scope (p.class_with name factory clause bars body members others) ∷ outer) factory clause bars body
       ++ (side_faults (class_scope (p.class_with name factory clause bars body members others) ∷ outer) side.Instance members
-      ++ class_side_faults (class_scope (p.class_with name factory clause bars body members others) ∷ outer) others))))
+      ++ class_side_faults (class_scope (p.class_with name factory clause bars body members others) ∷ outer) others))
 
   pub class_side_faults : List ClassScope → p.ClassSide → List Found
   class_side_faults classes p.no_class_side = []
@@ -227,6 +243,6 @@ class_name (p.class_with name factory clause bars body members others) = name
 abbrev pub unit_class : p.SourceUnit → p.Class
 unit_class (p.unit_with marker category class) = class
 
--- the faults of a unit, behind units with these class names and so many classes
-abbrev pub unit_faults : List (List ℕ) → ℕ → p.Class → List Found
+-- the faults of a unit, behind units whose classes have the names in the table, and behind so many classes
+abbrev pub unit_faults : TableOf ℕ → ℕ → p.Class → List Found
 unit_faults seen before class = top_name_found seen (class_name class) ++ (classes_found before (class_names class) ++ class_faults [] class)

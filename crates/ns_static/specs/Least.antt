@@ -1,7 +1,8 @@
 -- The fault that is answered: the one at the least place, at one place the one that stands first in the list of causes.
 use Rattle.std.specs.Prelude.{ℕ, ◌+◌, Bool, true, false, List, [], ◌∷◌, ◌++◌, map, fold, length, zip, Option, Some, None, nat_lt, nat_eq, slice_get, if◌then◌else◌}
 use Rattle.ns_base.specs.declared.place.Place.{Place}
-use Rattle.ns_base.specs.Names.{put_in}
+use Rattle.ns_scope.specs.Table.{TableOf, put_first}
+use Rattle.ns_tree.specs.declared.tree.Named.{Named}
 use Rattle.ns_tree.specs.Plain as p
 use Rattle.ns_static.specs.declared.fault.StaticCause.{StaticCause}
 use Rattle.ns_static.specs.declared.fault.StaticCause.TheVariants as c
@@ -32,9 +33,15 @@ cause_number (c.TooMany kind) = 8 + kind_number kind
 cause_number c.TopSuper = 13
 cause_number c.DuplicateTop = 14
 
--- what is compared, in this order
+abbrev pub in_line : Placed → List ℕ
+in_line fault = fault.place.col ∷ cause_number fault.cause ∷ []
+
+abbrev pub in_file : Placed → List ℕ
+in_file fault = fault.place.line ∷ in_line fault
+
+-- what is compared, in this order: the file, the line, the column, and the cause
 abbrev pub order_of : Placed → List ℕ
-order_of fault = fault.place.file ∷ fault.place.line ∷ fault.place.col ∷ cause_number fault.cause ∷ []
+order_of fault = fault.place.file ∷ in_file fault
 
 -- whether the first difference of two lists is one that makes the first list less
 abbrev pub comes_before : List ℕ → List ℕ → Bool
@@ -59,12 +66,17 @@ place_at marks at = place_or (slice_get marks at)
 abbrev pub placed : List Place → Found → Placed
 placed marks found = record { place = place_at marks found.0; cause = found.1 }
 
--- the faults of units, each with its marks, behind units with these class names and so many classes
-abbrev pub faults_behind : List (List ℕ) → ℕ → List (p.SourceUnit × List Place) → List Placed
+-- the table of the names of top-level classes, with a further one
+abbrev pub with_top : TableOf ℕ → Named → TableOf ℕ
+with_top seen name = put_first seen name.text name.at
+
+-- the faults of units, each with its marks, behind units whose classes have the names in the table, and behind so
+-- many classes
+abbrev pub faults_behind : TableOf ℕ → ℕ → List (p.SourceUnit × List Place) → List Placed
 faults_behind seen before [] = []
 faults_behind seen before (unit ∷ rest) =
     map (placed unit.1) (unit_faults seen before (unit_class unit.0))
-    ++ faults_behind (put_in seen (class_name (unit_class unit.0)).text) (before + length (class_names (unit_class unit.0))) rest
+    ++ faults_behind (with_top seen (class_name (unit_class unit.0))) (before + length (class_names (unit_class unit.0))) rest
 
 -- all faults of a program
 abbrev pub faults : List p.SourceUnit → List (List Place) → List Placed

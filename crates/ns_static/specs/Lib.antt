@@ -1,3 +1,5 @@
+pub mod Check
 pub mod Faults
 pub mod Least
 pub mod Rules
+pub mod Walk

@@ -2,8 +2,8 @@
 use Rattle.std.specs.Prelude.{ℕ, Bool, true, false, ◌&&◌, not, List, [], ◌∷◌, ◌++◌, map, Option, Some, None, slice_get, nat_eq, ◌-◌, if◌then◌else◌, codes}
 use Rattle.std.specs.List.{list_any}
 use Rattle.std.specs.Str.{bytes_eq}
-use Rattle.ns_base.specs.Names.{put_in, has}
 use Rattle.ns_tree.specs.declared.tree.Named.{Named}
+use Rattle.ns_tree.specs.declared.tree.Access.{Access}
 use Rattle.ns_tree.specs.declared.tree.Base.{Base}
 use Rattle.ns_tree.specs.declared.tree.Origin.{Origin}
 use Rattle.ns_tree.specs.declared.tree.Origin.TheVariants as o
@@ -15,6 +15,7 @@ use Rattle.ns_scope.specs.declared.names.Setting.TheVariants as s
 use Rattle.ns_scope.specs.declared.scope.ClassScope.{ClassScope}
 use Rattle.ns_scope.specs.declared.scope.Scope.{Scope}
 use Rattle.ns_scope.specs.Resolve.{innermost}
+use Rattle.ns_scope.specs.Table.{TableOf, has, put_first}
 use Rattle.ns_static.specs.declared.fault.StaticCause.{StaticCause}
 use Rattle.ns_static.specs.declared.fault.StaticCause.TheVariants as c
 use Rattle.ns_static.specs.declared.fault.Many.{Many}
@@ -37,15 +38,15 @@ found_at (Some at) cause = (at, cause) ∷ []
 abbrev pub found_past : ℕ → Many → List ℕ → List Found
 found_past most kind places = found_at (slice_get places most) (c.TooMany kind)
 
--- at each name that was declared before, by one of these or here
-abbrev pub found_repeated : {V : Type 0} → StaticCause → List (List ℕ) → List (Declared V) → List Found
+-- at each name that was declared before, in this table or here
+abbrev pub found_repeated : {V : Type 0} → StaticCause → TableOf V → List (Declared V) → List Found
 found_repeated cause seen [] = []
-found_repeated cause seen (d ∷ rest) = found_if (has seen d.name) d.at cause ++ found_repeated cause (put_in seen d.name) rest
+found_repeated cause seen (d ∷ rest) = found_if (has seen d.name) d.at cause ++ found_repeated cause (put_first seen d.name d.value) rest
 
 -- ---- names that are declared
 
 -- DuplicateMember, and TooMany(Members) past 1,023
-abbrev pub members_found : List (Declared Rattle.ns_tree.specs.declared.tree.Access.Access) → List Found
+abbrev pub members_found : List (Declared Access) → List Found
 members_found members = found_repeated c.DuplicateMember [] members ++ found_past 1023 many.Members (map (λ d. d.at) members)
 
 -- DuplicateLocal, and TooMany(Locals) past 255
@@ -97,32 +98,47 @@ is_bare p.super_word = true
 is_bare (p.outer_name name) = true
 is_bare _ = false
 
+abbrev pub has_names : List Named → Bool
+has_names [] = false
+has_names (name ∷ names) = true
+
+abbrev pub has_opers : p.Opers → Bool
+has_opers p.no_opers = false
+has_opers (p.more_opers name argument rest) = true
+
+abbrev pub has_keys : p.Keys → Bool
+has_keys p.no_keys = false
+has_keys (p.more_keys name argument rest) = true
+
+-- whether a message may be sent to it: it is more than `super` or `outer N`
+abbrev pub is_written : p.UnExpr → Bool
+is_written (p.un_with at primary names) = if has_names names then true else not (is_bare primary)
+
 -- whether a primary with these unary messages is a message to a written receiver
 abbrev pub unary_sends : p.Primary → List Named → Bool
 unary_sends primary [] = false
 unary_sends primary (name ∷ []) = not (is_bare primary)
 unary_sends primary (name ∷ other ∷ names) = true
 
--- whether a message may be sent to it: it is more than `super` or `outer N`
-abbrev pub is_written : p.UnExpr → Bool
-is_written (p.un_with at primary []) = not (is_bare primary)
-is_written (p.un_with at primary (name ∷ names)) = true
+abbrev pub un_sends : p.UnExpr → Bool
+un_sends (p.un_with at primary names) = unary_sends primary names
 
 abbrev pub opers_send : p.UnExpr → p.Opers → Bool
-opers_send (p.un_with at primary names) p.no_opers = unary_sends primary names
+opers_send first p.no_opers = un_sends first
 opers_send first (p.more_opers name argument p.no_opers) = is_written first
 opers_send first (p.more_opers name argument (p.more_opers other next rest)) = true
 
+abbrev pub bin_sends : p.BinExpr → Bool
+bin_sends (p.bin_with first more) = opers_send first more
+
 abbrev pub written_bin : p.BinExpr → Bool
-written_bin (p.bin_with first p.no_opers) = is_written first
-written_bin (p.bin_with first (p.more_opers name argument rest)) = true
+written_bin (p.bin_with first more) = if has_opers more then true else is_written first
 
 -- whether an expression is a message to a written receiver: its last message is a keyword message, else the last
 -- binary one, else the last unary one
 abbrev pub sends_to_written : p.KeyExpr → Bool
 sends_to_written (p.implicit keys) = false
-sends_to_written (p.sent (p.bin_with first more) p.no_keys) = opers_send first more
-sends_to_written (p.sent receiver (p.more_keys name argument rest)) = written_bin receiver
+sends_to_written (p.sent receiver keys) = if has_keys keys then written_bin receiver else bin_sends receiver
 
 -- BadCascade: at the first `;`, where what stands before it is no message to a written receiver
 abbrev pub cascade_found : p.KeyExpr → p.Cascade → List Found
@@ -148,12 +164,15 @@ is_here (o.Outer name) = false
 abbrev pub is_object_name : Base → Bool
 is_object_name base = is_here base.origin && bytes_eq base.name.text (codes "Object")
 
+abbrev pub is_new_message : p.Message → Bool
+is_new_message (p.unary name) = bytes_eq name.text (codes "new")
+is_new_message (p.binary name argument) = false
+is_new_message (p.keywords keys) = false
+
 -- no message, or `new`
 abbrev pub is_new : Option p.Message → Bool
 is_new None = true
-is_new (Some (p.unary name)) = bytes_eq name.text (codes "new")
-is_new (Some (p.binary name argument)) = false
-is_new (Some (p.keywords keys)) = false
+is_new (Some message) = is_new_message message
 
 -- `Object`, or `Object new`
 abbrev pub is_object : p.SuperClause → Bool
@@ -168,6 +187,6 @@ abbrev pub top_found : List ClassScope → p.SuperClause → List Found
 top_found [] clause = found_if (not (is_object clause)) (clause_start clause) c.TopSuper
 top_found (outer ∷ classes) clause = []
 
--- DuplicateTop: at the name of a top-level class that an earlier one has
-abbrev pub top_name_found : List (List ℕ) → Named → List Found
+-- DuplicateTop: at the name of a top-level class that an earlier one has; the table is that of the earlier ones' names
+abbrev pub top_name_found : TableOf ℕ → Named → List Found
 top_name_found seen name = found_if (has seen name.text) name.at c.DuplicateTop

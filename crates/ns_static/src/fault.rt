@@ -41,3 +41,10 @@ pub enum Role {
     Receiver,
     Value,
 }
+
+/// What the check of a program refuses it for: a fault at its place, or want of memory.
+#[derive(Clone, Copy, Debug, PartialEq, Eq)]
+pub enum StaticFault {
+    At { cause: StaticCause, place: Place },
+    Memory,
+}

@@ -1,5 +1,7 @@
 //! The words of the command line.
 
+ghost use Rattle.std.specs.Prelude.{◌≡◌, [], IfOk, IsUtf8, string_bytes};
+
 use ns_base::no_memory::NoMemory;
 use std::alloc::Global;
 use std::env::FillError;
@@ -32,7 +34,11 @@ fn argument(rt: &impl Env, alloc: Global, i: usize) -> Result<Option<String>, No
     Err(NoMemory)
 }
 
-fn word(alloc: Global, bytes: &[u8]) -> Result<String, NoMemory> {
+/// The text of the bytes, or the empty word where they are none.
+fn word(alloc: Global, bytes: &[u8]) -> Result<String, NoMemory>
+    ensures text { IsUtf8 bytes.now → IfOk result (λ word. string_bytes word ≡ bytes.now) }
+    ensures other { ¬ IsUtf8 bytes.now → IfOk result (λ word. string_bytes word ≡ []) }
+{
     match std::str::from_utf8(bytes) {
         Ok(text) => Ok(String::from_str(alloc, text)?),
         Err(_) => Ok(String::new(alloc)),

@@ -1,11 +1,11 @@
 //! The real files, as a shelf that tells no bytes.
 
-ghost use Rattle.std.specs.Prelude.{◌≡◌, ◌≤◌, length, IfOk, IsErrOf};
+ghost use Rattle.std.specs.Prelude.{◌≡◌, ◌≢◌, ◌⊎◌, ◌≤◌, ◌+◌, length, take, IfOk, IfSome, IsErrOf};
 
 use ns_base::shelf::{Shelf, ShelfFault};
 use std::alloc::Global;
 use std::fs::File;
-use std::io::{self, Read, Write};
+use std::io::{self, ErrorKind, Read, Write};
 
 /// How many bytes are read at once.
 const READ_BYTES: u64 = 16_384;
@@ -15,13 +15,16 @@ const READ_BYTES: u64 = 16_384;
 #[derive(Drop)]
 pub struct Disk {
     rt: HostRuntime,
-    misses: u64,
-    faults: u64,
-    store_faults: u64,
+    pub misses: u64,
+    pub faults: u64,
+    pub store_faults: u64,
 }
 
 impl Disk {
-    pub fn new(rt: HostRuntime) -> Disk {
+    /// The files of the system, of which no load and no store failed yet.
+    pub fn new(rt: HostRuntime) -> Disk
+        ensures { result.misses + result.faults + result.store_faults ≡ 0 }
+    {
         Disk {
             rt,
             misses: 0,
@@ -79,17 +82,22 @@ fn load(rt: &HostRuntime, alloc: Global, name: &str, most: u64) -> Result<Vec<u8
 }
 
 /// A file that can't be opened isn't there where its path leads to nothing.
-fn opening_fault(kind: io::ErrorKind) -> ShelfFault {
+fn opening_fault(kind: ErrorKind) -> ShelfFault
+    ensures missing { result ≡ ShelfFault.Missing → (kind ≡ ErrorKind.NotFound) ⊎ ((kind ≡ ErrorKind.NotADirectory) ⊎ (kind ≡ ErrorKind.InvalidFilename)) }
+    ensures failed { result ≢ ShelfFault.Missing → (result ≡ ShelfFault.Failed) × (kind ≢ ErrorKind.NotFound) × (kind ≢ ErrorKind.NotADirectory) × (kind ≢ ErrorKind.InvalidFilename) }
+{
     match kind {
-        io::ErrorKind::NotFound | io::ErrorKind::NotADirectory | io::ErrorKind::InvalidFilename => {
+        ErrorKind::NotFound | ErrorKind::NotADirectory | ErrorKind::InvalidFilename => {
             ShelfFault::Missing
         }
         _ => ShelfFault::Failed,
     }
 }
 
-fn read_first(file: &mut File, alloc: Global, most: u64) -> Result<Vec<u8>, ShelfFault>
-    ensures { IfOk result (λ bytes. length bytes.items ≤ most) }
+/// The first `most` bytes that a reader gives, or all where it has fewer.
+fn read_first<R: Read>(from: &mut R, alloc: Global, most: u64) -> Result<Vec<u8>, ShelfFault>
+    ensures at_most { IfOk result (λ bytes. length bytes.items ≤ most) }
+    ensures first { IfOk result (λ bytes. IfSome (R.remaining from.old) (λ all. bytes.items ≡ take most all)) }
 {
     let mut bytes = Vec::new(alloc);
     let mut buffer = [0u8; READ_BYTES as usize];
@@ -99,7 +107,7 @@ fn read_first(file: &mut File, alloc: Global, most: u64) -> Result<Vec<u8>, Shel
         if want == 0 {
             return Ok(bytes);
         }
-        let n = match file.read(&mut buffer[..want]) {
+        let n = match from.read(&mut buffer[..want]) {
             Ok(n) => n,
             Err(_) => return Err(ShelfFault::Failed),
         };

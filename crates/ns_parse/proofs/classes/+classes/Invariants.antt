@@ -1,4 +1,4 @@
-use Rattle.std.proofs.Common.{◌≡◌, ◌+◌, ◌*◌, ◌≤◌, ◌<◌, length, map}
+use Rattle.std.proofs.Common.{◌+◌, ◌*◌, length, map}
 use Rattle.ns_parse.specs.Classes as x
 use Rattle.ns_parse.specs.Expressions.{primary}
 use Rattle.ns_parse.specs.Leaf.{strings}

@@ -1,4 +1,4 @@
-use Rattle.std.proofs.Common.{◌≡◌, ◌+◌, ◌*◌, ◌≤◌, ◌<◌, ◌⊎◌, length, map}
+use Rattle.std.proofs.Common.{◌≡◌, ◌+◌, ◌*◌, ◌<◌, ◌⊎◌, length, map}
 use Rattle.ns_tree.specs.PlainOf.{expr_of, slot_of, statement_of}
 use Rattle.ns_tree.specs.Tokens.{kinds}
 use Rattle.ns_parse.specs.Mark.{is_mark}

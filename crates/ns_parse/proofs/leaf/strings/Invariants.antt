@@ -1,4 +1,4 @@
-use Rattle.std.proofs.Common.{◌≤◌, length}
+use Rattle.std.proofs.Common.{length}
 use Rattle.ns_parse.specs.Leaf.{is_string, string}
 use Rattle.ns_parse.proofs.Loops.{Goes}
 use Rattle.ns_parse.proofs.leaf.strings.Given as goal

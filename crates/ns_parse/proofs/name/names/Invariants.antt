@@ -1,4 +1,4 @@
-use Rattle.std.proofs.Common.{◌≤◌, length}
+use Rattle.std.proofs.Common.{length}
 use Rattle.ns_parse.specs.Name.{is_name, name}
 use Rattle.ns_parse.proofs.Loops.{Goes}
 use Rattle.ns_parse.proofs.name.names.Given as goal

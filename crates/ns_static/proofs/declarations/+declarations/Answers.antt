@@ -1,0 +1,11 @@
+use Rattle.std.proofs.Common.{arith}
+use Rattle.std.proofs.lemmas.Grind.{common_steps}
+use Rattle.ns_tree.proofs.Nodes.{side_out}
+use Rattle.ns_static.proofs.ClassParts.{class_faults_out}
+use Rattle.ns_static.proofs.declarations.+declarations.Goals as goal
+
+pub side_faults-returns : goal.side_faults-returns
+side_faults-returns t c = rw (side_out c.args.side.now) (grind (arith, common_steps))
+
+pub class_faults-returns : goal.class_faults-returns
+class_faults-returns t c = rw (class_faults_out c.args.checker.now.scope.classes c.args.class.now) (grind (arith, common_steps))

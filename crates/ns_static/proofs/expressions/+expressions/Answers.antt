@@ -1,0 +1,29 @@
+use Rattle.std.proofs.Common.{arith}
+use Rattle.std.proofs.lemmas.Grind.{common_steps}
+use Rattle.ns_tree.proofs.Nodes.{bin_out, expr_out, statements_out, key_expr_none, key_expr_some, block_out, keywords_out, tuple_out}
+use Rattle.ns_static.proofs.Bars.{bars_some}
+use Rattle.ns_static.proofs.expressions.+expressions.Goals as goal
+
+pub bin_faults-returns : goal.bin_faults-returns
+bin_faults-returns t c = rw (bin_out c.args.expr.now) (grind (arith, common_steps))
+
+pub expr_faults-returns : goal.expr_faults-returns
+expr_faults-returns t c = rw (expr_out c.args.expr.now) (grind (arith, common_steps))
+
+pub key_expr_faults-returns-in-None : goal.key_expr_faults-returns-in-None
+key_expr_faults-returns-in-None t c = rw (key_expr_none c.args.expr.now c.in-None.is) (grind (arith, common_steps))
+
+pub key_expr_faults-returns-in_ok-bin_faults-in-Some : goal.key_expr_faults-returns-in_ok-bin_faults-in-Some
+key_expr_faults-returns-in_ok-bin_faults-in-Some t c = rw (key_expr_some c.args.expr.now _ c.in-Some.is) (grind (arith, common_steps))
+
+pub message_faults-returns-in-Keys : goal.message_faults-returns-in-Keys
+message_faults-returns-in-Keys t c = rw (keywords_out c.args.message.now _ c.in-Keys.is) (grind (arith, common_steps))
+
+pub statements_faults-returns : goal.statements_faults-returns
+statements_faults-returns t c = rw (statements_out c.args.body.now) (grind (arith, common_steps))
+
+pub block_faults-returns-in_ok-slots_faults-in-Some : goal.block_faults-returns-in_ok-slots_faults-in-Some
+block_faults-returns-in_ok-slots_faults-in-Some t c = rw (block_out c.args.block.now) (grind (arith, common_steps, bars_some))
+
+pub primary_faults-returns-in-Tuple : goal.primary_faults-returns-in-Tuple
+primary_faults-returns-in-Tuple t c = rw (tuple_out c.args.primary.now _ _ c.in-Tuple.is) (grind (arith, common_steps))

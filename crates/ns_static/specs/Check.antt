@@ -1,0 +1,17 @@
+-- What the check of a program answers.
+use Rattle.std.specs.Prelude.{◌≡◌, map, Option, Some}
+use Rattle.ns_tree.specs.PlainOf.{unit_of}
+use Rattle.ns_scope.specs.declared.program.Program.{Program}
+use Rattle.ns_static.specs.declared.fault.Placed.{Placed}
+use Rattle.ns_static.specs.declared.fault.StaticFault.{StaticFault}
+use Rattle.ns_static.specs.declared.fault.StaticFault.TheVariants.{At, Memory}
+use Rattle.ns_static.specs.Least.{least, faults}
+
+-- the least fault of a program, if it has one
+abbrev pub fault_of : Program → Option Placed
+fault_of program = least (faults (map unit_of program.units) program.marks)
+
+-- A fault that is told is the least one; want of memory is told of any program.
+abbrev pub Told : Option Placed → StaticFault → Type 0
+Told least (At cause place) = least ≡ Some (record { place = place; cause = cause })
+Told least Memory = Unit {0}

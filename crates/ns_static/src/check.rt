@@ -1,0 +1,76 @@
+//! Programs without static faults.
+
+ghost use Rattle.std.specs.Prelude.{◌≡◌, None, IfOk, MatchResult};
+ghost use Rattle.ns_static.specs.Check.{fault_of, Told};
+
+use crate::fault::{Placed, StaticFault};
+use crate::units::{Before, unit_faults};
+use ns_base::no_memory::NoMemory;
+use ns_scope::program::Program;
+use ns_scope::table::Table;
+use std::alloc::Global;
+use std::marker::Model;
+
+/// A program without static faults. A clause sees the program.
+#[derive(Drop)]
+pub struct Checked {
+    program: Program,
+}
+
+impl Model for Checked {
+    ghost use Rattle.std.specs.Prelude.{◌≡◌, None};
+    ghost use Rattle.std.specs.Coded.{codes};
+    ghost use Rattle.ns_tree.specs.contracts.tree.Class as class;
+    ghost use Rattle.ns_scope.specs.declared.program.Program.{Program};
+    ghost use Rattle.ns_static.specs.Check.{fault_of};
+
+    ghost Value = { Program };
+
+    ghost coded = { Prim.hlevel (codes, class.the_row.coded) };
+
+    ghost view = { λ checked. checked.program };
+
+    ghost invariant = { λ checked. fault_of checked.program ≡ None };
+}
+
+impl Checked {
+    /// The program.
+    pub fn program(&self) -> &Program
+        ensures program { result.now ≡ self.now }
+        ensures faultless { fault_of result.now ≡ None }
+    {
+        &self.program
+    }
+}
+
+/// The program, where it has no static fault; else its least one.
+pub fn check(alloc: Global, program: Program) -> Result<Checked, StaticFault>
+    ensures program { IfOk result (λ checked. checked ≡ program) }
+    ensures exact { MatchResult result (λ _. fault_of program ≡ None) (λ fault. Told (fault_of program) fault) }
+{
+    match least_fault(alloc, &program) {
+        Err(_) => Err(StaticFault::Memory),
+        Ok(None) => Ok(Checked { program }),
+        Ok(Some(least)) => Err(StaticFault::At {
+            cause: least.cause,
+            place: least.place,
+        }),
+    }
+}
+
+/// The least fault of a program, if it has one.
+fn least_fault(alloc: Global, program: &Program) -> Result<Option<Placed>, NoMemory>
+    ensures { IfOk result (λ least. least ≡ fault_of program.now) }
+{
+    let mut before = Before {
+        names: Table::new(alloc),
+        classes: 0,
+    };
+    let mut least = None;
+    let units = program.units.as_slice();
+    let marks = program.marks.as_slice();
+    for (unit, marks) in units.iter().zip(marks) {
+        least = unit_faults(alloc, &mut before, least, marks.as_slice(), unit)?;
+    }
+    Ok(least)
+}

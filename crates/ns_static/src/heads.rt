@@ -1,0 +1,117 @@
+//! The heads of superclass clauses, which stand in the declarations around the class.
+
+ghost use Rattle.std.specs.Prelude.{◌≡◌, ◌++◌, option_map, reverse, codes};
+ghost use Rattle.ns_tree.specs.PlainOf.{clause_of, message_of};
+ghost use Rattle.ns_static.specs.Faults.{head_faults, clause_faults, base_faults, over_faults, origin_faults};
+ghost use Rattle.ns_static.specs.Rules.{top_found, is_object, is_object_name, is_here, is_new, is_new_message, clause_start, base_start, origin_start};
+ghost use Rattle.ns_static.specs.Walk.{with_found};
+
+use crate::checker::{Checker, found_if};
+use crate::fault::StaticCause;
+use crate::rules::outer_found;
+use ns_tree::tree::{Base, Message, Origin, SuperClause};
+
+pub fn head_faults(checker: &mut Checker<'_>, clause: &Option<SuperClause>)
+    ensures { checker.new ≡ with_found checker.old (head_faults checker.old.scope.classes (option_map clause_of clause.now)) }
+{
+    match clause {
+        None => {}
+        Some(clause) => clause_faults(checker, clause),
+    }
+}
+
+fn clause_faults(checker: &mut Checker<'_>, clause: &SuperClause)
+    ensures { checker.new ≡ with_found checker.old (clause_faults checker.old.scope.classes (clause_of clause.now)) }
+{
+    top_found(checker, clause);
+    base_faults(checker, &clause.head);
+    over_faults(checker, &clause.over);
+}
+
+fn over_faults(checker: &mut Checker<'_>, over: &Option<Base>)
+    ensures { checker.new ≡ with_found checker.old (over_faults checker.old.scope.classes over.now) }
+{
+    match over {
+        None => {}
+        Some(base) => base_faults(checker, base),
+    }
+}
+
+fn base_faults(checker: &mut Checker<'_>, base: &Base)
+    ensures { checker.new ≡ with_found checker.old (base_faults checker.old.scope.classes base.now) }
+{
+    match &base.origin {
+        Origin::Here => {}
+        Origin::Super => {}
+        Origin::Outer(name) => outer_found(checker, name),
+    }
+}
+
+/// TopSuper, at the first token of a top-level clause that isn't `Object` or `Object new`.
+fn top_found(checker: &mut Checker<'_>, clause: &SuperClause)
+    ensures { checker.new ≡ with_found checker.old (top_found checker.old.scope.classes (clause_of clause.now)) }
+{
+    match checker.scope.classes.oldest_first() {
+        [] => {
+            let wrong = !is_object(clause);
+            found_if(
+                checker,
+                wrong,
+                base_start(&clause.head),
+                StaticCause::TopSuper,
+            )
+        }
+        [_, ..] => {}
+    }
+}
+
+/// Whether it is `Object` or `Object new`.
+fn is_object(clause: &SuperClause) -> bool
+    ensures { result ≡ is_object (clause_of clause.now) }
+{
+    match &clause.over {
+        Some(_) => false,
+        None => is_object_name(&clause.head) && is_new(&clause.message),
+    }
+}
+
+fn is_object_name(base: &Base) -> bool
+    ensures { result ≡ is_object_name base.now }
+{
+    match &base.origin {
+        Origin::Here => base.name.text.bytes() == b"Object".as_slice(),
+        Origin::Super => false,
+        Origin::Outer(_) => false,
+    }
+}
+
+/// Whether there is no message, or it is `new`.
+fn is_new(message: &Option<Message>) -> bool
+    ensures { result ≡ is_new (option_map message_of message.now) }
+{
+    match message {
+        None => true,
+        Some(message) => is_new_message(message),
+    }
+}
+
+fn is_new_message(message: &Message) -> bool
+    ensures { result ≡ is_new_message (message_of message.now) }
+{
+    match message {
+        Message::Unary(name) => name.text.bytes() == b"new".as_slice(),
+        Message::Binary(_, _) => false,
+        Message::Keys(_) => false,
+    }
+}
+
+/// The number of a base's first token.
+fn base_start(base: &Base) -> u32
+    ensures { result ≡ base_start base.now }
+{
+    match &base.origin {
+        Origin::Here => base.name.at,
+        Origin::Super => base.name.at.saturating_sub(1),
+        Origin::Outer(name) => name.at.saturating_sub(1),
+    }
+}

@@ -1,0 +1,82 @@
+//! The faults of the units of a program, one behind the other.
+
+ghost use Rattle.std.specs.Prelude.{◌≡◌, ◌+◌, [], length, map, IfOk, OnOk};
+ghost use Rattle.ns_tree.specs.PlainOf.{unit_of};
+ghost use Rattle.ns_static.specs.Rules.{top_name_found};
+ghost use Rattle.ns_static.specs.Faults.{unit_faults, unit_class, class_name, class_names};
+ghost use Rattle.ns_static.specs.Least.{with_top};
+ghost use Rattle.ns_static.specs.Walk.{with_found, least_after};
+
+use crate::checker::{Checker, found_if};
+use crate::counting::{class_names, classes_found};
+use crate::declarations::class_faults;
+use crate::fault::{Placed, StaticCause};
+use ns_base::no_memory::NoMemory;
+use ns_base::place::Place;
+use ns_base::text::Text;
+use ns_scope::scope::{CodeSide, Scope};
+use ns_scope::stack::Stack;
+use ns_scope::table::Table;
+use ns_tree::tree::{Named, Unit};
+use std::alloc::Global;
+
+/// What stands before a unit: the names of the units' classes, and how many classes there are.
+#[derive(Drop)]
+pub struct Before {
+    pub names: Table<u32>,
+    pub classes: u64,
+}
+
+/// The least of a fault, if there is one, and of those of a unit behind others.
+pub fn unit_faults(
+    alloc: Global,
+    before: &mut Before,
+    least: Option<Placed>,
+    marks: &[Place],
+    unit: &Unit,
+) -> Result<Option<Placed>, NoMemory>
+    ensures found { IfOk result (λ found. found ≡ least_after marks.now least (unit_faults before.old.names before.old.classes (unit_class (unit_of unit.now)))) }
+    ensures names { OnOk result (before.new.names ≡ with_top before.old.names (class_name (unit_class (unit_of unit.now)))) }
+    ensures classes { OnOk result (before.new.classes ≡ before.old.classes + length (class_names (unit_class (unit_of unit.now)))) }
+{
+    let scope = outermost(alloc);
+    let mut checker = Checker {
+        alloc,
+        marks,
+        scope,
+        least,
+    };
+    top_name_found(&mut checker, &mut before.names, &unit.class.name)?;
+    let mut names = Vec::new(alloc);
+    class_names(&mut names, &unit.class)?;
+    classes_found(&mut checker, &mut before.classes, &names)?;
+    class_faults(&mut checker, &unit.class)?;
+    Ok(checker.least)
+}
+
+/// Outside all classes.
+fn outermost(alloc: Global) -> Scope
+    ensures { result.classes ≡ [] }
+{
+    Scope {
+        bodies: Stack::new(alloc),
+        side: CodeSide::Instance,
+        in_method: false,
+        classes: Stack::new(alloc),
+    }
+}
+
+/// DuplicateTop, at the name of a top-level class that an earlier one has. Puts the name to those.
+fn top_name_found(
+    checker: &mut Checker<'_>,
+    names: &mut Table<u32>,
+    name: &Named,
+) -> Result<(), NoMemory>
+    ensures found { OnOk result (checker.new ≡ with_found checker.old (top_name_found names.old name.now)) }
+    ensures put { OnOk result (names.new ≡ with_top names.old name.now) }
+{
+    let text = Text::of(checker.alloc, name.text.bytes())?;
+    let new = names.put_first(text, name.at)?;
+    found_if(checker, !new, name.at, StaticCause::DuplicateTop);
+    Ok(())
+}
