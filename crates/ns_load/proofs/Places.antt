@@ -1,11 +1,11 @@
 -- Places further on in a source.
-use Rattle.std.proofs.Common.{◌≡◌, ℕ, ◌+◌, ◌-◌, ◌<◌, ◌≤◌, List, [], ◌∷◌, ◌++◌, length, take, drop, refl, ap, sym, ◌∙◌, cond, Bool, true, false, arith, get_or, subst, append_assoc}
+use Rattle.std.proofs.Common.{◌≡◌, ℕ, ◌+◌, ◌-◌, ◌<◌, ◌≤◌, List, [], ◌∷◌, ◌++◌, length, take, drop, refl, ap, sym, ◌∙◌, cond, Bool, true, false, arith, get_or, subst}
 use Rattle.std.proofs.Math.Seq.{take-add}
 use Rattle.std.proofs.lemmas.List.{length-take-le, drop_more}
 use Rattle.std.specs.Prelude.{◌==◌}
 use Rattle.ns_base.specs.declared.place.Place.{Place}
 use Rattle.ns_lex.specs.Scan.{InOrder}
-use Rattle.ns_load.specs.Place.{behind, past, place_of, places, start}
+use Rattle.ns_load.specs.Place.{behind, past, place_of, start}
 use Rattle.ns_tree.specs.declared.token.Token.{Token}
 
 pub behind_both : (xs ys : List ℕ) (p : Place) → behind (xs ++ ys) p ≡ behind ys (behind xs p)
@@ -64,13 +64,3 @@ next_in_order from to i ts t l e h =
     let o : InOrder from to (t ∷ drop (i + 1) ts) = subst (InOrder from to) cut h in
     let w : t.«end» ≤ to = order_within t.«end» to (drop (i + 1) ts) o.2 in
     (o.0, omega (arith, o.1, w), order_from t.start t.«end» to (drop (i + 1) ts) (omega (arith, o.1)) o.2)
-
--- The place of the next token goes behind those of the tokens before it.
-pub next_place : (file : ℕ) (source : List ℕ) (i : ℕ) (ts : List Token) (t : Token) (ps qs all : List Place) (place : Place) → i < length ts → t ≡ get_or ts i t → ps ++ places file source (drop i ts) ≡ all → place ≡ place_of file source t.start → qs ≡ ps ++ place ∷ [] → qs ++ places file source (drop (i + 1) ts) ≡ all
-next_place file source i ts t ps qs all place l e h p q =
-    let cut : drop i ts ≡ t ∷ drop (i + 1) ts = drop_more ts i t l ∙ ap (λ x. x ∷ drop (i + 1) ts) (sym e) in
-    ap (λ xs. xs ++ places file source (drop (i + 1) ts)) q
-    ∙ append_assoc ps (place ∷ []) (places file source (drop (i + 1) ts))
-    ∙ ap (λ x. ps ++ x ∷ places file source (drop (i + 1) ts)) p
-    ∙ ap (λ xs. ps ++ places file source xs) (sym cut)
-    ∙ h

@@ -3,7 +3,11 @@
 
 pub mod fault;
 pub mod file;
+pub mod laws;
 pub mod load;
+pub mod names;
 mod parts;
 pub mod place;
 pub mod read;
+#[cfg(test)]
+mod tests;

@@ -1,6 +1,10 @@
+pub mod CheckLaws
+pub mod CommandLaws
+pub mod FaultLaws
 pub mod FirstFile
 pub mod FirstLaws
 pub mod FirstReads
+pub mod NameLaws
 pub mod NumberLaws
 pub mod OneCut
 pub mod OneGap
@@ -8,5 +12,4 @@ pub mod OneKind
 pub mod PieceLaws
 pub mod ReportLaws
 pub mod Scanned
-pub mod SourceLaws
 pub mod WordLaws

@@ -1,9 +1,10 @@
 -- The first form of programs, as bytes, and what the reader takes as one.
-use Rattle.std.specs.Prelude.{◌≡◌, ℕ, List, Ok, true}
+use Rattle.std.specs.Prelude.{◌≡◌, ℕ, List, true}
+use Rattle.ns_base.specs.declared.place.Place.{Place}
 use Rattle.ns_lex.specs.Lexes.{Lexes}
+use Rattle.ns_load.specs.Source.{read, spells}
 use Rattle.ns_machine.specs.First.{Form, form_of, is_first}
 use Rattle.ns_machine.specs.FirstTokens.{IsFirstForm}
-use Rattle.ns_run.specs.Source.{read}
 use Rattle.ns_tree.specs.Plain as p
 use Rattle.ns_tree.specs.Tokens.{kinds}
 use Rattle.ns_tree.specs.declared.token.Token.{Token}
@@ -14,9 +15,10 @@ pub record IsFirstSource (source : List ℕ) (form : Form) : Type 0 where
   pub cut : Lexes source tokens
   pub spelled : IsFirstForm (kinds tokens) form
 
--- The source is read as a unit of the first form that says this.
+-- The source, as that of the first file, is read as a unit of the first form that says this.
 pub record IsTakenFirst (source : List ℕ) (form : Form) : Type 0 where
   pub unit : p.SourceUnit
-  pub reads : read source ≡ Ok unit
+  pub places : List Place
+  pub reads : read 0 source ≡ spells unit places
   pub first : is_first unit ≡ true
   pub says : form_of unit ≡ form

@@ -1,52 +1,87 @@
 -- What a command means: the bytes that it writes and its status, over the files that are there.
-use Rattle.std.specs.Prelude.{ℕ, nat_lt, List, Option, Some, None, Ok, Err, length, codes, ◌++◌, ◌∷◌, [], if◌then◌else◌}
+use Rattle.std.specs.Prelude.{ℕ, Bool, true, false, List, Option, Some, None, codes, ◌++◌, ◌∷◌, [], slice_get, if◌then◌else◌}
 use Rattle.ns_base.specs.Files.{Files}
+use Rattle.ns_base.specs.declared.place.Place.{Place}
+use Rattle.ns_load.specs.Loaded.{Loading, units, stopped, loaded}
+use Rattle.ns_load.specs.declared.fault.LoadCause.{LoadCause}
+use Rattle.ns_load.specs.declared.fault.LoadCause.TheVariants.{Missing, TooLong, ReadFault, Spelling}
+use Rattle.ns_load.specs.declared.fault.LoadFault.{LoadFault}
+use Rattle.ns_load.specs.declared.fault.LoadFault.TheVariants.{At, Memory}
 use Rattle.ns_machine.specs.First.{first_run, is_first}
 use Rattle.ns_machine.specs.declared.first.FirstRun.{FirstRun}
 use Rattle.ns_print.specs.Printed.{printed}
-use Rattle.ns_run.specs.Place.{place_of}
-use Rattle.ns_run.specs.Report.{bad_word, refused_file, refused_text, told}
-use Rattle.ns_run.specs.Source.{Reading, read}
+use Rattle.ns_run.specs.Report.{bad_word, refused_file, refused_text, spelling_name, static_name, told}
 use Rattle.ns_run.specs.Words.{Command, Check, Show, Run, Help, Version, Bad, command_of}
-use Rattle.ns_run.specs.declared.report.Cause.TheVariants.{Missing, TooLong, NotYet}
 use Rattle.ns_run.specs.declared.report.Report.{Report}
-use Rattle.ns_run.specs.declared.source.SourceError.TheVariants.{At, Memory}
 use Rattle.ns_run.specs.declared.task.Task.{Task}
 use Rattle.ns_run.specs.declared.task.Task.TheVariants as task
 use Rattle.ns_run.specs.declared.usage.TheConstants.{HELP, VERSION}
+use Rattle.ns_static.specs.Least.{faults, least}
+use Rattle.ns_static.specs.declared.fault.Placed.{Placed}
 use Rattle.ns_tree.specs.Flat.{flat}
 use Rattle.ns_tree.specs.Plain as p
+
+abbrev pub name_from : Option (List ℕ) → List ℕ
+name_from (Some name) = name
+name_from None = codes "lib:Collections"
+
+-- the name of the file of that number: the library stands behind the files that are named
+abbrev pub name_of : List (List ℕ) → ℕ → List ℕ
+name_of names file = name_from (slice_get names file)
 
 -- A run writes what its program printed, and then its report line.
 abbrev pub run_report : FirstRun → Report
 run_report run = record { out = run.output; err = run.line; status = run.status }
 
--- what is done with the unit of a file
-abbrev pub of_unit : Task → List ℕ → p.SourceUnit → Report
-of_unit task.Check file unit = told (codes "ok" ++ 10 ∷ [])
-of_unit task.Show file unit = told (printed (flat unit))
-of_unit (task.Run steps) file unit = if is_first unit then run_report (first_run unit steps) else refused_file file NotYet
+-- the run of a unit, which has to be of the first form
+abbrev pub of_run : ℕ → List ℕ → p.SourceUnit → Report
+of_run steps file unit = if is_first unit then run_report (first_run unit steps) else refused_file file (codes "NotYet")
 
--- what is done with a source that was read (no source wants memory)
-abbrev pub of_reading : Task → List ℕ → List ℕ → Reading → Report
-of_reading task file source (Ok unit) = of_unit task file unit
-of_reading task file source (Err (At cause offset)) = refused_text file (place_of source offset) cause
-of_reading task file source (Err Memory) = told []
+-- the check of units, of which this is the least fault
+abbrev pub of_check : List (List ℕ) → Option Placed → Report
+of_check names None = told (codes "ok" ++ 10 ∷ [])
+of_check names (Some fault) = refused_text (name_of names fault.place.file) fault.place (static_name fault.cause)
 
--- what is done with a source, which has at most 1,048,576 bytes
-abbrev pub of_source : Task → List ℕ → List ℕ → Report
-of_source task file source =
-    if nat_lt 1048576 (length source) then refused_file file TooLong else of_reading task file source (read source)
+-- the canonical source of the first unit (there is always one)
+abbrev pub of_show : List p.SourceUnit → Report
+of_show [] = told []
+of_show (unit ∷ more) = told (printed (flat unit))
 
--- what is done with a file
-abbrev pub of_file : Task → List ℕ → Option (List ℕ) → Report
-of_file task file None = refused_file file Missing
-of_file task file (Some source) = of_source task file source
+-- the run of the first unit (there is always one)
+abbrev pub of_first_run : ℕ → List ℕ → List p.SourceUnit → Report
+of_first_run steps file [] = told []
+of_first_run steps file (unit ∷ more) = of_run steps file unit
+
+-- what is done with the units of the files of these names
+abbrev pub of_units : Task → List (List ℕ) → List p.SourceUnit → List (List Place) → Report
+of_units task.Check names trees places = of_check names (least (faults trees places))
+of_units task.Show names trees places = of_show trees
+of_units (task.Run steps) names trees places = of_first_run steps (name_of names 0) trees
+
+-- the refusal of a file (none that is told fails to be read)
+abbrev pub of_cause : List ℕ → LoadCause → Report
+of_cause file Missing = refused_file file (codes "Missing")
+of_cause file TooLong = refused_file file (codes "TooLong")
+of_cause file ReadFault = told []
+of_cause file (Spelling number place) = refused_text file place (spelling_name number)
+
+-- the refusal of files (none want memory)
+abbrev pub of_fault : List (List ℕ) → LoadFault → Report
+of_fault names (At cause file) = of_cause (name_of names file) cause
+of_fault names Memory = told []
+
+abbrev pub of_loading : Task → List (List ℕ) → Loading → Report
+of_loading task names (units trees places) = of_units task names trees places
+of_loading task names (stopped fault) = of_fault names fault
+
+-- what is done with the files of these names, and with the library where it is asked for
+abbrev pub of_files : Task → List (List ℕ) → Bool → Files → Report
+of_files task names lib files = of_loading task names (loaded names lib files)
 
 abbrev pub of_command : Command → Files → Report
-of_command (Check file) files = of_file task.Check file (files file)
-of_command (Show file) files = of_file task.Show file (files file)
-of_command (Run steps file) files = of_file (task.Run steps) file (files file)
+of_command (Check lib names) files = of_files task.Check names lib files
+of_command (Show file) files = of_files task.Show (file ∷ []) false files
+of_command (Run steps file) files = of_files (task.Run steps) (file ∷ []) false files
 of_command Help files = told HELP.now
 of_command Version files = told VERSION.now
 of_command (Bad word) files = bad_word word

@@ -1,13 +1,16 @@
 -- What the streams have after a command.
-use Rattle.std.specs.Prelude.{◌≡◌, ◌⊎◌, ℕ, List, Option, Some, None, ◌++◌, IsSome, IsSomeAnd}
+use Rattle.std.specs.Prelude.{◌≡◌, ◌⊎◌, ℕ, List, [], ◌∷◌, Option, Some, None, ◌++◌, codes, slice_get, IsSome, IsSomeAnd}
 use Rattle.ns_base.specs.Files.{Files}
 use Rattle.ns_base.specs.Sink.{WrotePrefix, with_bytes}
 use Rattle.ns_base.specs.declared.status.Status.{Status}
 use Rattle.ns_base.specs.declared.status.Status.TheVariants.{Done, ProgramError, Refused, Limit, ReadFault, WriteFault, Memory}
+use Rattle.ns_load.specs.declared.fault.LoadCause.{LoadCause}
+use Rattle.ns_load.specs.declared.fault.LoadCause.TheVariants as cause
+use Rattle.ns_load.specs.declared.fault.LoadFault.{LoadFault}
+use Rattle.ns_load.specs.declared.fault.LoadFault.TheVariants as fault
 use Rattle.ns_run.specs.Words.{Command, Check, Show, Run, Help, Version, Bad}
 use Rattle.ns_run.specs.Report.{refused_file}
 use Rattle.ns_run.specs.declared.report.Report.{Report}
-use Rattle.ns_run.specs.declared.report.Cause.TheVariants as cause
 
 -- The status is the report's, and both streams have all of its bytes.
 pub record IsDelivered (report : Report) (status : Status) (out out' err err' : Option (List ℕ)) : Type 0 where
@@ -45,31 +48,56 @@ IsEnding ReadFault = ⊥
 IsEnding WriteFault = ⊥
 IsEnding Memory = ⊥
 
--- the file of a command, if it has one
-abbrev pub file_of : Command → Option (List ℕ)
-file_of (Check file) = Some file
-file_of (Show file) = Some file
-file_of (Run steps file) = Some file
-file_of Help = None
-file_of Version = None
-file_of (Bad word) = None
+-- the names of a command's files
+abbrev pub names_of : Command → List (List ℕ)
+names_of (Check lib names) = names
+names_of (Show file) = file ∷ []
+names_of (Run steps file) = file ∷ []
+names_of Help = []
+names_of Version = []
+names_of (Bad word) = []
 
--- The command has a file, and it is there.
-abbrev pub HasItsFile : Command → Files → Type 0
-HasItsFile command files = IsSomeAnd (file_of command) (λ file. IsSome (files file))
+-- Some of these names is such.
+abbrev pub SomeOf : List (List ℕ) → (List ℕ → Type 0) → Type 0
+SomeOf names P = (k : ℕ) × IsSomeAnd (slice_get names k) P
+
+-- Some file of the command is there.
+abbrev pub HasAFile : Command → Files → Type 0
+HasAFile command files = SomeOf (names_of command) (λ file. IsSome (files file))
 
 -- These bytes were written, to a stream that tells its bytes.
 abbrev pub Wrote : List ℕ → (old new : Option (List ℕ)) → Type 0
 Wrote bytes old new = (before : List ℕ) × (old ≡ Some before) × (new ≡ Some (before ++ bytes))
 
+-- the line that says that the file isn't there
+abbrev pub missing_line : List ℕ → List ℕ
+missing_line file = (refused_file file (codes "Missing")).err
+
 -- The report refuses the file as one that isn't there.
 abbrev pub IsMissing : List ℕ → Report → Type 0
-IsMissing file report = (report.status ≡ Refused) × (report.err ≡ (refused_file file cause.Missing).err)
+IsMissing file report = (report.status ≡ Refused) × (report.err ≡ missing_line file)
 
--- The report refuses the command's file as one that isn't there.
+-- The report refuses some file of the command as one that isn't there.
 abbrev pub NamesMissing : Command → Report → Type 0
-NamesMissing command report = IsSomeAnd (file_of command) (λ file. IsMissing file report)
+NamesMissing command report = SomeOf (names_of command) (λ file. IsMissing file report)
 
--- The line was written that tells of the command's file that it isn't there.
+-- The line was written that tells of some file of the command that it isn't there.
 abbrev pub TellsMissing : Command → (err err' : Option (List ℕ)) → Type 0
-TellsMissing command err err' = IsSomeAnd (file_of command) (λ file. Wrote (refused_file file cause.Missing).err err err')
+TellsMissing command err err' = SomeOf (names_of command) (λ file. Wrote (missing_line file) err err')
+
+-- The cause refuses a file: it isn't that the file couldn't be read.
+abbrev pub IsRefusedFor : LoadCause → Type 0
+IsRefusedFor cause.Missing = Unit {0}
+IsRefusedFor cause.TooLong = Unit {0}
+IsRefusedFor cause.ReadFault = ⊥
+IsRefusedFor (cause.Spelling number place) = Unit {0}
+
+-- The fault refuses a file: it isn't that one couldn't be read, nor want of memory.
+abbrev pub IsRefusal : LoadFault → Type 0
+IsRefusal (fault.At why file) = IsRefusedFor why
+IsRefusal fault.Memory = ⊥
+
+-- A file couldn't be read.
+abbrev pub IsReadFault : LoadFault → Type 0
+IsReadFault (fault.At why file) = why ≡ cause.ReadFault
+IsReadFault fault.Memory = ⊥

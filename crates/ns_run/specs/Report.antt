@@ -1,18 +1,43 @@
 -- What a command writes, and its status.
-use Rattle.std.specs.Prelude.{ℕ, List, [], ◌∷◌, ◌++◌, codes}
+use Rattle.std.specs.Prelude.{ℕ, List, [], ◌∷◌, ◌++◌, codes, nat_eq, if◌then◌else◌}
 use Rattle.std.specs.Fmt.{decimal}
+use Rattle.ns_base.specs.declared.place.Place.{Place}
 use Rattle.ns_base.specs.declared.status.Status.TheVariants as status
-use Rattle.ns_run.specs.Source.{spelling_name}
-use Rattle.ns_run.specs.declared.place.LineColumn.{LineColumn}
 use Rattle.ns_run.specs.declared.report.Report.{Report}
-use Rattle.ns_run.specs.declared.source.Spelling.{Spelling}
-use Rattle.ns_run.specs.declared.report.Cause.{Cause}
-use Rattle.ns_run.specs.declared.report.Cause.TheVariants.{Missing, TooLong, NotYet}
+use Rattle.ns_static.specs.declared.fault.Many.{Many}
+use Rattle.ns_static.specs.declared.fault.Many.TheVariants.{Parameters, Locals, Elements, Members, Classes}
+use Rattle.ns_static.specs.declared.fault.StaticCause.{StaticCause}
+use Rattle.ns_static.specs.declared.fault.StaticCause.TheVariants.{DuplicateMember, DuplicateLocal, FixedLocal, BadReturn, BareReceiver, NoSuchOuter, BadCascade, PlainTooLarge, TooMany, TopSuper, DuplicateTop}
 
-abbrev pub cause_name : Cause → List ℕ
-cause_name Missing = codes "Missing"
-cause_name TooLong = codes "TooLong"
-cause_name NotYet = codes "NotYet"
+-- what is wrong with a text, by its number from 1 to 6
+abbrev pub spelling_name : ℕ → List ℕ
+spelling_name number =
+    if nat_eq number 1 then codes "BadByte"
+    else (if nat_eq number 2 then codes "UnclosedComment"
+    else (if nat_eq number 3 then codes "UnclosedString"
+    else (if nat_eq number 4 then codes "BigNumber"
+    else (if nat_eq number 5 then codes "TooDeep"
+    else codes "Syntax"))))
+
+abbrev pub many_name : Many → List ℕ
+many_name Parameters = codes "TooMany(Parameters)"
+many_name Locals = codes "TooMany(Locals)"
+many_name Elements = codes "TooMany(Elements)"
+many_name Members = codes "TooMany(Members)"
+many_name Classes = codes "TooMany(Classes)"
+
+abbrev pub static_name : StaticCause → List ℕ
+static_name DuplicateMember = codes "DuplicateMember"
+static_name DuplicateLocal = codes "DuplicateLocal"
+static_name FixedLocal = codes "FixedLocal"
+static_name BadReturn = codes "BadReturn"
+static_name BareReceiver = codes "BareReceiver"
+static_name NoSuchOuter = codes "NoSuchOuter"
+static_name BadCascade = codes "BadCascade"
+static_name PlainTooLarge = codes "PlainTooLarge"
+static_name (TooMany kind) = many_name kind
+static_name TopSuper = codes "TopSuper"
+static_name DuplicateTop = codes "DuplicateTop"
 
 -- A refusal writes its line alone.
 abbrev pub refused : List ℕ → Report
@@ -23,13 +48,13 @@ abbrev pub bad_word : ℕ → Report
 bad_word word = refused (codes "nspk: bad word " ++ decimal word ++ 10 ∷ [])
 
 -- the refusal of a file: its name and the cause
-abbrev pub refused_file : List ℕ → Cause → Report
-refused_file file cause = refused (file ++ codes ": " ++ cause_name cause ++ 10 ∷ [])
+abbrev pub refused_file : List ℕ → List ℕ → Report
+refused_file file cause = refused (file ++ codes ": " ++ cause ++ 10 ∷ [])
 
 -- the refusal of a text: where it is wrong, and the cause
-abbrev pub refused_text : List ℕ → LineColumn → Spelling → Report
+abbrev pub refused_text : List ℕ → Place → List ℕ → Report
 refused_text file place cause =
-    refused (file ++ codes ":" ++ decimal place.line ++ codes ":" ++ decimal place.column ++ codes ": " ++ spelling_name cause ++ 10 ∷ [])
+    refused (file ++ codes ":" ++ decimal place.line ++ codes ":" ++ decimal place.col ++ codes ": " ++ cause ++ 10 ∷ [])
 
 -- A command that only tells a text writes it, and is done.
 abbrev pub told : List ℕ → Report

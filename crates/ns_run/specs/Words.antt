@@ -1,11 +1,12 @@
 -- The forms of a command line (this profile).
-use Rattle.std.specs.Prelude.{ℕ, ◌+◌, ◌-◌, ◌*◌, ◌&&◌, nat_le, not, List, [], ◌∷◌, Bool, true, false, Option, Some, None, option_and_then, take, drop, length, codes, nat_eq, Result, Ok, Err, if◌then◌else◌}
+use Rattle.std.specs.Prelude.{ℕ, ◌+◌, ◌-◌, ◌*◌, ◌&&◌, nat_le, nat_lt, not, List, [], ◌∷◌, Bool, true, false, Option, Some, None, option_and_then, take, drop, length, codes, nat_eq, Result, Ok, Err, if◌then◌else◌}
+use Rattle.std.specs.List.{prefix_len}
 use Rattle.std.specs.Str.{bytes_eq}
 use Rattle.ns_run.specs.declared.words.BadWord.{BadWord}
 
 -- What the words of a command line spell: a form, or the first bad word.
 pub data Command : Type 0 where
-  Check : (file : List ℕ) → Command
+  Check : (lib : Bool) (files : List (List ℕ)) → Command
   Show : (file : List ℕ) → Command
   Run : (steps : ℕ) (file : List ℕ) → Command
   Help : Command
@@ -66,6 +67,24 @@ abbrev pub for_file : (List ℕ → Command) → Result (List ℕ) BadWord → C
 for_file command (Ok file) = command file
 for_file command (Err word) = Bad word.0
 
+-- the files behind `check` and its option, of which the first has number k, where the first n words are names
+abbrev pub check_named : Bool → ℕ → List (List ℕ) → ℕ → Command
+check_named lib k words n =
+    if nat_eq n 0 then Bad k
+    else (if nat_lt 16 n then Bad (k + 16)
+    else (if nat_lt n (length words) then Bad (k + n)
+    else Check lib words))
+
+-- the files behind `check` and its option: 1 to 16 names
+abbrev pub check_files : Bool → ℕ → List (List ℕ) → Command
+check_files lib k words = check_named lib k words (prefix_len is_file_name words)
+
+-- what follows `check`
+abbrev pub after_check : List (List ℕ) → Command
+after_check [] = Bad 1
+after_check (word ∷ words) =
+    if bytes_eq word (codes "--lib") then check_files true 2 words else check_files false 1 (word ∷ words)
+
 -- what follows `run`
 abbrev pub after_run : List (List ℕ) → Command
 after_run [] = Bad 1
@@ -80,7 +99,7 @@ alone command (word ∷ words) = Bad 1
 abbrev pub command_of : List (List ℕ) → Command
 command_of [] = Bad 0
 command_of (word ∷ words) =
-    if bytes_eq word (codes "check") then for_file Check (one_file words)
+    if bytes_eq word (codes "check") then after_check words
     else (if bytes_eq word (codes "show") then for_file Show (one_file words)
     else (if bytes_eq word (codes "run") then after_run words
     else (if bytes_eq word (codes "--help") then alone Help words

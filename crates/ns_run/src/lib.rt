@@ -1,11 +1,12 @@
 //! The words of a command, what the command means, and the top call.
 #![tactic(auto)]
 
+mod cause;
 mod deliver;
+pub mod files;
 pub mod laws;
-pub mod place;
 pub mod report;
-pub mod source;
+pub mod stop;
 pub mod task;
 pub mod top;
 pub mod usage;

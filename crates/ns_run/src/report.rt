@@ -3,13 +3,11 @@
 ghost use Rattle.std.specs.Prelude.{◌≡◌, IfOk, string_bytes};
 ghost use Rattle.ns_run.specs.Report.{bad_word as bad_word_lem, refused as refused_lem, refused_file as refused_file_lem, refused_text as refused_text_lem, told as told_lem};
 
-use crate::place::LineColumn;
-use crate::source::Spelling;
 use ns_base::no_memory::NoMemory;
+use ns_base::place::Place;
 use ns_base::status::Status;
 use ns_base::text::Text;
 use std::alloc::Global;
-use std::fmt;
 
 /// The bytes for each stream, and the status.
 #[derive(Drop)]
@@ -17,32 +15,6 @@ pub struct Report {
     pub out: Text,
     pub err: Text,
     pub status: Status,
-}
-
-/// Why a file was refused.
-#[derive(Clone, Copy, Debug, PartialEq, Eq)]
-pub enum Cause {
-    /// There is no file of that name.
-    Missing,
-    /// The file has more bytes than a source may have.
-    TooLong,
-    /// The text is none that this version runs.
-    NotYet,
-}
-
-impl fmt::Display for Cause {
-    ghost use Rattle.std.specs.Prelude.{Some};
-    ghost use Rattle.ns_run.specs.Report.{cause_name};
-
-    ghost output = { λ cause. Some (cause_name cause) };
-
-    fn fmt<W: fmt::Write>(&self, f: &mut fmt::Formatter<W>) -> fmt::Result {
-        match self {
-            Cause::Missing => f.write_str("Missing"),
-            Cause::TooLong => f.write_str("TooLong"),
-            Cause::NotYet => f.write_str("NotYet"),
-        }
-    }
 }
 
 /// The report of a command line of which no form begins with the words up to this one.
@@ -54,8 +26,8 @@ pub fn bad_word(alloc: Global, word: u64) -> Result<Report, NoMemory>
 }
 
 /// The report of a file that was refused.
-pub fn refused_file(alloc: Global, file: &str, cause: Cause) -> Result<Report, NoMemory>
-    ensures { IfOk result (λ r. r ≡ refused_file_lem file.now cause) }
+pub fn refused_file(alloc: Global, file: &str, cause: &str) -> Result<Report, NoMemory>
+    ensures { IfOk result (λ r. r ≡ refused_file_lem file.now cause.now) }
 {
     let line = format!(in alloc; "{file}: {cause}\n")?;
     Ok(refused(alloc, line))
@@ -76,13 +48,13 @@ fn refused(alloc: Global, line: String) -> Report
 pub fn refused_text(
     alloc: Global,
     file: &str,
-    place: LineColumn,
-    cause: Spelling,
+    place: Place,
+    cause: &str,
 ) -> Result<Report, NoMemory>
-    ensures { IfOk result (λ r. r ≡ refused_text_lem file.now place cause) }
+    ensures { IfOk result (λ r. r ≡ refused_text_lem file.now place cause.now) }
 {
-    let LineColumn { line, column } = place;
-    let line = format!(in alloc; "{file}:{line}:{column}: {cause}\n")?;
+    let Place { line, col, .. } = place;
+    let line = format!(in alloc; "{file}:{line}:{col}: {cause}\n")?;
     Ok(refused(alloc, line))
 }
 
@@ -95,4 +67,12 @@ pub fn told(alloc: Global, text: Text) -> Report
         err: Text::from_vec(Vec::new(alloc)),
         status: Status::Done,
     }
+}
+
+/// The report that tells a text.
+pub fn told_text(alloc: Global, text: &str) -> Result<Report, NoMemory>
+    ensures { IfOk result (λ r. r ≡ told_lem text.now) }
+{
+    let text = Text::of(alloc, text.as_bytes())?;
+    Ok(told(alloc, text))
 }

@@ -1,12 +1,12 @@
-//! What a command does with its file.
+//! What a command does with its files.
 
-/// What is done with the unit of a file.
+/// What is done with a program.
 #[derive(Clone, Copy, Debug, PartialEq, Eq)]
 pub enum Task {
-    /// Nothing: the file is only checked.
+    /// It is checked for static faults.
     Check,
-    /// Its canonical source is written.
+    /// The canonical source of its first file is written.
     Show,
-    /// It is run within so many steps.
+    /// Its first file is run within so many steps.
     Run { steps: u64 },
 }

@@ -1,8 +1,9 @@
 //! The words of a command line, read as the form that they spell.
 
-ghost use Rattle.std.specs.Prelude.{◌≡◌, Ok, Err, MatchResult, map, option_and_then, string_bytes};
-ghost use Rattle.ns_run.specs.Job.{seen};
-ghost use Rattle.ns_run.specs.Words.{after_option as after_option_lem, after_run as after_run_lem, alone as alone_lem, begins_bad as begins_bad_lem, command_of, ends as ends_lem, for_file, in_range, is_digit as is_digit_lem, is_file_name, number_of, one_file as one_file_lem, steps_of, value_from};
+ghost use Rattle.std.specs.Prelude.{◌≡◌, ◌≤◌, IfOk, Ok, Err, MatchResult, map, option_and_then, string_bytes};
+ghost use Rattle.std.specs.List.{prefix_len};
+ghost use Rattle.ns_run.specs.Job.{HasFewFiles, seen};
+ghost use Rattle.ns_run.specs.Words.{after_check as after_check_lem, after_option as after_option_lem, after_run as after_run_lem, alone as alone_lem, begins_bad as begins_bad_lem, check_files as check_files_lem, command_of, ends as ends_lem, for_file, in_range, is_digit as is_digit_lem, is_file_name, number_of, one_file as one_file_lem, steps_of, value_from};
 ghost use Rattle.ns_run.specs.Words as Command;
 
 use ns_base::limits::Limits;
@@ -10,12 +11,12 @@ use ns_base::limits::Limits;
 /// What a command line asks for. The names are those of the words.
 #[derive(Drop)]
 pub enum Job<'a> {
-    /// Says whether a file is a program.
-    Check { file: &'a str },
+    /// Says whether files are a program, with the library where it is asked for.
+    Check { lib: bool, files: &'a [String] },
     /// Writes the canonical source of a file.
-    Show { file: &'a str },
+    Show { file: &'a String },
     /// Runs a file within so many steps.
-    Run { steps: u64, file: &'a str },
+    Run { steps: u64, file: &'a String },
     /// Tells how the program is used.
     Help,
     /// Tells the version of the program.
@@ -27,16 +28,20 @@ pub enum Job<'a> {
 #[derive(Clone, Copy, Debug, PartialEq, Eq)]
 pub struct BadWord(pub u64);
 
-/// The job that the words spell, or the first bad word. The forms are `check FILE`, `show FILE`,
-/// `run [--steps=N] FILE`, `--help` and `--version`.
+/// The most files of a command.
+pub const MOST_FILES: usize = 16;
+
+/// The job that the words spell, or the first bad word. The forms are `check [--lib] FILE ..` with 1
+/// to 16 files, `show FILE`, `run [--steps=N] FILE`, `--help` and `--version`.
 pub fn words(words: &[String]) -> Result<Job<'_>, BadWord>
-    ensures { seen result ≡ command_of (map string_bytes words.now) }
+    ensures command { seen result ≡ command_of (map string_bytes words.now) }
+    ensures few { IfOk result HasFewFiles }
 {
     match words {
         [] => Err(BadWord(0)),
         [first, rest @ ..] => {
             if first.as_bytes() == b"check".as_slice() {
-                return check(rest);
+                return after_check(rest);
             }
             if first.as_bytes() == b"show".as_slice() {
                 return show(rest);
@@ -55,17 +60,58 @@ pub fn words(words: &[String]) -> Result<Job<'_>, BadWord>
     }
 }
 
-fn check(words: &[String]) -> Result<Job<'_>, BadWord>
-    ensures { seen result ≡ for_file Command.Check (one_file_lem (map string_bytes words.now)) }
+fn after_check(words: &[String]) -> Result<Job<'_>, BadWord>
+    ensures command { seen result ≡ after_check_lem (map string_bytes words.now) }
+    ensures few { IfOk result HasFewFiles }
 {
-    match one_file(words) {
-        Ok(file) => Ok(Job::Check { file }),
-        Err(word) => Err(word),
+    match words {
+        [] => Err(BadWord(1)),
+        [word, rest @ ..] => {
+            if word.as_bytes() == b"--lib".as_slice() {
+                check_files(true, 2, rest)
+            } else {
+                check_files(false, 1, words)
+            }
+        }
     }
 }
 
+/// The files behind `check` and its option, of which the first has that number among the words.
+fn check_files(lib: bool, first: u64, words: &[String]) -> Result<Job<'_>, BadWord>
+    requires { first ≤ 2 }
+    ensures command { seen result ≡ check_files_lem lib first (map string_bytes words.now) }
+    ensures few { IfOk result HasFewFiles }
+{
+    let names = leading_names(words);
+    if names == 0 {
+        return Err(BadWord(first));
+    }
+    if MOST_FILES < names {
+        return Err(BadWord(first + MOST_FILES as u64));
+    }
+    if names < words.len() {
+        return Err(BadWord(first + names as u64));
+    }
+    Ok(Job::Check { lib, files: words })
+}
+
+/// How many of the words, from the first on, can be names of files.
+fn leading_names(words: &[String]) -> usize
+    ensures { result ≡ prefix_len is_file_name (map string_bytes words.now) }
+{
+    let mut names = 0;
+    for word in words {
+        if !is_name(word.as_bytes()) {
+            return names;
+        }
+        names += 1;
+    }
+    names
+}
+
 fn show(words: &[String]) -> Result<Job<'_>, BadWord>
-    ensures { seen result ≡ for_file Command.Show (one_file_lem (map string_bytes words.now)) }
+    ensures command { seen result ≡ for_file Command.Show (one_file_lem (map string_bytes words.now)) }
+    ensures few { IfOk result HasFewFiles }
 {
     match one_file(words) {
         Ok(file) => Ok(Job::Show { file }),
@@ -74,8 +120,8 @@ fn show(words: &[String]) -> Result<Job<'_>, BadWord>
 }
 
 /// The name of the one file behind a command's first word.
-fn one_file(words: &[String]) -> Result<&str, BadWord>
-    ensures { MatchResult result (λ file. one_file_lem (map string_bytes words.now) ≡ Ok file.now) (λ word. one_file_lem (map string_bytes words.now) ≡ Err word) }
+fn one_file(words: &[String]) -> Result<&String, BadWord>
+    ensures { MatchResult result (λ file. one_file_lem (map string_bytes words.now) ≡ Ok (string_bytes file.now)) (λ word. one_file_lem (map string_bytes words.now) ≡ Err word) }
 {
     match words {
         [] => Err(BadWord(1)),
@@ -86,14 +132,16 @@ fn one_file(words: &[String]) -> Result<&str, BadWord>
             if !rest.is_empty() {
                 return Err(BadWord(2));
             }
-            Ok(word.as_str())
+            Ok(word)
         }
     }
 }
 
 /// A form of one word.
 fn alone<'a>(job: Job<'a>, rest: &'a [String]) -> Result<Job<'a>, BadWord>
-    ensures { seen result ≡ alone_lem (seen (Ok job.entry)) (map string_bytes rest.now) }
+    requires { HasFewFiles job }
+    ensures command { seen result ≡ alone_lem (seen (Ok job.entry)) (map string_bytes rest.now) }
+    ensures few { IfOk result HasFewFiles }
 {
     if rest.is_empty() {
         Ok(job)
@@ -103,13 +151,14 @@ fn alone<'a>(job: Job<'a>, rest: &'a [String]) -> Result<Job<'a>, BadWord>
 }
 
 fn after_run(words: &[String]) -> Result<Job<'_>, BadWord>
-    ensures { seen result ≡ after_run_lem (map string_bytes words.now) }
+    ensures command { seen result ≡ after_run_lem (map string_bytes words.now) }
+    ensures few { IfOk result HasFewFiles }
 {
     match words {
         [] => Err(BadWord(1)),
         [word, rest @ ..] => {
             if is_name(word.as_bytes()) {
-                return ends(Limits::DEFAULT.steps, word.as_str(), 2, rest);
+                return ends(Limits::DEFAULT.steps, word, 2, rest);
             }
             match option_steps(word.as_bytes()) {
                 Some(steps) => after_option(steps, rest),
@@ -120,13 +169,14 @@ fn after_run(words: &[String]) -> Result<Job<'_>, BadWord>
 }
 
 fn after_option(steps: u64, words: &[String]) -> Result<Job<'_>, BadWord>
-    ensures { seen result ≡ after_option_lem steps (map string_bytes words.now) }
+    ensures command { seen result ≡ after_option_lem steps (map string_bytes words.now) }
+    ensures few { IfOk result HasFewFiles }
 {
     match words {
         [] => Err(BadWord(2)),
         [word, rest @ ..] => {
             if is_name(word.as_bytes()) {
-                ends(steps, word.as_str(), 3, rest)
+                ends(steps, word, 3, rest)
             } else {
                 Err(BadWord(2))
             }
@@ -135,8 +185,14 @@ fn after_option(steps: u64, words: &[String]) -> Result<Job<'_>, BadWord>
 }
 
 /// The end of the words, of which the next would be number `k`.
-fn ends<'a>(steps: u64, file: &'a str, k: u64, words: &'a [String]) -> Result<Job<'a>, BadWord>
-    ensures { seen result ≡ ends_lem steps file.now k (map string_bytes words.now) }
+fn ends<'a>(
+    steps: u64,
+    file: &'a String,
+    k: u64,
+    words: &'a [String],
+) -> Result<Job<'a>, BadWord>
+    ensures command { seen result ≡ ends_lem steps (string_bytes file.now) k (map string_bytes words.now) }
+    ensures few { IfOk result HasFewFiles }
 {
     if words.is_empty() {
         Ok(Job::Run { steps, file })

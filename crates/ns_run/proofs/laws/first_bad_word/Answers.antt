@@ -1,4 +1,4 @@
-use Rattle.ns_run.proofs.WordLaws.{command_is}
+use Rattle.ns_run.proofs.CommandLaws.{command_is}
 use Rattle.ns_run.proofs.laws.first_bad_word.Goals as goal
 
 pub returns : goal.returns

@@ -1,0 +1,18 @@
+use Rattle.std.proofs.Common.{Err, ap, map, string_bytes, subst}
+use Rattle.std.proofs.lemmas.Result.{IfOk-weaker}
+use Rattle.ns_run.proofs.FaultLaws.{fault_says}
+use Rattle.ns_run.proofs.ReportLaws.{stop_keeps, units_plain}
+use Rattle.ns_run.proofs.files.on_texts.Goals as goal
+use Rattle.ns_run.specs.Outcome.{IsMissing}
+use Rattle.ns_tree.specs.PlainOf.{unit_of}
+
+pub returns-in-Ok-clause-missing : goal.returns-in-Ok-clause-missing
+returns-in-Ok-clause-missing g c =
+    stop_keeps c.on_program.result c.or_stop.result _ c.or_stop.ensures
+    (IfOk-weaker c.on_program.result _ _
+    (λ r h name m. absurd ((units_plain c.args.task (map string_bytes c.args.names.now) (map unit_of c.in-Ok.program.units) c.in-Ok.program.marks).says name (subst (IsMissing name) h m))) c.on_program.ensures)
+
+pub returns-in-Err-clause-missing : goal.returns-in-Err-clause-missing
+returns-in-Err-clause-missing g c =
+    IfOk-weaker c.on_fault.result _ _
+    (λ r h name m. fault_says (map string_bytes c.args.names.now) c.in-Err.fault (λ k e. c.in-Err.ensures.missing k (ap Err e)) name (subst (IsMissing name) h m)) c.on_fault.ensures.told

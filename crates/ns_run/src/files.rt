@@ -1,0 +1,208 @@
+//! What a command does with its files.
+
+ghost use Rattle.std.specs.Prelude.{◌≡◌, ◌≤◌, map, ℕ, List, Some, All, IfOk, IsErrOf, IsSome, IsUtf8, length, string_bytes};
+ghost use Rattle.ns_base.specs.Count.{Rose};
+ghost use Rattle.ns_base.specs.Files.{Files};
+ghost use Rattle.ns_load.specs.declared.fault.LoadCause.TheVariants.{ReadFault};
+ghost use Rattle.ns_print.specs.Printed.{printed};
+ghost use Rattle.ns_run.specs.Meaning as spec;
+ghost use Rattle.ns_run.specs.Outcome.{IsEnding, IsMissing, IsReadFault, IsRefusal, IsRefusedFor, SomeOf};
+ghost use Rattle.ns_run.specs.Report.{told as told_lem};
+ghost use Rattle.ns_static.specs.Check.{fault_of};
+ghost use Rattle.ns_tree.specs.Flat.{flat};
+ghost use Rattle.ns_tree.specs.PlainOf.{unit_of};
+
+use crate::cause::{spelling_name, static_name};
+use crate::report::{Report, refused_file, refused_text, told, told_text};
+use crate::stop::{Stop, or_stop};
+use crate::task::Task;
+use ns_base::no_memory::NoMemory;
+use ns_base::shelf::Shelf;
+use ns_base::text::Text;
+use ns_load::fault::{LoadCause, LoadFault};
+use ns_load::load::load;
+use ns_load::names::names_of;
+use ns_machine::first::{FirstRun, run_first};
+use ns_machine::form::is_first;
+use ns_print::print::print;
+use ns_scope::program::Program;
+use ns_static::check::check;
+use ns_static::fault::StaticFault;
+use ns_tree::tree::Unit;
+use std::alloc::Global;
+
+/// The report of what is done with the files of these names.
+pub fn on_files<S: Shelf>(
+    alloc: Global,
+    task: Task,
+    lib: bool,
+    names: &[String],
+    shelf: &mut S,
+) -> Result<Report, Stop>
+    requires { length names.now ≤ 16 }
+    ensures told { (files : Files) → S.holds shelf.old ≡ Some files → IfOk result (λ r. r ≡ spec.of_files task (map string_bytes names.now) lib files) }
+    ensures ending { IfOk result (λ r. IsEnding r.status) }
+    ensures files_stand { S.holds shelf.new ≡ S.holds shelf.old }
+    ensures faults { S.faults shelf.old ≤ S.faults shelf.new }
+    ensures misses { S.misses shelf.old ≤ S.misses shelf.new }
+    ensures read_fault { IsErrOf result Stop.ReadFault → Rose (S.faults shelf.old) (S.faults shelf.new) }
+    ensures read_fault_there { (files : Files) → S.holds shelf.old ≡ Some files → IsErrOf result Stop.ReadFault → SomeOf (map string_bytes names.now) (λ file. IsSome (files file)) }
+    ensures missing { IfOk result (λ r. (name : List ℕ) → IsMissing name r → Rose (S.misses shelf.old) (S.misses shelf.new)) }
+{
+    match names_of(alloc, names) {
+        Ok(texts) => on_texts(alloc, task, lib, names, texts.as_slice(), shelf),
+        Err(NoMemory) => Err(Stop::Memory),
+    }
+}
+
+/// The report of what is done with the files of these names, which are texts too.
+fn on_texts<S: Shelf>(
+    alloc: Global,
+    task: Task,
+    lib: bool,
+    names: &[String],
+    texts: &[Text],
+    shelf: &mut S,
+) -> Result<Report, Stop>
+    requires few { length texts.now ≤ 16 }
+    requires text { All IsUtf8 texts.now }
+    requires same { texts.now ≡ map string_bytes names.now }
+    ensures told { (files : Files) → S.holds shelf.old ≡ Some files → IfOk result (λ r. r ≡ spec.of_files task texts.now lib files) }
+    ensures ending { IfOk result (λ r. IsEnding r.status) }
+    ensures files_stand { S.holds shelf.new ≡ S.holds shelf.old }
+    ensures faults { S.faults shelf.old ≤ S.faults shelf.new }
+    ensures misses { S.misses shelf.old ≤ S.misses shelf.new }
+    ensures read_fault { IsErrOf result Stop.ReadFault → Rose (S.faults shelf.old) (S.faults shelf.new) }
+    ensures read_fault_there { (files : Files) → S.holds shelf.old ≡ Some files → IsErrOf result Stop.ReadFault → SomeOf texts.now (λ file. IsSome (files file)) }
+    ensures missing { IfOk result (λ r. (name : List ℕ) → IsMissing name r → Rose (S.misses shelf.old) (S.misses shelf.new)) }
+{
+    match load(alloc, shelf, texts, lib) {
+        Ok(program) => or_stop(on_program(alloc, task, names, program)),
+        Err(fault) => on_fault(alloc, names, fault),
+    }
+}
+
+/// The report of files that are no program.
+fn on_fault(alloc: Global, names: &[String], fault: LoadFault) -> Result<Report, Stop>
+    ensures told { IfOk result (λ r. r ≡ spec.of_fault (map string_bytes names.now) fault) }
+    ensures refusal { IfOk result (λ _. IsRefusal fault) }
+    ensures read_fault { IsErrOf result Stop.ReadFault → IsReadFault fault }
+{
+    match fault {
+        LoadFault::At { cause, file } => on_cause(alloc, name_of(names, file as usize), cause),
+        LoadFault::Memory => Err(Stop::Memory),
+    }
+}
+
+/// The report of a file that was refused.
+fn on_cause(alloc: Global, file: &str, cause: LoadCause) -> Result<Report, Stop>
+    ensures told { IfOk result (λ r. r ≡ spec.of_cause file.now cause) }
+    ensures refusal { IfOk result (λ _. IsRefusedFor cause) }
+    ensures read_fault { IsErrOf result Stop.ReadFault → cause ≡ ReadFault }
+{
+    match cause {
+        LoadCause::Missing => or_stop(refused_file(alloc, file, "Missing")),
+        LoadCause::TooLong => or_stop(refused_file(alloc, file, "TooLong")),
+        LoadCause::ReadFault => Err(Stop::ReadFault),
+        LoadCause::Spelling { number, place } => {
+            or_stop(refused_text(alloc, file, place, spelling_name(number)))
+        }
+    }
+}
+
+/// The name of the file of that number: the library stands behind the files that are named.
+fn name_of(names: &[String], file: usize) -> &str
+    ensures { result.now ≡ spec.name_of (map string_bytes names.now) file }
+{
+    match names.get(file) {
+        Some(name) => name.as_str(),
+        None => "lib:Collections",
+    }
+}
+
+/// The report of what is done with a program.
+fn on_program(
+    alloc: Global,
+    task: Task,
+    names: &[String],
+    program: Program,
+) -> Result<Report, NoMemory>
+    ensures { IfOk result (λ r. r ≡ spec.of_units task (map string_bytes names.now) (map unit_of program.units) program.marks) }
+{
+    match task {
+        Task::Check => on_check(alloc, names, program),
+        Task::Show => on_show(alloc, program.units.as_slice()),
+        Task::Run { steps } => on_run(alloc, steps, name_of(names, 0), program.units.as_slice()),
+    }
+}
+
+/// The report of the check of a program.
+fn on_check(alloc: Global, names: &[String], program: Program) -> Result<Report, NoMemory>
+    ensures { IfOk result (λ r. r ≡ spec.of_check (map string_bytes names.now) (fault_of program)) }
+{
+    match check(alloc, program) {
+        Ok(_) => told_text(alloc, "ok\n"),
+        Err(StaticFault::At { cause, place }) => {
+            let file = name_of(names, place.file as usize);
+            refused_text(alloc, file, place, static_name(cause))
+        }
+        Err(StaticFault::Memory) => Err(NoMemory),
+    }
+}
+
+/// The report that tells the canonical source of the first unit.
+fn on_show(alloc: Global, units: &[Unit]) -> Result<Report, NoMemory>
+    ensures { IfOk result (λ r. r ≡ spec.of_show (map unit_of units.now)) }
+{
+    match units {
+        [] => told_text(alloc, ""),
+        [unit, ..] => shown(alloc, unit),
+    }
+}
+
+/// The report of the run of the first unit, which is in that file.
+fn on_run(alloc: Global, steps: u64, file: &str, units: &[Unit]) -> Result<Report, NoMemory>
+    ensures { IfOk result (λ r. r ≡ spec.of_first_run steps file.now (map unit_of units.now)) }
+{
+    match units {
+        [] => told_text(alloc, ""),
+        [unit, ..] => run(alloc, steps, file, unit),
+    }
+}
+
+/// The report of the run of a unit.
+fn run(alloc: Global, steps: u64, file: &str, unit: &Unit) -> Result<Report, NoMemory>
+    ensures { IfOk result (λ r. r ≡ spec.of_run steps file.now (unit_of unit.now)) }
+{
+    if !is_first(unit) {
+        return refused_file(alloc, file, "NotYet");
+    }
+    match run_first(alloc, unit, steps) {
+        Ok(run) => Ok(run_report(run)),
+        Err(NoMemory) => Err(NoMemory),
+    }
+}
+
+/// The report of a run.
+fn run_report(run: FirstRun) -> Report
+    ensures { result ≡ spec.run_report run }
+{
+    let FirstRun {
+        output,
+        line,
+        status,
+    } = run;
+    Report {
+        out: output,
+        err: line,
+        status,
+    }
+}
+
+/// The report that tells a unit's canonical source.
+fn shown(alloc: Global, unit: &Unit) -> Result<Report, NoMemory>
+    ensures { IfOk result (λ r. r ≡ told_lem (printed (flat (unit_of unit.now)))) }
+{
+    let source = print(alloc, unit)?;
+    Ok(told(alloc, Text::from_vec(source)))
+}
