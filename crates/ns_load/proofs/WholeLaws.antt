@@ -1,11 +1,16 @@
 -- What was read is whole.
-use Rattle.std.proofs.Common.{◌≡◌, ℕ, ◌+◌, ◌≤◌, List, [], ◌∷◌, ◌++◌, length, map, take, Bool, true, false, cond, Option, Some, None, Result, Ok, Err, refl, ap, sym, subst, ◌∙◌, arith}
-use Rattle.std.specs.Prelude.{◌==◌}
+use Rattle.std.proofs.Common.{rules, ◌≡◌, ◌<◌, ℕ, ◌+◌, ◌≤◌, List, [], ◌∷◌, ◌++◌, length, map, take, Bool, true, false, cond, Option, Some, None, Result, Ok, Err, refl, ap, sym, subst, ◌∙◌, arith}
+use Rattle.std.specs.Prelude.{◌==◌, All, IsUtf8, codes}
+use Rattle.std.specs.Str.{IsAscii}
+use Rattle.std.proofs.lemmas.Str.{IsUtf8-from_ascii}
+use Rattle.std.proofs.lemmas.Str.Ascii.{IsAscii-nil, IsAscii-cons}
+use Rattle.std.proofs.lemmas.List.Elements.{All-append, All-cons, All-nil}
 use Rattle.std.proofs.lemmas.List.{length-map, length-append}
 use Rattle.ns_base.specs.declared.place.Place.{Place}
 use Rattle.ns_lex.specs.Scan.{Tokens, scan}
 use Rattle.ns_lex.proofs.Cutting.{scan_lexes}
 use Rattle.ns_load.specs.Answer.{AreRead, IsRead}
+use Rattle.ns_load.specs.Loaded.{file_names, library_name}
 use Rattle.ns_load.specs.Place.{behind, marks, past, place_of, places, start}
 use Rattle.ns_load.specs.Source.{parsed, read, read_tokens, scanned, spells}
 use Rattle.ns_load.proofs.Lengths.{cut_count, cut_within}
@@ -13,12 +18,14 @@ use Rattle.ns_parse.specs.Parse.{parse, parse_by}
 use Rattle.ns_parse.specs.Read.{Outcome}
 use Rattle.ns_parse.proofs.SoundFile.{parse_spelled}
 use Rattle.ns_parse.proofs.Texts.{cuts_told}
-use Rattle.ns_scope.specs.Whole.{most_bytes, AllWithin, ArePlacesOf, IsPlaceOf, IsWholeUnit, AreWholeUnits}
+use Rattle.ns_scope.specs.Whole.{most_bytes, AllWithin, ArePlacesOf, IsPlaceOf, IsWholeUnit, AreWholeUnits, IsFileName, IsWhole}
+use Rattle.ns_scope.specs.declared.program.Program.{Program}
 use Rattle.ns_tree.specs.Deep.{deep}
 use Rattle.ns_tree.specs.Flat.{flat}
 use Rattle.ns_tree.specs.Tree.{Spells}
 use Rattle.ns_parse.specs.declared.fault.ParseFault.{ParseFault}
 use Rattle.ns_tree.specs.Plain as p
+use Rattle.ns_tree.specs.PlainOf.{unit_of}
 use Rattle.ns_tree.specs.Tokens.{kinds}
 use Rattle.ns_tree.specs.declared.token.Kind.{Kind}
 use Rattle.ns_tree.specs.declared.token.Token.{Token}
@@ -84,3 +91,38 @@ are_whole file [] [] h = tt
 are_whole file [] (ps ∷ others) h = absurd h
 are_whole file (unit ∷ more) [] h = absurd h
 are_whole file (unit ∷ more) (ps ∷ others) h = (read_is_whole file unit ps h.0, are_whole (file + 1) more others h.1)
+
+-- ---- whole programs
+
+-- Bytes below 128 are ASCII.
+AllBelow128 : List ℕ → Type 0
+AllBelow128 [] = Unit {0}
+AllBelow128 (b ∷ bs) = (b < 128) × AllBelow128 bs
+
+ascii : (bs : List ℕ) → AllBelow128 bs → IsAscii bs
+unfolding AllBelow128
+ascii [] h = IsAscii-nil
+ascii (b ∷ bs) h = IsAscii-cons b bs h.0 (ascii bs h.1)
+
+library_is_text : IsUtf8 (codes "lib:Collections")
+unfolding AllBelow128
+library_is_text = IsUtf8-from_ascii (codes "lib:Collections") (ascii (codes "lib:Collections") (search (rules, arith)))
+
+library_is_named : (lib : Bool) → All IsFileName (library_name lib)
+library_is_named true = All-cons IsFileName (codes "lib:Collections") [] (library_is_text, (λ e. cc (e)), omega arith) (All-nil IsFileName)
+library_is_named false = All-nil IsFileName
+
+names_longer : (names : List (List ℕ)) (lib : Bool) → (length names ≤ length (file_names names lib)) × (length (file_names names lib) ≤ length names + 1)
+names_longer names true = let e = length-append names (library_name true) in (omega (arith, e), omega (arith, e))
+names_longer names false = let e = length-append names (library_name false) in (omega (arith, e), omega (arith, e))
+
+pub loaded_is_whole : (program : Program) (names : List (List ℕ)) (lib : Bool) → 1 ≤ length names → length names ≤ 16 → All IsFileName names
+    → program.files ≡ file_names names lib → length program.units ≡ length program.files → AreRead 0 (map unit_of program.units) program.marks → IsWhole program
+loaded_is_whole program names lib some few named files count read =
+    record {
+      some = omega (arith, some, count, ap length files, (names_longer names lib).0);
+      not_many = omega (arith, few, count, ap length files, (names_longer names lib).1);
+      units = are_whole 0 (map unit_of program.units) program.marks read;
+      one_name_each = sym count;
+      names = subst (All IsFileName) (sym files) (All-append IsFileName names (library_name lib) named (library_is_named lib));
+    }
