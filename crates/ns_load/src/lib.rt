@@ -10,4 +10,6 @@ mod parts;
 pub mod place;
 pub mod read;
 #[cfg(test)]
+mod scope_tests;
+#[cfg(test)]
 mod tests;
