@@ -161,4 +161,3 @@ sound_caret = sound_maybe (marks.is_mark m.Caret) (sound_place g.caret m.Caret (
 
 pub sound_flag : (mark : Mark) → Sound (marks.flag mark) (flag (kind_of mark))
 sound_flag mark = sound_or (marks.is_mark mark) (sound_mapped (λ _. true) (flag (kind_of mark)) (sound_skip mark) (λ n a good. (good, refl))) (sound_none (flag (kind_of mark)) false (λ n. tt) refl)
-

@@ -1,12 +1,15 @@
 //! Whole commands over files and streams in memory, with ample memory. Expected bytes come from the
 //! language's worked examples.
 
+use crate::stream::Stream;
 use ns_base::mem_shelf::MemShelf;
 use ns_base::mem_sink::MemSink;
+use ns_base::sink::Sink;
 use ns_base::text::Text;
 use ns_run::top::nspk;
 use ns_run::usage::{HELP, VERSION};
 use std::alloc::{AllocError, Global};
+use std::io::{self, Write};
 use std::test::Fail;
 
 const HELLO: &str = "class Hello packageUsing: manifest = () (
@@ -376,4 +379,46 @@ fn output_goes_out_in_pieces(rt: HostRuntime) -> Result<(), Fail> {
         assert_eq!(rt; left.status, status);
     }
     Ok(())
+}
+
+/// A writer that takes a byte at a time, and has room for two.
+#[derive(Drop)]
+struct Narrow {
+    bytes: [u8; 2],
+    taken: usize,
+}
+
+impl Write for Narrow {
+    fn write(&mut self, buf: &[u8]) -> io::Result<usize> {
+        match buf {
+            [first, ..] if self.taken < 2 => {
+                self.bytes[self.taken] = *first;
+                self.taken += 1;
+                Ok(1)
+            }
+            _ => Ok(0),
+        }
+    }
+
+    fn flush(&mut self) -> io::Result<()> {
+        Ok(())
+    }
+}
+
+#[test]
+fn a_stream_passes_on_each_byte_or_counts_a_fault(rt: HostRuntime) {
+    let mut whole = Stream::new(Vec::new(rt.alloc()));
+    for piece in ["ab", "", "c\n"] {
+        assert!(rt; whole.put(piece.as_bytes()).is_ok());
+    }
+    assert!(rt; whole.to.as_slice() == b"abc\n".as_slice());
+    assert_eq!(rt; whole.faults, 0);
+    let mut narrow = Stream::new(Narrow {
+        bytes: [0; 2],
+        taken: 0,
+    });
+    assert!(rt; narrow.put(b"a").is_ok());
+    assert!(rt; narrow.put(b"bc").is_err());
+    assert!(rt; narrow.to.bytes.as_slice() == b"ab".as_slice());
+    assert_eq!(rt; narrow.faults, 1);
 }
