@@ -1,7 +1,7 @@
 -- The numbers of locals.
-use Rattle.std.proofs.Common.{◌≡◌, refl, ap, ◌∙◌, ℕ, ◌+◌, List, [], ◌∷◌, ◌++◌, length, arith}
+use Rattle.std.proofs.Common.{◌≡◌, refl, ℕ, ◌+◌, List, [], ◌∷◌, ◌++◌, length, arith}
 use Rattle.ns_tree.specs.declared.tree.Named.{Named}
-use Rattle.ns_scope.specs.Names.{numbered, declare}
+use Rattle.ns_scope.specs.Names.{numbered}
 use Rattle.ns_scope.specs.declared.names.Setting.{Setting}
 
 -- what is numbered behind others goes on from their count
