@@ -1,5 +1,5 @@
 -- The places in a list, and the one that has so many before it.
-use Rattle.std.proofs.Common.{◌≡◌, refl, ap, ◌∙◌, sym, ℕ, ◌<◌, ◌≤◌, zero, suc, List, [], ◌∷◌, length, get_or, map, arith, Some, None}
+use Rattle.std.proofs.Common.{◌≡◌, refl, ap, ℕ, ◌<◌, ◌≤◌, zero, suc, List, [], ◌∷◌, length, get_or, map, arith, Some, None}
 use Rattle.std.specs.Prelude.{slice_get}
 use Rattle.ns_tree.specs.declared.tree.Named.{Named}
 use Rattle.ns_tree.specs.declared.tree.BinExpr.{BinExpr}

@@ -1,5 +1,5 @@
 -- What the lists of a tree begin with.
-use Rattle.std.proofs.Common.{◌≡◌, refl, ℕ, ◌≤◌, true, List, [], ◌∷◌, length, arith}
+use Rattle.std.proofs.Common.{◌≡◌, refl, ◌≤◌, true, List, [], ◌∷◌, length, arith}
 use Rattle.ns_tree.specs.declared.tree.Named.{Named}
 use Rattle.ns_tree.specs.declared.tree.BinExpr.{BinExpr}
 use Rattle.ns_tree.specs.declared.tree.UnExpr.{UnExpr}

@@ -1,5 +1,5 @@
 -- What the walk over a file has come to.
-use Rattle.std.specs.Prelude.{ℕ, List, ◌∷◌, map, fold, drop, Option}
+use Rattle.std.specs.Prelude.{List, ◌∷◌, map, fold, drop, Option}
 use Rattle.ns_base.specs.declared.place.Place.{Place}
 use Rattle.ns_scope.specs.declared.scope.ClassScope.{ClassScope}
 use Rattle.ns_scope.specs.declared.scope.Scope.{Scope}

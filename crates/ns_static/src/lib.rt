@@ -10,6 +10,7 @@ pub mod declarations;
 pub mod expressions;
 pub mod fault;
 pub mod heads;
+pub mod laws;
 pub mod least;
 pub mod rules;
 pub mod units;
