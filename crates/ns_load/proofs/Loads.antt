@@ -3,7 +3,6 @@ use Rattle.std.proofs.Common.{◌≡◌, ◌≢◌, ℕ, ◌+◌, ◌<◌, ◌�
 use Rattle.std.specs.Prelude.{slice_get, IsSomeAnd, IfErr}
 use Rattle.std.proofs.lemmas.List.{map_more, take_more, map-append, length-map, length-append, length-take-le, drop_more, take-append-drop}
 use Rattle.std.proofs.lemmas.Option.{slice_get-get_or}
-
 use Rattle.ns_base.specs.Files.{Files}
 use Rattle.ns_base.specs.declared.place.Place.{Place}
 use Rattle.ns_load.specs.Answer.{AreRead, AreUnits, IsRead, IsReached, IsSpelling, Tells, TellsFault, TellsFileFault}

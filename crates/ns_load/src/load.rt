@@ -108,12 +108,7 @@ fn with_library(alloc: Global, parts: Parts, lib: bool) -> Result<Program, LoadF
 }
 
 /// The program of these files, and of the source of one more.
-fn with_source(
-    alloc: Global,
-    parts: Parts,
-    name: &str,
-    source: &[u8],
-) -> Result<Program, LoadFault>
+fn with_source(alloc: Global, parts: Parts, name: &str, source: &[u8]) -> Result<Program, LoadFault>
     requires few { length parts.units.items ≤ 16 }
     requires short { length source.now ≤ 1048576 }
     ensures loaded { MatchResult result (λ program. spec.after (map unit_of parts.units.items) parts.marks.items (spec.with_file (source_lem.read (length parts.units.items) source.now) (spec.units [] [])) ≡ spec.units (map unit_of program.units) program.marks) (λ fault. fault ≢ Memory → spec.after (map unit_of parts.units.items) parts.marks.items (spec.with_file (source_lem.read (length parts.units.items) source.now) (spec.units [] [])) ≡ spec.stopped fault) }

@@ -133,7 +133,11 @@ fn the_library_comes_last(rt: HostRuntime) -> Result<(), Fail> {
         let (file, line, col, last) = (*file, *line, *col, *last);
         assert_eq!(rt; marks.len(), *count, "marks of {file}");
         assert_eq!(rt; marks.get(1).copied(), Some(Place { file, line, col }));
-        let end = Place { file, line: last, col: 1 };
+        let end = Place {
+            file,
+            line: last,
+            col: 1,
+        };
         assert_eq!(rt; marks.last().copied(), Some(end));
     }
     Ok(())

@@ -17,7 +17,7 @@ returns-in-Err-clause-told g c = λ files e.
 pub files-preserved : goal.files-preserved
 files-preserved g c =
     let more : map unit_of c.add.new.self.units.items ≡ map unit_of c.files.parts.units.items ++ unit_of c.in-Ok.source.unit ∷ [] =
-        ap (map unit_of) c.in_ok-add-in-Ok.ensures.units ∙ map-append unit_of c.files.parts.units.items (c.in-Ok.source.unit ∷ [])
+    ap (map unit_of) c.in_ok-add-in-Ok.ensures.units ∙ map-append unit_of c.files.parts.units.items (c.in-Ok.source.unit ∷ [])
     in
     record {
       told = λ files e.
