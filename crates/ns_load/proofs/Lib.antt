@@ -1,6 +1,7 @@
+pub mod Files
+pub mod Lengths
 pub mod Lists
+pub mod Loads
 pub mod Places
 pub mod Sources
-pub mod Files
-pub mod Loads
 pub mod WholeLaws

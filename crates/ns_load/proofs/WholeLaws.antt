@@ -1,17 +1,33 @@
 -- What was read is whole.
-use Rattle.std.proofs.Common.{◌≡◌, ℕ, ◌+◌, ◌≤◌, List, [], ◌∷◌, ◌++◌, length, map, take, Bool, true, false, cond, Result, Ok, Err, refl, ap, sym, subst, ◌∙◌, arith}
-use Rattle.std.specs.Prelude.{◌==◌}
+use Rattle.std.proofs.Common.{rules, ◌≡◌, ◌<◌, ℕ, ◌+◌, ◌≤◌, List, [], ◌∷◌, ◌++◌, length, map, take, Bool, true, false, cond, Option, Some, None, Result, Ok, Err, refl, ap, sym, subst, ◌∙◌, arith}
+use Rattle.std.specs.Prelude.{◌==◌, All, IsUtf8, codes}
+use Rattle.std.specs.Str.{IsAscii}
+use Rattle.std.proofs.lemmas.Str.{IsUtf8-from_ascii}
+use Rattle.std.proofs.lemmas.Str.Ascii.{IsAscii-nil, IsAscii-cons}
+use Rattle.std.proofs.lemmas.List.Elements.{All-append, All-cons, All-nil}
 use Rattle.std.proofs.lemmas.List.{length-map, length-append}
 use Rattle.ns_base.specs.declared.place.Place.{Place}
 use Rattle.ns_lex.specs.Scan.{Tokens, scan}
-use Rattle.ns_load.specs.Answer.{IsRead}
+use Rattle.ns_lex.proofs.Cutting.{scan_lexes}
+use Rattle.ns_load.specs.Answer.{AreRead, IsRead}
+use Rattle.ns_load.specs.Loaded.{file_names, library_name}
 use Rattle.ns_load.specs.Place.{behind, marks, past, place_of, places, start}
 use Rattle.ns_load.specs.Source.{parsed, read, read_tokens, scanned, spells}
-use Rattle.ns_load.specs.Whole.{ArePlacesOf, IsPlaceOf, IsWhole}
-use Rattle.ns_parse.specs.Parse.{parse}
+use Rattle.ns_load.proofs.Lengths.{cut_count, cut_within}
+use Rattle.ns_parse.specs.Parse.{parse, parse_by}
+use Rattle.ns_parse.specs.Read.{Outcome}
+use Rattle.ns_parse.proofs.SoundFile.{parse_spelled}
+use Rattle.ns_parse.proofs.Texts.{cuts_told}
+use Rattle.ns_scope.specs.Whole.{most_bytes, AllWithin, ArePlacesOf, IsPlaceOf, IsWholeUnit, AreWholeUnits, IsFileName, IsWhole}
+use Rattle.ns_scope.specs.declared.program.Program.{Program}
+use Rattle.ns_tree.specs.Deep.{deep}
+use Rattle.ns_tree.specs.Flat.{flat}
+use Rattle.ns_tree.specs.Tree.{Spells}
 use Rattle.ns_parse.specs.declared.fault.ParseFault.{ParseFault}
 use Rattle.ns_tree.specs.Plain as p
+use Rattle.ns_tree.specs.PlainOf.{unit_of}
 use Rattle.ns_tree.specs.Tokens.{kinds}
+use Rattle.ns_tree.specs.declared.token.Kind.{Kind}
 use Rattle.ns_tree.specs.declared.token.Token.{Token}
 
 pub past_is_of : (file b : ℕ) (place : Place) → IsPlaceOf file place → IsPlaceOf file (past b place)
@@ -32,24 +48,81 @@ pub marks_are_of : (file : ℕ) (source : List ℕ) (tokens : List Token) (last 
 marks_are_of file source [] last h = (h, tt)
 marks_are_of file source (t ∷ ts) last h = (place_is_of file source t.start, marks_are_of file source ts last h)
 
--- What is read of tokens is what they spell, with their marks.
-pub parsed_whole : (file : ℕ) (source : List ℕ) (tokens : List Token) (unit : p.SourceUnit) (ps : List Place) (r : Result p.SourceUnit ParseFault) → scan source ≡ Ok tokens → parse (kinds tokens) ≡ r → parsed file source tokens r ≡ spells unit ps → IsWhole file unit ps
-parsed_whole file source tokens unit ps (Ok u) s q e =
+-- What is parsed has no bracket that is too deep.
+shallow_by : (o : Option ℕ) (outcome : Outcome p.SourceUnit) (unit : p.SourceUnit) → parse_by o outcome ≡ Ok unit → o ≡ None
+shallow_by None outcome unit e = refl
+shallow_by (Some k) outcome unit e = absurd (cc (e))
+
+shallow : (ts : List Kind) (unit : p.SourceUnit) → parse ts ≡ Ok unit → deep ts ≡ None
+unfolding parse
+shallow ts unit e = shallow_by (deep ts) _ unit e
+
+-- Tokens that cut a source and spell a unit, with the places that they have there, are a whole unit.
+cut_whole : (file : ℕ) (source : List ℕ) (tokens : List Token) (unit : p.SourceUnit) → length source ≤ 1048576 → scan source ≡ Ok tokens → parse (kinds tokens) ≡ Ok unit → IsWholeUnit file unit (marks file source tokens)
+cut_whole file source tokens unit h s q =
+    let cut = scan_lexes source tokens s in
+    let spells = parse_spelled (kinds tokens) unit (cuts_told 0 source tokens (length source) [] cut) q in
+    let long : length (flat unit) ≡ length tokens = ap length (sym spells.spelled) ∙ length-map tokens (λ token. token.kind) in
+    record {
+      tree = spells.tree;
+      shallow = subst (λ ts. deep ts ≡ None) spells.spelled (shallow (kinds tokens) unit q);
+      few = omega (arith, long, h, cut_count 0 source tokens (length source) [] cut);
+      short = subst (AllWithin most_bytes) spells.spelled (cut_within most_bytes 0 source tokens (length source) [] h cut);
+      one_longer = length-append (places file source tokens) (place_of file source (length source) ∷ []) ∙ ap (λ n. n + 1) (length-map tokens (λ token. place_of file source token.start) ∙ sym long);
+      placed = marks_are_of file source tokens (place_of file source (length source)) (place_is_of file source (length source));
+    }
+
+parsed_whole : (file : ℕ) (source : List ℕ) (tokens : List Token) (unit : p.SourceUnit) (ps : List Place) (r : Result p.SourceUnit ParseFault) → length source ≤ 1048576 → scan source ≡ Ok tokens → parse (kinds tokens) ≡ r → parsed file source tokens r ≡ spells unit ps → IsWholeUnit file unit ps
+parsed_whole file source tokens unit ps (Ok u) h s q e =
     let eu : u ≡ unit = cc (e) in
     let em : marks file source tokens ≡ ps = cc (e) in
+    subst (IsWholeUnit file unit) em (cut_whole file source tokens unit h s (q ∙ ap Ok eu))
+parsed_whole file source tokens unit ps (Err fault) h s q e = absurd (cc (e))
+
+scanned_whole : (file : ℕ) (source : List ℕ) (unit : p.SourceUnit) (ps : List Place) (s : Tokens) → length source ≤ 1048576 → scan source ≡ s → scanned file source s ≡ spells unit ps → IsWholeUnit file unit ps
+scanned_whole file source unit ps (Ok tokens) h s e = parsed_whole file source tokens unit ps (parse (kinds tokens)) h s refl e
+scanned_whole file source unit ps (Err fault) h s e = absurd (cc (e))
+
+pub read_is_whole : (file : ℕ) (unit : p.SourceUnit) (ps : List Place) → IsRead file unit ps → IsWholeUnit file unit ps
+read_is_whole file unit ps r = scanned_whole file r.0 unit ps (scan r.0) r.1 refl r.2
+
+pub are_whole : (file : ℕ) (units : List p.SourceUnit) (places : List (List Place)) → AreRead file units places → AreWholeUnits file units places
+are_whole file [] [] h = tt
+are_whole file [] (ps ∷ others) h = absurd h
+are_whole file (unit ∷ more) [] h = absurd h
+are_whole file (unit ∷ more) (ps ∷ others) h = (read_is_whole file unit ps h.0, are_whole (file + 1) more others h.1)
+
+-- ---- whole programs
+
+-- Bytes below 128 are ASCII.
+AllBelow128 : List ℕ → Type 0
+AllBelow128 [] = Unit {0}
+AllBelow128 (b ∷ bs) = (b < 128) × AllBelow128 bs
+
+ascii : (bs : List ℕ) → AllBelow128 bs → IsAscii bs
+unfolding AllBelow128
+ascii [] h = IsAscii-nil
+ascii (b ∷ bs) h = IsAscii-cons b bs h.0 (ascii bs h.1)
+
+library_is_text : IsUtf8 (codes "lib:Collections")
+unfolding AllBelow128
+library_is_text = IsUtf8-from_ascii (codes "lib:Collections") (ascii (codes "lib:Collections") (search (rules, arith)))
+
+library_is_named : (lib : Bool) → All IsFileName (library_name lib)
+library_is_named true = All-cons IsFileName (codes "lib:Collections") [] (library_is_text, (λ e. cc (e)), omega arith) (All-nil IsFileName)
+library_is_named false = All-nil IsFileName
+
+names_longer : (names : List (List ℕ)) (lib : Bool) → (length names ≤ length (file_names names lib)) × (length (file_names names lib) ≤ length names + 1)
+names_longer names true = let e = length-append names (library_name true) in (omega (arith, e), omega (arith, e))
+names_longer names false = let e = length-append names (library_name false) in (omega (arith, e), omega (arith, e))
+
+pub loaded_is_whole : (program : Program) (names : List (List ℕ)) (lib : Bool) → 1 ≤ length names → length names ≤ 16 → All IsFileName names
+    → program.files ≡ file_names names lib → length program.units ≡ length program.files → AreRead 0 (map unit_of program.units) program.marks → IsWhole program
+loaded_is_whole program names lib some few named files count read =
     record {
-      source = source;
-      tokens = tokens;
-      cut = s;
-      spelled = q ∙ ap Ok eu;
-      one_longer = ap length (sym em) ∙ length-append (places file source tokens) (place_of file source (length source) ∷ []) ∙ ap (λ n. n + 1) (length-map tokens (λ token. place_of file source token.start));
-      placed = subst (ArePlacesOf file) em (marks_are_of file source tokens (place_of file source (length source)) (place_is_of file source (length source)));
+      some = omega (arith, some, count, ap length files, (names_longer names lib).0);
+      not_many = omega (arith, few, count, ap length files, (names_longer names lib).1);
+      units = are_whole 0 (map unit_of program.units) program.marks read;
+      one_name_each = sym count;
+      names = subst (All IsFileName) (sym files) (All-append IsFileName names (library_name lib) named (library_is_named lib));
     }
-parsed_whole file source tokens unit ps (Err fault) s q e = absurd (cc (e))
-
-pub scanned_whole : (file : ℕ) (source : List ℕ) (unit : p.SourceUnit) (ps : List Place) (s : Tokens) → scan source ≡ s → scanned file source s ≡ spells unit ps → IsWhole file unit ps
-scanned_whole file source unit ps (Ok tokens) s e = parsed_whole file source tokens unit ps (parse (kinds tokens)) s refl e
-scanned_whole file source unit ps (Err fault) s e = absurd (cc (e))
-
-pub read_is_whole : (file : ℕ) (unit : p.SourceUnit) (ps : List Place) → IsRead file unit ps → IsWhole file unit ps
-read_is_whole file unit ps r = scanned_whole file r.0 unit ps (scan r.0) refl r.2

@@ -2,4 +2,3 @@ pub mod Place
 pub mod Source
 pub mod Loaded
 pub mod Answer
-pub mod Whole

@@ -1,13 +1,22 @@
-//! A law over the definitions. It is the contract of a function that does nothing.
+//! Laws over the definitions. Each is the contract of a function that does nothing.
 
-ghost use Rattle.std.specs.Prelude.{ℕ, List};
+ghost use Rattle.std.specs.Prelude.{◌≡◌, ◌≤◌, ℕ, Bool, List, All, length, map};
 ghost use Rattle.ns_base.specs.declared.place.Place.{Place};
-ghost use Rattle.ns_load.specs.Answer.{IsRead};
-ghost use Rattle.ns_load.specs.Whole.{IsWhole};
+ghost use Rattle.ns_load.specs.Answer.{AreRead};
+ghost use Rattle.ns_load.specs.Loaded.{file_names};
+ghost use Rattle.ns_scope.specs.Whole.{AreWholeUnits, IsFileName, IsWhole};
+ghost use Rattle.ns_scope.specs.declared.program.Program.{Program};
 ghost use Rattle.ns_tree.specs.Plain as p;
+ghost use Rattle.ns_tree.specs.PlainOf.{unit_of};
 
-/// What was read of a file is whole: the tokens of its source spell the unit, each token and the
-/// end have a place, and each place is of that file, with lines and columns above 0.
+/// What was read of files are whole units: each is a tree of the grammar that the tokens of its
+/// source spell, each token and the end have a place, and each place is of that file, with lines and
+/// columns above 0.
 pub fn what_is_read_is_whole()
-    ensures { (file : ℕ) (unit : p.SourceUnit) (places : List Place) → IsRead file unit places → IsWhole file unit places }
+    ensures { (file : ℕ) (units : List p.SourceUnit) (places : List (List Place)) → AreRead file units places → AreWholeUnits file units places }
+{}
+
+/// What `load` gives for 1 to 16 names of files is a whole program.
+pub fn what_is_loaded_is_whole()
+    ensures { (program : Program) (names : List (List ℕ)) (lib : Bool) → 1 ≤ length names → length names ≤ 16 → All IsFileName names → program.files ≡ file_names names lib → length program.units ≡ length program.files → AreRead 0 (map unit_of program.units) program.marks → IsWhole program }
 {}

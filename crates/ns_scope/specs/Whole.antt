@@ -29,11 +29,16 @@ text_of _ = []
 
 -- no name or text has more bytes
 abbrev pub AllWithin : ℕ → List Kind → Type 0
-AllWithin most kinds = All (λ kind. length (text_of kind) ≤ most) kinds
+AllWithin most [] = Unit {0}
+AllWithin most (kind ∷ kinds) = (length (text_of kind) ≤ most) × AllWithin most kinds
 
 -- The place is one of that file; lines and columns are counted from 1.
 abbrev pub IsPlaceOf : ℕ → Place → Type 0
 IsPlaceOf file place = (place.file ≡ file) × (1 ≤ place.line) × (1 ≤ place.col)
+
+abbrev pub ArePlacesOf : ℕ → List Place → Type 0
+ArePlacesOf file [] = Unit {0}
+ArePlacesOf file (place ∷ places) = IsPlaceOf file place × ArePlacesOf file places
 
 -- A unit, and the places of its tokens and of its end.
 pub record IsWholeUnit (number : ℕ) (unit : p.SourceUnit) (marks : List Place) : Type 0 where
@@ -42,7 +47,7 @@ pub record IsWholeUnit (number : ℕ) (unit : p.SourceUnit) (marks : List Place)
   pub few : length (flat unit) ≤ most_bytes
   pub short : AllWithin most_bytes (flat unit)
   pub one_longer : length marks ≡ length (flat unit) + 1
-  pub placed : All (IsPlaceOf number) marks
+  pub placed : ArePlacesOf number marks
 
 -- units, of which the first has this number
 abbrev pub AreWholeUnits : ℕ → List p.SourceUnit → List (List Place) → Type 0
