@@ -51,9 +51,10 @@ begun_lead lib (w ∷ ws) m l n b =
     let s : m + 1 ≡ suc m = omega arith in
     let cut : take (m + 1) (w ∷ ws) ≡ w ∷ take m ws = ap (λ k. take k (w ∷ ws)) s in
     let f : (more : List (List ℕ)) × AreFiles (w ∷ take m ws ++ more) = files_follow lib (codes "check") w (take m ws) refl n (subst (λ xs. Begins (front lib ++ xs)) cut b) in
-    let size : length (take m ws) ≡ m = length-take-le m ws (omega arith) in
-    (omega (arith, f.1.1, length-append (take m ws) f.0, size),
-     names_lead (w ∷ ws) f.0 (m + 1) (omega arith) (subst (λ xs. AreNames (xs ++ f.0)) (sym cut) f.1.2))
+    let size : length (take m ws) ≡ m = length-take-le m ws (omega arith) in (
+      omega (arith, f.1.1, length-append (take m ws) f.0, size),
+      names_lead (w ∷ ws) f.0 (m + 1) (omega arith) (subst (λ xs. AreNames (xs ++ f.0)) (sym cut) f.1.2),
+    )
 
 -- The first bad word stands behind as many names as lead, but at most 16.
 pub bad_behind : (lib : Bool) (k : ℕ) (words : List (List ℕ)) (m : ℕ) → k ≡ length (front lib) → m ≤ length words → m ≤ 16 → m ≤ prefix_len is_file_name words → NoOption lib words
@@ -62,9 +63,8 @@ bad_behind lib k words m at l few leads n last =
     let size : length (front lib ++ words) ≡ k + length words = length-append (front lib) words ∙ ap (λ j. j + length words) (sym at) in
     let cut : take (k + m) (front lib ++ words) ≡ front lib ++ take m words = ap (λ j. take (j + m) (front lib ++ words)) at ∙ take-append-add (front lib) words m in
     let next : take (k + m + 1) (front lib ++ words) ≡ front lib ++ take (m + 1) words =
-        ap (λ j. take j (front lib ++ words)) (omega (arith, at)) ∙ take-append-add (front lib) words (m + 1)
-    in
-    (
+    ap (λ j. take j (front lib ++ words)) (omega (arith, at)) ∙ take-append-add (front lib) words (m + 1)
+    in (
       omega (arith, size),
       subst Begins (sym cut) (names_begin lib (take m words) (omega (arith, length-take-le m words l)) (leading_are_names words m leads)),
       λ below b.

@@ -214,4 +214,3 @@ one_file_is w command (v ∷ u ∷ us) t =
 
 pub show_takes_file : TakesFile (codes "show") Show
 show_takes_file = record { form = λ file e. (refl, e); is = λ file f. f; not_run = apart (codes "show") (codes "run") refl; not_check = apart (codes "show") (codes "check") refl }
-

@@ -4,12 +4,13 @@
 pub const HELP: &str = "nspk runs Newspeak, in a profile with 64-bit integers
 
 usage:
-  nspk check FILE            says whether the syntax of FILE is right
-  nspk show FILE             writes the canonical source of FILE
-  nspk run [--steps=N] FILE  runs the class in FILE, within N steps
-  nspk --help                tells this
-  nspk --version             tells the version
+  nspk check [--lib] FILE ..  says whether the files, 16 at most, are a program
+  nspk show FILE              writes the canonical source of FILE
+  nspk run [--steps=N] FILE   runs the class in FILE, within N steps
+  nspk --help                 tells this
+  nspk --version              tells the version
 
+With --lib the library is the last of the files.
 N is a decimal number from 1 to 1000000000000; without it, 10000000.
 
 exit status:

@@ -185,12 +185,7 @@ fn after_option(steps: u64, words: &[String]) -> Result<Job<'_>, BadWord>
 }
 
 /// The end of the words, of which the next would be number `k`.
-fn ends<'a>(
-    steps: u64,
-    file: &'a String,
-    k: u64,
-    words: &'a [String],
-) -> Result<Job<'a>, BadWord>
+fn ends<'a>(steps: u64, file: &'a String, k: u64, words: &'a [String]) -> Result<Job<'a>, BadWord>
     ensures command { seen result ≡ ends_lem steps (string_bytes file.now) k (map string_bytes words.now) }
     ensures few { IfOk result HasFewFiles }
 {

@@ -3,6 +3,8 @@
 #![tactic(auto)]
 
 mod arguments;
+#[cfg(test)]
+mod check_tests;
 mod files;
 mod stream;
 #[cfg(test)]

@@ -12,7 +12,7 @@ use std::alloc::{AllocError, Global};
 use std::io::{self, Write};
 use std::test::Fail;
 
-const HELLO: &str = "class Hello packageUsing: manifest = () (
+pub const HELLO: &str = "class Hello packageUsing: manifest = () (
 public main: platform args: args = (
 platform console printLine: 'Hello'
 )
@@ -21,13 +21,13 @@ platform console printLine: 'Hello'
 
 /// What is to fail: calls of the shelf, and calls of each stream with how many bytes they still take.
 #[derive(Clone, Copy)]
-struct Faults<'a> {
-    loads: &'a [u64],
-    out: &'a [(u64, u64)],
-    err: &'a [(u64, u64)],
+pub struct Faults<'a> {
+    pub loads: &'a [u64],
+    pub out: &'a [(u64, u64)],
+    pub err: &'a [(u64, u64)],
 }
 
-const NONE: Faults<'static> = Faults {
+pub const NONE: Faults<'static> = Faults {
     loads: &[],
     out: &[],
     err: &[],
@@ -35,10 +35,10 @@ const NONE: Faults<'static> = Faults {
 
 /// What a command left: the bytes of both streams, and its exit status.
 #[derive(Drop)]
-struct Left {
-    out: String,
-    err: String,
-    status: u8,
+pub struct Left {
+    pub out: String,
+    pub err: String,
+    pub status: u8,
 }
 
 fn left_by(
@@ -48,12 +48,25 @@ fn left_by(
     source: &[u8],
     faults: Faults<'_>,
 ) -> Result<Left, Fail> {
+    let files = [(name, source)];
+    left_over(alloc, words, files.as_slice(), faults)
+}
+
+/// What the command of these words leaves over these files.
+pub fn left_over(
+    alloc: Global,
+    words: &[&str],
+    sources: &[(&str, &[u8])],
+    faults: Faults<'_>,
+) -> Result<Left, Fail> {
     let mut line = Vec::new(alloc);
     for word in words {
         line.push(String::from_str(alloc, word)?)?;
     }
     let mut files = Vec::new(alloc);
-    files.push((Text::of(alloc, name.as_bytes())?, source.to_vec(alloc)?))?;
+    for (name, source) in sources {
+        files.push((Text::of(alloc, name.as_bytes())?, source.to_vec(alloc)?))?;
+    }
     let mut shelf = MemShelf::new(alloc, files);
     shelf.fail_at.extend_from_slice(faults.loads)?;
     let mut out = MemSink::new(alloc, 100_000)?;
@@ -80,7 +93,7 @@ fn ascii(alloc: Global, bytes: &[u8]) -> Result<String, AllocError> {
 }
 
 /// A class whose method has this body, as the file `T.ns`.
-fn with_body(alloc: Global, body: &str) -> Result<String, AllocError> {
+pub fn with_body(alloc: Global, body: &str) -> Result<String, AllocError> {
     format!(in alloc; "class T packageUsing: m = () (\npublic main: p args: a = ({body})\n)\n")
 }
 
@@ -110,7 +123,7 @@ fn one_step_for_each_send(rt: HostRuntime) -> Result<(), Fail> {
 #[test]
 fn words_are_refused_at_the_first_bad_one(rt: HostRuntime) -> Result<(), Fail> {
     let alloc = rt.alloc();
-    let rows: [(&[&str], &str); 17] = [
+    let rows: [(&[&str], &str); 21] = [
         (&[], "nspk: bad word 0\n"),
         (&["run"], "nspk: bad word 1\n"),
         (&["run", "--steps=0", "A.ns"], "nspk: bad word 1\n"),
@@ -131,7 +144,11 @@ fn words_are_refused_at_the_first_bad_one(rt: HostRuntime) -> Result<(), Fail> {
         (&["walk", "A.ns"], "nspk: bad word 0\n"),
         (&["check"], "nspk: bad word 1\n"),
         (&["check", "-a"], "nspk: bad word 1\n"),
-        (&["check", "A.ns", "A.ns"], "nspk: bad word 2\n"),
+        (&["check", "A.ns", "-b"], "nspk: bad word 2\n"),
+        (&["check", "A.ns", "--lib"], "nspk: bad word 2\n"),
+        (&["check", "--lib"], "nspk: bad word 2\n"),
+        (&["check", "--lib", "--lib", "A.ns"], "nspk: bad word 2\n"),
+        (&["check", "", "A.ns"], "nspk: bad word 1\n"),
         (&["show"], "nspk: bad word 1\n"),
         (&["show", "A.ns", "--steps=5"], "nspk: bad word 2\n"),
     ];

@@ -18,16 +18,16 @@ pub returns-in-Ok-Show-clause-told : goal.returns-in-Ok-Show-clause-told
 returns-in-Ok-Show-clause-told g c = λ files e.
     IfOk-weaker c.on_files-in-Ok-Show.result _ _
     (λ r h.
-        h ∙ ap (λ names. of_files task.Show (map string_bytes names) false files) c.from_ref.ensures.value
-        ∙ ap (λ command. of_command command files) (ap (λ job. seen (Ok job)) (sym c.in-Ok-Show.field-0-is) ∙ c.in-Ok-Show.ensures.command))
+    h ∙ ap (λ names. of_files task.Show (map string_bytes names) false files) c.from_ref.ensures.value
+    ∙ ap (λ command. of_command command files) (ap (λ job. seen (Ok job)) (sym c.in-Ok-Show.field-0-is) ∙ c.in-Ok-Show.ensures.command))
     (c.on_files-in-Ok-Show.ensures.told files e)
 
 pub returns-in-Ok-Run-clause-told : goal.returns-in-Ok-Run-clause-told
 returns-in-Ok-Run-clause-told g c = λ files e.
     IfOk-weaker c.on_files-in-Ok-Run.result _ _
     (λ r h.
-        h ∙ ap (λ names. of_files (task.Run c.in-Ok-Run.steps) (map string_bytes names) false files) c.from_ref-in-Ok-Run.ensures.value
-        ∙ ap (λ command. of_command command files) (ap (λ job. seen (Ok job)) (sym c.in-Ok-Run.field-0-is) ∙ c.in-Ok-Run.ensures.command))
+    h ∙ ap (λ names. of_files (task.Run c.in-Ok-Run.steps) (map string_bytes names) false files) c.from_ref-in-Ok-Run.ensures.value
+    ∙ ap (λ command. of_command command files) (ap (λ job. seen (Ok job)) (sym c.in-Ok-Run.field-0-is) ∙ c.in-Ok-Run.ensures.command))
     (c.on_files-in-Ok-Run.ensures.told files e)
 
 pub returns-in-Ok-Check-clause-missing : goal.returns-in-Ok-Check-clause-missing
