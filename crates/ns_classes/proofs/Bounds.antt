@@ -13,6 +13,7 @@ use Rattle.ns_world.specs.World.{World}
 use Rattle.ns_world.specs.Layout.{declaration_of, entries_of, entries_along, layout_of}
 use Rattle.ns_world.specs.Lawful.{IsLawful}
 use Rattle.ns_world.proofs.Above.{chain_none, class_of_start}
+use Rattle.ns_world.proofs.Classes.{lawful_small as below_no_class}
 
 class_fits : (classes : List ClassCode) (k : ℕ) (class : ClassCode) → All ClassFits classes → slice_get classes k ≡ Some class → ClassFits class
 class_fits classes k class fits e =
@@ -33,7 +34,7 @@ entries_along_few heap code (class ∷ chain) fits = omega (arith, entries_along
 
 -- in a lawful world the cells used are below the number of no class
 pub lawful_small : (world : World) (code : CodeProgram) → IsLawful world code → heap_size world.cells ≤ no_class
-lawful_small world code lawful = omega (arith, lawful.within.cells, lawful.within.limits.1.1)
+lawful_small world code lawful = omega (arith, below_no_class world code lawful)
 
 class_short : (world : World) (code : CodeProgram) (class : ℕ) → IsLawful world code → is_class (find_cell world.cells class) ≡ true → length (chain_of world.cells class) ≤ 256
 class_short world code class lawful h = found (find_cell world.cells class) refl h

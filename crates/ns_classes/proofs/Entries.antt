@@ -8,13 +8,14 @@ use Rattle.ns_code.specs.declared.class.ClassCode.{ClassCode}
 use Rattle.ns_code.specs.declared.class.NestedCode.{NestedCode}
 use Rattle.ns_world.specs.declared.value.Value.TheVariants.{Ref}
 use Rattle.ns_world.specs.Cell.{Cell, ObjectCell, ClassCell, BlockCell, EnvironmentCell, ArrayCell, TextCell, FacetCell, MirrorCell, MessageCell}
-use Rattle.ns_world.specs.Heap.{find_cell, is_chain_start, chain_of, superclass_of, no_class, words_at}
+use Rattle.ns_world.specs.Heap.{find_cell, is_chain_start, chain_of, superclass_of, words_at}
 use Rattle.ns_world.specs.World.{World}
 use Rattle.ns_world.specs.Layout.{declaration_of, entries_of, layout_of, entry_word}
 use Rattle.ns_world.specs.Lawful.{IsLawful, HasHolder, class_of_object}
-use Rattle.ns_world.proofs.Above.{GoesOn, goes_on, chain_none, class_of_start}
+use Rattle.ns_world.proofs.Above.{GoesOn}
+use Rattle.ns_world.proofs.Classes.{lawful_order, started as goes_on_from}
 use Rattle.ns_classes.specs.Nested.{place_of, has_nested, nested_entry}
-use Rattle.ns_classes.proofs.Bounds.{lawful_small, layout_step}
+use Rattle.ns_classes.proofs.Bounds.{layout_step}
 
 -- past the last declaration there is no entry
 pub nested_entry_past : (code : CodeProgram) (decl class : ℕ) → length code.classes ≤ decl → 0 ≡ nested_entry code decl class
@@ -38,11 +39,7 @@ nested_entry_within code decl class h = found (slice_get code.classes decl) refl
 
 -- What is known of the class at which a chain that isn't empty starts.
 pub started : (world : World) (code : CodeProgram) (class k : ℕ) → IsLawful world code → is_chain_start world.cells class ≡ true → k < length (chain_of world.cells class) → GoesOn world.cells class
-started world code class k lawful s h = tested (eqb class no_class) refl
-  where
-    tested : (b : Bool) → eqb class no_class ≡ b → GoesOn world.cells class
-    tested true e = absurd (omega (arith, h, ap length (chain_none world.cells class (lawful_small world code lawful) e)))
-    tested false e = goes_on world.cells class lawful.ordered (lawful_small world code lawful) (class_of_start world.cells class s (λ t. cc))
+started world code class k lawful s h = (goes_on_from world.cells class k (lawful_order world code lawful) s h).0
 
 -- the entries of a class in a chain, and of those above it, are among those of the chain
 pub along : (world : World) (code : CodeProgram) (k class holder : ℕ) → IsLawful world code → is_chain_start world.cells class ≡ true → k < length (chain_of world.cells class) → get_or (chain_of world.cells class) k holder ≡ holder → layout_of world.cells code (superclass_of world.cells holder) + entries_of code (declaration_of world.cells holder) ≤ layout_of world.cells code class

@@ -1,3 +1,4 @@
 pub mod Bounds
 pub mod Entries
 pub mod Apart
+pub mod Lawfully

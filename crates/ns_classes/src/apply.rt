@@ -1,9 +1,11 @@
 //! Making a class: the checks of its superclass in their order, then the charge.
 
-ghost use Rattle.std.specs.Prelude.{◌≡◌, ℕ, ◌≤◌, true, IsTrue, IsSome};
+ghost use Rattle.std.specs.Prelude.{◌≡◌, ℕ, ◌≤◌, true, IsTrue, IsSome, IfOk};
 ghost use Rattle.ns_world.specs.Cell.{ClassCell};
 ghost use Rattle.ns_world.specs.Heap.{find_cell, is_class, is_superclass, chain_of};
 ghost use Rattle.ns_world.specs.Lawful.{IsLive, IsLawful};
+ghost use Rattle.ns_world.specs.Keeping.{IsEnclosed};
+ghost use Rattle.ns_world.specs.World.{SameRoom};
 ghost use Rattle.ns_classes.specs.Apply.{AppliesClass, class_fault, declared_fault, chain_fault, kernel_fault, is_object, Checks};
 ghost use Rattle.ns_world.specs.declared.value.Value.TheVariants.{Ref};
 
@@ -23,8 +25,8 @@ pub enum MakeFault {
     CellLimit,
 }
 
-/// A new class of a declaration over a superclass. After a fault nothing has changed. Takes no
-/// memory.
+/// A new class of a declaration over a superclass, within the object and the holder that the
+/// declaration asks for. After a fault nothing has changed. Takes no memory.
 pub fn apply(
     world: &mut World,
     code: &CodeProgram,
@@ -35,8 +37,30 @@ pub fn apply(
 ) -> Result<u32, MakeFault>
     requires lawful { IsLawful world.old.world code.now }
     requires live { IsLive world.old.world.cells code.now over }
+    requires enclosed { IsEnclosed world.old.world.cells code.now decl encl holder }
     requires room { world.old.world.limits.cells ≤ world.old.cell_room }
-    ensures { AppliesClass (class_fault world.old.world.cells over) world.old (ClassCell decl encl holder over) result world.new }
+    ensures applies { AppliesClass (class_fault world.old.world.cells over) world.old (ClassCell decl encl holder over) result world.new }
+    ensures class { IfOk result (λ number. IsTrue (is_class (find_cell world.new.world.cells number))) }
+    ensures lawful { IsLawful world.new.world code.now }
+    ensures limits { world.new.world.limits ≡ world.old.world.limits }
+    ensures room { SameRoom world.old world.new }
+{
+    make_class(world, decl, encl, holder, over)
+}
+
+/// The checks, the charge and the making.
+fn make_class(
+    world: &mut World,
+    decl: u32,
+    encl: Value,
+    holder: Value,
+    over: Value,
+) -> Result<u32, MakeFault>
+    requires live { (at : ℕ) → over ≡ Ref at → IsSome (find_cell world.old.world.cells at) }
+    requires room { world.old.world.limits.cells ≤ world.old.cell_room }
+    ensures applies { AppliesClass (class_fault world.old.world.cells over) world.old (ClassCell decl encl holder over) result world.new }
+    ensures limits { world.new.world.limits ≡ world.old.world.limits }
+    ensures room { SameRoom world.old world.new }
 {
     check_superclass(world, over)?;
     match world.make(NewCell::Class {

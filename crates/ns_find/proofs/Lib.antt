@@ -4,3 +4,5 @@ pub mod Parts
 pub mod Keeping
 pub mod Staying
 pub mod Later
+pub mod Fitting
+pub mod Working

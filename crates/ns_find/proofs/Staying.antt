@@ -1,5 +1,5 @@
 -- A lookup finds the same in two worlds with the same classes and the same rows.
-use Rattle.std.proofs.Common.{◌≡◌, ℕ, ◌+◌, List, [], ◌∷◌, ◌++◌, slice_get, refl, ap, sym, ◌∙◌, Option, Some, None, Bool, true, false, eqb, ◌||◌, ◌&&◌, is_some, is_none, unwrap_or}
+use Rattle.std.proofs.Common.{◌≡◌, ℕ, ◌+◌, List, [], ◌∷◌, ◌++◌, length, slice_get, refl, ap, sym, ◌∙◌, arith, Option, Some, None, Bool, true, false, eqb, ◌||◌, ◌&&◌, is_some, is_none, unwrap_or}
 use Rattle.std.specs.Option.{option_map_or}
 use Rattle.std.proofs.lemmas.Bool.{eqb-true}
 use Rattle.ns_code.specs.declared.program.CodeProgram.{CodeProgram}
@@ -11,17 +11,12 @@ use Rattle.ns_world.specs.declared.kernel.Start.{Start}
 use Rattle.ns_world.specs.declared.kernel.Start.TheVariants as start
 use Rattle.ns_world.specs.declared.cell.FacetKind.{FacetKind}
 use Rattle.ns_world.specs.declared.cell.FacetKind.TheVariants as facet
-use Rattle.ns_world.specs.declared.cell.NewCell.TheVariants as new
-use Rattle.ns_world.specs.declared.value.Value.TheVariants as value
-use Rattle.ns_world.specs.Cell.{shape_of}
-use Rattle.ns_world.specs.Heap.{Heap, find_cell, is_class, is_chain_start, chain_of, superclass_of, superclass_in, declared_class, no_class}
-use Rattle.ns_world.specs.Starts.{declaration_in}
+use Rattle.ns_world.specs.Heap.{Heap, find_cell, is_class, is_chain_start, chain_of, superclass_of, no_class}
 use Rattle.ns_world.specs.World.{World}
-use Rattle.ns_world.specs.Layout.{declaration_of, entries_of, entries_along, layout_of, entry_word}
+use Rattle.ns_world.specs.Layout.{declaration_of, entry_word}
 use Rattle.ns_world.specs.Lawful.{IsLawful}
 use Rattle.ns_world.specs.Seek.{first_such, is_facet, is_top}
-use Rattle.ns_world.proofs.Above.{GoesOn, goes_on, chain_none, class_of_start}
-use Rattle.ns_classes.proofs.Bounds.{lawful_small}
+use Rattle.ns_world.proofs.Classes.{SameClasses, class_stays, declaration_stays, start_stays as chain_start_stays, started, word_stays, lawful_order}
 use Rattle.ns_find.specs.declared.found.Found.TheVariants.{Getter, Setter, Factory, Absent, Kernel}
 use Rattle.ns_find.specs.declared.found.Sending.{Sending}
 use Rattle.ns_find.specs.declared.members.Wanted.{Wanted}
@@ -33,45 +28,10 @@ use Rattle.ns_find.specs.Rows.{kernel_rows, top_rows, manifest_row}
 use Rattle.ns_find.specs.Find.{members_from, found_from, is_start}
 
 -- Each class, each chain and each row of one world is the same in another.
-pub record SameClasses (before after : Heap) : Type 0 where
-  pub classes : (n : ℕ) → is_class (find_cell before n) ≡ true → find_cell after n ≡ find_cell before n
-  pub chains : (n : ℕ) → is_chain_start before n ≡ true → chain_of after n ≡ chain_of before n
-  pub none : find_cell after no_class ≡ find_cell before no_class
+pub record SameRows (before after : Heap) : Type 0 where
+  pub same : SameClasses before after
   pub facets : (kind : FacetKind) → first_such (is_facet kind) after ≡ first_such (is_facet kind) before
   pub tops : (decl : ℕ) → first_such (is_top decl) after ≡ first_such (is_top decl) before
-
-declaration_by : (before after : Heap) (n : ℕ) → find_cell after n ≡ find_cell before n → declaration_of after n ≡ declaration_of before n
-declaration_by before after n e = ap (λ o. declaration_in (option_map_or shape_of o (new.Mirror value.Nil))) e
-
-superclass_by : (before after : Heap) (n : ℕ) → find_cell after n ≡ find_cell before n → superclass_of after n ≡ superclass_of before n
-superclass_by before after n e = ap (λ o. declared_class (superclass_in o)) e
-
--- What is known of the class at which a chain that isn't empty starts.
-first_of : (w : World) (code : CodeProgram) (class head : ℕ) (rest : List ℕ) → IsLawful w code → is_chain_start w.cells class ≡ true → chain_of w.cells class ≡ head ∷ rest → GoesOn w.cells class × is_class (find_cell w.cells class) ≡ true
-first_of w code class head rest l s c = tested (eqb class no_class) refl
-  where
-    tested : (b : Bool) → eqb class no_class ≡ b → GoesOn w.cells class × is_class (find_cell w.cells class) ≡ true
-    tested true e = absurd (let none : chain_of w.cells class ≡ [] = chain_none w.cells class (lawful_small w code l) e in cc)
-    tested false e = let k : is_class (find_cell w.cells class) ≡ true = class_of_start w.cells class s (λ t. cc) in (goes_on w.cells class l.ordered (lawful_small w code l) k, k)
-
-entries_stay : (w : World) (code : CodeProgram) (after : Heap) → IsLawful w code → SameClasses w.cells after → (chain : List ℕ) (class : ℕ) → chain_of w.cells class ≡ chain → is_chain_start w.cells class ≡ true → entries_along after code chain ≡ entries_along w.cells code chain
-entries_stay w code after l same [] class c s = refl
-entries_stay w code after l same (head ∷ rest) class c s =
-    let f = first_of w code class head rest l s c in
-    let both : class ∷ chain_of w.cells (superclass_of w.cells class) ≡ head ∷ rest = sym f.0.chain ∙ c in
-    let is : class ≡ head = cc in
-    let up : chain_of w.cells (superclass_of w.cells class) ≡ rest = cc in
-    let d : declaration_of after head ≡ declaration_of w.cells head = declaration_by w.cells after head (ap (λ n. find_cell after n) (sym is) ∙ (same.classes class f.1 ∙ ap (λ n. find_cell w.cells n) is)) in
-    ap (λ n. entries_of code n + entries_along after code rest) d
-    ∙ ap (λ m. entries_of code (declaration_of w.cells head) + m) (entries_stay w code after l same rest (superclass_of w.cells class) up f.0.start)
-
-word_stays : (w : World) (code : CodeProgram) (after : Heap) → IsLawful w code → SameClasses w.cells after → (holder entry : ℕ) → is_class (find_cell w.cells holder) ≡ true → entry_word after code holder entry ≡ entry_word w.cells code holder entry
-word_stays w code after l same holder entry h =
-    let g = goes_on w.cells holder l.ordered (lawful_small w code l) h in
-    let up : superclass_of after holder ≡ superclass_of w.cells holder = superclass_by w.cells after holder (same.classes holder h) in
-    ap (λ n. layout_of after code n + entry) up
-    ∙ (ap (λ ms. entries_along after code ms + entry) (same.chains (superclass_of w.cells holder) g.start)
-    ∙ ap (λ m. m + entry) (entries_stay w code after l same (chain_of w.cells (superclass_of w.cells holder)) (superclass_of w.cells holder) refl g.start))
 
 slots_stay : (before after : Heap) (code : CodeProgram) (wanted : Wanted) (holder : ℕ) → ((entry : ℕ) → entry_word after code holder entry ≡ entry_word before code holder entry) → (entry : ℕ) (slots : List SlotCode) → slots_members after code wanted holder entry slots ≡ slots_members before code wanted holder entry slots
 slots_stay before after code wanted holder f entry [] = refl
@@ -86,19 +46,19 @@ side_stays : (before after : Heap) (code : CodeProgram) (side : Side) (holder : 
 side_stays before after code Instance holder class f = ap (λ ms. ms ++ (nested_members Visible holder class.nested ++ method_members Visible holder class.methods)) (slots_stay before after code Visible holder f 0 class.slots)
 side_stays before after code Class holder class f = refl
 
-holder_stays : (w : World) (code : CodeProgram) (after : Heap) → IsLawful w code → SameClasses w.cells after → (side : Side) (holder : ℕ) → is_class (find_cell w.cells holder) ≡ true → holder_members after code Visible side holder ≡ holder_members w.cells code Visible side holder
+holder_stays : (w : World) (code : CodeProgram) (after : Heap) → IsLawful w code → SameRows w.cells after → (side : Side) (holder : ℕ) → is_class (find_cell w.cells holder) ≡ true → holder_members after code Visible side holder ≡ holder_members w.cells code Visible side holder
 holder_stays w code after l same side holder h =
-    ap (λ n. option_map_or (side_members after code Visible side holder) (slice_get code.classes n) []) (declaration_by w.cells after holder (same.classes holder h))
+    ap (λ n. option_map_or (side_members after code Visible side holder) (slice_get code.classes n) []) (declaration_stays w.cells after holder (same.same.classes holder h))
     ∙ declared (slice_get code.classes (declaration_of w.cells holder))
   where
     declared : (o : Option ClassCode) → option_map_or (side_members after code Visible side holder) o [] ≡ option_map_or (side_members w.cells code Visible side holder) o []
     declared None = refl
-    declared (Some class) = side_stays w.cells after code side holder class (λ entry. word_stays w code after l same holder entry h)
+    declared (Some class) = side_stays w.cells after code side holder class (λ entry. word_stays w.cells after code holder entry (lawful_order w code l) same.same h)
 
-along_stays : (w : World) (code : CodeProgram) (after : Heap) → IsLawful w code → SameClasses w.cells after → (side : Side) (chain : List ℕ) (class : ℕ) → chain_of w.cells class ≡ chain → is_chain_start w.cells class ≡ true → members_along after code side chain ≡ members_along w.cells code side chain
+along_stays : (w : World) (code : CodeProgram) (after : Heap) → IsLawful w code → SameRows w.cells after → (side : Side) (chain : List ℕ) (class : ℕ) → chain_of w.cells class ≡ chain → is_chain_start w.cells class ≡ true → members_along after code side chain ≡ members_along w.cells code side chain
 along_stays w code after l same side [] class c s = refl
 along_stays w code after l same side (head ∷ rest) class c s =
-    let f = first_of w code class head rest l s c in
+    let f = started w.cells class 0 (lawful_order w code l) s (omega (arith, ap length c)) in
     let both : class ∷ chain_of w.cells (superclass_of w.cells class) ≡ head ∷ rest = sym f.0.chain ∙ c in
     let is : class ≡ head = cc in
     let up : chain_of w.cells (superclass_of w.cells class) ≡ rest = cc in
@@ -106,17 +66,17 @@ along_stays w code after l same side (head ∷ rest) class c s =
     ap (λ ms. ms ++ members_along after code side rest) (holder_stays w code after l same side head k)
     ∙ ap (λ ms. holder_members w.cells code Visible side head ++ ms) (along_stays w code after l same side rest (superclass_of w.cells class) up f.0.start)
 
-chain_stays : (w : World) (code : CodeProgram) (after : Heap) → IsLawful w code → SameClasses w.cells after → (side : Side) (class : ℕ) → is_chain_start w.cells class ≡ true → members_along after code side (chain_of after class) ≡ members_along w.cells code side (chain_of w.cells class)
+chain_stays : (w : World) (code : CodeProgram) (after : Heap) → IsLawful w code → SameRows w.cells after → (side : Side) (class : ℕ) → is_chain_start w.cells class ≡ true → members_along after code side (chain_of after class) ≡ members_along w.cells code side (chain_of w.cells class)
 chain_stays w code after l same side class s =
-    ap (members_along after code side) (same.chains class s) ∙ along_stays w code after l same side (chain_of w.cells class) class refl s
+    ap (members_along after code side) (same.same.chains class s) ∙ along_stays w code after l same side (chain_of w.cells class) class refl s
 
-tops_stay : (before after : Heap) → SameClasses before after → (n : ℕ) (classes : List ClassCode) → top_rows after n classes ≡ top_rows before n classes
+tops_stay : (before after : Heap) → SameRows before after → (n : ℕ) (classes : List ClassCode) → top_rows after n classes ≡ top_rows before n classes
 tops_stay before after same n [] = refl
 tops_stay before after same n (class ∷ classes) =
     let at : Option ℕ → Member = λ o. record { there = is_none class.outer && is_some o; name = Numbered class.name.0; access = public_access; found = Kernel manifest_row } in
     ap (λ o. at o ∷ top_rows after (n + 1) classes) (same.tops n) ∙ ap (λ ms. at (first_such (is_top n) before) ∷ ms) (tops_stay before after same (n + 1) classes)
 
-rows_stay : (before after : Heap) (code : CodeProgram) → SameClasses before after → (kernel : KernelRow) → kernel_rows after code kernel ≡ kernel_rows before code kernel
+rows_stay : (before after : Heap) (code : CodeProgram) → SameRows before after → (kernel : KernelRow) → kernel_rows after code kernel ≡ kernel_rows before code kernel
 rows_stay before after code same row.Platform = rw (same.facets facet.Console, same.facets facet.Kernel, same.facets facet.Mirrors, same.facets facet.Board) refl
 rows_stay before after code same row.Manifest = tops_stay before after same 0 code.classes
 rows_stay before after code same row.Object = refl
@@ -137,24 +97,24 @@ rows_stay before after code same row.Mirrors = refl
 rows_stay before after code same row.Mirror = refl
 rows_stay before after code same row.Message = refl
 
-found_at_start : (w : World) (after : Heap) → SameClasses w.cells after → (class : ℕ) → is_chain_start w.cells class ≡ true → find_cell after class ≡ find_cell w.cells class
+found_at_start : (w : World) (after : Heap) → SameRows w.cells after → (class : ℕ) → is_chain_start w.cells class ≡ true → find_cell after class ≡ find_cell w.cells class
 found_at_start w after same class s = tested (is_class (find_cell w.cells class)) refl s
   where
     tested : (b : Bool) → is_class (find_cell w.cells class) ≡ b → (b || eqb class no_class) ≡ true → find_cell after class ≡ find_cell w.cells class
-    tested true e s = same.classes class e
-    tested false e s = let is : class ≡ no_class = eqb-true class no_class s in ap (find_cell after) is ∙ (same.none ∙ ap (find_cell w.cells) (sym is))
+    tested true e s = same.same.classes class e
+    tested false e s = let is : class ≡ no_class = eqb-true class no_class s in ap (find_cell after) is ∙ (same.same.none ∙ ap (find_cell w.cells) (sym is))
 
-factory_stays : (w : World) (code : CodeProgram) (after : Heap) → SameClasses w.cells after → (class : ℕ) (factory : Bool) → is_chain_start w.cells class ≡ true → factory_member after code class factory ≡ factory_member w.cells code class factory
+factory_stays : (w : World) (code : CodeProgram) (after : Heap) → SameRows w.cells after → (class : ℕ) (factory : Bool) → is_chain_start w.cells class ≡ true → factory_member after code class factory ≡ factory_member w.cells code class factory
 factory_stays w code after same class factory s =
     ap (λ n. option_map_or (λ (c : ClassCode). record { there = factory; name = Numbered c.factory.0; access = public_access; found = Factory class } ∷ []) (slice_get code.classes n) [])
-    (declaration_by w.cells after class (found_at_start w after same class s))
+    (declaration_stays w.cells after class (found_at_start w after same class s))
 
 -- a start with a factory is one without
 chain_start : (heap : Heap) (class : ℕ) (factory : Bool) → is_start heap (start.ClassSide class factory) ≡ true → is_chain_start heap class ≡ true
 chain_start heap class true s = rw s refl
 chain_start heap class false s = s
 
-members_stay : (w : World) (code : CodeProgram) (after : Heap) → IsLawful w code → SameClasses w.cells after → (from : Start) → is_start w.cells from ≡ true → members_from after code from ≡ members_from w.cells code from
+members_stay : (w : World) (code : CodeProgram) (after : Heap) → IsLawful w code → SameRows w.cells after → (from : Start) → is_start w.cells from ≡ true → members_from after code from ≡ members_from w.cells code from
 members_stay w code after l same (start.Instance class) s = ap (λ ms. ms ++ kernel_rows w.cells code row.Object) (chain_stays w code after l same Instance class s)
 members_stay w code after l same (start.ClassSide class factory) s =
     let c : is_chain_start w.cells class ≡ true = chain_start w.cells class factory s in
@@ -163,26 +123,12 @@ members_stay w code after l same (start.ClassSide class factory) s =
 members_stay w code after l same (start.Kernel named) s = ap (λ ms. ms ++ kernel_rows w.cells code row.Object) (rows_stay w.cells after code same named)
 
 -- a lookup finds what it found
-pub found_stays : (w : World) (code : CodeProgram) (after : Heap) → IsLawful w code → SameClasses w.cells after → (from : Start) (sel : ℕ) (kind : Sending) → is_start w.cells from ≡ true → found_from after code from sel kind ≡ found_from w.cells code from sel kind
+pub found_stays : (w : World) (code : CodeProgram) (after : Heap) → IsLawful w code → SameRows w.cells after → (from : Start) (sel : ℕ) (kind : Sending) → is_start w.cells from ≡ true → found_from after code from sel kind ≡ found_from w.cells code from sel kind
 found_stays w code after l same from sel kind s = ap (λ ms. unwrap_or (search code sel kind ms) Absent) (members_stay w code after l same from s)
 
-class_stays : (before after : Heap) (n : ℕ) → SameClasses before after → is_class (find_cell before n) ≡ true → is_class (find_cell after n) ≡ true
-class_stays before after n same e = ap is_class (same.classes n e) ∙ e
-
-start_class : (before after : Heap) (n : ℕ) → SameClasses before after → is_chain_start before n ≡ true → is_chain_start after n ≡ true
-start_class before after n same s = tested (is_class (find_cell before n)) refl s
-  where
-    tested : (b : Bool) → is_class (find_cell before n) ≡ b → (b || eqb n no_class) ≡ true → is_chain_start after n ≡ true
-    tested true e s = rw (class_stays before after n same e) refl
-    tested false e s = either (is_class (find_cell after n)) s
-      where
-        either : (c : Bool) → eqb n no_class ≡ true → (c || eqb n no_class) ≡ true
-        either true s = refl
-        either false s = s
-
 -- a lookup can start where it could
-pub start_stays : (before after : Heap) (from : Start) → SameClasses before after → is_start before from ≡ true → is_start after from ≡ true
-start_stays before after (start.Instance class) same s = start_class before after class same s
-start_stays before after (start.ClassSide class true) same s = class_stays before after class same s
-start_stays before after (start.ClassSide class false) same s = start_class before after class same s
+pub start_stays : (before after : Heap) (from : Start) → SameRows before after → is_start before from ≡ true → is_start after from ≡ true
+start_stays before after (start.Instance class) same s = chain_start_stays before after class same.same s
+start_stays before after (start.ClassSide class true) same s = class_stays before after class same.same s
+start_stays before after (start.ClassSide class false) same s = chain_start_stays before after class same.same s
 start_stays before after (start.Kernel named) same s = refl

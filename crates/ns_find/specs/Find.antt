@@ -4,7 +4,7 @@ use Rattle.ns_code.specs.declared.program.CodeProgram.{CodeProgram}
 use Rattle.ns_world.specs.declared.kernel.Start.{Start}
 use Rattle.ns_world.specs.declared.kernel.Start.TheVariants.{Instance, ClassSide as SideStart, Kernel}
 use Rattle.ns_world.specs.declared.kernel.KernelRow.TheVariants.{Object, Class}
-use Rattle.ns_world.specs.Heap.{Heap, find_cell, is_class, is_chain_start, chain_of}
+use Rattle.ns_world.specs.Heap.{Heap, find_cell, is_class, is_chain_start, chain_of, superclass_of}
 use Rattle.ns_find.specs.declared.found.Found.{Found}
 use Rattle.ns_find.specs.declared.found.Found.TheVariants.{Absent}
 use Rattle.ns_find.specs.declared.found.Sending.{Sending}
@@ -35,6 +35,11 @@ found_private heap code holder side sel = unwrap_or (search code sel Inner (hold
 abbrev pub side_of : Bool → Side
 side_of true = ClassSide
 side_of false = InstanceSide
+
+-- where a send to super starts: above the holder of the running code, on its side, without a factory
+abbrev pub super_start : Heap → ℕ → Side → Start
+super_start heap holder InstanceSide = Instance (superclass_of heap holder)
+super_start heap holder ClassSide = SideStart (superclass_of heap holder) false
 
 -- whether a lookup can start there: at a class, at the empty chain without a factory, or at a kernel class
 abbrev pub is_start : Heap → Start → Bool

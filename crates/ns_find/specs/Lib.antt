@@ -2,3 +2,4 @@ pub mod Members
 pub mod Rows
 pub mod Find
 pub mod Memo
+pub mod Worked

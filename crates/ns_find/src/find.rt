@@ -5,7 +5,7 @@ ghost use Rattle.ns_world.specs.Heap.{find_cell, is_class, chain_of, is_chain_st
 ghost use Rattle.ns_world.specs.Lawful.{IsLawful};
 ghost use Rattle.ns_world.specs.Layout.{declaration_of};
 ghost use Rattle.ns_find.specs.Members as spec;
-ghost use Rattle.ns_find.specs.Find.{found_from, found_private, members_from, is_start, side_of};
+ghost use Rattle.ns_find.specs.Find.{found_from, found_private, members_from, is_start, side_of, super_start};
 ghost use Rattle.ns_find.specs.Rows.{kernel_rows};
 ghost use Rattle.ns_find.specs.declared.members.Wanted.TheVariants.{Visible};
 ghost use Rattle.ns_find.specs.declared.members.Side.TheVariants as side_is;
@@ -54,6 +54,23 @@ pub fn find_private(
         wanted: Wanted::Private,
     };
     of_holder(world, code, holder, side_of(class_side), asked).unwrap_or(Found::Absent)
+}
+
+/// Where a send to `super` starts: above the holder of the running code, on its side, and on a class
+/// side without a factory.
+pub fn super_start(world: &World, holder: u32, class_side: bool) -> Start
+    requires { IsTrue (is_class (find_cell world.now.world.cells holder)) }
+    ensures above { result ≡ super_start world.now.world.cells holder (side_of class_side) }
+    ensures start { IsTrue (is_start world.now.world.cells result) }
+{
+    let class = world.superclass(holder);
+    match side_of(class_side) {
+        Side::Instance => Start::Instance(class),
+        Side::Class => Start::ClassSide {
+            class,
+            factory: false,
+        },
+    }
 }
 
 fn side_of(class_side: bool) -> Side

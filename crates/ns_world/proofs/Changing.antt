@@ -4,7 +4,7 @@ use Rattle.std.proofs.lemmas.Bool.{eqb-true, eq-eqb}
 use Rattle.ns_world.specs.declared.value.Value.{Value}
 use Rattle.ns_world.specs.declared.value.Value.TheVariants.{Nil, True, False, Int, Sym, Kernel, Ref}
 use Rattle.ns_world.specs.Cell.{Cell, ObjectCell, ClassCell, BlockCell, EnvironmentCell, ArrayCell, TextCell, FacetCell, MirrorCell, MessageCell, cell_size, text_words, with_word, with_byte}
-use Rattle.ns_world.specs.Heap.{Heap, heap_size, find_cell, set_cell, is_class, chain_of, chain_at, chain_above, change_cell, write_word, write_byte}
+use Rattle.ns_world.specs.Heap.{Heap, heap_size, find_cell, set_cell, is_class, is_ordered, chain_of, chain_at, chain_above, change_cell, write_word, write_byte}
 use Rattle.ns_world.proofs.Replacing.{set_cell_stays}
 
 pub differs : (m n : ℕ) → m ≢ n → eqb m n ≡ false
@@ -21,6 +21,10 @@ found_new heap cell = rw (eq-eqb (heap_size heap) (heap_size heap) refl) refl
 -- any other number is looked for among the others
 pub found_old : (heap : Heap) (cell : Cell) (number : ℕ) → number ≢ heap_size heap → find_cell (cell ∷ heap) number ≡ find_cell heap number
 found_old heap cell number h = rw (differs number (heap_size heap) h) refl
+
+-- and any other chain is as it was
+pub chain_old : (heap : Heap) (cell : Cell) (class : ℕ) → class ≢ heap_size heap → chain_of (cell ∷ heap) class ≡ chain_of heap class
+chain_old heap cell class h = rw (differs class (heap_size heap) h) refl
 
 above_short : (over : Value) (chain : ℕ → List ℕ) (most : ℕ) → ((n : ℕ) → length (chain n) ≤ most) → length (chain_above over chain) ≤ most
 above_short (Ref class) chain most h = h class
@@ -74,7 +78,7 @@ set_other (cell ∷ earlier) at old new number e s h = tested (eqb at (heap_size
         ∙ ap (λ o. cond (eqb number (heap_size earlier)) (Some cell) o) (below e)
 
 -- a cell that is replaced is found anew
-set_here : (heap : Heap) (at : ℕ) (old new : Cell) → find_cell heap at ≡ Some old → cell_size new ≡ cell_size old → find_cell (set_cell heap at new) at ≡ Some new
+pub set_here : (heap : Heap) (at : ℕ) (old new : Cell) → find_cell heap at ≡ Some old → cell_size new ≡ cell_size old → find_cell (set_cell heap at new) at ≡ Some new
 set_here [] at old new e s = absurd (cc)
 set_here (cell ∷ earlier) at old new e s = tested (eqb at (heap_size earlier)) refl e (λ f. set_here earlier at old new f s) (λ f. set_size earlier at old new f s)
   where
@@ -95,6 +99,7 @@ pub record Leaves (before after : Heap) (at : ℕ) : Type 0 where
   pub classes : (number : ℕ) → is_class (find_cell before number) ≡ true → find_cell after number ≡ find_cell before number
   pub chains : (class : ℕ) → chain_of after class ≡ chain_of before class
   pub size : heap_size after ≡ heap_size before
+  pub order : is_ordered after ≡ is_ordered before
 
 set_same : (heap : Heap) (at : ℕ) (cell : Cell) → find_cell heap at ≡ Some cell → set_cell heap at cell ≡ heap
 set_same [] at cell e = refl
@@ -108,7 +113,7 @@ pub changing_leaves : (heap : Heap) (at : ℕ) (change : Cell → Cell) → Chan
 changing_leaves heap at change plainly = found (find_cell heap at) refl
   where
     unchanged : change_cell heap at change ≡ heap → Leaves heap (change_cell heap at change) at
-    unchanged e = record { others = λ n h. ap (λ c. find_cell c n) e; classes = λ n h. ap (λ c. find_cell c n) e; chains = λ n. ap (λ c. chain_of c n) e; size = ap heap_size e }
+    unchanged e = record { others = λ n h. ap (λ c. find_cell c n) e; classes = λ n h. ap (λ c. find_cell c n) e; chains = λ n. ap (λ c. chain_of c n) e; size = ap heap_size e; order = ap is_ordered e }
 
     plain_one : (cell : Cell) → find_cell heap at ≡ Some cell → is_class (Some cell) ≡ false → change_cell heap at change ≡ set_cell heap at (change cell) → Leaves heap (change_cell heap at change) at
     plain_one cell e p is =
@@ -119,6 +124,7 @@ changing_leaves heap at change plainly = found (find_cell heap at) refl
           classes = λ n h. others n (λ q. let t : is_class (Some cell) ≡ true = ap is_class (sym e) ∙ (ap (λ k. is_class (find_cell heap k)) (sym q) ∙ h) in absurd (cc));
           chains = λ n. ap (λ c. chain_of c n) is ∙ stays.chains_stay n;
           size = ap heap_size is ∙ stays.size_stays;
+          order = ap is_ordered is ∙ stays.order_stays;
         }
 
     one : (cell : Cell) (b : Bool) → is_class (Some cell) ≡ b → find_cell heap at ≡ Some cell → change_cell heap at change ≡ set_cell heap at (change cell) → Leaves heap (change_cell heap at change) at

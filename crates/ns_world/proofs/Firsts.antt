@@ -1,11 +1,13 @@
 -- The first cell of a kind stays where others are made or changed.
-use Rattle.std.proofs.Common.{◌≡◌, ℕ, ◌≤◌, [], ◌∷◌, refl, ap, ◌∙◌, arith, Option, Some, None, IsSome, Bool, true, false, cond, eqb}
+use Rattle.std.proofs.Common.{◌≡◌, ℕ, ◌+◌, ◌<◌, ◌≤◌, [], ◌∷◌, refl, ap, ◌∙◌, arith, Option, Some, None, IsSome, Bool, true, false, cond, eqb}
 use Rattle.ns_world.specs.declared.value.Value.{Value}
 use Rattle.ns_world.specs.declared.cell.FacetKind.{FacetKind}
 use Rattle.ns_world.specs.Cell.{Cell, ObjectCell, ClassCell, BlockCell, EnvironmentCell, ArrayCell, TextCell, FacetCell, MirrorCell, MessageCell, cell_size, with_word, with_byte}
 use Rattle.ns_world.specs.Heap.{Heap, heap_size, find_cell, set_cell, change_cell, write_word, write_byte}
-use Rattle.ns_world.specs.Seek.{first_such, earlier_or, is_facet, is_top}
-use Rattle.ns_world.proofs.Chains.{found_below}
+use Rattle.ns_world.specs.declared.seek.Sought.{Sought}
+use Rattle.ns_world.specs.declared.seek.Sought.TheVariants.{Facet, Top}
+use Rattle.ns_world.specs.Seek.{first_such, earlier_or, is_facet, is_top, is_sought}
+use Rattle.ns_world.proofs.Chains.{found_below, size_above}
 use Rattle.ns_world.proofs.Changing.{ChangesPlainly, word_plainly, byte_plainly, set_size}
 
 -- past the cells used there is none
@@ -111,3 +113,22 @@ facets_after_byte heap at place byte kind = first_changed (is_facet kind) heap a
 
 pub tops_after_byte : (heap : Heap) (at place byte decl : ℕ) → first_such (is_top decl) (write_byte heap at place byte) ≡ first_such (is_top decl) heap
 tops_after_byte heap at place byte decl = first_changed (is_top decl) heap at (λ cell. with_byte cell place byte) (byte_plainly place byte) (top_byte decl place byte)
+
+-- what is looked for is the first after a written word that it was before, and after a written byte
+pub sought_after_word : (heap : Heap) (at word : ℕ) (value : Value) (sought : Sought) → first_such (is_sought sought) (write_word heap at word value) ≡ first_such (is_sought sought) heap
+sought_after_word heap at word value (Facet kind) = facets_after_word heap at word value kind
+sought_after_word heap at word value (Top decl) = tops_after_word heap at word value decl
+
+pub sought_after_byte : (heap : Heap) (at place byte : ℕ) (sought : Sought) → first_such (is_sought sought) (write_byte heap at place byte) ≡ first_such (is_sought sought) heap
+sought_after_byte heap at place byte (Facet kind) = facets_after_byte heap at place byte kind
+sought_after_byte heap at place byte (Top decl) = tops_after_byte heap at place byte decl
+
+-- a first cell is one of those made
+pub first_within : (test : Cell → Bool) (heap : Heap) (number : ℕ) → first_such test heap ≡ Some number → number < heap_size heap
+first_within test [] number e = absurd (cc)
+first_within test (cell ∷ earlier) number e = tested (first_such test earlier) refl (test cell) e (first_within test earlier number)
+  where
+    tested : (o : Option ℕ) → first_such test earlier ≡ o → (b : Bool) → earlier_or o (cond b (Some (heap_size earlier)) None) ≡ Some number → (first_such test earlier ≡ Some number → number < heap_size earlier) → number < heap_size earlier + cell_size cell
+    tested (Some n) f b e below = omega (arith, below (f ∙ e))
+    tested None f true e below = let is : heap_size earlier ≡ number = cc in omega (arith, is, size_above cell)
+    tested None f false e below = absurd (cc)

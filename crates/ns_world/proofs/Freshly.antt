@@ -18,14 +18,14 @@ zero_words (suc words) bytes =
     let whole : eight (replicate bytes 0) ≡ replicate 8 0 = ap (take 8) (replicate-append-replicate bytes 8 0) ∙ take-replicate 8 (bytes + 8) 0 (omega arith) in
     rw whole (ap (λ ws. Bytes (replicate 8 0) ∷ ws) (ap (packed words) (drop-replicate 8 bytes 0) ∙ zero_words words (bytes - 8)))
 
-pub words_of-new_object : (class words : ℕ) → words_of (fresh (new.Object class words)) ≡ Object class words ∷ replicate words (NilWord 0)
-words_of-new_object class words = rw (length-replicate words Nil, nil_words words) refl
+pub new_object_words : (class words : ℕ) → words_of (fresh (new.Object class words)) ≡ Object class words ∷ replicate words (NilWord 0)
+new_object_words class words = rw (length-replicate words Nil, nil_words words) refl
 
-pub words_of-new_environment : (parent : Value) (locals : ℕ) → words_of (fresh (new.Environment parent locals)) ≡ word_of locals parent ∷ replicate locals (NilWord 0)
-words_of-new_environment parent locals = rw (length-replicate locals Nil, nil_words locals) refl
+pub new_environment_words : (parent : Value) (locals : ℕ) → words_of (fresh (new.Environment parent locals)) ≡ word_of locals parent ∷ replicate locals (NilWord 0)
+new_environment_words parent locals = rw (length-replicate locals Nil, nil_words locals) refl
 
-pub words_of-new_array : (size : ℕ) → words_of (fresh (new.Array size)) ≡ Array size ∷ replicate size (NilWord 0)
-words_of-new_array size = rw (length-replicate size Nil, nil_words size) refl
+pub new_array_words : (size : ℕ) → words_of (fresh (new.Array size)) ≡ Array size ∷ replicate size (NilWord 0)
+new_array_words size = rw (length-replicate size Nil, nil_words size) refl
 
-pub words_of-new_text : (bytes : ℕ) → words_of (fresh (new.Text bytes)) ≡ Text bytes ∷ replicate (text_words bytes) (Bytes (replicate 8 0))
-words_of-new_text bytes = rw (length-replicate {A = ℕ} bytes 0, zero_words (text_words bytes) bytes) refl
+pub new_text_words : (bytes : ℕ) → words_of (fresh (new.Text bytes)) ≡ Text bytes ∷ replicate (text_words bytes) (Bytes (replicate 8 0))
+new_text_words bytes = rw (length-replicate {A = ℕ} bytes 0, zero_words (text_words bytes) bytes) refl

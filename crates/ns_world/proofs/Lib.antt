@@ -13,3 +13,11 @@ pub mod Seeking
 pub mod ShapeTests
 pub mod Changing
 pub mod Firsts
+pub mod Bounding
+pub mod Classes
+pub mod Twins
+pub mod Staying
+pub mod Lawfully
+pub mod Making
+pub mod Writing
+pub mod Charging

@@ -72,7 +72,7 @@ ordered_replaced (cell ∷ later) earlier old new r =
     ∙ ap (λ b. has_superclass (later ++ old ∷ earlier) cell && b) (ordered_replaced later earlier old new r)
 
 -- a cell that is no class has no chain
-no_chain : (cell : Cell) (n : ℕ) (chain : ℕ → List ℕ) → is_class (Some cell) ≡ false → chain_at cell n chain ≡ []
+pub no_chain : (cell : Cell) (n : ℕ) (chain : ℕ → List ℕ) → is_class (Some cell) ≡ false → chain_at cell n chain ≡ []
 no_chain (ClassCell decl encl holder over) n chain e = absurd (cc)
 no_chain (ObjectCell class entries) n chain e = refl
 no_chain (BlockCell body env home receiver holder) n chain e = refl

@@ -108,14 +108,6 @@ pub record Walks (sought : Sought) (words : List Word) (whole : Option ℕ) (at 
 pub walk_starts : (sought : Sought) (heap : Heap) (words : List Word) → laid_out heap ≡ words → Walks sought words (first_such (is_sought sought) heap) 0
 walk_starts sought heap words laid = record { left = reverse heap; is = sym (laid_out-flat heap) ∙ laid; gives = first_from-reverse (is_sought sought) heap }
 
-pub walk_ends : (sought : Sought) (words : List Word) (whole : Option ℕ) (at : ℕ) → length words ≤ at → Walks sought words whole at → whole ≡ None
-unfolding flat first_from
-walk_ends sought words whole at h w = ended w.left w.is w.gives
-  where
-    ended : (left : List Cell) → flat left ≡ drop at words → first_from (is_sought sought) at left ≡ whole → whole ≡ None
-    ended [] e g = sym g
-    ended (cell ∷ left) e g = absurd (omega (arith, ap length e, length-drop at words, length-append (words_of cell) (flat left)))
-
 past : (cell rest words : List Word) (at next : ℕ) → next ≡ at + length cell → cell ++ rest ≡ drop at words → rest ≡ drop next words
 past cell rest words at next n e = sym (drop-append_seam cell rest) ∙ (ap (drop (length cell)) e ∙ (drop-drop (length cell) at words ∙ ap (λ i. drop i words) (omega arith)))
 
@@ -166,3 +158,20 @@ walk_told sought words whole at behind head next found h w eh en ef eb =
       next = λ f. let P : ℕ → Type 0 = λ n. Walks sought words whole n in subst P on (s.next (test ∙ f));
       inside = omega (arith, on, s.inside);
     }
+
+first_from_above : (test : Cell → Bool) (n : ℕ) (cells : List Cell) (number : ℕ) → first_from test n cells ≡ Some number → n ≤ number
+unfolding first_from
+first_from_above test n [] number e = absurd (cc)
+first_from_above test n (cell ∷ cells) number e = tested (test cell) e (first_from_above test (n + cell_size cell) cells number)
+  where
+    tested : (b : Bool) → cond b (Some n) (first_from test (n + cell_size cell) cells) ≡ Some number → (first_from test (n + cell_size cell) cells ≡ Some number → n + cell_size cell ≤ number) → n ≤ number
+    tested true e below = let is : n ≡ number = cc in omega (arith, is)
+    tested false e below = omega (arith, below e)
+
+-- a walk that has come to the bound has passed each cell that is sought
+pub walk_passes : (sought : Sought) (words : List Word) (whole : Option ℕ) (at bound : ℕ) → bound ≤ at → ((number : ℕ) → whole ≡ Some number → number < bound) → Walks sought words whole at → whole ≡ None
+walk_passes sought words whole at bound h below w = found whole refl
+  where
+    found : (o : Option ℕ) → whole ≡ o → whole ≡ None
+    found None e = e
+    found (Some number) e = absurd (omega (arith, h, below number e, first_from_above (is_sought sought) at w.left number (w.gives ∙ e)))

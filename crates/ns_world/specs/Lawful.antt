@@ -63,14 +63,15 @@ pub record ClassIsLawful (heap : Heap) (code : CodeProgram) (number decl : ℕ) 
   pub short : length (chain_of heap number) ≤ 256
   pub enclosing : ForSome (slice_get code.classes decl) (λ (class : ClassCode). HasEnclosing heap code class.outer encl holder)
 
+-- a class of that declaration that is enclosed by this object and holder
+abbrev pub IsKeptCell : ℕ → ℕ → ℕ → Option Cell → Type 0
+IsKeptCell object holder decl (Some (ClassCell other encl holder' over)) = (other ≡ decl) × (encl ≡ Ref object) × (holder' ≡ Ref holder)
+IsKeptCell object holder decl _ = ⊥
+
 -- what a word for a nested class holds: nil, or a class of that declaration that is enclosed by this object and holder
 abbrev pub IsKept : Heap → ℕ → ℕ → ℕ → Value → Type 0
 IsKept heap object holder decl Nil = Unit {0}
-IsKept heap object holder decl (Ref class) = IsClassOf (find_cell heap class)
-  where
-    IsClassOf : Option Cell → Type 0
-    IsClassOf (Some (ClassCell other encl holder' over)) = (other ≡ decl) × (encl ≡ Ref object) × (holder' ≡ Ref holder)
-    IsClassOf _ = ⊥
+IsKept heap object holder decl (Ref class) = IsKeptCell object holder decl (find_cell heap class)
 IsKept heap object holder decl _ = ⊥
 
 -- An object: it has a word for each entry of its chain, those of its nested classes are kept classes, and

@@ -7,5 +7,6 @@ pub mod World
 pub mod Starts
 pub mod Layout
 pub mod Lawful
+pub mod Keeping
 pub mod Reach
 pub mod Alike

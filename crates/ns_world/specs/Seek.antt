@@ -1,9 +1,11 @@
 -- The first cells of a kind: what Platform holds of facets, and Manifest of top-level classes.
-use Rattle.std.specs.Prelude.{ℕ, [], ◌∷◌, Option, Some, None, Bool, true, false, ◌==◌, ◌&&◌, if◌then◌else◌}
+use Rattle.std.specs.Prelude.{ℕ, [], ◌∷◌, Option, Some, None, Bool, true, false, ◌==◌, ◌&&◌, is_none, if◌then◌else◌}
 use Rattle.ns_world.specs.declared.value.Value.{Value}
 use Rattle.ns_world.specs.declared.value.Value.TheVariants.{Nil}
 use Rattle.ns_world.specs.declared.cell.FacetKind.{FacetKind}
 use Rattle.ns_world.specs.declared.cell.FacetKind.TheVariants.{Manifest, Platform, Console, Mirrors, Kernel, Board}
+use Rattle.ns_world.specs.declared.cell.NewCell.{NewCell}
+use Rattle.ns_world.specs.declared.cell.NewCell.TheVariants as new
 use Rattle.ns_world.specs.declared.word.Word.{Word}
 use Rattle.ns_world.specs.declared.word.Word.TheVariants.{Nil as NilWord, Class, Facet as FacetWord}
 use Rattle.ns_world.specs.declared.seek.Sought.{Sought}
@@ -49,6 +51,13 @@ earlier_or None later = later
 abbrev pub first_such : (Cell → Bool) → Heap → Option ℕ
 first_such test [] = None
 first_such test (cell ∷ earlier) = earlier_or (first_such test earlier) (if test cell then Some (heap_size earlier) else None)
+
+-- whether a cell to be made can be the first of what is sought: a facet, or a class of a top-level
+-- declaration of which no class was made
+abbrev pub may_be_first : Heap → NewCell → Bool
+may_be_first heap (new.Facet kind) = true
+may_be_first heap (new.Class decl encl holder over) = is_nil encl && is_none (first_such (is_top decl) heap)
+may_be_first heap cell = false
 
 -- the same tests on words
 abbrev pub is_nil_at : Word → Bool

@@ -1,11 +1,11 @@
 //! The heap: one vector of words, reserved once, in which a cell's number is its place.
 
-ghost use Rattle.std.specs.Prelude.{◌≡◌, ℕ, ◌+◌, ◌<◌, ◌≤◌, List, [], ◌∷◌, length, true, false, Some, slice_get, slice_index, slice_set, IsTrue, IsSome, OnOk, OnErr};
+ghost use Rattle.std.specs.Prelude.{◌≡◌, ℕ, ◌+◌, ◌^◌, ◌<◌, ◌≤◌, List, [], ◌∷◌, length, true, false, ◌&&◌, is_none, Some, slice_get, slice_index, slice_set, IsTrue, IsSome, OnOk, OnErr, if◌then◌else◌};
 ghost use Rattle.std.specs.List.{slice_index_or};
 ghost use Rattle.ns_world.specs.Cell.{cell_size, fresh};
 ghost use Rattle.ns_world.specs.Heap.{heap_size, has_superclass, words_at, word_at, open_words_at, write_word, bytes_at, byte_at, write_byte, find_cell, shape_at, is_class, chain_of, superclass_of, is_chain_start, declared_class};
 ghost use Rattle.ns_world.specs.Words.{shape_in, words_behind};
-ghost use Rattle.ns_world.specs.Seek.{first_such, is_sought};
+ghost use Rattle.ns_world.specs.Seek.{first_such, is_sought, is_nil, is_top, may_be_first};
 ghost use Rattle.ns_world.specs.declared.word.Word.TheVariants.{Bytes, Nil};
 
 use crate::cell::NewCell;
@@ -23,6 +23,9 @@ use std::marker::Model;
 pub struct Heap {
     words: Vec<Word>,
     room: u64,
+    /// No cell from here on is the first facet of a kind or the first class of a top-level
+    /// declaration, so that looking for one ends early.
+    firsts_end: usize,
 }
 
 impl Model for Heap {
@@ -34,7 +37,7 @@ impl Model for Heap {
 
     ghost view = { λ h. record { cells = cells_in h.words.items; room = h.room } };
 
-    ghost invariant = { λ h. IsLaidOut h.words.items (vec_capacity h.words) h.room };
+    ghost invariant = { λ h. IsLaidOut h.words.items (vec_capacity h.words) h.room h.firsts_end };
 }
 
 impl Heap {
@@ -45,6 +48,7 @@ impl Heap {
         Heap {
             words: Vec::new(alloc),
             room: 0,
+            firsts_end: 0,
         }
     }
 
@@ -81,8 +85,30 @@ impl Heap {
         ensures cells { self.new ≡ record self.old { cells = fresh cell ∷ self.old.cells } }
     {
         let number = self.words.len() as u32;
+        let first = self.may_be_first(cell);
+        self.firsts_end = bound_with(first, self.words.len(), self.firsts_end);
         lay(&mut self.words, cell);
         number
+    }
+
+    /// Whether a cell to be made can be the first of what is sought.
+    fn may_be_first(&self, cell: NewCell) -> bool
+        ensures { result ≡ may_be_first self.now.cells cell }
+    {
+        match cell {
+            NewCell::Facet(_) => true,
+            NewCell::Class { decl, encl, .. } => self.is_first_class(decl, encl),
+            _ => false,
+        }
+    }
+
+    fn is_first_class(&self, decl: u32, encl: Value) -> bool
+        ensures { result ≡ (is_nil encl && is_none (first_such (is_top decl) self.now.cells)) }
+    {
+        match encl {
+            Value::Nil => self.first(Sought::Top(decl)).is_none(),
+            _ => false,
+        }
     }
 
     /// A value behind the head of a cell.
@@ -179,7 +205,7 @@ impl Heap {
         ensures { result ≡ first_such (is_sought sought) self.now.cells }
     {
         let mut at: usize = 0;
-        'walk: while at < self.words.len() {
+        'walk: while at < self.firsts_end {
             let head = word_or_nil(&self.words, at);
             if is_sought_at(sought, head, word_or_nil(&self.words, at + 1)) {
                 return Some(at as u32);
@@ -194,7 +220,16 @@ impl Heap {
         ensures { self.new ≡ record self.old { cells = [] } }
     {
         self.words.clear();
+        self.firsts_end = 0;
     }
+}
+
+/// The end of the first cells with a new cell at a number, which may be one of them.
+fn bound_with(first: bool, number: usize, bound: usize) -> usize
+    requires { number < 2 ^ 32 }
+    ensures { result ≡ (if first then number + 1 else bound) }
+{
+    if first { number + 1 } else { bound }
 }
 
 /// The word of that place, and the word of nil past the end.

@@ -5,10 +5,11 @@ ghost use Rattle.ns_world.specs.declared.value.Value.{Value};
 ghost use Rattle.ns_world.specs.Cell.{Cell};
 ghost use Rattle.ns_world.specs.Heap.{Heap, heap_size, find_cell, is_class, chain_of, write_word, write_byte};
 
-/// A cell is made at the number of cells used, and no other cell changes.
+/// A cell is made at the number of cells used, and no other cell and no other chain changes.
 pub fn making_changes_no_other()
     ensures here { (heap : Heap) (cell : Cell) → find_cell (cell ∷ heap) (heap_size heap) ≡ Some cell }
     ensures others { (heap : Heap) (cell : Cell) (number : ℕ) → number ≢ heap_size heap → find_cell (cell ∷ heap) number ≡ find_cell heap number }
+    ensures chains { (heap : Heap) (cell : Cell) (class : ℕ) → class ≢ heap_size heap → chain_of (cell ∷ heap) class ≡ chain_of heap class }
 {}
 
 /// A chain of classes is no longer than the cells used.

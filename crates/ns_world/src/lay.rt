@@ -2,10 +2,12 @@
 
 ghost use Rattle.std.specs.Prelude.{◌≡◌, ◌+◌, ◌≤◌, ◌∷◌, ◌++◌, replicate, length, vec_len};
 ghost use Rattle.std.specs.Vec.{vec_capacity};
-ghost use Rattle.ns_world.specs.Cell.{cell_size, fresh, text_words};
+ghost use Rattle.ns_world.specs.Cell.{cell_size, fresh, text_words, ClassCell, BlockCell};
+ghost use Rattle.ns_world.specs.declared.cell.NewCell.TheVariants.{Object, Environment, Array, Text};
 ghost use Rattle.ns_world.specs.Words.{words_of};
 
 use crate::cell::NewCell;
+use crate::value::Value;
 use crate::word::{Word, word_of};
 
 /// How many words a cell takes.
@@ -38,69 +40,105 @@ pub fn lay(words: &mut Vec<Word>, cell: NewCell)
     ensures items { words.new.items ≡ words.old.items ++ words_of (fresh cell) }
     ensures capacity { vec_capacity words.old ≤ vec_capacity words.new }
 {
-    let nil = Word::Nil { beside: 0 };
     match cell {
         NewCell::Object {
             class,
             words: count,
-        } => fill(
-            words,
-            Word::Object {
-                class,
-                words: count,
-            },
-            u64::from(count),
-            nil,
-        ),
+        } => lay_object(words, class, count),
         NewCell::Class {
             decl,
             encl,
             holder,
             over,
-        } => {
-            put(
-                words,
-                &[
-                    Word::Class { decl },
-                    word_of(encl, 0),
-                    word_of(holder, 0),
-                    word_of(over, 0),
-                ],
-            )
-        }
+        } => lay_class(words, decl, encl, holder, over),
         NewCell::Block {
             body,
             env,
             home,
             receiver,
             holder,
-        } => {
-            put(
-                words,
-                &[
-                    Word::Block { body, home },
-                    word_of(receiver, 0),
-                    word_of(env, holder),
-                ],
-            )
-        }
-        NewCell::Environment { parent, locals } => fill(
-            words,
-            word_of(parent, locals),
-            u64::from(locals),
-            nil,
-        ),
-        NewCell::Array { size } => fill(words, Word::Array { size }, u64::from(size), nil),
-        NewCell::Text { bytes } => fill(
-            words,
-            Word::Text { bytes },
-            text_words(bytes),
-            Word::Bytes([0; 8]),
-        ),
+        } => lay_block(words, body, env, home, receiver, holder),
+        NewCell::Environment { parent, locals } => lay_environment(words, parent, locals),
+        NewCell::Array { size } => lay_array(words, size),
+        NewCell::Text { bytes } => lay_text(words, bytes),
         NewCell::Facet(kind) => put(words, &[Word::Facet(kind)]),
         NewCell::Mirror(mirrored) => put(words, &[Word::Mirror, word_of(mirrored, 0)]),
-        NewCell::Message { sel, args } => put(words, &[Word::Message(sel), word_of(args, 0), nil]),
+        NewCell::Message { sel, args } => put(words, &[Word::Message(sel), word_of(args, 0), NIL]),
     }
+}
+
+const NIL: Word = Word::Nil { beside: 0 };
+
+/// An object's words begin as nil.
+fn lay_object(words: &mut Vec<Word>, class: u32, count: u32)
+    requires { vec_len words.old + (1 + count) ≤ vec_capacity words.old }
+    ensures items { words.new.items ≡ words.old.items ++ words_of (fresh (Object class count)) }
+    ensures capacity { vec_capacity words.old ≤ vec_capacity words.new }
+{
+    fill(
+        words,
+        Word::Object {
+            class,
+            words: count,
+        },
+        u64::from(count),
+        NIL,
+    );
+}
+
+fn lay_class(words: &mut Vec<Word>, decl: u32, encl: Value, holder: Value, over: Value)
+    requires { vec_len words.old + 4 ≤ vec_capacity words.old }
+    ensures items { words.new.items ≡ words.old.items ++ words_of (ClassCell decl encl holder over) }
+    ensures capacity { vec_capacity words.old ≤ vec_capacity words.new }
+{
+    let head = Word::Class { decl };
+    put(
+        words,
+        &[head, word_of(encl, 0), word_of(holder, 0), word_of(over, 0)],
+    );
+}
+
+fn lay_block(words: &mut Vec<Word>, body: u32, env: Value, home: u64, receiver: Value, holder: u32)
+    requires { vec_len words.old + 3 ≤ vec_capacity words.old }
+    ensures items { words.new.items ≡ words.old.items ++ words_of (BlockCell body env home receiver holder) }
+    ensures capacity { vec_capacity words.old ≤ vec_capacity words.new }
+{
+    let head = Word::Block { body, home };
+    put(words, &[head, word_of(receiver, 0), word_of(env, holder)]);
+}
+
+/// The parent of an environment stands in its head, with the number of locals beside it.
+#[tactic(auto, using(crate::proofs::Freshly::new_environment_words))]
+fn lay_environment(words: &mut Vec<Word>, parent: Value, locals: u32)
+    requires { vec_len words.old + (1 + locals) ≤ vec_capacity words.old }
+    ensures items { words.new.items ≡ words.old.items ++ words_of (fresh (Environment parent locals)) }
+    ensures capacity { vec_capacity words.old ≤ vec_capacity words.new }
+{
+    fill(words, word_of(parent, locals), u64::from(locals), NIL);
+}
+
+#[tactic(auto, using(crate::proofs::Freshly::new_array_words))]
+fn lay_array(words: &mut Vec<Word>, size: u32)
+    requires { vec_len words.old + (1 + size) ≤ vec_capacity words.old }
+    ensures items { words.new.items ≡ words.old.items ++ words_of (fresh (Array size)) }
+    ensures capacity { vec_capacity words.old ≤ vec_capacity words.new }
+{
+    fill(words, Word::Array { size }, u64::from(size), NIL);
+}
+
+/// A text's bytes begin as 0, eight in a word.
+#[tactic(auto, using(crate::proofs::Freshly::new_text_words))]
+fn lay_text(words: &mut Vec<Word>, bytes: u32)
+    requires { vec_len words.old + (1 + text_words bytes) ≤ vec_capacity words.old }
+    ensures items { words.new.items ≡ words.old.items ++ words_of (fresh (Text bytes)) }
+    ensures capacity { vec_capacity words.old ≤ vec_capacity words.new }
+{
+    fill(
+        words,
+        Word::Text { bytes },
+        text_words(bytes),
+        Word::Bytes([0; 8]),
+    );
 }
 
 /// Puts a row of words behind the others.

@@ -1,6 +1,8 @@
 //! Worked costs, limits and starts.
 
-ghost use Rattle.std.specs.Prelude.{◌≡◌, ◌≤◌, [], IfSome};
+ghost use Rattle.std.specs.Prelude.{◌≡◌, ◌≤◌, [], ◌∷◌, true, IfSome, IsTrue};
+ghost use Rattle.ns_world.specs.Cell.{fresh};
+ghost use Rattle.ns_world.specs.Heap.{has_superclass};
 
 use crate::cell::{FacetKind, NewCell};
 use crate::kernel::{KernelRow, Start};
@@ -172,5 +174,95 @@ fn starts_of_values(rt: HostRuntime) -> Result<(), Fail> {
         world.start(Value::Kernel(KClass::Array)),
         Start::Kernel(KernelRow::ArrayClass)
     );
+    Ok(())
+}
+
+/// Makes a cell and tells whether it fits.
+fn put(world: &mut World, cell: NewCell) -> bool
+    requires room { world.old.world.limits.cells ≤ world.old.cell_room }
+    requires superclass { IsTrue (has_superclass world.old.world.cells (fresh cell)) }
+    ensures cells { result ≡ true → world.new.world.cells ≡ fresh cell ∷ world.old.world.cells }
+    ensures limits { world.new.world.limits ≡ world.old.world.limits }
+    ensures room { world.new.cell_room ≡ world.old.cell_room }
+{
+    world.make(cell).is_ok()
+}
+
+/// The words of a new array are nil, and a word that is written is read while the others stay.
+#[test]
+fn words_are_read_as_written(rt: HostRuntime) -> Result<(), Fail> {
+    let mut world = small(rt.alloc(), 20).ok_or("no memory")?;
+    if !put(&mut world, NewCell::Array { size: 3 }) {
+        return Err("no room".into());
+    }
+    for word in 0..3 {
+        assert_eq!(rt; world.read(0, word), Value::Nil, "at {word}");
+    }
+    world.write(0, 1, Value::Int(7));
+    assert_eq!(rt; world.read(0, 0), Value::Nil);
+    assert_eq!(rt; world.read(0, 1), Value::Int(7));
+    assert_eq!(rt; world.read(0, 2), Value::Nil);
+    assert_eq!(rt; world.cell(0), NewCell::Array { size: 3 });
+    Ok(())
+}
+
+/// The bytes of a new text are 0, and a byte that is written is read while the others stay.
+#[test]
+fn bytes_are_read_as_written(rt: HostRuntime) -> Result<(), Fail> {
+    let mut world = small(rt.alloc(), 20).ok_or("no memory")?;
+    if !put(&mut world, NewCell::Text { bytes: 9 }) {
+        return Err("no room".into());
+    }
+    world.set_byte(0, 0, b'a');
+    world.set_byte(0, 8, b'z');
+    for (place, byte) in [(0, b'a'), (1, 0), (7, 0), (8, b'z')] {
+        assert_eq!(rt; world.byte(0, place), byte, "at {place}");
+    }
+    assert_eq!(rt; world.cell(0), NewCell::Text { bytes: 9 });
+    Ok(())
+}
+
+/// A world that is cleared is as new but for its room, and goes on at the counters that it is given.
+#[test]
+fn a_cleared_world_is_empty(rt: HostRuntime) -> Result<(), Fail> {
+    let mut world = small(rt.alloc(), 20).ok_or("no memory")?;
+    assert!(rt; world.make(NewCell::Facet(FacetKind::Board)).is_ok());
+    assert!(rt; world.step().is_ok());
+    assert!(rt; world.enter().is_ok());
+    assert!(rt; world.print(b"Hell".as_slice()).is_ok());
+    let limits = world.limits();
+    world.clear();
+    let used = world.counters();
+    assert_eq!(rt;
+        (used.steps, used.cells, used.depth, used.out),
+        (0, 0, 0, 0)
+    );
+    assert_eq!(rt; world.granted(FacetKind::Board), None);
+    assert_eq!(rt; world.limits(), limits);
+    assert_eq!(rt;
+        world.make(NewCell::Facet(FacetKind::Console)).ok(),
+        Some(0)
+    );
+    assert_eq!(rt; world.granted(FacetKind::Console), Some(0));
+    Ok(())
+}
+
+/// A world goes on at the counters that it is given.
+#[test]
+fn a_world_is_resumed(rt: HostRuntime) -> Result<(), Fail> {
+    let mut world = small(rt.alloc(), 1).ok_or("no memory")?;
+    let limits = world.limits();
+    assert!(rt; limits.steps >= 2);
+    assert!(rt; limits.depth >= 1);
+    world.resume(2, 1);
+    let used = world.counters();
+    assert_eq!(rt;
+        (used.steps, used.cells, used.depth, used.out),
+        (2, 0, 1, 0)
+    );
+    world.leave();
+    assert_eq!(rt; world.counters().depth, 0);
+    assert!(rt; world.step().is_ok());
+    assert!(rt; world.step().is_err());
     Ok(())
 }

@@ -5,12 +5,12 @@ use Rattle.ns_world.proofs.heap.Heap.byte.Goals as goal
 
 pub index-requires : goal.index-requires
 index-requires c =
-    let laid = seen_laid_out c.args.self.now c.self.inside.words.items _ _ _ c.self.view_is c.self.invariant in
+    let laid = seen_laid_out c.args.self.now c.self.inside.words.items _ _ _ _ c.self.view_is c.self.invariant in
     let r = reads_byte c.args.self.now.cells c.self.inside.words.items c.args.at c.args.place laid c.requires in
     omega (arith, r.inside, c.self.inside.words.ok.0)
 
 pub returns : goal.returns
 returns c =
-    let laid = seen_laid_out c.args.self.now c.self.inside.words.items _ _ _ c.self.view_is c.self.invariant in
+    let laid = seen_laid_out c.args.self.now c.self.inside.words.items _ _ _ _ c.self.view_is c.self.invariant in
     let r = reads_byte c.args.self.now.cells c.self.inside.words.items c.args.at c.args.place laid c.requires in
     c.byte_in.ensures r.row (c.index.ensures ∙ r.word c.index.result.now) ∙ r.byte

@@ -5,12 +5,12 @@ use Rattle.ns_world.proofs.heap.Heap.read.Goals as goal
 
 pub index-requires : goal.index-requires
 index-requires c =
-    let laid = seen_laid_out c.args.self.now c.self.inside.words.items _ _ _ c.self.view_is c.self.invariant in
+    let laid = seen_laid_out c.args.self.now c.self.inside.words.items _ _ _ _ c.self.view_is c.self.invariant in
     let r = reads_word c.args.self.now.cells c.self.inside.words.items c.args.at c.args.word laid c.requires in
     omega (arith, r.inside, c.self.inside.words.ok.0)
 
 pub returns : goal.returns
 returns c =
-    let laid = seen_laid_out c.args.self.now c.self.inside.words.items _ _ _ c.self.view_is c.self.invariant in
+    let laid = seen_laid_out c.args.self.now c.self.inside.words.items _ _ _ _ c.self.view_is c.self.invariant in
     let r = reads_word c.args.self.now.cells c.self.inside.words.items c.args.at c.args.word laid c.requires in
     cc (c.value_in.ensures, c.index.ensures, r.value c.index.result.now)
