@@ -1,0 +1,10 @@
+pub mod Shapes
+pub mod Digits
+pub mod Outcomes
+pub mod Writing
+pub mod Filling
+pub mod Finished
+pub mod Parts
+pub mod Quoted
+pub mod Comparing
+pub mod Keeping

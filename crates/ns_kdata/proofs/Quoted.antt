@@ -1,0 +1,34 @@
+-- Bytes with each quote doubled.
+use Rattle.std.proofs.Common.{◌≡◌, ℕ, ◌+◌, ◌*◌, ◌<◌, ◌≤◌, List, [], ◌∷◌, ◌++◌, length, drop, get_or, refl, ap, ◌∙◌, arith, Bool, true, false, cond, eqb, length-append}
+use Rattle.std.proofs.lemmas.List.{drop_more}
+use Rattle.ns_kdata.specs.Texts.{doubled, quoted}
+
+pub doubled_next : (byte : ℕ) (bytes : List ℕ) → doubled (byte ∷ bytes) ≡ doubled (byte ∷ []) ++ doubled bytes
+doubled_next byte bytes = tested (eqb byte 39)
+  where
+    tested : (b : Bool) → cond b (39 ∷ 39 ∷ doubled bytes) (byte ∷ doubled bytes) ≡ cond b (39 ∷ 39 ∷ []) (byte ∷ []) ++ doubled bytes
+    tested true = refl
+    tested false = refl
+
+-- one byte of what is left to double
+pub doubled_step : (bytes : List ℕ) (i : ℕ) → i < length bytes → doubled (drop i bytes) ≡ doubled (get_or bytes i 0 ∷ []) ++ doubled (drop (i + 1) bytes)
+doubled_step bytes i h = ap doubled (drop_more bytes i 0 h) ∙ doubled_next (get_or bytes i 0) (drop (i + 1) bytes)
+
+pub doubled_step_size : (bytes : List ℕ) (i : ℕ) → i < length bytes → length (doubled (drop i bytes)) ≡ length (doubled (get_or bytes i 0 ∷ [])) + length (doubled (drop (i + 1) bytes))
+doubled_step_size bytes i h = ap length (doubled_step bytes i h) ∙ length-append (doubled (get_or bytes i 0 ∷ [])) (doubled (drop (i + 1) bytes))
+
+pub quoted_size : (bytes : List ℕ) → length (quoted bytes) ≡ 2 + length (doubled bytes)
+quoted_size bytes = omega (arith, length-append (doubled bytes) (39 ∷ []))
+
+one_size : (byte : ℕ) → length (doubled (byte ∷ [])) ≤ 2
+one_size byte = tested (eqb byte 39)
+  where
+    tested : (b : Bool) → length (cond b (39 ∷ 39 ∷ []) (byte ∷ [])) ≤ 2
+    tested true = omega arith
+    tested false = omega arith
+
+-- doubling makes no more than twice as many
+pub doubled_few : (bytes : List ℕ) → length (doubled bytes) ≤ length bytes * 2
+doubled_few [] = omega arith
+doubled_few (byte ∷ bytes) =
+    omega (arith, ap length (doubled_next byte bytes), length-append (doubled (byte ∷ [])) (doubled bytes), one_size byte, doubled_few bytes)

@@ -1,0 +1,6 @@
+pub mod Outcome
+pub mod Arguments
+pub mod Texts
+pub mod Rows
+pub mod Datum
+pub mod Keeps

@@ -1,0 +1,233 @@
+//! What a row reads from its receiver and its arguments.
+
+ghost use Rattle.std.specs.Prelude.{◌≡◌, ◌+◌, ◌<◌, ◌≤◌, length, IfOk};
+ghost use Rattle.std.specs.List.{slice_index, slice_index_or};
+ghost use Rattle.ns_world.specs.declared.value.Value.TheVariants as value_is;
+ghost use Rattle.ns_kdata.specs.Arguments as spec;
+ghost use Rattle.ns_kdata.specs.Arguments.{IsThere, bytes_of, items_of};
+ghost use Rattle.ns_kdata.specs.Outcome as outcome;
+
+use ns_code::program::CodeProgram;
+use ns_world::cell::NewCell;
+use ns_world::ending::{Fault, Kind};
+use ns_world::value::Value;
+use ns_world::world::World;
+
+/// A part of a text: where it starts, counted from 0, and how many bytes it has.
+#[derive(Clone, Copy)]
+pub struct Part {
+    pub start: u32,
+    pub count: u32,
+}
+
+/// The argument of that place from 0, nil where there is none.
+pub fn argument(args: &[Value], place: usize) -> Value
+    ensures { result ≡ spec.argument args.now place }
+{
+    match args.get(place) {
+        Some(value) => *value,
+        None => Value::Nil,
+    }
+}
+
+/// A test as a boolean of the language.
+pub fn truth(test: bool) -> Value
+    ensures { result ≡ spec.truth test }
+{
+    if test { Value::True } else { Value::False }
+}
+
+/// The fault of an argument that isn't of the kind that the row names.
+pub fn wrong_kind() -> Fault
+    ensures { result ≡ outcome.wrong_kind }
+{
+    Fault::Kind(Kind::WrongKind)
+}
+
+/// The fault of an index or a size outside the row's range.
+pub fn out_of_range() -> Fault
+    ensures { result ≡ outcome.out_of_range }
+{
+    Fault::Kind(Kind::OutOfRange)
+}
+
+/// The kind and the sizes of the cell that a value refers to; those of a mirror of nil where it
+/// refers to none.
+pub fn shape_of_value(world: &World, value: Value) -> NewCell
+    requires { IsThere world.now.world.cells value }
+    ensures { result ≡ spec.shape_of_value world.now.world.cells value }
+{
+    match value {
+        Value::Ref(at) => world.cell(at),
+        _ => NewCell::Mirror(Value::Nil),
+    }
+}
+
+/// Whether a value is a String.
+pub fn is_text(world: &World, value: Value) -> bool
+    requires { IsThere world.now.world.cells value }
+    ensures { result ≡ spec.is_text world.now.world.cells value }
+{
+    match shape_of_value(world, value) {
+        NewCell::Text { .. } => true,
+        _ => false,
+    }
+}
+
+/// Whether a value is an Array.
+pub fn is_array(world: &World, value: Value) -> bool
+    requires { IsThere world.now.world.cells value }
+    ensures { result ≡ spec.is_array world.now.world.cells value }
+{
+    match shape_of_value(world, value) {
+        NewCell::Array { .. } => true,
+        _ => false,
+    }
+}
+
+/// Whether a value is a Message.
+pub fn is_message(world: &World, value: Value) -> bool
+    requires { IsThere world.now.world.cells value }
+    ensures { result ≡ spec.is_message world.now.world.cells value }
+{
+    match shape_of_value(world, value) {
+        NewCell::Message { .. } => true,
+        _ => false,
+    }
+}
+
+/// How many bytes a String has.
+#[tactic(auto, using(crate::proofs::Shapes::text_size_told))]
+pub fn text_size(world: &World, text: Value) -> u32
+    requires { IsThere world.now.world.cells text }
+    ensures { result ≡ length (bytes_of world.now.world.cells text) }
+{
+    text_size_in(shape_of_value(world, text))
+}
+
+fn text_size_in(cell: NewCell) -> u32
+    ensures { result ≡ spec.text_size_in cell }
+{
+    match cell {
+        NewCell::Text { bytes } => bytes,
+        _ => 0,
+    }
+}
+
+/// A byte of a String.
+pub fn text_byte(world: &World, text: Value, place: u32) -> u8
+    requires { place < length (bytes_of world.now.world.cells text) }
+    ensures { result ≡ slice_index (bytes_of world.now.world.cells text) place }
+{
+    match text {
+        Value::Ref(at) => world.byte(at, place),
+        _ => 0,
+    }
+}
+
+/// How many elements an Array has.
+#[tactic(auto, using(crate::proofs::Shapes::array_size_told))]
+pub fn array_size(world: &World, array: Value) -> u32
+    requires { IsThere world.now.world.cells array }
+    ensures { result ≡ length (items_of world.now.world.cells array) }
+{
+    array_size_in(shape_of_value(world, array))
+}
+
+fn array_size_in(cell: NewCell) -> u32
+    ensures { result ≡ spec.array_size_in cell }
+{
+    match cell {
+        NewCell::Array { size } => size,
+        _ => 0,
+    }
+}
+
+/// An element of an Array.
+#[tactic(auto, using(crate::proofs::Shapes::items_are_words))]
+pub fn array_item(world: &World, array: Value, place: u32) -> Value
+    requires { place < length (items_of world.now.world.cells array) }
+    ensures { result ≡ slice_index_or (items_of world.now.world.cells array) place value_is.Nil }
+{
+    match array {
+        Value::Ref(at) => world.read(at, place),
+        _ => Value::Nil,
+    }
+}
+
+/// The text of a Symbol.
+pub fn symbol_text(code: &CodeProgram, symbol: Value) -> &[u8]
+    ensures { result.now ≡ spec.symbol_text code.now symbol }
+{
+    match symbol {
+        Value::Sym(sel) => code.selector_text(sel),
+        _ => b"".as_slice(),
+    }
+}
+
+/// The number of an Integer.
+pub fn number_of(value: Value) -> i64
+    ensures { result ≡ spec.number_of value }
+{
+    match value {
+        Value::Int(number) => number,
+        _ => 0,
+    }
+}
+
+/// The place that an argument names, counted from 0; WrongKind where it is no Integer, OutOfRange
+/// where it is none of so many.
+pub fn place_in(value: Value, size: u32) -> Result<u32, Fault>
+    ensures place { result ≡ spec.place_in value size }
+    ensures below { IfOk result (λ p. p < size) }
+{
+    match value {
+        Value::Int(number) => place_of_number(number, size),
+        _ => Err(wrong_kind()),
+    }
+}
+
+fn place_of_number(number: i64, size: u32) -> Result<u32, Fault>
+    ensures place { result ≡ spec.place_of_number number size }
+    ensures below { IfOk result (λ p. p < size) }
+{
+    if number < 1 || i64::from(size) < number {
+        return Err(out_of_range());
+    }
+    Ok((number.unsigned_abs() - 1) as u32)
+}
+
+/// The part that two arguments name, from one place to another; WrongKind where one of them is no
+/// Integer, OutOfRange where there is no such part.
+pub fn part_in(first: Value, last: Value, size: u32) -> Result<Part, Fault>
+    ensures part { result ≡ spec.part_in first last size }
+    ensures inside { IfOk result (λ p. p.start + p.count ≤ size) }
+{
+    match first {
+        Value::Int(first) => part_from(first, last, size),
+        _ => Err(wrong_kind()),
+    }
+}
+
+fn part_from(first: i64, last: Value, size: u32) -> Result<Part, Fault>
+    ensures part { result ≡ spec.part_in (value_is.Int first) last size }
+    ensures inside { IfOk result (λ p. p.start + p.count ≤ size) }
+{
+    match last {
+        Value::Int(last) => part_of_numbers(first, last, size),
+        _ => Err(wrong_kind()),
+    }
+}
+
+fn part_of_numbers(first: i64, last: i64, size: u32) -> Result<Part, Fault>
+    ensures part { result ≡ spec.part_of_numbers first last size }
+    ensures inside { IfOk result (λ p. p.start + p.count ≤ size) }
+{
+    if first < 1 || i64::from(size) < last || last < first - 1 {
+        return Err(out_of_range());
+    }
+    Ok(Part {
+        start: (first - 1).unsigned_abs() as u32,
+        count: (last - (first - 1)).unsigned_abs() as u32,
+    })
+}

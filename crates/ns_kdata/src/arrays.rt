@@ -1,0 +1,55 @@
+//! The rows of Array but `do:`.
+
+ghost use Rattle.std.specs.Prelude.{◌≡◌, ◌<◌, length};
+ghost use Rattle.ns_kdata.specs.Arguments.{IsThere, items_of};
+ghost use Rattle.ns_kdata.specs.Outcome.{Gives};
+ghost use Rattle.ns_kdata.specs.Rows as spec;
+
+use crate::arguments::{array_item, array_size as items_in, place_in};
+use ns_world::ending::Fault;
+use ns_world::value::Value;
+use ns_world::world::World;
+
+/// `size`.
+pub fn array_size(world: &World, array: Value) -> Value
+    requires { IsThere world.now.world.cells array }
+    ensures { result ≡ spec.array_size world.now.world.cells array }
+{
+    Value::Int(i64::from(items_in(world, array)))
+}
+
+/// `at:`.
+pub fn array_at(world: &World, array: Value, place: Value) -> Result<Value, Fault>
+    requires { IsThere world.now.world.cells array }
+    ensures { result ≡ spec.array_at world.now.world.cells array place }
+{
+    let place = place_in(place, items_in(world, array))?;
+    Ok(array_item(world, array, place))
+}
+
+/// `at:put:`.
+pub fn array_put(
+    world: &mut World,
+    array: Value,
+    place: Value,
+    value: Value,
+) -> Result<Value, Fault>
+    requires { IsThere world.old.world.cells array }
+    ensures { Gives (spec.array_put world.old.world array place value) world.old result world.new }
+{
+    let place = place_in(place, items_in(world, array))?;
+    store(world, array, place, value);
+    Ok(value)
+}
+
+/// Stores an element.
+#[tactic(auto, using(crate::proofs::Shapes::items_are_words))]
+fn store(world: &mut World, array: Value, place: u32, value: Value)
+    requires { place < length (items_of world.old.world.cells array) }
+    ensures { world.new ≡ record world.old { world = spec.stored world.old.world array place value } }
+{
+    match array {
+        Value::Ref(at) => world.write(at, place, value),
+        _ => {}
+    }
+}

@@ -1,0 +1,16 @@
+//! The kernel's rows of data: values, booleans, texts, symbols, arrays and messages.
+#![tactic(auto)]
+
+pub mod arguments;
+mod arrays;
+mod booleans;
+pub mod datum;
+pub mod decimal;
+pub mod making;
+mod messages;
+mod objects;
+pub mod row;
+mod symbols;
+#[cfg(test)]
+mod tests;
+pub mod texts;
