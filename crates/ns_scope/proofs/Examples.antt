@@ -49,8 +49,8 @@ inner = p.more_members (method (Some a.Public) (codes "ask") 40 (alone 44 (p.nam
 abbrev outer : p.Class
 outer = p.class_with (named (codes "W") 1) (Some (p.pattern_with (named (codes "packageUsing:") 2 ∷ []) (named (codes "m") 3 ∷ []))) None p.no_bars (p.statements_with p.no_statements false)
     (p.side_with (p.more_members (method None (codes "who") 8 (alone 12 (p.string (codes "outer"))))
-        (p.more_members (nested (codes "Base") 15 None (p.more_members (method (Some a.Public) (codes "who") 21 (alone 25 (p.string (codes "inherited")))) p.no_members))
-        (p.more_members (nested (codes "In") 30 inherits inner) p.no_members))) [])
+    (p.more_members (nested (codes "Base") 15 None (p.more_members (method (Some a.Public) (codes "who") 21 (alone 25 (p.string (codes "inherited")))) p.no_members))
+    (p.more_members (nested (codes "In") 30 inherits inner) p.no_members))) [])
     p.no_class_side
 
 abbrev inner_class : p.Class

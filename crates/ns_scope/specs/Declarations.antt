@@ -66,10 +66,10 @@ factory_selector (Some (p.pattern_with parts params)) = selector_of parts
 abbrev pub initialiser_of : Scope → ℕ → ℕ → Option p.Pattern → Option p.SuperClause → p.Bars → p.Statements → r.Initialiser
 initialiser_of scope number at factory clause bars body =
     r.initialiser_with number (length (factory_params factory))
-        (super_message scope (number + 1) at clause).0
-        (super_message scope (number + 1) at clause).1
-        (bars_values scope (number + 1 + length (super_blocks scope clause)) 0 bars)
-        (statements_steps scope (number + 1 + length (super_blocks scope clause) + length (bars_blocks scope bars)) body)
+    (super_message scope (number + 1) at clause).0
+    (super_message scope (number + 1) at clause).1
+    (bars_values scope (number + 1 + length (super_blocks scope clause)) 0 bars)
+    (statements_steps scope (number + 1 + length (super_blocks scope clause) + length (bars_blocks scope bars)) body)
 
 abbrev pub slot_with : p.SlotInit → List ℕ → Access → r.Slot
 slot_with (p.fixed value) name access = r.immutable_slot name access
@@ -87,9 +87,9 @@ bars_slots (p.bars_around slots) = slots_of slots
 abbrev pub method_of : List ClassScope → CodeSide → ℕ → Access → p.Method → r.Method
 method_of classes side number access (p.method_with (p.pattern_with parts params) bars body) =
     r.method_with (selector_of parts) access number
-        (r.body_with (length params) (length (locals_of params bars))
-            (bars_values (method_scope classes side params bars) (number + 1) (length params) bars)
-            (statements_steps (method_scope classes side params bars) (number + 1 + length (bars_blocks (method_scope classes side params bars) bars)) body))
+    (r.body_with (length params) (length (locals_of params bars))
+    (bars_values (method_scope classes side params bars) (number + 1) (length params) bars)
+    (statements_steps (method_scope classes side params bars) (number + 1 + length (bars_blocks (method_scope classes side params bars) bars)) body))
 
 -- the methods among members, which have this access where no word says another
 abbrev pub methods_of : List ClassScope → CodeSide → ℕ → Access → p.Members → List r.Method
@@ -114,12 +114,12 @@ declaration_of outer declaration clause_number number (p.class_with name factory
     let classes = class_scope class ∷ outer in
     let methods_number = number + length (initialiser_bodies classes class) in
     r.declared_as declaration (r.sent_as name.text name.at)
-        (superclass_of outer clause_number clause)
-        (factory_selector factory)
-        (initialiser_of (initialiser_scope classes factory) number name.at factory clause bars body)
-        (bars_slots bars)
-        (side_methods classes side.Instance methods_number a.Protected members)
-        (class_side_methods classes (methods_number + length (side_bodies classes side.Instance members)) others)
+    (superclass_of outer clause_number clause)
+    (factory_selector factory)
+    (initialiser_of (initialiser_scope classes factory) number name.at factory clause bars body)
+    (bars_slots bars)
+    (side_methods classes side.Instance methods_number a.Protected members)
+    (class_side_methods classes (methods_number + length (side_bodies classes side.Instance members)) others)
 
 abbrev mutual
   -- how many declarations a class and those in it are
@@ -144,10 +144,10 @@ abbrev mutual
   pub class_meant : List ClassScope → ℕ → ℕ → p.Class → r.Class
   class_meant outer declaration next (p.class_with name factory clause bars body members others) =
       r.class_with
-        (declaration_of outer declaration next (next + length (clause_bodies outer clause)) (p.class_with name factory clause bars body members others))
-        (nested_meant (class_scope (p.class_with name factory clause bars body members others) ∷ outer) (declaration + 1)
-          (next + length (clause_bodies outer clause) + length (own_bodies (class_scope (p.class_with name factory clause bars body members others) ∷ outer) (p.class_with name factory clause bars body members others)))
-          members)
+      (declaration_of outer declaration next (next + length (clause_bodies outer clause)) (p.class_with name factory clause bars body members others))
+      (nested_meant (class_scope (p.class_with name factory clause bars body members others) ∷ outer) (declaration + 1)
+      (next + length (clause_bodies outer clause) + length (own_bodies (class_scope (p.class_with name factory clause bars body members others) ∷ outer) (p.class_with name factory clause bars body members others)))
+      members)
 
   pub nested_meant : List ClassScope → ℕ → ℕ → p.Side → r.NestedClasses
   nested_meant classes declaration next (p.side_with members tail) = members_meant classes declaration next members

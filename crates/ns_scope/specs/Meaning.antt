@@ -137,7 +137,7 @@ with_cascade scope (said to_self (r.sent_as selector at) arguments) others = r.s
 with_cascade scope last others = as_value scope last
 
 abbrev pub with_message : Scope → r.Sent × r.Nodes → r.Messages → r.Messages
-with_message scope (r.sent_as selector at , arguments) rest = r.more_messages (reach_self scope selector) (r.sent_as selector at) arguments rest
+with_message scope (r.sent_as selector at, arguments) rest = r.more_messages (reach_self scope selector) (r.sent_as selector at) arguments rest
 
 abbrev pub one : r.Node → r.Nodes
 one node = r.more_nodes node r.no_nodes
@@ -202,8 +202,8 @@ abbrev mutual
   pub block_node : Scope → ℕ → p.Block → r.Node
   block_node scope next (p.block_with params bars body) =
       r.block next (r.body_with (length params) (length (locals_of params bars))
-          (bars_values (block_scope scope params bars) (next + 1) (length params) bars)
-          (statements_steps (block_scope scope params bars) (next + 1 + length (bars_blocks (block_scope scope params bars) bars)) body))
+      (bars_values (block_scope scope params bars) (next + 1) (length params) bars)
+      (statements_steps (block_scope scope params bars) (next + 1 + length (bars_blocks (block_scope scope params bars) bars)) body))
 
   -- the values of slots or locals, which are numbered from this one on
   pub bars_values : Scope → ℕ → ℕ → p.Bars → r.Values
