@@ -1,5 +1,5 @@
 -- What a command means: the bytes that it writes and its status, over the files that are there.
-use Rattle.std.specs.Prelude.{ℕ, Bool, false, List, Option, Some, None, codes, ◌++◌, ◌∷◌, [], slice_get, if◌then◌else◌}
+use Rattle.std.specs.Prelude.{ℕ, Bool, true, false, List, Option, Some, None, codes, ◌++◌, ◌∷◌, [], slice_get, if◌then◌else◌}
 use Rattle.ns_base.specs.Files.{Files}
 use Rattle.ns_base.specs.declared.place.Place.{Place}
 use Rattle.ns_load.specs.Loaded.{Loading, units, stopped, loaded}

@@ -1,5 +1,5 @@
 -- What the streams have after a command.
-use Rattle.std.specs.Prelude.{◌≡◌, ◌⊎◌, ℕ, List, [], ◌∷◌, Option, Some, ◌++◌, codes, slice_get, IsSome, IsSomeAnd}
+use Rattle.std.specs.Prelude.{◌≡◌, ◌⊎◌, ℕ, List, [], ◌∷◌, Option, Some, None, ◌++◌, codes, slice_get, IsSome, IsSomeAnd}
 use Rattle.ns_base.specs.Files.{Files}
 use Rattle.ns_base.specs.Sink.{WrotePrefix, with_bytes}
 use Rattle.ns_base.specs.declared.status.Status.{Status}

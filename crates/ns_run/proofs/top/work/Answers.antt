@@ -1,4 +1,4 @@
-use Rattle.std.proofs.Common.{ap, sym, ◌∙◌, Ok, map, string_bytes, false}
+use Rattle.std.proofs.Common.{ap, sym, ◌∙◌, Ok, map, string_bytes, true, false}
 use Rattle.std.proofs.lemmas.Result.{IfOk-weaker}
 use Rattle.ns_run.specs.Job.{seen}
 use Rattle.ns_run.specs.Meaning.{of_command, of_files}
