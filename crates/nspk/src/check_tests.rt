@@ -33,7 +33,7 @@ public report: console = (accounts do: [:each | console printLine: each line])
 ";
 
 /// What `check` leaves of a file of this text.
-fn of_text(alloc: Global, source: &str) -> Result<Left, Fail> {
+pub fn of_text(alloc: Global, source: &str) -> Result<Left, Fail> {
     let files = [("T.ns", source.as_bytes())];
     left_over(alloc, &["check", "T.ns"], files.as_slice(), NONE)
 }

@@ -5,7 +5,11 @@
 mod arguments;
 #[cfg(test)]
 mod check_tests;
+#[cfg(test)]
+mod fault_tests;
 mod files;
+#[cfg(test)]
+mod limit_tests;
 mod stream;
 #[cfg(test)]
 mod tests;
