@@ -1,0 +1,4 @@
+pub mod Board
+pub mod Console
+pub mod Platform
+pub mod Facet

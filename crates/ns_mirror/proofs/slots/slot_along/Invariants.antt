@@ -1,0 +1,12 @@
+use Rattle.std.proofs.Common.{◌≡◌, length, IsTrue}
+use Rattle.ns_world.specs.Heap.{chain_of, is_chain_start}
+use Rattle.ns_mirror.specs.Slots.{slot_along}
+use Rattle.ns_mirror.proofs.slots.slot_along.Given as goal
+
+abbrev pub invariant-up : goal.invariant-up
+invariant-up l =
+    (slot_along l.world.world.cells l.code (chain_of l.world.world.cells l.at) l.sel ≡ slot_along l.world.world.cells l.code (chain_of l.world.world.cells l.class) l.sel)
+    × IsTrue (is_chain_start l.world.world.cells l.at)
+
+abbrev pub decreases-up : goal.decreases-up
+decreases-up l = length (chain_of l.world.world.cells l.at)

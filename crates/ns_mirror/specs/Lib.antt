@@ -1,0 +1,6 @@
+pub mod Naming
+pub mod Looking
+pub mod Arrays
+pub mod Slots
+pub mod Selectors
+pub mod Mirror

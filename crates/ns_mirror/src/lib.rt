@@ -1,0 +1,12 @@
+//! Mirrors: looking at any value, its slots and its selectors.
+#![tactic(auto)]
+
+mod arrays;
+pub mod mirror;
+mod naming;
+pub mod row;
+mod selectors;
+mod slots;
+#[cfg(test)]
+mod tests;
+mod value;
