@@ -4,6 +4,7 @@
 pub mod board;
 mod console;
 pub mod facet;
+pub mod laws;
 mod platform;
 pub mod row;
 #[cfg(test)]

@@ -8,3 +8,11 @@ pub mod Parts
 pub mod Quoted
 pub mod Comparing
 pub mod Keeping
+pub mod LivingValues
+pub mod LivingItems
+pub mod LivingMessages
+pub mod Living
+pub mod Filled
+pub mod Leaving
+pub mod Storing
+pub mod Lawful

@@ -7,7 +7,7 @@ use Rattle.ns_world.specs.Heap.{Heap, heap_size, find_cell, set_cell, write_byte
 use Rattle.ns_world.proofs.Changing.{byte_leaves, byte_plainly, set_size}
 
 -- a cell that is replaced is found anew
-set_here : (heap : Heap) (at : ℕ) (old new : Cell) → find_cell heap at ≡ Some old → cell_size new ≡ cell_size old → find_cell (set_cell heap at new) at ≡ Some new
+pub set_here : (heap : Heap) (at : ℕ) (old new : Cell) → find_cell heap at ≡ Some old → cell_size new ≡ cell_size old → find_cell (set_cell heap at new) at ≡ Some new
 set_here [] at old new e s = absurd (cc)
 set_here (cell ∷ earlier) at old new e s = tested (eqb at (heap_size earlier)) refl e (λ f. set_here earlier at old new f s) (λ f. set_size earlier at old new f s)
   where

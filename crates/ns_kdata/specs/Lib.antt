@@ -4,3 +4,5 @@ pub mod Texts
 pub mod Rows
 pub mod Datum
 pub mod Keeps
+pub mod Living
+pub mod Lawful

@@ -6,6 +6,7 @@ mod arrays;
 mod booleans;
 pub mod datum;
 pub mod decimal;
+pub mod laws;
 pub mod making;
 mod messages;
 mod objects;

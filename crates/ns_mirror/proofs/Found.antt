@@ -31,7 +31,7 @@ slots_are_entries code decl number h = found (slice_get code.classes decl) h
     found None h = absurd (omega (arith, h))
     found (Some class) h = omega (arith, h)
 
-entry_inside : (slots : List SlotCode) (sel : Sel) (first : ℕ) (entry : Entry) → entry_of slots sel first ≡ Some entry → entry.number < first + length slots
+pub entry_inside : (slots : List SlotCode) (sel : Sel) (first : ℕ) (entry : Entry) → entry_of slots sel first ≡ Some entry → entry.number < first + length slots
 entry_inside [] sel first entry e = absurd (cc)
 entry_inside (slot ∷ slots) sel first entry e = tested (eqb slot.name.0 sel.0) e (entry_inside slots sel (first + 1) entry)
   where
@@ -82,7 +82,7 @@ none_starts heap = tested (is_class (find_cell heap no_class))
     tested true = refl
     tested false = eq-eqb no_class no_class refl
 
-abbrev class_of : Option Cell → ℕ
+abbrev pub class_of : Option Cell → ℕ
 class_of o = object_class_in (option_map_or shape_of o (new.Mirror Nil))
 
 cell_starts : (world : World) (code : CodeProgram) (at : ℕ) → IsLawful world code → (o : Option Cell) → find_cell world.cells at ≡ o → is_chain_start world.cells (class_of o) ≡ true
@@ -112,7 +112,7 @@ pub class_there : (world : World) (code : CodeProgram) (value : Value) → IsLaw
 class_there world code value lawful h =
     class_of_start world.cells (object_class world.cells value) (class_starts world code value lawful) (λ t. h (eqb-true (object_class world.cells value) no_class t))
 
-no_slot : (world : World) (code : CodeProgram) (sel : Sel) (place : SlotPlace) → IsLawful world code → slot_along world.cells code (chain_of world.cells no_class) sel ≡ Some place → ⊥
+pub no_slot : (world : World) (code : CodeProgram) (sel : Sel) (place : SlotPlace) → IsLawful world code → slot_along world.cells code (chain_of world.cells no_class) sel ≡ Some place → ⊥
 no_slot world code sel place lawful f =
     let none : None ≡ Some place = ap (λ chain. slot_along world.cells code chain sel) (sym (no_chain world code lawful)) ∙ f in
     let e : true ≡ false = ap is_none none in

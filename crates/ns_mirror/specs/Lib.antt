@@ -4,3 +4,5 @@ pub mod Arrays
 pub mod Slots
 pub mod Selectors
 pub mod Mirror
+pub mod Living
+pub mod Lawful

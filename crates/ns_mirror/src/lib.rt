@@ -2,6 +2,7 @@
 #![tactic(auto)]
 
 mod arrays;
+pub mod laws;
 pub mod mirror;
 mod naming;
 pub mod row;

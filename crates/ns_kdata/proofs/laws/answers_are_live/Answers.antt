@@ -1,0 +1,5 @@
+use Rattle.ns_kdata.proofs.Living.{rows_live}
+use Rattle.ns_kdata.proofs.laws.answers_are_live.Goals as goal
+
+pub returns : goal.returns
+returns c = rows_live

@@ -1,0 +1,5 @@
+use Rattle.ns_mirror.proofs.Lawful.{rows_lawful}
+use Rattle.ns_mirror.proofs.laws.rows_keep_lawful.Goals as goal
+
+pub returns : goal.returns
+returns c = rows_lawful
