@@ -26,11 +26,11 @@ use Rattle.ns_classes.specs.Apply.{chain_fault, class_fault, AppliesClass}
 use Rattle.ns_classes.proofs.Apart.{meet}
 
 -- What is known of a superclass without a fault.
-record Fits (heap : Heap) (over : Value) : Type 0 where
-  superclass : is_superclass heap over ≡ true
-  short : length (chain_above over (chain_of heap)) ≤ 255
+pub record Fits (heap : Heap) (over : Value) : Type 0 where
+  pub superclass : is_superclass heap over ≡ true
+  pub short : length (chain_above over (chain_of heap)) ≤ 255
 
-fits : (heap : Heap) (over : Value) → class_fault heap over ≡ None → Fits heap over
+pub fits : (heap : Heap) (over : Value) → class_fault heap over ≡ None → Fits heap over
 fits heap (Kernel kernel.Object) e = record { superclass = refl; short = omega arith }
 fits heap (Kernel kernel.Array) e = absurd (cc)
 fits heap (Ref class) e = tested (is_class (find_cell heap class)) refl e

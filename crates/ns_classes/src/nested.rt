@@ -3,7 +3,7 @@
 ghost use Rattle.std.specs.Prelude.{◌≡◌, ◌<◌, ◌≤◌, ◌^◌, length, IsTrue};
 ghost use Rattle.ns_world.specs.Heap.{find_cell, is_class};
 ghost use Rattle.ns_world.specs.Lawful.{IsLawful, HasHolder};
-ghost use Rattle.ns_world.specs.Layout.{declaration_of, entries_of};
+ghost use Rattle.ns_world.specs.Layout.{declaration_of, entries_of, entry_word};
 ghost use Rattle.ns_code.specs.Fits.{Fits};
 ghost use Rattle.ns_world.specs.declared.value.Value.TheVariants.{Ref};
 ghost use Rattle.ns_classes.specs.Nested.{place_of, has_nested, nested_entry, kept_in, kept_class};
@@ -29,8 +29,18 @@ pub fn nested(
     requires class { IsTrue (has_nested code.now (declaration_of world.now.world.cells holder) class) }
     ensures { result ≡ kept_class world.now.world.cells code.now object holder class }
 {
+    kept_in(world.read(object, kept_word(world, code, holder, class)))
+}
+
+/// The word at which each object whose chain has a holder keeps a nested class of it.
+fn kept_word(world: &World, code: &CodeProgram, holder: u32, class: u32) -> u32
+    requires lawful { IsLawful world.now.world code.now }
+    requires holder { IsTrue (is_class (find_cell world.now.world.cells holder)) }
+    requires class { IsTrue (has_nested code.now (declaration_of world.now.world.cells holder) class) }
+    ensures { result ≡ entry_word world.now.world.cells code.now holder (nested_entry code.now (declaration_of world.now.world.cells holder) class) }
+{
     let entry = nested_entry(code, world.declaration(holder), class);
-    kept_in(world.read(object, word(world, code, holder, entry)))
+    word(world, code, holder, entry)
 }
 
 /// The number of the entry of a nested class: the nested classes stand after the slots.

@@ -6,3 +6,4 @@ pub mod Staying
 pub mod Later
 pub mod Fitting
 pub mod Working
+pub mod Belonging

@@ -1,5 +1,6 @@
 pub mod Members
 pub mod Rows
 pub mod Find
+pub mod Belonging
 pub mod Memo
 pub mod Worked

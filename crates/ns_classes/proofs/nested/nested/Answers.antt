@@ -2,13 +2,8 @@ use Rattle.ns_world.specs.Layout.{declaration_of}
 use Rattle.ns_classes.proofs.Entries.{nested_entry_within, entry_inside}
 use Rattle.ns_classes.proofs.nested.nested.Goals as goal
 
-pub word-requires-clause-entry : goal.word-requires-clause-entry
-word-requires-clause-entry c =
-    let within = nested_entry_within c.args.code.now (declaration_of c.args.world.now.world.cells c.args.holder) c.args.class c.requires.class in
-    rw (c.nested_entry-entry.ensures, c.declaration.ensures) within
-
 pub read-requires : goal.read-requires
 read-requires c =
     let within = nested_entry_within c.args.code.now (declaration_of c.args.world.now.world.cells c.args.holder) c.args.class c.requires.class in
     let inside = entry_inside c.args.world.now.world c.args.code.now c.args.object c.args.holder _ c.requires.lawful c.requires.object within in
-    rw (c.word.ensures, c.nested_entry-entry.ensures, c.declaration.ensures) inside
+    rw (c.kept_word.ensures) inside
