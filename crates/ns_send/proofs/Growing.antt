@@ -1,0 +1,128 @@
+-- Worlds that grow: by a cell, a charge, a print, or a word that is written.
+use Rattle.std.proofs.Common.{◌≡◌, ℕ, ◌+◌, ◌<◌, ◌≤◌, List, [], ◌∷◌, ◌++◌, length, refl, ap, sym, ◌∙◌, subst, arith, append_assoc, append-nil, Option, Some, None, Bool, true, false, cond}
+use Rattle.std.specs.Prelude.{IsSome, Contains, nat_le, nat_lt}
+use Rattle.ns_world.specs.declared.value.Value.{Value}
+use Rattle.ns_world.specs.declared.value.Value.TheVariants.{Nil, True, False, Int, Sym, Kernel, Ref}
+use Rattle.ns_world.specs.Cell.{Cell, cell_size}
+use Rattle.ns_world.specs.Heap.{Heap, heap_size, find_cell}
+use Rattle.ns_world.specs.World.{World, made, stepped, entered, left, printed, written}
+use Rattle.ns_world.proofs.Changing.{writing_leaves}
+use Rattle.ns_world.proofs.Chains.{found_below, found_in_more}
+use Rattle.ns_kdata.specs.Rows.{stored}
+use Rattle.ns_send.specs.Onward.{Grown}
+
+-- the same cells
+unmoved : (named : List Value) (old new : World) → new.cells ≡ old.cells → new.limits ≡ old.limits → old.steps ≤ new.steps → (more : List ℕ) → new.output ≡ old.output ++ more → Grown named old new
+unmoved named old new same limits steps more printed = record {
+  limits = limits;
+  steps = steps;
+  cells = omega (arith, ap heap_size same);
+  more = more;
+  printed = printed;
+  others = λ number there apart. ap (λ cells. find_cell cells number) same;
+}
+
+pub grown_not : (named : List Value) (world : World) → Grown named world world
+grown_not named world = unmoved named world world refl refl (omega arith) [] (sym (append-nil world.output))
+
+there_still : (o now : Option Cell) → now ≡ o → IsSome o → IsSome now
+there_still o now e there = subst IsSome (sym e) there
+
+-- one world after another
+pub grown_on : (named : List Value) (first second third : World) → Grown named first second → Grown named second third → Grown named first third
+grown_on named first second third one two = record {
+  limits = two.limits ∙ one.limits;
+  steps = omega (arith, one.steps, two.steps);
+  cells = omega (arith, one.cells, two.cells);
+  more = one.more ++ two.more;
+  printed = two.printed ∙ (ap (λ output. output ++ two.more) one.printed ∙ append_assoc first.output one.more two.more);
+  others = λ number there apart.
+      let still = one.others number there apart in
+      two.others number (there_still (find_cell first.cells number) (find_cell second.cells number) still there) apart ∙ still;
+}
+
+below : (heap : Heap) (number : ℕ) (o : Option Cell) → find_cell heap number ≡ o → IsSome o → number < heap_size heap
+below heap number (Some cell) e there = found_below heap number cell e
+below heap number None e there = absurd (cc)
+
+-- a cell more
+pub making_grows : (named : List Value) (world after : World) (cell : Cell) → made world cell ≡ Some after → Grown named world after
+making_grows named world after cell e = tested (nat_le (heap_size world.cells + cell_size cell) world.limits.cells) e
+  where
+    more : World
+    more = record world { cells = cell ∷ world.cells }
+
+    grows : Grown named world more
+    grows = record {
+      limits = refl;
+      steps = omega arith;
+      cells = omega arith;
+      more = [];
+      printed = sym (append-nil world.output);
+      others = λ number there apart. found_in_more cell world.cells number (below world.cells number (find_cell world.cells number) refl there);
+    }
+
+    tested : (b : Bool) → cond b (Some more) None ≡ Some after → Grown named world after
+    tested true e = let is : more ≡ after = cc in subst (λ (w : World). Grown named world w) is grows
+    tested false e = absurd (cc)
+
+-- a step, a frame
+pub step_grows : (named : List Value) (world after : World) → stepped world ≡ Some after → Grown named world after
+step_grows named world after e = tested (nat_lt world.steps world.limits.steps) e
+  where
+    more : World
+    more = record world { steps = world.steps + 1 }
+
+    tested : (b : Bool) → cond b (Some more) None ≡ Some after → Grown named world after
+    tested true e = let is : more ≡ after = cc in subst (λ (w : World). Grown named world w) is (unmoved named world more refl refl (omega arith) [] (sym (append-nil world.output)))
+    tested false e = absurd (cc)
+
+pub step_cells : (world after : World) → stepped world ≡ Some after → after.cells ≡ world.cells
+step_cells world after e = tested (nat_lt world.steps world.limits.steps) e
+  where
+    tested : (b : Bool) → cond b (Some (record world { steps = world.steps + 1 })) None ≡ Some after → after.cells ≡ world.cells
+    tested true e = let is : (let w : World = record world { steps = world.steps + 1 } in w) ≡ after = cc in ap (λ (w : World). w.cells) (sym is)
+    tested false e = absurd (cc)
+
+pub frame_grows : (named : List Value) (world after : World) → entered world ≡ Some after → Grown named world after
+frame_grows named world after e = tested (nat_lt world.depth world.limits.depth) e
+  where
+    more : World
+    more = record world { depth = world.depth + 1 }
+
+    tested : (b : Bool) → cond b (Some more) None ≡ Some after → Grown named world after
+    tested true e = let is : more ≡ after = cc in subst (λ (w : World). Grown named world w) is (unmoved named world more refl refl (omega arith) [] (sym (append-nil world.output)))
+    tested false e = absurd (cc)
+
+-- a frame given back
+pub leaving_grows : (named : List Value) (world : World) → Grown named world (left world)
+leaving_grows named world = unmoved named world (left world) refl refl (omega arith) [] (sym (append-nil world.output))
+
+-- bytes printed
+pub printing_grows : (named : List Value) (world after : World) (bytes : List ℕ) → printed world bytes ≡ Some after → Grown named world after
+printing_grows named world after bytes e = tested (nat_le (length world.output + length bytes) world.limits.out) e
+  where
+    more : World
+    more = record world { output = world.output ++ bytes }
+
+    tested : (b : Bool) → cond b (Some more) None ≡ Some after → Grown named world after
+    tested true e = let is : more ≡ after = cc in subst (λ (w : World). Grown named world w) is (unmoved named world more refl refl (omega arith) bytes refl)
+    tested false e = absurd (cc)
+
+-- a word of a cell that is named
+pub writing_grows : (named : List Value) (world : World) (at word : ℕ) (value : Value) → Contains named (Ref at) → Grown named world (written world at word value)
+writing_grows named world at word value has =
+    let leaves = writing_leaves world.cells at word value in
+    let others : (number : ℕ) → IsSome (find_cell world.cells number) → (Contains named (Ref number) → ⊥) → find_cell (written world at word value).cells number ≡ find_cell world.cells number
+    = λ number there apart. leaves.others number (λ is. apart (subst (λ n. Contains named (Ref n)) (sym is) has)) in
+    record { limits = refl; steps = omega arith; cells = omega (arith, leaves.size); more = []; printed = sym (append-nil world.output); others = others }
+
+-- a word of a value that is named, which may be no cell
+pub storing_grows : (named : List Value) (world : World) (object : Value) (word : ℕ) (value : Value) → Contains named object → Grown named world (stored world object word value)
+storing_grows named world (Ref at) word value has = writing_grows named world at word value has
+storing_grows named world Nil word value has = grown_not named world
+storing_grows named world True word value has = grown_not named world
+storing_grows named world False word value has = grown_not named world
+storing_grows named world (Int number) word value has = grown_not named world
+storing_grows named world (Sym sel) word value has = grown_not named world
+storing_grows named world (Kernel class) word value has = grown_not named world

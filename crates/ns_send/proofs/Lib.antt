@@ -1,0 +1,17 @@
+pub mod Growing
+pub mod RowsGrow
+pub mod Onward
+pub mod ClassesOnward
+pub mod BlocksOnward
+pub mod SendsOnward
+pub mod Examples
+pub mod Later
+pub mod LawfulBodies
+pub mod Nesting
+pub mod LawfulClasses
+pub mod LawfulBlocks
+pub mod LawfulRows
+pub mod Suiting
+pub mod Places
+pub mod LawfulSends
+pub mod LawfulParts

@@ -1,0 +1,12 @@
+pub mod Site
+pub mod Control
+pub mod Bodies
+pub mod Classes
+pub mod Blocks
+pub mod Rows
+pub mod Kernel
+pub mod Sends
+pub mod Report
+pub mod Onward
+pub mod Worked
+pub mod Lawful

@@ -1,0 +1,61 @@
+//! What holds of every action. Each function does nothing, and its contract is the law.
+
+ghost use Rattle.std.specs.Prelude.{ℕ, [], ◌∷◌, List, Option, All};
+ghost use Rattle.ns_base.specs.declared.place.Place.{Place};
+ghost use Rattle.ns_base.specs.declared.selector.Sel.{Sel};
+ghost use Rattle.ns_code.specs.declared.program.CodeProgram.{CodeProgram};
+ghost use Rattle.ns_world.specs.declared.value.Value.{Value};
+ghost use Rattle.ns_world.specs.declared.value.Value.TheVariants.{Ref};
+ghost use Rattle.ns_world.specs.Cell.{Cell};
+ghost use Rattle.ns_world.specs.Lawful.{IsLiveValue};
+ghost use Rattle.ns_kdata.specs.Arguments.{items_of};
+ghost use Rattle.ns_kcode.specs.declared.state.KMethod.{KMethod};
+ghost use Rattle.ns_kcode.specs.declared.state.KState.{KState};
+ghost use Rattle.ns_send.specs.declared.site.Site.{Site};
+ghost use Rattle.ns_send.specs.Control.{Progress, Activation, Exit};
+ghost use Rattle.ns_send.specs.Classes.{super_part, body_ended, slot_filled, kept_by};
+ghost use Rattle.ns_send.specs.Blocks.{new_cell, evaluated, method_next};
+ghost use Rattle.ns_send.specs.Sends.{Target, receiver_of, sent, sent_plain, performed};
+ghost use Rattle.ns_send.specs.Lawful.{LawfulRun, LawfulAfter, LawfulControl, LawfulPart, LawfulWaiting, LiveState, FitsTarget, FitsSelector, FitsExit};
+ghost use Rattle.ns_send.specs.Onward.{Onward, touched, reached, after_reached, part_reached, waiting_reached};
+
+/// No send changes a limit, lowers a counter but depth, takes back what was printed, or changes a
+/// cell but its receiver and what that mirrors.
+pub fn sends_go_onward()
+    ensures sent { (code : CodeProgram) (activation : Activation) (target : Target) (sel : Sel) (values : List Value) (place : Option Place) (progress : Progress) → Onward (touched progress.world.cells (receiver_of progress.world.cells activation target)) progress (reached (sent code activation target sel values place progress)) }
+    ensures plain { (code : CodeProgram) (receiver : Value) (sel : Sel) (values : List Value) (place : Option Place) (progress : Progress) → Onward (touched progress.world.cells receiver) progress (reached (sent_plain code receiver sel values place progress)) }
+    ensures performed { (code : CodeProgram) (receiver : Value) (sel : Sel) (array : ℕ) (site : Site) (progress : Progress) → Onward (touched progress.world.cells receiver) progress (reached (performed code receiver sel array site progress)) }
+{}
+
+/// Nor does any other action: the evaluation of a block, an action of a kernel method, a part of a
+/// superclass and a new cell change no cell that was there; the end of a clause's head changes the
+/// object that keeps the class, and the filling of a slot self.
+pub fn actions_go_onward()
+    ensures evaluated { (code : CodeProgram) (block : Value) (arguments : List Value) (site : Site) (progress : Progress) → Onward [] progress (reached (evaluated code block arguments site progress)) }
+    ensures method_next { (method : KMethod) (state : KState) (site : Site) (progress : Progress) → Onward [] progress (waiting_reached (method_next method state site progress)) }
+    ensures super_part { (code : CodeProgram) (activation : Activation) (arguments : List Value) (progress : Progress) → Onward [] progress (part_reached (super_part code activation arguments progress)) }
+    ensures new_cell { (cell : Cell) (progress : Progress) → Onward [] progress (after_reached (new_cell cell progress)) }
+    ensures body_ended { (code : CodeProgram) (exit : Exit) (activation : Activation) (value : Value) (progress : Progress) → Onward (kept_by exit) progress (after_reached (body_ended code exit activation value progress)) }
+    ensures slot_filled { (code : CodeProgram) (activation : Activation) (slot : ℕ) (value : Value) (progress : Progress) → Onward (activation.self ∷ []) progress (slot_filled code activation slot value progress) }
+{}
+
+/// In a lawful run a send leaves a lawful world, and what it goes on with is live: the answer, a
+/// new activation's self, environment and locals, a block and its arguments, a method of the
+/// kernel's, or the receiver and the array of a send that waits. What is asked is that the receiver
+/// is live or the running code fits its self and its holder, that the selector is one, and that the
+/// arguments are live and as many as it takes.
+pub fn sends_keep_lawful()
+    ensures sent { (code : CodeProgram) (activation : Activation) (target : Target) (sel : Sel) (values : List Value) (place : Option Place) (progress : Progress) → LawfulRun code progress → FitsTarget progress.world.cells code activation target → FitsSelector progress.world.cells code sel values → LawfulControl code (sent code activation target sel values place progress) }
+    ensures plain { (code : CodeProgram) (receiver : Value) (sel : Sel) (values : List Value) (place : Option Place) (progress : Progress) → LawfulRun code progress → IsLiveValue progress.world.cells code receiver → FitsSelector progress.world.cells code sel values → LawfulControl code (sent_plain code receiver sel values place progress) }
+    ensures performed { (code : CodeProgram) (receiver : Value) (sel : Sel) (array : ℕ) (site : Site) (progress : Progress) → LawfulRun code progress → IsLiveValue progress.world.cells code receiver → FitsSelector progress.world.cells code sel (items_of progress.world.cells (Ref array)) → LawfulControl code (performed code receiver sel array site progress) }
+    ensures evaluated { (code : CodeProgram) (block : Value) (arguments : List Value) (site : Site) (progress : Progress) → LawfulRun code progress → All (IsLiveValue progress.world.cells code) arguments → LawfulControl code (evaluated code block arguments site progress) }
+{}
+
+/// So do the other actions: a superclass part where self and the arguments are live; the end of a
+/// body with a live value, where the object of a clause has its nested class; and each action of a
+/// kernel method whose values are live.
+pub fn actions_keep_lawful()
+    ensures super_part { (code : CodeProgram) (activation : Activation) (arguments : List Value) (progress : Progress) → LawfulRun code progress → IsLiveValue progress.world.cells code activation.self → All (IsLiveValue progress.world.cells code) arguments → LawfulPart code (super_part code activation arguments progress) }
+    ensures body_ended { (code : CodeProgram) (exit : Exit) (activation : Activation) (value : Value) (progress : Progress) → LawfulRun code progress → FitsExit progress.world.cells code exit → IsLiveValue progress.world.cells code value → LawfulAfter code (body_ended code exit activation value progress) }
+    ensures method_next { (method : KMethod) (state : KState) (site : Site) (code : CodeProgram) (progress : Progress) → LawfulRun code progress → LiveState progress.world.cells code state → LawfulWaiting code (method_next method state site progress) }
+{}
