@@ -1,6 +1,8 @@
 //! The kernel's rows of Integer.
 #![tactic(auto)]
 
+#[cfg(test)]
+mod border_tests;
 mod division;
 pub mod integer;
 pub mod laws;

@@ -1,11 +1,10 @@
-//! Rows of Integer: a table of examples, and pairs around the borders of 64 bits, whose answers
-//! are computed apart with 128 bits.
+//! Rows of Integer by examples: what they answer, and their faults.
 
 use crate::integer::integer;
 use crate::row::IntRow;
 use ns_base::selector::Sel;
 use ns_world::ending::{Fault, Kind};
-use ns_world::value::Value;
+use ns_world::value::{KClass, Value};
 use std::test::Fail;
 
 fn whole(number: i64) -> Result<Value, Fault> {
@@ -16,21 +15,29 @@ fn fault(kind: Kind) -> Result<Value, Fault> {
     Err(Fault::Kind(kind))
 }
 
-const ARITHMETIC: [(IntRow, i64, i64, i64); 14] = [
+const ARITHMETIC: [(IntRow, i64, i64, i64); 22] = [
     (IntRow::Add, 3, 4, 7),
     (IntRow::Subtract, 3, 4, -1),
     (IntRow::Multiply, -3, 4, -12),
     (IntRow::Quotient, -7, 2, -4),
+    (IntRow::Quotient, 7, 2, 3),
     (IntRow::Quotient, 7, -2, -4),
     (IntRow::Quotient, -8, 2, -4),
     (IntRow::Quotient, -7, -2, 3),
+    (IntRow::Quotient, i64::MIN, 1, i64::MIN),
     (IntRow::Remainder, -7, 2, 1),
+    (IntRow::Remainder, 7, 2, 1),
     (IntRow::Remainder, 7, -2, -1),
     (IntRow::Remainder, -7, -2, -1),
+    (IntRow::Remainder, -8, 2, 0),
     (IntRow::Remainder, i64::MIN, -1, 0),
     (IntRow::BitAnd, -1, 12, 12),
+    (IntRow::BitAnd, i64::MIN, i64::MAX, 0),
     (IntRow::BitOr, -4, 1, -3),
+    (IntRow::BitOr, i64::MIN, i64::MAX, -1),
     (IntRow::BitXor, -1, 5, -6),
+    (IntRow::Negated, 4, 9, -4),
+    (IntRow::Negated, i64::MAX, 9, -9_223_372_036_854_775_807),
 ];
 
 #[test]
@@ -68,142 +75,72 @@ fn comparisons_with_a_greater_an_equal_and_a_less(rt: HostRuntime) -> Result<(),
     Ok(())
 }
 
-const FAULTS: [(IntRow, i64, Value, Kind); 11] = [
-    (IntRow::Add, 1, Value::Nil, Kind::WrongKind),
-    (IntRow::Add, i64::MAX, Value::Int(1), Kind::Overflow),
-    (IntRow::Subtract, i64::MIN, Value::Int(1), Kind::Overflow),
-    (IntRow::Multiply, i64::MIN, Value::Int(-1), Kind::Overflow),
-    (IntRow::Quotient, i64::MIN, Value::Int(-1), Kind::Overflow),
-    (IntRow::Quotient, 1, Value::Int(0), Kind::ZeroDivide),
-    (IntRow::Remainder, 1, Value::Int(0), Kind::ZeroDivide),
-    (IntRow::Quotient, 1, Value::True, Kind::WrongKind),
-    (IntRow::Less, 1, Value::Sym(Sel(0)), Kind::WrongKind),
-    (IntRow::BitXor, 1, Value::Ref(0), Kind::WrongKind),
-    (IntRow::Negated, i64::MIN, Value::Nil, Kind::Overflow),
+const FAULTS: [(IntRow, i64, i64, Kind); 9] = [
+    (IntRow::Add, i64::MAX, 1, Kind::Overflow),
+    (IntRow::Add, i64::MIN, -1, Kind::Overflow),
+    (IntRow::Subtract, i64::MIN, 1, Kind::Overflow),
+    (IntRow::Multiply, i64::MIN, -1, Kind::Overflow),
+    (IntRow::Quotient, i64::MIN, -1, Kind::Overflow),
+    (IntRow::Quotient, 1, 0, Kind::ZeroDivide),
+    (IntRow::Quotient, i64::MIN, 0, Kind::ZeroDivide),
+    (IntRow::Remainder, 1, 0, Kind::ZeroDivide),
+    (IntRow::Negated, i64::MIN, 0, Kind::Overflow),
 ];
 
 #[test]
-fn faults(rt: HostRuntime) -> Result<(), Fail> {
+fn faults_of_numbers(rt: HostRuntime) -> Result<(), Fail> {
     for (row, left, right, kind) in FAULTS {
         assert_eq!(rt;
-            integer(row, left, right),
+            integer(row, left, Value::Int(right)),
             fault(kind),
-            "{row:?} {left} {right:?}"
+            "{row:?} {left} {right}"
         );
     }
     Ok(())
 }
 
-#[test]
-fn what_the_right_side_does_not_matter_for(rt: HostRuntime) -> Result<(), Fail> {
-    assert_eq!(rt; integer(IntRow::Negated, 4, Value::Nil), whole(-4));
-    assert_eq!(rt; integer(IntRow::Equal, 4, Value::Nil), Ok(Value::False));
-    Ok(())
-}
-
-const BORDERS: [i64; 48] = [
-    i64::MIN,
-    i64::MIN + 1,
-    i64::MIN + 2,
-    i64::MIN + 3,
-    i64::MIN / 2 - 2,
-    i64::MIN / 2 - 1,
-    i64::MIN / 2,
-    i64::MIN / 2 + 1,
-    i64::MIN / 3,
-    i64::MIN / 3 - 1,
-    -4_294_967_297,
-    -4_294_967_296,
-    -4_294_967_295,
-    -3_037_000_500,
-    -3_037_000_499,
-    -2_147_483_649,
-    -2_147_483_648,
-    -10,
-    -7,
-    -4,
-    -3,
-    -2,
-    -1,
-    0,
-    1,
-    2,
-    3,
-    4,
-    7,
-    10,
-    2_147_483_647,
-    2_147_483_648,
-    3_037_000_499,
-    3_037_000_500,
-    4_294_967_295,
-    4_294_967_296,
-    4_294_967_297,
-    i64::MAX / 3,
-    i64::MAX / 3 + 1,
-    i64::MAX / 2 - 1,
-    i64::MAX / 2,
-    i64::MAX / 2 + 1,
-    i64::MAX / 2 + 2,
-    i64::MAX - 3,
-    i64::MAX - 2,
-    i64::MAX - 1,
-    i64::MAX,
-    6_148_914_691_236_517_205,
+const OF_TWO_NUMBERS: [IntRow; 12] = [
+    IntRow::Add,
+    IntRow::Subtract,
+    IntRow::Multiply,
+    IntRow::Quotient,
+    IntRow::Remainder,
+    IntRow::Less,
+    IntRow::LessEqual,
+    IntRow::Greater,
+    IntRow::GreaterEqual,
+    IntRow::BitAnd,
+    IntRow::BitOr,
+    IntRow::BitXor,
 ];
 
-/// The quotient that is rounded down: a divisor below zero is turned around with the dividend.
-fn wide_quotient(left: i128, right: i128) -> Option<i128> {
-    if right < 0 {
-        left.checked_neg()?.checked_div_euclid(right.checked_neg()?)
-    } else {
-        left.checked_div_euclid(right)
-    }
-}
+const NO_NUMBERS: [Value; 7] = [
+    Value::Nil,
+    Value::True,
+    Value::False,
+    Value::Sym(Sel(7)),
+    Value::Kernel(KClass::Object),
+    Value::Kernel(KClass::Array),
+    Value::Ref(7),
+];
 
-fn wide_remainder(left: i128, right: i128) -> Option<i128> {
-    left.checked_sub(wide_quotient(left, right)?.checked_mul(right)?)
-}
-
-fn wide(row: IntRow, left: i128, right: i128) -> Option<i128> {
-    match row {
-        IntRow::Add => left.checked_add(right),
-        IntRow::Subtract => left.checked_sub(right),
-        IntRow::Multiply => left.checked_mul(right),
-        IntRow::Quotient => wide_quotient(left, right),
-        IntRow::Remainder => wide_remainder(left, right),
-        IntRow::Negated => left.checked_neg(),
-        _ => None,
-    }
-}
-
-fn expected(row: IntRow, left: i64, right: i64) -> Result<Value, Fault> {
-    match wide(row, left as i128, right as i128) {
-        Some(number) => match i64::try_from(number) {
-            Ok(number) => whole(number),
-            Err(_) => fault(Kind::Overflow),
-        },
-        None => fault(Kind::ZeroDivide),
-    }
-}
-
+/// `=` answers false, `negated` doesn't look, and all other rows ask for an Integer.
 #[test]
-fn pairs_around_the_borders(rt: HostRuntime) -> Result<(), Fail> {
-    let rows = [
-        IntRow::Add,
-        IntRow::Subtract,
-        IntRow::Multiply,
-        IntRow::Quotient,
-        IntRow::Remainder,
-        IntRow::Negated,
-    ];
-    for row in rows {
-        for left in BORDERS {
-            for right in BORDERS {
-                let found = integer(row, left, Value::Int(right));
-                assert_eq!(rt; found, expected(row, left, right), "{row:?} {left} {right}");
-            }
+fn arguments_that_are_no_numbers(rt: HostRuntime) -> Result<(), Fail> {
+    for right in NO_NUMBERS {
+        for row in OF_TWO_NUMBERS {
+            assert_eq!(rt;
+                integer(row, 7, right),
+                fault(Kind::WrongKind),
+                "{row:?} {right:?}"
+            );
         }
+        assert_eq!(rt;
+            integer(IntRow::Equal, 7, right),
+            Ok(Value::False),
+            "{right:?}"
+        );
+        assert_eq!(rt; integer(IntRow::Negated, 7, right), whole(-7), "{right:?}");
     }
     Ok(())
 }
