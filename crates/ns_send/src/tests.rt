@@ -1,4 +1,4 @@
-//! The row of each selector of the kernel's table, by lookup.
+//! The numbers of the kernel's rows.
 
 use crate::row::{Row, row_of};
 use ns_facets::row::FacetRow;
