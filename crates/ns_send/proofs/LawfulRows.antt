@@ -36,7 +36,7 @@ use Rattle.ns_facets.proofs.Living.{rows_live as facets_live}
 use Rattle.ns_facets.proofs.Lawful.{rows_lawful as facets_lawful}
 use Rattle.ns_mirror.specs.declared.row.Mirrored.TheVariants.{Answer, Perform}
 use Rattle.ns_mirror.specs.Looking.{mirrored_in, mirrored}
-use Rattle.ns_mirror.specs.Mirror.{Reflected, Reflects, Refuses, mirror}
+use Rattle.ns_mirror.specs.Mirror.{Reflected, Reflects, Refuses, mirror, cell_number}
 use Rattle.ns_mirror.specs.Living.{ReflectsLive}
 use Rattle.ns_mirror.specs.Lawful.{ReflectsLawful}
 use Rattle.ns_mirror.proofs.Living.{rows_live as mirrors_live}
@@ -45,7 +45,6 @@ use Rattle.ns_send.specs.declared.row.Row.{Row}
 use Rattle.ns_send.specs.declared.row.Row.TheVariants as row
 use Rattle.ns_send.specs.declared.site.Site.{Site}
 use Rattle.ns_send.specs.Control.{Progress}
-use Rattle.ns_send.specs.Bodies.{cell_number}
 use Rattle.ns_send.specs.Kernel.{outcome_reached, answer_reached, reflected_reached, facet_reached, message_refused, data_reached, row_reached}
 use Rattle.ns_send.specs.Lawful.{LawfulRun, LawfulControl}
 use Rattle.ns_send.proofs.LawfulClasses.{mixed_lawful}

@@ -18,7 +18,8 @@ use Rattle.ns_find.specs.declared.members.Side.{Side}
 use Rattle.ns_find.specs.declared.members.Side.TheVariants.{Instance as InstanceSide, Class as ClassSide}
 use Rattle.ns_find.specs.Find.{side_of}
 use Rattle.ns_send.specs.Control.{Activation}
-use Rattle.ns_send.specs.Bodies.{Place, cell_number, enclosing_place, enclosing, side_of_body, side_at}
+use Rattle.ns_mirror.specs.Mirror.{cell_number}
+use Rattle.ns_send.specs.Bodies.{Place, enclosing_place, enclosing, side_of_body, side_at}
 use Rattle.ns_send.specs.Lawful.{FitsActivation, declaration_of_body, outer_of, declaration_at}
 use Rattle.ns_send.proofs.LawfulClasses.{object_live}
 use Rattle.ns_send.proofs.LawfulBlocks.{body_side}

@@ -31,12 +31,11 @@ use Rattle.ns_facets.specs.declared.row.FacetRow.TheVariants as facet
 use Rattle.ns_facets.specs.Facet.{facet as facet_outcome, board_after}
 use Rattle.ns_mirror.specs.declared.row.Mirrored.TheVariants.{Answer, Perform}
 use Rattle.ns_mirror.specs.Looking.{mirrored}
-use Rattle.ns_mirror.specs.Mirror.{Reflected, Reflects, Refuses, mirror}
+use Rattle.ns_mirror.specs.Mirror.{Reflected, Reflects, Refuses, mirror, cell_number}
 use Rattle.ns_send.specs.declared.row.Row.{Row}
 use Rattle.ns_send.specs.declared.row.Row.TheVariants as row
 use Rattle.ns_send.specs.declared.site.Site.{Site}
 use Rattle.ns_send.specs.Control.{Progress, in_world, Activation, FromMethod, Control, Enter, halts, charged}
-use Rattle.ns_send.specs.Bodies.{cell_number}
 use Rattle.ns_send.specs.Classes.{instance}
 use Rattle.ns_send.specs.Rows.{row_at}
 use Rattle.ns_send.specs.Kernel.{outcome_reached, answer_reached, reflected_reached, facet_reached, message_refused, data_reached, row_reached}

@@ -17,12 +17,8 @@ use Rattle.ns_world.specs.Heap.{Heap, heap_size, shape_at, word_at}
 use Rattle.ns_world.specs.World.{World, made, written}
 use Rattle.ns_find.specs.declared.members.Side.{Side}
 use Rattle.ns_find.specs.Find.{side_of}
+use Rattle.ns_mirror.specs.Mirror.{cell_number}
 use Rattle.ns_send.specs.Control.{Progress, Activation, charged}
-
--- the number of the cell that a value refers to, 0 where it refers to none
-abbrev pub cell_number : Value → ℕ
-cell_number (Ref at) = at
-cell_number value = 0
 
 -- ---- what a body declares
 

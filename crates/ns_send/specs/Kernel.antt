@@ -19,13 +19,12 @@ use Rattle.ns_facets.specs.declared.row.FacetRow.TheVariants as facet
 use Rattle.ns_facets.specs.Facet.{facet as facet_outcome, board_after}
 use Rattle.ns_mirror.specs.declared.row.Mirrored.{Mirrored}
 use Rattle.ns_mirror.specs.declared.row.Mirrored.TheVariants.{Answer, Perform as MirrorPerform}
-use Rattle.ns_mirror.specs.Mirror.{Reflected, Reflects, Refuses, mirror}
+use Rattle.ns_mirror.specs.Mirror.{Reflected, Reflects, Refuses, mirror, cell_number}
 use Rattle.ns_send.specs.declared.row.Row.{Row}
 use Rattle.ns_send.specs.declared.row.Row.TheVariants as row
 use Rattle.ns_send.specs.declared.site.Site.{Site}
 use Rattle.ns_send.specs.Site.{fault_ending, site_of_message}
 use Rattle.ns_send.specs.Control.{Progress, in_world, Control, Now, Evaluate, Perform, gives, halts}
-use Rattle.ns_send.specs.Bodies.{cell_number}
 use Rattle.ns_send.specs.Classes.{mixed}
 use Rattle.ns_send.specs.Blocks.{block_arity, value_with_arguments, method_begun}
 
