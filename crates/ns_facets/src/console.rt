@@ -10,7 +10,7 @@ ghost use Rattle.std.specs.Prelude.{IsTrue};
 
 use ns_code::program::CodeProgram;
 use ns_kdata::arguments::{is_text, text_byte, text_size, wrong_kind};
-use ns_kdata::decimal::Decimal;
+use ns_kdata::decimal::decimal_text;
 use ns_world::ending::{Fault, LimitKind};
 use ns_world::value::Value;
 use ns_world::world::World;
@@ -29,7 +29,10 @@ pub fn print(
     ensures { Gives (spec.printing world.old.world code.now value tail.now) world.old result world.new }
 {
     match value {
-        Value::Int(number) => print_bytes(world, Decimal::new().text(number), tail),
+        Value::Int(number) => {
+            let mut room = [0; 20];
+            print_bytes(world, decimal_text(number, &mut room), tail)
+        }
         Value::Sym(sel) => print_bytes(world, code.selector_text(sel), tail),
         _ => print_text(world, value, tail),
     }

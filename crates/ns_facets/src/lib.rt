@@ -7,5 +7,3 @@ pub mod facet;
 pub mod laws;
 mod platform;
 pub mod row;
-#[cfg(test)]
-mod tests;

@@ -7,7 +7,6 @@ pub mod Finished
 pub mod Parts
 pub mod Quoted
 pub mod Comparing
-pub mod Keeping
 pub mod LivingValues
 pub mod LivingItems
 pub mod LivingMessages

@@ -3,6 +3,5 @@ pub mod Arguments
 pub mod Texts
 pub mod Rows
 pub mod Datum
-pub mod Keeps
 pub mod Living
 pub mod Lawful

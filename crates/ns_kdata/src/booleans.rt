@@ -6,7 +6,7 @@ ghost use Rattle.ns_kdata.specs.Rows as spec;
 ghost use Rattle.ns_world.specs.World.{IsWithin};
 
 use crate::arguments::{number_of, wrong_kind};
-use crate::decimal::Decimal;
+use crate::decimal::decimal_text;
 use crate::making::make_text;
 use ns_world::ending::Fault;
 use ns_world::value::Value;
@@ -45,7 +45,12 @@ pub fn integer_print(world: &mut World, value: Value) -> Result<Value, Fault>
     requires within { IsWithin world.old.world }
     ensures { Gives (spec.integer_print world.old.world value) world.old result world.new }
 {
-    make_text(world, b"".as_slice(), Decimal::new().text(number_of(value)))
+    let mut room = [0; 20];
+    make_text(
+        world,
+        b"".as_slice(),
+        decimal_text(number_of(value), &mut room),
+    )
 }
 
 /// `not`.

@@ -3,24 +3,12 @@
 ghost use Rattle.std.specs.Prelude.{◌≡◌, ◌+◌, ◌<◌, ◌≤◌, ◌^◌, ◌++◌, length, drop};
 ghost use Rattle.std.specs.Fmt.{decimal, signed_decimal};
 
-/// Room for the longest text of an Integer, which has a sign and 19 digits.
-#[derive(Drop)]
-pub struct Decimal {
-    bytes: [u8; 20],
-}
-
-impl Decimal {
-    pub fn new() -> Decimal {
-        Decimal { bytes: [0; 20] }
-    }
-
-    /// The text of an Integer.
-    pub fn text(&mut self, number: i64) -> &[u8]
-        ensures { result.now ≡ signed_decimal number }
-    {
-        let start = write_signed(number, &mut self.bytes);
-        &self.bytes[start..]
-    }
+/// The text of an Integer, which has at most a sign and 19 digits, written at the end of that room.
+pub fn decimal_text(number: i64, room: &mut [u8; 20]) -> &[u8]
+    ensures { result.now ≡ signed_decimal number }
+{
+    let start = write_signed(number, room);
+    &room[start..]
 }
 
 /// Writes the text at the end, and gives its start.

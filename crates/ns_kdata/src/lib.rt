@@ -12,6 +12,4 @@ mod messages;
 mod objects;
 pub mod row;
 mod symbols;
-#[cfg(test)]
-mod tests;
 pub mod texts;

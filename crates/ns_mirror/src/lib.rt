@@ -8,6 +8,4 @@ mod naming;
 pub mod row;
 mod selectors;
 mod slots;
-#[cfg(test)]
-mod tests;
 mod value;

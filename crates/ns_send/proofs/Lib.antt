@@ -15,3 +15,4 @@ pub mod Suiting
 pub mod Places
 pub mod LawfulSends
 pub mod LawfulParts
+pub mod LawfulValues

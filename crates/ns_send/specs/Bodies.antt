@@ -18,7 +18,7 @@ use Rattle.ns_world.specs.World.{World, made, written}
 use Rattle.ns_find.specs.declared.members.Side.{Side}
 use Rattle.ns_find.specs.Find.{side_of}
 use Rattle.ns_mirror.specs.Mirror.{cell_number}
-use Rattle.ns_send.specs.Control.{Progress, Activation, charged}
+use Rattle.ns_send.specs.Control.{Progress, in_world, Activation, charged}
 
 -- ---- what a body declares
 
@@ -123,3 +123,7 @@ locals_with code activation locals hops place value = if is_beside code activati
 abbrev pub world_with_local : CodeProgram → Activation → ℕ → ℕ → Value → World → World
 world_with_local code activation hops place value world =
     if is_beside code activation hops then world else written world (environment_at world.cells code activation hops) place value
+
+-- what the run has done when a local is stored
+abbrev pub local_stored : CodeProgram → Activation → ℕ → ℕ → Value → Progress → Progress
+local_stored code activation hops place value progress = in_world progress (world_with_local code activation hops place value progress.world)

@@ -1,5 +1,5 @@
 -- Actions of a lawful run: the world after them is lawful, and each value that they go on with is live.
-use Rattle.std.specs.Prelude.{◌≡◌, ℕ, zero, suc, List, length, All, Option, Some, None, IsTrue, IsSome, slice_get}
+use Rattle.std.specs.Prelude.{◌≡◌, ℕ, zero, suc, ◌<◌, List, length, All, Option, Some, None, false, IsTrue, IsSome, slice_get}
 use Rattle.std.specs.Option.{option_map, option_map_or, ForSome}
 use Rattle.ns_base.specs.declared.selector.Sel.{Sel}
 use Rattle.ns_code.specs.declared.program.CodeProgram.{CodeProgram}
@@ -9,10 +9,12 @@ use Rattle.ns_code.specs.Selector.{is_selector_number, selector_arity}
 use Rattle.ns_world.specs.declared.value.Value.{Value}
 use Rattle.ns_world.specs.declared.value.Value.TheVariants.{Ref}
 use Rattle.ns_world.specs.Heap.{Heap, find_cell, is_class}
-use Rattle.ns_world.specs.Lawful.{IsLawful, IsLiveValue, IsEnvironmentOrNil, HasHolder, FitsBody}
+use Rattle.ns_world.specs.Layout.{declaration_of}
+use Rattle.ns_world.specs.Lawful.{IsLawful, IsLiveValue, IsEnvironmentOrNil, is_environment, HasHolder, FitsBody}
 use Rattle.ns_find.specs.Belonging.{HasNested}
 use Rattle.ns_kcode.specs.declared.state.KState.{KState}
 use Rattle.ns_send.specs.Control.{Progress, Activation, Exit, FromClause, After, Gives, Halts, Control, Now, Enter, Evaluate, Begin, Perform, Part, Skip, Stop, EnterPart, Waiting, Waits, Finishes}
+use Rattle.ns_send.specs.Bodies.{is_beside, environment_at}
 use Rattle.ns_send.specs.Sends.{Target, To, ToPrivate, ToSuper}
 
 -- The world of a run is lawful for its code.
@@ -79,6 +81,17 @@ pub record FitsActivation (heap : Heap) (code : CodeProgram) (activation : Activ
   pub live : IsLiveValue heap code activation.self
   pub there : IsSome (slice_get code.bodies activation.body)
   pub fits : ForSome (slice_get code.bodies activation.body) (λ (body : BodyCode). FitsBody heap code body activation.self activation.holder)
+
+-- Self has the holder of the code in its chain, and the holder's declaration such a slot.
+pub record FitsSlot (heap : Heap) (code : CodeProgram) (activation : Activation) (slot : ℕ) : Type 0 where
+  pub holder : HasHolder heap activation.self activation.holder
+  pub declared : IsSome (slice_get code.classes (declaration_of heap activation.holder))
+  pub within : ForSome (slice_get code.classes (declaration_of heap activation.holder)) (λ (class : ClassCode). slot < length class.slots)
+
+-- A local that doesn't stand beside its activation stands in an environment.
+abbrev pub FitsLocal : Heap → CodeProgram → Activation → ℕ → Type 0
+FitsLocal heap code activation hops =
+    is_beside code activation hops ≡ false → IsTrue (is_environment (find_cell heap (environment_at heap code activation hops)))
 
 -- the declaration of a body
 abbrev pub declaration_of_body : CodeProgram → ℕ → Option ℕ

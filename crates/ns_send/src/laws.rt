@@ -7,16 +7,17 @@ ghost use Rattle.ns_code.specs.declared.program.CodeProgram.{CodeProgram};
 ghost use Rattle.ns_world.specs.declared.value.Value.{Value};
 ghost use Rattle.ns_world.specs.declared.value.Value.TheVariants.{Ref};
 ghost use Rattle.ns_world.specs.Cell.{Cell};
-ghost use Rattle.ns_world.specs.Lawful.{IsLiveValue};
+ghost use Rattle.ns_world.specs.Lawful.{IsLiveValue, BlockIsLawful};
 ghost use Rattle.ns_kdata.specs.Arguments.{items_of};
 ghost use Rattle.ns_kcode.specs.declared.state.KMethod.{KMethod};
 ghost use Rattle.ns_kcode.specs.declared.state.KState.{KState};
 ghost use Rattle.ns_send.specs.declared.site.Site.{Site};
 ghost use Rattle.ns_send.specs.Control.{Progress, Activation, Exit};
 ghost use Rattle.ns_send.specs.Classes.{super_part, body_ended, slot_filled, kept_by};
-ghost use Rattle.ns_send.specs.Blocks.{new_cell, evaluated, method_next};
+ghost use Rattle.ns_send.specs.Bodies.{environment_at, local_stored};
+ghost use Rattle.ns_send.specs.Blocks.{new_cell, new_block, new_text, new_array, evaluated, method_next};
 ghost use Rattle.ns_send.specs.Sends.{Target, receiver_of, sent, sent_plain, performed};
-ghost use Rattle.ns_send.specs.Lawful.{LawfulRun, LawfulAfter, LawfulControl, LawfulPart, LawfulWaiting, LiveState, FitsTarget, FitsSelector, FitsExit};
+ghost use Rattle.ns_send.specs.Lawful.{LawfulRun, LawfulAfter, LawfulControl, LawfulPart, LawfulWaiting, LiveState, FitsTarget, FitsSelector, FitsExit, FitsSlot, FitsLocal};
 ghost use Rattle.ns_send.specs.Onward.{Onward, touched, reached, after_reached, part_reached, waiting_reached};
 
 /// No send changes a limit, lowers a counter but depth, takes back what was printed, or changes a
@@ -29,7 +30,8 @@ pub fn sends_go_onward()
 
 /// Nor does any other action: the evaluation of a block, an action of a kernel method, a part of a
 /// superclass and a new cell change no cell that was there; the end of a clause's head changes the
-/// object that keeps the class, and the filling of a slot self.
+/// object that keeps the class, the filling of a slot self, and the storing of a local the
+/// environment in which it stands.
 pub fn actions_go_onward()
     ensures evaluated { (code : CodeProgram) (block : Value) (arguments : List Value) (site : Site) (progress : Progress) → Onward [] progress (reached (evaluated code block arguments site progress)) }
     ensures method_next { (method : KMethod) (state : KState) (site : Site) (progress : Progress) → Onward [] progress (waiting_reached (method_next method state site progress)) }
@@ -37,6 +39,7 @@ pub fn actions_go_onward()
     ensures new_cell { (cell : Cell) (progress : Progress) → Onward [] progress (after_reached (new_cell cell progress)) }
     ensures body_ended { (code : CodeProgram) (exit : Exit) (activation : Activation) (value : Value) (progress : Progress) → Onward (kept_by exit) progress (after_reached (body_ended code exit activation value progress)) }
     ensures slot_filled { (code : CodeProgram) (activation : Activation) (slot : ℕ) (value : Value) (progress : Progress) → Onward (activation.self ∷ []) progress (slot_filled code activation slot value progress) }
+    ensures local_stored { (code : CodeProgram) (activation : Activation) (hops place : ℕ) (value : Value) (progress : Progress) → Onward (Ref (environment_at progress.world.cells code activation hops) ∷ []) progress (local_stored code activation hops place value progress) }
 {}
 
 /// In a lawful run a send leaves a lawful world, and what it goes on with is live: the answer, a
@@ -58,4 +61,15 @@ pub fn actions_keep_lawful()
     ensures super_part { (code : CodeProgram) (activation : Activation) (arguments : List Value) (progress : Progress) → LawfulRun code progress → IsLiveValue progress.world.cells code activation.self → All (IsLiveValue progress.world.cells code) arguments → LawfulPart code (super_part code activation arguments progress) }
     ensures body_ended { (code : CodeProgram) (exit : Exit) (activation : Activation) (value : Value) (progress : Progress) → LawfulRun code progress → FitsExit progress.world.cells code exit → IsLiveValue progress.world.cells code value → LawfulAfter code (body_ended code exit activation value progress) }
     ensures method_next { (method : KMethod) (state : KState) (site : Site) (code : CodeProgram) (progress : Progress) → LawfulRun code progress → LiveState progress.world.cells code state → LawfulWaiting code (method_next method state site progress) }
+{}
+
+/// And so do those that give or store a value: a new text, a new array of live elements, a new
+/// block whose body fits where it is made, a slot that is filled with a live value, and a live
+/// value that is stored in a local.
+pub fn values_keep_lawful()
+    ensures text { (code : CodeProgram) (bytes : List ℕ) (progress : Progress) → LawfulRun code progress → LawfulAfter code (new_text bytes progress) }
+    ensures array { (code : CodeProgram) (items : List Value) (progress : Progress) → LawfulRun code progress → All (IsLiveValue progress.world.cells code) items → LawfulAfter code (new_array items progress) }
+    ensures block { (code : CodeProgram) (activation : Activation) (body : ℕ) (progress : Progress) → LawfulRun code progress → BlockIsLawful progress.world.cells code body activation.env activation.self activation.holder → LawfulAfter code (new_block activation body progress) }
+    ensures slot { (code : CodeProgram) (activation : Activation) (slot : ℕ) (value : Value) (progress : Progress) → LawfulRun code progress → FitsSlot progress.world.cells code activation slot → IsLiveValue progress.world.cells code value → LawfulRun code (slot_filled code activation slot value progress) }
+    ensures local { (code : CodeProgram) (activation : Activation) (hops place : ℕ) (value : Value) (progress : Progress) → LawfulRun code progress → FitsLocal progress.world.cells code activation hops → IsLiveValue progress.world.cells code value → LawfulRun code (local_stored code activation hops place value progress) }
 {}

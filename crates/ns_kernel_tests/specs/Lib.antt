@@ -1,0 +1,4 @@
+pub mod Program
+pub mod Cells
+pub mod Ready
+pub mod Looking
