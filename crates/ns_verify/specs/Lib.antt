@@ -1,0 +1,6 @@
+pub mod Table
+pub mod Heights
+pub mod Chains
+pub mod Members
+pub mod Causes
+pub mod Verify

@@ -1,0 +1,158 @@
+//! The first fault of code: over its classes, then its bodies, then their instructions.
+
+ghost use Rattle.std.specs.Prelude.{◌≡◌, ◌≤◌, ◌<◌, All, IfOk, length};
+ghost use Rattle.ns_code.specs.Fits.{InstrFits, BodyFits, Fits};
+ghost use Rattle.ns_verify.specs.Chains.{home_kinds};
+ghost use Rattle.ns_verify.specs.Heights.{begin};
+ghost use Rattle.ns_verify.specs.Members.{all_privates};
+ghost use Rattle.ns_verify.specs.Verify as spec;
+
+use crate::chains::{home_kinds, kind_or};
+use crate::classes::class_cause;
+use crate::fault::{Fault, VerifyCause, Where};
+use crate::heights::Pass;
+use crate::instructions::{cause_at, empty_cause};
+use crate::privates::{Privates, all_privates};
+use ns_base::no_memory::NoMemory;
+use ns_code::body::BodyCode;
+use ns_code::program::CodeProgram;
+use std::alloc::Global;
+
+/// The first fault of code, if it has one.
+pub fn first_fault(alloc: Global, code: &CodeProgram) -> Result<Option<Fault>, NoMemory>
+    requires { Fits code.now }
+    ensures { IfOk result (λ fault. fault ≡ spec.fault_of code.now) }
+{
+    match first_class_fault(alloc, code)? {
+        Some(fault) => Ok(Some(fault)),
+        None => {
+            let fault = first_body_fault(alloc, code)?;
+            Ok(fault)
+        }
+    }
+}
+
+/// The first fault of the classes, of which there is at least one.
+fn first_class_fault(alloc: Global, code: &CodeProgram) -> Result<Option<Fault>, NoMemory>
+    requires { length code.now.classes ≤ 4096 }
+    ensures { IfOk result (λ fault. fault ≡ spec.first_class_fault code.now code.now.classes) }
+{
+    match code.classes.as_slice() {
+        [] => Ok(Some(Fault {
+            cause: VerifyCause::BadScope,
+            at: Where::Class(0),
+        })),
+        [_, ..] => {
+            let fault = classes_fault(alloc, code)?;
+            Ok(fault)
+        }
+    }
+}
+
+fn classes_fault(alloc: Global, code: &CodeProgram) -> Result<Option<Fault>, NoMemory>
+    requires { length code.now.classes ≤ 4096 }
+    ensures { IfOk result (λ fault. fault ≡ spec.classes_fault code.now 0 code.now.classes) }
+{
+    let mut number: u32 = 0;
+    'classes: for class in code.classes.as_slice() {
+        match class_cause(alloc, code, number, class)? {
+            Some(cause) => {
+                return Ok(Some(Fault {
+                    cause,
+                    at: Where::Class(number),
+                }));
+            }
+            None => number += 1,
+        }
+    }
+    Ok(None)
+}
+
+/// The first fault of the bodies.
+fn first_body_fault(alloc: Global, code: &CodeProgram) -> Result<Option<Fault>, NoMemory>
+    requires { Fits code.now }
+    ensures { IfOk result (λ fault. fault ≡ spec.bodies_fault code.now 0 code.now.bodies) }
+{
+    let privates = all_privates(alloc, code)?;
+    let homes = home_kinds(alloc, code.bodies.as_slice())?;
+    let fault = bodies_fault(alloc, code, privates.as_slice(), homes.as_slice())?;
+    Ok(fault)
+}
+
+fn bodies_fault(
+    alloc: Global,
+    code: &CodeProgram,
+    privates: &[Privates],
+    homes: &[u8],
+) -> Result<Option<Fault>, NoMemory>
+    requires fits { All (BodyFits code.now) code.now.bodies }
+    requires few { length code.now.bodies ≤ 65536 }
+    requires privates { privates.now ≡ all_privates code.now }
+    requires homes { homes.now ≡ home_kinds code.now }
+    ensures { IfOk result (λ fault. fault ≡ spec.bodies_fault code.now 0 code.now.bodies) }
+{
+    let mut number: u32 = 0;
+    'bodies: for body in code.bodies.as_slice() {
+        let home = kind_or(homes, number, body.kind);
+        match body_fault(alloc, code, privates, number, body, home)? {
+            Some(fault) => return Ok(Some(fault)),
+            None => number += 1,
+        }
+    }
+    Ok(None)
+}
+
+/// The first fault of a body, whose outermost body is of that kind.
+fn body_fault(
+    alloc: Global,
+    code: &CodeProgram,
+    privates: &[Privates],
+    number: u32,
+    body: &BodyCode,
+    home: u8,
+) -> Result<Option<Fault>, NoMemory>
+    requires fits { BodyFits code.now body.now }
+    requires privates { privates.now ≡ all_privates code.now }
+    ensures { IfOk result (λ fault. fault ≡ spec.body_fault_in code.now number body.now home body.now.instrs) }
+{
+    match body.instrs.as_slice() {
+        [] => Ok(Some(Fault {
+            cause: empty_cause(code, number, body),
+            at: Where::Body(number, 0),
+        })),
+        [_, ..] => {
+            let fault = instrs_fault(alloc, code, privates, number, body, home)?;
+            Ok(fault)
+        }
+    }
+}
+
+fn instrs_fault(
+    alloc: Global,
+    code: &CodeProgram,
+    privates: &[Privates],
+    number: u32,
+    body: &BodyCode,
+    home: u8,
+) -> Result<Option<Fault>, NoMemory>
+    requires fits { All InstrFits body.now.instrs }
+    requires few { length body.now.instrs ≤ 65536 }
+    requires privates { privates.now ≡ all_privates code.now }
+    ensures { IfOk result (λ fault. fault ≡ spec.instrs_fault code.now number body.now home (begin (length body.now.instrs)) 0 body.now.instrs) }
+{
+    let mut pass = Pass::begin(alloc, body.instrs.len())?;
+    let mut at: u32 = 0;
+    'instrs: for instr in body.instrs.as_slice() {
+        match cause_at(code, privates, number, body, home, &pass, at, *instr) {
+            Some(cause) => {
+                return Ok(Some(Fault {
+                    cause,
+                    at: Where::Body(number, at),
+                }));
+            }
+            None => pass.pass(at, *instr),
+        }
+        at += 1;
+    }
+    Ok(None)
+}

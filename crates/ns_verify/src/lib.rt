@@ -1,0 +1,15 @@
+//! The verifier: which code can be run without ever missing what an instruction needs.
+#![tactic(auto)]
+
+pub mod chains;
+pub mod classes;
+pub mod fault;
+pub mod faults;
+pub mod heights;
+pub mod instructions;
+pub mod members;
+pub mod names;
+pub mod privates;
+pub mod table;
+pub mod texts;
+pub mod verify;

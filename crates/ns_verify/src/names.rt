@@ -1,0 +1,67 @@
+//! Names of the code, by their numbers.
+
+ghost use Rattle.std.specs.Prelude.{◌≡◌, option_map};
+ghost use Rattle.std.specs.List.{list_all};
+ghost use Rattle.ns_code.specs.Soundness as spec;
+ghost use Rattle.ns_code.specs.Spelling as spelling;
+
+use ns_base::selector::Sel;
+use ns_code::program::CodeProgram;
+use ns_code::selector::begins_name;
+
+/// Whether a number is a name's.
+pub fn is_name(code: &CodeProgram, sel: Sel) -> bool
+    ensures { result ≡ spec.is_name code.now sel }
+{
+    (sel.0 as usize) < code.names.len()
+}
+
+/// The text of the name of that number, where it is one.
+pub fn name_text(code: &CodeProgram, sel: Sel) -> Option<&[u8]>
+    ensures { option_map (λ text. text.now) result ≡ spec.name_text code.now sel.0 }
+{
+    match code.names.as_slice().get(sel.0 as usize) {
+        Some(name) => Some(name.bytes()),
+        None => None,
+    }
+}
+
+/// Whether it is the number of an identifier.
+pub fn is_identifier_name(code: &CodeProgram, sel: Sel) -> bool
+    ensures { result ≡ spec.is_identifier_name code.now sel }
+{
+    match code.names.as_slice().get(sel.0 as usize) {
+        Some(name) => is_identifier(name.bytes()),
+        None => false,
+    }
+}
+
+/// Whether a text is an identifier.
+fn is_identifier(text: &[u8]) -> bool
+    ensures { result ≡ spelling.is_identifier text.now }
+{
+    match text {
+        [] => false,
+        [first, rest @ ..] => begins_name(*first) && go_on(rest),
+    }
+}
+
+fn go_on(bytes: &[u8]) -> bool
+    ensures { result ≡ list_all spelling.goes_on_name bytes.now }
+{
+    bytes.iter().all(|byte| goes_on_name(*byte))
+}
+
+/// Whether an identifier can go on with this byte: a letter, a digit or an underscore.
+fn goes_on_name(byte: u8) -> bool
+    ensures { result ≡ spelling.goes_on_name byte }
+{
+    begins_name(byte) || (byte >= b'0' && byte <= b'9')
+}
+
+/// Whether a method with that selector, if it is a name, has so many parameters.
+pub fn has_params_of(code: &CodeProgram, sel: Sel, params: u8) -> bool
+    ensures { result ≡ spec.has_params_of code.now sel params }
+{
+    !is_name(code, sel) || usize::from(params) == code.selector_arity(sel)
+}

@@ -1,0 +1,56 @@
+//! Which code is admitted.
+
+ghost use Rattle.std.specs.Prelude.{◌≡◌, None, IfOk, MatchResult};
+ghost use Rattle.ns_code.specs.Fits.{Fits};
+ghost use Rattle.ns_verify.specs.Verify.{fault_of, IsSound, Told};
+
+use crate::fault::VerifyFault;
+use crate::faults::first_fault;
+use ns_code::program::CodeProgram;
+use std::alloc::Global;
+use std::marker::Model;
+
+/// Code that was admitted: its numbers fit their fields, and it is sound. A clause sees the code.
+#[derive(Drop)]
+pub struct Verified {
+    code: CodeProgram,
+}
+
+impl Model for Verified {
+    ghost use Rattle.ns_code.specs.Fits.{Fits};
+    ghost use Rattle.ns_code.specs.declared.program.CodeProgram.{CodeProgram};
+    ghost use Rattle.ns_verify.specs.Verify.{IsSound};
+
+    ghost Value = { CodeProgram };
+
+    ghost view = { λ verified. verified.code };
+
+    ghost invariant = { λ verified. Fits verified.code × IsSound verified.code };
+}
+
+impl Verified {
+    /// The code.
+    pub fn code(&self) -> &CodeProgram
+        ensures code { result.now ≡ self.now }
+        ensures fits { Fits result.now }
+        ensures sound { IsSound result.now }
+    {
+        &self.code
+    }
+}
+
+/// Admits code that is sound; else tells its first fault. The code's numbers must fit their fields.
+pub fn verify(alloc: Global, code: CodeProgram) -> Result<Verified, VerifyFault>
+    requires { Fits code }
+    ensures code { IfOk result (λ verified. verified ≡ code) }
+    ensures exact { MatchResult result (λ _. IsSound code) (λ fault. Told (fault_of code) fault) }
+{
+    match first_fault(alloc, &code) {
+        Err(_) => Err(VerifyFault::Memory),
+        Ok(None) => Ok(Verified { code }),
+        Ok(Some(fault)) => Err(VerifyFault::At {
+            cause: fault.cause,
+            at: fault.at,
+        }),
+    }
+}
