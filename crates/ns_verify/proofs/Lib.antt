@@ -1,3 +1,7 @@
 mod Selectors
 mod Different
 mod Sets
+mod Places
+mod Order
+mod Agreeing
+mod Law

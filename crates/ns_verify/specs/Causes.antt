@@ -1,6 +1,6 @@
 -- What can be wrong at an instruction of a body, and with a body as a whole.
-use Rattle.std.specs.Prelude.{ℕ, ◌+◌, List, [], ◌∷◌, length, Bool, true, false, Option, Some, None, slice_get, ◌==◌, ◌&&◌, ◌||◌, not, nat_lt, if◌then◌else◌}
-use Rattle.std.specs.Option.{is_some, is_none, option_map_or, option_and_then}
+use Rattle.std.specs.Prelude.{ℕ, ◌+◌, length, Bool, false, Option, Some, None, slice_get, ◌==◌, ◌&&◌, ◌||◌, not, nat_lt, if◌then◌else◌}
+use Rattle.std.specs.Option.{is_some, is_none, option_map_or}
 use Rattle.std.specs.List.{list_any}
 use Rattle.std.specs.Str.{bytes_eq}
 use Rattle.ns_base.specs.declared.selector.Sel.{Sel}

@@ -1,6 +1,6 @@
 -- The heights of a body's instructions: how many operands there are before each. They are found in
 -- one pass from the first instruction to the last.
-use Rattle.std.specs.Prelude.{ℕ, ◌+◌, List, [], ◌∷◌, length, replicate, slice_set, Bool, true, false, Option, Some, None, unwrap_or, ◌==◌, ◌||◌, not, if◌then◌else◌}
+use Rattle.std.specs.Prelude.{ℕ, ◌+◌, List, [], ◌∷◌, length, replicate, slice_set, Bool, false, Option, Some, None, unwrap_or, ◌==◌, ◌||◌, not, if◌then◌else◌}
 use Rattle.std.specs.Option.{is_none, option_map_or}
 use Rattle.std.specs.List.{slice_index_or}
 use Rattle.ns_code.specs.declared.instruction.Instr.{Instr}

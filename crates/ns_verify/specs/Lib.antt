@@ -4,3 +4,5 @@ pub mod Chains
 pub mod Members
 pub mod Causes
 pub mod Verify
+pub mod Counts
+pub mod Places

@@ -1,5 +1,5 @@
 -- The private members of a declaration.
-use Rattle.std.specs.Prelude.{ℕ, List, [], ◌∷◌, ◌++◌, Bool, ◌==◌, filter, fold, map, if◌then◌else◌}
+use Rattle.std.specs.Prelude.{ℕ, List, [], ◌++◌, ◌==◌, filter, fold, map, if◌then◌else◌}
 use Rattle.ns_base.specs.Names.{put_in}
 use Rattle.ns_verify.specs.declared.privates.Privates.{Privates}
 use Rattle.ns_code.specs.declared.program.CodeProgram.{CodeProgram}

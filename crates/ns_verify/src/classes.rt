@@ -130,7 +130,9 @@ fn is_body_with(code: &CodeProgram, body: u32, kind: u8, class: u32, params: u8)
 fn have_bodies(code: &CodeProgram, side: u8, number: u32, methods: &[MethodCode]) -> bool
     ensures { result ≡ spec.have_bodies code.now side number methods.now }
 {
-    methods.iter().all(|method| is_method_body(code, side, number, *method))
+    methods
+        .iter()
+        .all(|method| is_method_body(code, side, number, *method))
 }
 
 fn is_method_body(code: &CodeProgram, side: u8, number: u32, method: MethodCode) -> bool
@@ -151,7 +153,11 @@ fn is_method_body(code: &CodeProgram, side: u8, number: u32, method: MethodCode)
 fn has_nested(code: &CodeProgram, number: u32, class: &ClassCode) -> bool
     ensures { result ≡ spec.has_nested code.now number class.now }
 {
-    class.nested.as_slice().iter().all(|nested| is_inner(code, number, *nested))
+    class
+        .nested
+        .as_slice()
+        .iter()
+        .all(|nested| is_inner(code, number, *nested))
 }
 
 fn is_inner(code: &CodeProgram, number: u32, nested: NestedCode) -> bool
@@ -174,7 +180,10 @@ fn has_params(code: &CodeProgram, class: &ClassCode) -> bool
 fn has_bad_literal(code: &CodeProgram, class: &ClassCode) -> bool
     ensures { result ≡ spec.has_bad_literal code.now class.now }
 {
-    if !is_identifier_name(code, class.name) || !is_name(code, class.factory) || !is_name(code, class.super_sel) {
+    if !is_identifier_name(code, class.name)
+        || !is_name(code, class.factory)
+        || !is_name(code, class.super_sel)
+    {
         return true;
     }
     has_bad_slot(code, class.slots.as_slice())
@@ -185,7 +194,9 @@ fn has_bad_literal(code: &CodeProgram, class: &ClassCode) -> bool
 fn has_bad_slot(code: &CodeProgram, slots: &[SlotCode]) -> bool
     ensures { result ≡ list_any (λ (slot : SlotCode). not (spec.is_identifier_name code.now slot.name)) slots.now }
 {
-    slots.iter().any(|slot| !is_identifier_name(code, slot.name))
+    slots
+        .iter()
+        .any(|slot| !is_identifier_name(code, slot.name))
 }
 
 fn has_bad_method(code: &CodeProgram, methods: &[MethodCode]) -> bool

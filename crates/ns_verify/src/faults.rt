@@ -1,7 +1,7 @@
 //! The first fault of code: over its classes, then its bodies, then their instructions.
 
-ghost use Rattle.std.specs.Prelude.{◌≡◌, ◌≤◌, ◌<◌, All, IfOk, length};
-ghost use Rattle.ns_code.specs.Fits.{InstrFits, BodyFits, Fits};
+ghost use Rattle.std.specs.Prelude.{◌≡◌, ◌≤◌, ◌<◌, IfOk, length};
+ghost use Rattle.ns_verify.specs.Counts.{HasFewParts};
 ghost use Rattle.ns_verify.specs.Chains.{home_kinds};
 ghost use Rattle.ns_verify.specs.Heights.{begin};
 ghost use Rattle.ns_verify.specs.Members.{all_privates};
@@ -18,9 +18,9 @@ use ns_code::body::BodyCode;
 use ns_code::program::CodeProgram;
 use std::alloc::Global;
 
-/// The first fault of code, if it has one.
+/// The first fault of code, if it has one. The code has few enough parts that 32 bits number them.
 pub fn first_fault(alloc: Global, code: &CodeProgram) -> Result<Option<Fault>, NoMemory>
-    requires { Fits code.now }
+    requires { HasFewParts code.now }
     ensures { IfOk result (λ fault. fault ≡ spec.fault_of code.now) }
 {
     match first_class_fault(alloc, code)? {
@@ -34,7 +34,7 @@ pub fn first_fault(alloc: Global, code: &CodeProgram) -> Result<Option<Fault>, N
 
 /// The first fault of the classes, of which there is at least one.
 fn first_class_fault(alloc: Global, code: &CodeProgram) -> Result<Option<Fault>, NoMemory>
-    requires { length code.now.classes ≤ 4096 }
+    requires { length code.now.classes ≤ 65536 }
     ensures { IfOk result (λ fault. fault ≡ spec.first_class_fault code.now code.now.classes) }
 {
     match code.classes.as_slice() {
@@ -50,7 +50,7 @@ fn first_class_fault(alloc: Global, code: &CodeProgram) -> Result<Option<Fault>,
 }
 
 fn classes_fault(alloc: Global, code: &CodeProgram) -> Result<Option<Fault>, NoMemory>
-    requires { length code.now.classes ≤ 4096 }
+    requires { length code.now.classes ≤ 65536 }
     ensures { IfOk result (λ fault. fault ≡ spec.classes_fault code.now 0 code.now.classes) }
 {
     let mut number: u32 = 0;
@@ -70,7 +70,7 @@ fn classes_fault(alloc: Global, code: &CodeProgram) -> Result<Option<Fault>, NoM
 
 /// The first fault of the bodies.
 fn first_body_fault(alloc: Global, code: &CodeProgram) -> Result<Option<Fault>, NoMemory>
-    requires { Fits code.now }
+    requires { HasFewParts code.now }
     ensures { IfOk result (λ fault. fault ≡ spec.bodies_fault code.now 0 code.now.bodies) }
 {
     let privates = all_privates(alloc, code)?;
@@ -85,8 +85,7 @@ fn bodies_fault(
     privates: &[Privates],
     homes: &[u8],
 ) -> Result<Option<Fault>, NoMemory>
-    requires fits { All (BodyFits code.now) code.now.bodies }
-    requires few { length code.now.bodies ≤ 65536 }
+    requires few { HasFewParts code.now }
     requires privates { privates.now ≡ all_privates code.now }
     requires homes { homes.now ≡ home_kinds code.now }
     ensures { IfOk result (λ fault. fault ≡ spec.bodies_fault code.now 0 code.now.bodies) }
@@ -111,7 +110,7 @@ fn body_fault(
     body: &BodyCode,
     home: u8,
 ) -> Result<Option<Fault>, NoMemory>
-    requires fits { BodyFits code.now body.now }
+    requires few { length body.now.instrs ≤ 65536 }
     requires privates { privates.now ≡ all_privates code.now }
     ensures { IfOk result (λ fault. fault ≡ spec.body_fault_in code.now number body.now home body.now.instrs) }
 {
@@ -135,7 +134,6 @@ fn instrs_fault(
     body: &BodyCode,
     home: u8,
 ) -> Result<Option<Fault>, NoMemory>
-    requires fits { All InstrFits body.now.instrs }
     requires few { length body.now.instrs ≤ 65536 }
     requires privates { privates.now ≡ all_privates code.now }
     ensures { IfOk result (λ fault. fault ≡ spec.instrs_fault code.now number body.now home (begin (length body.now.instrs)) 0 body.now.instrs) }

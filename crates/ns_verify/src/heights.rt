@@ -1,7 +1,6 @@
 //! The heights of a body's instructions, in one pass from the first to the last.
 
 ghost use Rattle.std.specs.Prelude.{◌≡◌, ◌≤◌, IfOk, Some, slice_set};
-ghost use Rattle.ns_code.specs.Fits.{InstrFits};
 ghost use Rattle.ns_verify.specs.Heights as spec;
 
 use crate::table::{goes_on, height_after, starts_super, target};
@@ -69,8 +68,7 @@ impl Pass {
 
     /// Whether this instruction jumps to one that has another height.
     pub fn jumps_apart(&self, number: u32, instr: Instr) -> bool
-        requires instr { InstrFits instr }
-        requires height { spec.height_at self.now number ≤ 65535 }
+        requires { spec.height_at self.now number ≤ 65535 }
         ensures { result ≡ spec.jumps_apart self.now number instr }
     {
         match target(instr) {
@@ -96,8 +94,7 @@ impl Pass {
     /// Passes the instruction of that number, which gives the height after it to its target, and to
     /// the next one if it goes on.
     pub fn pass(&mut self, number: u32, instr: Instr)
-        requires instr { InstrFits instr }
-        requires height { spec.height_at self.old number ≤ 65535 }
+        requires { spec.height_at self.old number ≤ 65535 }
         ensures { self.new ≡ spec.next self.old number instr }
     {
         let height = self.height_at(number);

@@ -1,7 +1,6 @@
 //! What can be wrong at an instruction of a body, and with a body as a whole.
 
 ghost use Rattle.std.specs.Prelude.{◌≡◌, ◌≤◌, ◌<◌, false, IsTrue, length, option_copied};
-ghost use Rattle.ns_code.specs.Fits.{InstrFits};
 ghost use Rattle.ns_verify.specs.Causes as spec;
 ghost use Rattle.ns_verify.specs.Heights as heights;
 ghost use Rattle.ns_verify.specs.Members as members;
@@ -33,7 +32,6 @@ pub fn cause_at(
     instr: Instr,
 ) -> Option<VerifyCause>
     requires privates { privates.now ≡ members.all_privates code.now }
-    requires instr { InstrFits instr }
     requires at { at < 65536 }
     ensures cause { result ≡ spec.cause_at code.now number body.now home pass.now at instr }
     ensures low { result ≡ None → heights.height_at pass.now at ≤ 65535 }
@@ -47,7 +45,16 @@ pub fn cause_at(
     if has_bad_slot(code, number, body, instr) {
         return Some(VerifyCause::BadSlot);
     }
-    if has_bad_scope_at(code, privates, number, body, home, pass.has_started(), at, instr) {
+    if has_bad_scope_at(
+        code,
+        privates,
+        number,
+        body,
+        home,
+        pass.has_started(),
+        at,
+        instr,
+    ) {
         return Some(VerifyCause::BadScope);
     }
     if has_bad_name(code, body, instr) {
@@ -63,7 +70,11 @@ pub fn cause_at(
 pub fn empty_cause(code: &CodeProgram, number: u32, body: &BodyCode) -> VerifyCause
     ensures { result ≡ spec.empty_cause code.now number body.now }
 {
-    if has_bad_head(code, number, body) { VerifyCause::BadScope } else { VerifyCause::NoReturn }
+    if has_bad_head(code, number, body) {
+        VerifyCause::BadScope
+    } else {
+        VerifyCause::NoReturn
+    }
 }
 
 /// Whether the target of a jump isn't below the number of instructions.
@@ -79,7 +90,6 @@ fn has_bad_jump(body: &BodyCode, instr: Instr) -> bool
 /// Whether an operand is missing, the height is above the body's, a frame would end at a wrong
 /// height, or an instruction is given two heights.
 fn has_bad_height(body: &BodyCode, pass: &Pass, at: u32, instr: Instr) -> bool
-    requires { InstrFits instr }
     ensures bad { result ≡ spec.has_bad_height body.now pass.now at instr }
     ensures low { result ≡ false → heights.height_at pass.now at ≤ 65535 }
 {
@@ -213,13 +223,7 @@ fn is_no_private(
 }
 
 /// Whether a class that is there has no private member of that selector on that side.
-fn lacks_private(
-    code: &CodeProgram,
-    privates: &[Privates],
-    class: u32,
-    side: u8,
-    sel: Sel,
-) -> bool
+fn lacks_private(code: &CodeProgram, privates: &[Privates], class: u32, side: u8, sel: Sel) -> bool
     requires { privates.now ≡ members.all_privates code.now }
     ensures { result ≡ spec.lacks_private code.now side sel class }
 {

@@ -194,7 +194,13 @@ pub fn private_instance_selectors(
     let slots = private_slots(alloc, class.slots.as_slice())?;
     let nested = private_nested(alloc, class.nested.as_slice())?;
     let methods = private_methods(alloc, class.methods.as_slice())?;
-    Ok(selectors_of(alloc, code, slots.as_slice(), nested.as_slice(), methods.as_slice())?)
+    Ok(selectors_of(
+        alloc,
+        code,
+        slots.as_slice(),
+        nested.as_slice(),
+        methods.as_slice(),
+    )?)
 }
 
 /// The selectors of the private members of the class side.
@@ -214,17 +220,35 @@ pub fn private_side_selectors(
 fn private_slots(alloc: Global, slots: &[SlotCode]) -> Result<Vec<SlotCode>, NoMemory>
     ensures { IfOk result (λ found. found.items ≡ filter (λ (slot : SlotCode). slot.access == 2) slots.now) }
 {
-    Ok(slots.iter().copied().filter(|slot| slot.access == PRIVATE).collect(alloc)?)
+    Ok(
+        slots
+            .iter()
+            .copied()
+            .filter(|slot| slot.access == PRIVATE)
+            .collect(alloc)?,
+    )
 }
 
 fn private_nested(alloc: Global, nested: &[NestedCode]) -> Result<Vec<NestedCode>, NoMemory>
     ensures { IfOk result (λ found. found.items ≡ filter (λ (nested : NestedCode). nested.access == 2) nested.now) }
 {
-    Ok(nested.iter().copied().filter(|nested| nested.access == PRIVATE).collect(alloc)?)
+    Ok(
+        nested
+            .iter()
+            .copied()
+            .filter(|nested| nested.access == PRIVATE)
+            .collect(alloc)?,
+    )
 }
 
 fn private_methods(alloc: Global, methods: &[MethodCode]) -> Result<Vec<MethodCode>, NoMemory>
     ensures { IfOk result (λ found. found.items ≡ filter (λ (method : MethodCode). method.access == 2) methods.now) }
 {
-    Ok(methods.iter().copied().filter(|method| method.access == PRIVATE).collect(alloc)?)
+    Ok(
+        methods
+            .iter()
+            .copied()
+            .filter(|method| method.access == PRIVATE)
+            .collect(alloc)?,
+    )
 }

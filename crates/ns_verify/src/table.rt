@@ -1,14 +1,12 @@
 //! What each instruction does with operands, and where it goes on.
 
 ghost use Rattle.std.specs.Prelude.{◌≡◌, ◌≤◌, ◌<◌};
-ghost use Rattle.ns_code.specs.Fits.{InstrFits};
 ghost use Rattle.ns_verify.specs.Table as spec;
 
 use ns_code::instruction::Instr;
 
 /// How many operands it takes or reads.
 pub fn takes(instr: Instr) -> u32
-    requires { InstrFits instr }
     ensures takes { result ≡ spec.takes instr }
     ensures few { result ≤ 256 }
 {
@@ -16,9 +14,8 @@ pub fn takes(instr: Instr) -> u32
         Instr::MakeArray(count) => u32::from(count),
         Instr::Pick(depth) => u32::from(depth) + 1,
         Instr::Send { argc, .. } | Instr::SendInner { argc, .. } => u32::from(argc) + 1,
-        Instr::SendPrivate { argc, .. } | Instr::SendSuper { argc, .. } | Instr::InitSuper(argc) => {
-            u32::from(argc)
-        }
+        Instr::SendPrivate { argc, .. } | Instr::SendSuper { argc, .. } | Instr::InitSuper(argc) =>
+            { u32::from(argc) }
         Instr::StoreLocal { .. }
         | Instr::Pop
         | Instr::StoreSlot(_)
@@ -32,7 +29,6 @@ pub fn takes(instr: Instr) -> u32
 
 /// How many it leaves in their stead. What is only read is left again.
 pub fn leaves(instr: Instr) -> u32
-    requires { InstrFits instr }
     ensures leaves { result ≡ spec.leaves instr }
     ensures few { result ≤ 257 }
 {
@@ -53,8 +49,7 @@ pub fn leaves(instr: Instr) -> u32
 
 /// The height after it, from the height before.
 pub fn height_after(instr: Instr, height: u32) -> u32
-    requires instr { InstrFits instr }
-    requires height { height ≤ 65535 }
+    requires { height ≤ 65535 }
     ensures { result ≡ spec.height_after instr height }
 {
     height.saturating_sub(takes(instr)) + leaves(instr)

@@ -1,5 +1,5 @@
 use Rattle.std.proofs.Common.{slice_get}
-use Rattle.ns_verify.proofs.Selectors.{no_class_added, class_added}
+use Rattle.ns_verify.proofs.Selectors.{no_class_added}
 use Rattle.ns_verify.proofs.members.add_class_name.Goals as goal
 
 pub returns-in-None : goal.returns-in-None

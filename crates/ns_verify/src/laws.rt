@@ -1,0 +1,27 @@
+//! Laws of sound code. Each function does nothing, and its contract is the law.
+
+ghost use Rattle.std.specs.Prelude.{◌≡◌, ℕ, true, slice_get, Some};
+ghost use Rattle.ns_code.specs.declared.program.CodeProgram.{CodeProgram};
+ghost use Rattle.ns_code.specs.declared.body.BodyCode.{BodyCode};
+ghost use Rattle.ns_code.specs.declared.instruction.Instr.{Instr};
+ghost use Rattle.ns_code.specs.Soundness.{has_sound_classes, are_parents_earlier};
+ghost use Rattle.ns_verify.specs.Verify.{IsSound};
+ghost use Rattle.ns_verify.specs.Places.{HasNoCause, HeightsAgree};
+
+/// Code is sound exactly where no cause holds at any class or instruction.
+pub fn sound_code_has_no_cause()
+    ensures there { (code : CodeProgram) → IsSound code → HasNoCause code }
+    ensures back { (code : CodeProgram) → HasNoCause code → IsSound code }
+{}
+
+/// In sound code no class record has a fault, and each body's parent is a body of a smaller number.
+pub fn sound_code_is_in_order()
+    ensures classes { (code : CodeProgram) → IsSound code → has_sound_classes code ≡ true }
+    ensures parents { (code : CodeProgram) → IsSound code → are_parents_earlier 0 code.bodies ≡ true }
+{}
+
+/// In sound code each instruction has the operands that it takes, and the heights of those that it
+/// goes on to agree with the height after it.
+pub fn heights_agree()
+    ensures { (code : CodeProgram) (number at : ℕ) (body : BodyCode) (instr : Instr) → IsSound code → slice_get code.bodies number ≡ Some body → slice_get body.instrs at ≡ Some instr → HeightsAgree body at instr }
+{}
