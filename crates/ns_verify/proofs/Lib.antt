@@ -5,3 +5,5 @@ mod Places
 mod Order
 mod Agreeing
 mod Law
+mod LeastFits
+mod Examples

@@ -5,4 +5,5 @@ pub mod Members
 pub mod Causes
 pub mod Verify
 pub mod Counts
+pub mod Least
 pub mod Places

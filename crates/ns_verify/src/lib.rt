@@ -1,7 +1,11 @@
 //! The verifier: which code can be run without ever missing what an instruction needs.
 #![tactic(auto)]
 
+#[cfg(test)]
+mod body_tests;
 pub mod chains;
+#[cfg(test)]
+mod class_tests;
 pub mod classes;
 pub mod fault;
 pub mod faults;
@@ -14,7 +18,7 @@ pub mod privates;
 #[cfg(test)]
 mod sample;
 pub mod table;
-#[cfg(test)]
-mod tests;
 pub mod texts;
 pub mod verify;
+#[cfg(test)]
+mod verify_tests;

@@ -7,6 +7,8 @@
 ghost use Rattle.std.specs.Prelude.{◌≡◌, true};
 ghost use Rattle.ns_verify.specs.Counts.{HasFewParts};
 
+use crate::fault::Fault;
+use crate::faults::first_fault;
 use ns_base::items::Items;
 use ns_base::no_memory::NoMemory;
 use ns_base::selector::Sel;
@@ -143,7 +145,7 @@ pub const BLOCK: Body = Body {
     ..METHOD
 };
 
-pub const BODIES: [Body; 11] = [
+const BODIES: [Body; 11] = [
     Body {
         kind: 2,
         instrs: &[Instr::InitSuper(0), Instr::ReturnSelf],
@@ -189,8 +191,31 @@ pub const BODIES: [Body; 11] = [
     },
 ];
 
+/// The first fault of the sample with these classes and with another body in the place of one.
+pub fn fault(
+    alloc: Global,
+    classes: &[Class],
+    changed: u32,
+    body: Body,
+) -> Result<Option<Fault>, NoMemory> {
+    let code = program(alloc, classes, changed, body)?;
+    if !has_few_parts(&code) {
+        return Ok(None);
+    }
+    let fault = first_fault(alloc, &code)?;
+    Ok(fault)
+}
+
+/// The sample with other instructions in one body.
+pub fn with_instrs(number: u32, instrs: &'static [Instr]) -> Body {
+    match BODIES.get(number as usize) {
+        Some(body) => Body { instrs, ..*body },
+        None => Body { instrs, ..METHOD },
+    }
+}
+
 /// The program with these classes, and with this body in the place of the one of that number.
-pub fn program(
+fn program(
     alloc: Global,
     classes: &[Class],
     changed: u32,
@@ -257,7 +282,7 @@ fn body_code(alloc: Global, body: Body) -> Result<BodyCode, NoMemory> {
 }
 
 /// Whether code has few enough parts to be looked at.
-pub fn has_few_parts(code: &CodeProgram) -> bool
+fn has_few_parts(code: &CodeProgram) -> bool
     ensures { result ≡ true → HasFewParts code.now }
 {
     'bodies: for body in code.bodies.as_slice() {
