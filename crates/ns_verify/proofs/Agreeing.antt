@@ -8,7 +8,7 @@ use Rattle.std.proofs.lemmas.Bool.Decides.{nat_tests}
 use Rattle.ns_code.specs.declared.body.BodyCode.{BodyCode}
 use Rattle.ns_code.specs.declared.instruction.Instr.{Instr}
 use Rattle.ns_verify.specs.Table.{height_after, target, goes_on}
-use Rattle.ns_verify.specs.Heights.{Pass, begin, known_at, height_at, with_own, give_target, next, differs, falls_apart, known_beside, jumps_apart}
+use Rattle.ns_verify.specs.Heights.{Pass, begin, known_at, height_at, with_own, give_target, next, differs, falls_apart, known_beside, jumps_apart, heights_from, heights}
 use Rattle.ns_verify.specs.Places.{pass_on, pass_before, height_before}
 
 -- one instruction further
@@ -169,3 +169,17 @@ pub next_height : (body : BodyCode) (at : ℕ) (instr : Instr) → slice_get bod
 next_height body at instr there on apart =
     let falls : (pass_before body (suc at)).falls ≡ Some (height_after instr (height_before body at)) = rw (before_step body at instr there, on) refl in
     fallen (known_at (pass_before body (suc at)).known (suc at)) (pass_before body (suc at)).falls (height_after instr (height_before body at)) falls apart
+
+heights_on : (pass : Pass) (number : ℕ) (instrs : List Instr) (i : ℕ) (instr : Instr) → slice_get instrs i ≡ Some instr →
+    slice_get (heights_from pass number instrs) i ≡ Some (height_at (pass_on pass number instrs i) (number + i))
+heights_on pass number [] i instr there = absurd cc
+heights_on pass number (first ∷ instrs) zero instr there = let at : number + 0 ≡ number = omega arith in rw at refl
+heights_on pass number (first ∷ instrs) (suc i) instr there =
+    let on : number + suc i ≡ (number + 1) + i = omega arith in
+    rw on (heights_on (next pass number first) (number + 1) instrs i instr there)
+
+-- The list of a body's heights has the height before each instruction.
+pub heights_list : (body : BodyCode) (at : ℕ) (instr : Instr) → slice_get body.instrs at ≡ Some instr → slice_get (heights body) at ≡ Some (height_before body at)
+heights_list body at instr there =
+    let here : 0 + at ≡ at = omega arith in
+    heights_on (begin (length body.instrs)) 0 body.instrs at instr there ∙ rw here refl

@@ -7,3 +7,5 @@ mod Agreeing
 mod Law
 mod LeastFits
 mod Examples
+mod Used
+mod Usable

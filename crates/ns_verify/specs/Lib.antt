@@ -7,3 +7,4 @@ pub mod Verify
 pub mod Counts
 pub mod Least
 pub mod Places
+pub mod Uses

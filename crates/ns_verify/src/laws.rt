@@ -5,8 +5,10 @@ ghost use Rattle.ns_code.specs.declared.program.CodeProgram.{CodeProgram};
 ghost use Rattle.ns_code.specs.declared.body.BodyCode.{BodyCode};
 ghost use Rattle.ns_code.specs.declared.instruction.Instr.{Instr};
 ghost use Rattle.ns_code.specs.Soundness.{has_sound_classes, are_parents_earlier};
+ghost use Rattle.ns_verify.specs.Heights.{heights};
 ghost use Rattle.ns_verify.specs.Verify.{IsSound};
-ghost use Rattle.ns_verify.specs.Places.{HasNoCause, HeightsAgree};
+ghost use Rattle.ns_verify.specs.Places.{HasNoCause, HeightsAgree, height_before};
+ghost use Rattle.ns_verify.specs.Uses.{IsUsable, StandsRight};
 
 /// Code is sound exactly where no cause holds at any class or instruction.
 pub fn sound_code_has_no_cause()
@@ -20,8 +22,22 @@ pub fn sound_code_is_in_order()
     ensures parents { (code : CodeProgram) → IsSound code → are_parents_earlier 0 code.bodies ≡ true }
 {}
 
-/// In sound code each instruction has the operands that it takes, and the heights of those that it
-/// goes on to agree with the height after it.
+/// The heights of a body are those that its instructions are met with. In sound code each instruction
+/// has the operands that it takes, and the heights of those that it goes on to agree with the height
+/// after it.
 pub fn heights_agree()
-    ensures { (code : CodeProgram) (number at : ℕ) (body : BodyCode) (instr : Instr) → IsSound code → slice_get code.bodies number ≡ Some body → slice_get body.instrs at ≡ Some instr → HeightsAgree body at instr }
+    ensures heights { (body : BodyCode) (at : ℕ) (instr : Instr) → slice_get body.instrs at ≡ Some instr → slice_get (heights body) at ≡ Some (height_before body at) }
+    ensures agree { (code : CodeProgram) (number at : ℕ) (body : BodyCode) (instr : Instr) → IsSound code → slice_get code.bodies number ≡ Some body → slice_get body.instrs at ≡ Some instr → HeightsAgree body at instr }
+{}
+
+/// In sound code each body's class is there, and a block stands in an earlier body of its class and
+/// side, which has an environment for it.
+pub fn sound_bodies_stand_right()
+    ensures { (code : CodeProgram) (number : ℕ) (body : BodyCode) → IsSound code → slice_get code.bodies number ≡ Some body → StandsRight code number body }
+{}
+
+/// In sound code what an instruction names is there, and the instruction stands in a body in which it
+/// can be used.
+pub fn sound_instructions_are_usable()
+    ensures { (code : CodeProgram) (number at : ℕ) (body : BodyCode) (instr : Instr) → IsSound code → slice_get code.bodies number ≡ Some body → slice_get body.instrs at ≡ Some instr → IsUsable code number body at instr }
 {}
