@@ -1,8 +1,7 @@
 -- What each instruction of sound code can rely on.
-use Rattle.std.proofs.Common.{◌≡◌, ℕ, ◌<◌, length, slice_get, Option, Some, None, Bool, true, false, not, ◌&&◌, ◌||◌, ◌==◌, refl, arith, subst}
-use Rattle.std.specs.Option.{option_map_or, is_none}
+use Rattle.std.proofs.Common.{◌≡◌, ℕ, ◌<◌, length, slice_get, Some, false, not, ◌&&◌, ◌==◌, subst}
+use Rattle.std.specs.Option.{option_map_or}
 use Rattle.std.proofs.lemmas.Option.{slice_get_within}
-use Rattle.std.proofs.lemmas.Bool.Decides.{nat_tests}
 use Rattle.ns_code.specs.declared.program.CodeProgram.{CodeProgram}
 use Rattle.ns_code.specs.declared.class.ClassCode.{ClassCode}
 use Rattle.ns_code.specs.declared.body.BodyCode.{BodyCode}
@@ -25,9 +24,12 @@ start_used code none body argc class h =
     let literal = not_this (has_bad_literal code declared.0) BadLiteral _ (nor_others (has_bad_scope code body.class declared.0) BadScope _ (none.classes body.class declared.0 declared.1)) in
     let named = or_left (not (is_name code declared.0.super_sel)) _ (or_right (not (is_name code declared.0.factory)) _ (or_right (not (is_identifier_name code declared.0.name)) _ literal)) in
     let told : (is_name code declared.0.super_sel && not (argc == selector_arity code declared.0.super_sel.0)) ≡ false =
-        subst (λ o. option_map_or (λ (one : ClassCode). is_name code one.super_sel && not (argc == selector_arity code one.super_sel.0)) o false ≡ false) declared.1 h in
-    (declared.0, declared.1, below declared.0.super_sel.0 (length code.names) named,
-    equal argc (selector_arity code declared.0.super_sel.0) (and_second (is_name code declared.0.super_sel) _ told (not_false (is_name code declared.0.super_sel) named)))
+    subst (λ o. option_map_or (λ (one : ClassCode). is_name code one.super_sel && not (argc == selector_arity code one.super_sel.0)) o false ≡ false) declared.1 h in (
+      declared.0,
+      declared.1,
+      below declared.0.super_sel.0 (length code.names) named,
+      equal argc (selector_arity code declared.0.super_sel.0) (and_second (is_name code declared.0.super_sel) _ told (not_false (is_name code declared.0.super_sel) named)),
+    )
 
 uses : (code : CodeProgram) (none : HasNoCause code) (number at : ℕ) (body : BodyCode) → StandsRight code number body → number < length code.bodies →
     (instr : Instr) → has_bad_slot code number body instr ≡ false → has_bad_use code number body (home_of code number body) (pass_before body at).started instr ≡ false → has_bad_name code body instr ≡ false →

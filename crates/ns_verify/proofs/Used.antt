@@ -1,24 +1,22 @@
 -- What sound code can rely on.
-use Rattle.std.proofs.Common.{◌≡◌, ◌≢◌, ℕ, zero, suc, ◌+◌, ◌≤◌, ◌<◌, List, [], ◌∷◌, length, slice_get, Option, Some, None, Bool, true, false, not, ◌&&◌, ◌||◌, ◌==◌, nat_lt, refl, sym, ap, ◌∙◌, arith, subst, if◌then◌else◌}
+use Rattle.std.proofs.Common.{◌≡◌, ◌≢◌, ℕ, zero, suc, ◌≤◌, ◌<◌, List, [], ◌∷◌, length, slice_get, Option, Some, None, Bool, true, false, not, ◌&&◌, ◌==◌, nat_lt, refl, ap, ◌∙◌, arith, subst, if◌then◌else◌}
 use Rattle.std.specs.Option.{option_map_or, option_and_then, is_some, is_none}
 use Rattle.std.specs.List.{list_any}
 use Rattle.std.specs.Str.{bytes_eq}
-use Rattle.std.proofs.lemmas.Option.{slice_get_within}
 use Rattle.std.proofs.lemmas.Bool.Decides.{nat_tests}
 use Rattle.ns_base.specs.declared.selector.Sel.{Sel}
 use Rattle.ns_code.specs.declared.program.CodeProgram.{CodeProgram}
 use Rattle.ns_code.specs.declared.class.ClassCode.{ClassCode}
 use Rattle.ns_code.specs.declared.body.BodyCode.{BodyCode}
-use Rattle.ns_code.specs.declared.instruction.Instr.{Instr}
 use Rattle.ns_code.specs.Selector.{selector_arity, selector_text}
-use Rattle.ns_code.specs.Soundness.{block_kind, initialiser_kind, method_kind, clause_kind, is_name, has_place, has_bodies, has_nested, has_params, are_different, instance_selectors, side_selectors, has_bad_scope}
+use Rattle.ns_code.specs.Soundness.{block_kind, is_name, has_place, has_bodies, has_nested, has_params, are_different, instance_selectors, side_selectors, has_bad_scope}
 use Rattle.ns_verify.specs.declared.fault.VerifyCause.TheVariants.{BadScope}
 use Rattle.ns_verify.specs.Chains.{outer_of, declaration_at, around, body_around, body_at}
-use Rattle.ns_verify.specs.Causes.{is_no_slot, is_no_local, lacks_local, is_no_level, is_no_private, lacks_private, private_side, is_block_in, holds_block, is_misplaced, has_bad_head, is_bad_send, is_bad_start}
+use Rattle.ns_verify.specs.Causes.{is_no_slot, is_no_local, lacks_local, is_no_level, is_no_private, lacks_private, private_side, is_block_in, holds_block, is_misplaced, has_bad_head, is_bad_send}
 use Rattle.ns_verify.specs.Members.{private_selectors}
 use Rattle.ns_verify.specs.Verify.{class_cause}
 use Rattle.ns_verify.specs.Places.{HasNoCause}
-use Rattle.ns_verify.specs.Uses.{HasLevel, HasLocal, HasBlock, IsSendOf, HasPrivate, HasSlot, IsStartOf, StandsInside, StandsRight}
+use Rattle.ns_verify.specs.Uses.{HasLevel, HasLocal, HasBlock, IsSendOf, HasPrivate, HasSlot, StandsRight}
 use Rattle.ns_verify.proofs.Order.{not_this, or_left, or_right}
 
 pub below : (a b : ℕ) → not (nat_lt a b) ≡ false → a < b
@@ -86,6 +84,7 @@ body_there code (suc hops) number out h e = step (body_at code hops number) e (�
     inner : (mid : ℕ) (found : Option BodyCode) → slice_get code.bodies mid ≡ found → mid < length code.bodies → option_and_then (around mid) found ≡ Some out → out < length code.bodies
     inner mid None e low h = absurd cc
     inner mid (Some body) e low h = let told = around_below (body.kind == block_kind) body.parent mid out h in let first = told.2 in omega arith
+
     step : (o : Option ℕ) → option_and_then (body_around code) o ≡ Some out → ((mid : ℕ) → body_at code hops number ≡ Some mid → mid < length code.bodies) → body_at code hops number ≡ o → out < length code.bodies
     step None e low is = absurd cc
     step (Some mid) e low is = inner mid (slice_get code.bodies mid) refl (low mid is) e
@@ -109,6 +108,7 @@ declaration_there code none (suc level) number out h e = step (declaration_at co
     inner : (mid : ℕ) (found : Option ClassCode) → slice_get code.classes mid ≡ found → mid < length code.classes → option_and_then (λ (class : ClassCode). class.outer) found ≡ Some out → out < length code.classes
     inner mid None e low h = absurd cc
     inner mid (Some class) e low h = let first = outer_earlier mid out class (place_told code mid class (none.classes mid class e)) h in omega arith
+
     step : (o : Option ℕ) → option_and_then (outer_of code) o ≡ Some out → ((mid : ℕ) → declaration_at code level number ≡ Some mid → mid < length code.classes) → declaration_at code level number ≡ o → out < length code.classes
     step None e low is = absurd cc
     step (Some mid) e low is = inner mid (slice_get code.classes mid) refl (low mid is) e
@@ -144,11 +144,15 @@ private_used code none body level sel class named level_there h =
     let found = level_used code none body level class level_there in
     let test : is_name code sel ≡ true = grind (arith, nat_tests) in
     let lacks : lacks_private code (private_side body level) sel found.0 ≡ false =
-        subst (λ o. option_map_or (lacks_private code (private_side body level) sel) o false ≡ false) found.1 (and_second (is_name code sel) _ h test) in
-    let declared = there ClassCode code.classes found.0 found.2 in
-    (found.0, declared.0, found.1, declared.1,
-    not_false (list_any (bytes_eq (selector_text code sel.0)) (private_selectors code (private_side body level) declared.0))
-    (subst (λ o. option_map_or (λ (one : ClassCode). not (list_any (bytes_eq (selector_text code sel.0)) (private_selectors code (private_side body level) one))) o false ≡ false) declared.1 lacks))
+    subst (λ o. option_map_or (lacks_private code (private_side body level) sel) o false ≡ false) found.1 (and_second (is_name code sel) _ h test) in
+    let declared = there ClassCode code.classes found.0 found.2 in (
+      found.0,
+      declared.0,
+      found.1,
+      declared.1,
+      not_false (list_any (bytes_eq (selector_text code sel.0)) (private_selectors code (private_side body level) declared.0))
+          (subst (λ o. option_map_or (λ (one : ClassCode). not (list_any (bytes_eq (selector_text code sel.0)) (private_selectors code (private_side body level) one))) o false ≡ false) declared.1 lacks),
+    )
 
 pub slot_used : (code : CodeProgram) (body : BodyCode) (slot : ℕ) → body.class < length code.classes → is_no_slot code body.class slot ≡ false → HasSlot code body slot
 slot_used code body slot class h =
@@ -166,18 +170,18 @@ head_right code number body h =
       params = at_most body.locals body.params (or_left (nat_lt body.locals body.params) _ counts);
       height = at_most 1023 body.height (or_right (nat_lt body.locals body.params) _ counts);
       block = λ is_block.
-        let test : (body.kind == block_kind) ≡ true = grind (arith, nat_tests) in
-        let held : not (option_map_or (holds_block code body) (around number body) false) ≡ false =
-            subst (λ b. (if b then not (option_map_or (holds_block code body) (around number body) false) else is_some body.parent) ≡ false) test placed in
-        let parent = mapped_told ℕ (holds_block code body) (around number body) (not_false (option_map_or (holds_block code body) (around number body) false) held) in
-        let low = around_below (body.kind == block_kind) body.parent number parent.0 parent.1 in
-        let holder = mapped_told BodyCode (λ (parent : BodyCode). parent.class == body.class && parent.side == body.side && parent.environment) (slice_get code.bodies parent.0) parent.2 in
-        let same = and_left (holder.0.class == body.class && holder.0.side == body.side) holder.0.environment holder.2 in
-        (parent.0, holder.0, low.1, low.2, holder.1, equal_told holder.0.class body.class (and_left (holder.0.class == body.class) _ same), equal_told holder.0.side body.side (and_right (holder.0.class == body.class) _ same), and_right (holder.0.class == body.class && holder.0.side == body.side) _ holder.2);
+          let test : (body.kind == block_kind) ≡ true = grind (arith, nat_tests) in
+          let held : not (option_map_or (holds_block code body) (around number body) false) ≡ false =
+          subst (λ b. (if b then not (option_map_or (holds_block code body) (around number body) false) else is_some body.parent) ≡ false) test placed in
+          let parent = mapped_told ℕ (holds_block code body) (around number body) (not_false (option_map_or (holds_block code body) (around number body) false) held) in
+          let low = around_below (body.kind == block_kind) body.parent number parent.0 parent.1 in
+          let holder = mapped_told BodyCode (λ (parent : BodyCode). parent.class == body.class && parent.side == body.side && parent.environment) (slice_get code.bodies parent.0) parent.2 in
+          let same = and_left (holder.0.class == body.class && holder.0.side == body.side) holder.0.environment holder.2 in
+          (parent.0, holder.0, low.1, low.2, holder.1, equal_told holder.0.class body.class (and_left (holder.0.class == body.class) _ same), equal_told holder.0.side body.side (and_right (holder.0.class == body.class) _ same), and_right (holder.0.class == body.class && holder.0.side == body.side) _ holder.2);
       alone = λ not_block.
-        let test : (body.kind == block_kind) ≡ false = grind (arith, nat_tests) in
-        let none : is_some body.parent ≡ false = subst (λ b. (if b then not (option_map_or (holds_block code body) (around number body) false) else is_some body.parent) ≡ false) test placed in
-        nothing body.parent none;
+          let test : (body.kind == block_kind) ≡ false = grind (arith, nat_tests) in
+          let none : is_some body.parent ≡ false = subst (λ b. (if b then not (option_map_or (holds_block code body) (around number body) false) else is_some body.parent) ≡ false) test placed in
+          nothing body.parent none;
     }
   where
     nothing : (o : Option ℕ) → is_some o ≡ false → o ≡ None

@@ -4,13 +4,11 @@ ghost use Rattle.std.specs.Prelude.{◌≡◌, ◌≤◌, [], IfOk, length};
 ghost use Rattle.std.specs.List.{slice_index_or};
 ghost use Rattle.ns_verify.specs.Chains as spec;
 
+use crate::kinds::BLOCK;
 use ns_base::no_memory::NoMemory;
 use ns_code::body::BodyCode;
 use ns_code::program::CodeProgram;
 use std::alloc::Global;
-
-/// The kind of a block's body.
-pub const BLOCK: u8 = 1;
 
 /// The declaration around a class, if there is one.
 fn outer_of(code: &CodeProgram, number: u32) -> Option<u32>

@@ -10,6 +10,7 @@ ghost use Rattle.ns_code.specs.Soundness as spec;
 ghost use Rattle.ns_verify.specs.Verify as own;
 
 use crate::fault::VerifyCause;
+use crate::kinds::{CLASS, CLAUSE, INITIALISER, INSTANCES, METHOD};
 use crate::members::{instance_selectors, side_selectors};
 use crate::names::{has_params_of, is_identifier_name, is_name};
 use crate::texts::are_different;
@@ -17,17 +18,6 @@ use ns_base::no_memory::NoMemory;
 use ns_code::class::{ClassCode, MethodCode, NestedCode, SlotCode};
 use ns_code::program::CodeProgram;
 use std::alloc::Global;
-
-/// The kind of a method's body.
-pub const METHOD: u8 = 0;
-/// The kind of an initialiser's body.
-pub const INITIALISER: u8 = 2;
-/// The kind of a clause's body.
-pub const CLAUSE: u8 = 3;
-/// The side of instances.
-pub const INSTANCES: u8 = 0;
-/// The side of the class.
-pub const CLASS: u8 = 1;
 
 /// The first cause that holds of a class.
 pub fn class_cause(

@@ -148,7 +148,7 @@ fn instrs_fault(
                     at: Where::Body(number, at),
                 }));
             }
-            None => pass.pass(at, *instr),
+            None => pass.advance(at, *instr),
         }
         at += 1;
     }

@@ -93,7 +93,7 @@ impl Pass {
 
     /// Passes the instruction of that number, which gives the height after it to its target, and to
     /// the next one if it goes on.
-    pub fn pass(&mut self, number: u32, instr: Instr)
+    pub fn advance(&mut self, number: u32, instr: Instr)
         requires { spec.height_at self.old number ≤ 65535 }
         ensures { self.new ≡ spec.next self.old number instr }
     {

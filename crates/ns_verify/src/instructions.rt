@@ -5,10 +5,10 @@ ghost use Rattle.ns_verify.specs.Causes as spec;
 ghost use Rattle.ns_verify.specs.Heights as heights;
 ghost use Rattle.ns_verify.specs.Members as members;
 
-use crate::chains::{BLOCK, around, body_at, declaration_at};
-use crate::classes::{CLAUSE, INITIALISER, INSTANCES, METHOD};
+use crate::chains::{around, body_at, declaration_at};
 use crate::fault::VerifyCause;
 use crate::heights::Pass;
+use crate::kinds::{BLOCK, CLAUSE, INITIALISER, INSTANCES, METHOD};
 use crate::names::is_name;
 use crate::privates::Privates;
 use crate::table::{ends_wrongly, goes_on, takes, target};

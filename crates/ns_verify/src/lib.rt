@@ -11,6 +11,7 @@ pub mod fault;
 pub mod faults;
 pub mod heights;
 pub mod instructions;
+pub mod kinds;
 pub mod laws;
 pub mod members;
 pub mod names;

@@ -8,6 +8,7 @@ ghost use Rattle.ns_code.specs.declared.class.SlotCode.{SlotCode};
 ghost use Rattle.ns_code.specs.Soundness as spec;
 ghost use Rattle.ns_verify.specs.Members as own;
 
+use crate::kinds::PRIVATE;
 use crate::names::name_text;
 use ns_base::no_memory::NoMemory;
 use ns_base::selector::Sel;
@@ -15,9 +16,6 @@ use ns_base::text::Text;
 use ns_code::class::{ClassCode, MethodCode, NestedCode, SlotCode};
 use ns_code::program::CodeProgram;
 use std::alloc::Global;
-
-/// The access of private members.
-const PRIVATE: u8 = 2;
 
 /// The selectors of slots, nested classes and methods.
 fn selectors_of(

@@ -7,6 +7,7 @@ ghost use Rattle.ns_code.specs.declared.class.ClassCode.{ClassCode};
 ghost use Rattle.ns_code.specs.declared.program.CodeProgram.{CodeProgram};
 ghost use Rattle.ns_verify.specs.Members as spec;
 
+use crate::kinds::INSTANCES;
 use crate::members::{private_instance_selectors, private_side_selectors};
 use crate::texts::Texts;
 use ns_base::no_memory::NoMemory;
@@ -38,7 +39,7 @@ impl Privates {
     pub fn has(&self, side: u8, selector: &[u8]) -> bool
         ensures { (code : CodeProgram) (class : ClassCode) → self.now ≡ spec.privates_of code class → result ≡ list_any (bytes_eq selector.now) (spec.private_selectors code side class) }
     {
-        if side == 0 {
+        if side == INSTANCES {
             self.instance.has(selector)
         } else {
             self.side.has(selector)
