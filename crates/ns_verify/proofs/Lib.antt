@@ -9,3 +9,4 @@ mod LeastFits
 mod Examples
 mod Used
 mod Usable
+mod Homes

@@ -65,7 +65,7 @@ there X (x ∷ xs) (suc i) h = there X xs i (omega arith)
 
 -- of a body around another
 
-around_below : (block : Bool) (parent : Option ℕ) (number out : ℕ) →
+pub around_below : (block : Bool) (parent : Option ℕ) (number out : ℕ) →
     (if block then option_and_then (λ parent. if nat_lt parent number then Some parent else None) parent else None) ≡ Some out →
     (block ≡ true) × (parent ≡ Some out) × (out < number)
 around_below false parent number out h = absurd cc

@@ -1,13 +1,14 @@
 //! Laws of sound code. Each function does nothing, and its contract is the law.
 
-ghost use Rattle.std.specs.Prelude.{◌≡◌, ℕ, true, slice_get, Some};
+ghost use Rattle.std.specs.Prelude.{◌≡◌, ℕ, true, slice_get, None, Some};
 ghost use Rattle.ns_code.specs.declared.program.CodeProgram.{CodeProgram};
 ghost use Rattle.ns_code.specs.declared.body.BodyCode.{BodyCode};
 ghost use Rattle.ns_code.specs.declared.instruction.Instr.{Instr};
 ghost use Rattle.ns_code.specs.Soundness.{has_sound_classes, are_parents_earlier};
+ghost use Rattle.ns_verify.specs.Chains.{around};
 ghost use Rattle.ns_verify.specs.Heights.{heights};
 ghost use Rattle.ns_verify.specs.Verify.{IsSound};
-ghost use Rattle.ns_verify.specs.Places.{HasNoCause, HeightsAgree, height_before};
+ghost use Rattle.ns_verify.specs.Places.{HasNoCause, HeightsAgree, height_before, home_of};
 ghost use Rattle.ns_verify.specs.Uses.{IsUsable, StandsRight};
 
 /// Code is sound exactly where no cause holds at any class or instruction.
@@ -28,6 +29,13 @@ pub fn sound_code_is_in_order()
 pub fn heights_agree()
     ensures heights { (body : BodyCode) (at : ℕ) (instr : Instr) → slice_get body.instrs at ≡ Some instr → slice_get (heights body) at ≡ Some (height_before body at) }
     ensures agree { (code : CodeProgram) (number at : ℕ) (body : BodyCode) (instr : Instr) → IsSound code → slice_get code.bodies number ≡ Some body → slice_get body.instrs at ≡ Some instr → HeightsAgree body at instr }
+{}
+
+/// A block's outermost body is of the kind of that of the body in which it stands; where a body stands
+/// in no other, it is its own.
+pub fn homes_are_outermost()
+    ensures inside { (code : CodeProgram) (number parent : ℕ) (body holder : BodyCode) → slice_get code.bodies number ≡ Some body → around number body ≡ Some parent → slice_get code.bodies parent ≡ Some holder → home_of code number body ≡ home_of code parent holder }
+    ensures outermost { (code : CodeProgram) (number : ℕ) (body : BodyCode) → slice_get code.bodies number ≡ Some body → around number body ≡ None → home_of code number body ≡ body.kind }
 {}
 
 /// In sound code each body's class is there, and a block stands in an earlier body of its class and
