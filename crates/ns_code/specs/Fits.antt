@@ -1,8 +1,9 @@
 -- Which code has an image: each number fits its field, and each field is one that an image may hold.
-use Rattle.std.specs.Prelude.{◌≡◌, ◌≢◌, ℕ, ◌-◌, ◌<◌, ◌≤◌, ◌^◌, List, length, All, IsTrue, not, ◌&&◌}
+use Rattle.std.specs.Prelude.{◌≡◌, ◌≢◌, ℕ, ◌-◌, ◌<◌, ◌≤◌, ◌^◌, List, length, All, IsTrue, not, ◌&&◌, FitsSigned}
 use Rattle.std.specs.Option.{ForSome}
 use Rattle.std.specs.List.{AllPairs, slice_index_or}
 use Rattle.std.specs.Str.{IsUtf8}
+use Rattle.std.specs.Int.{w64}
 use Rattle.ns_base.specs.declared.place.Place.{Place}
 use Rattle.ns_code.specs.declared.program.CodeProgram.{CodeProgram}
 use Rattle.ns_code.specs.declared.class.ClassCode.{ClassCode}
@@ -11,7 +12,7 @@ use Rattle.ns_code.specs.declared.class.NestedCode.{NestedCode}
 use Rattle.ns_code.specs.declared.class.MethodCode.{MethodCode}
 use Rattle.ns_code.specs.declared.body.BodyCode.{BodyCode}
 use Rattle.ns_code.specs.declared.instruction.Instr.{Instr}
-use Rattle.ns_code.specs.declared.instruction.Instr.TheVariants.{PushSym, PushText, PushOuter, PushLocal, StoreLocal, PushBlock, MakeArray, Pick, Send, SendInner, SendPrivate, SendSuper, InitSuper, StoreSlot, Jump, JumpFalse, JumpTrue}
+use Rattle.ns_code.specs.declared.instruction.Instr.TheVariants.{PushInt, PushSym, PushText, PushOuter, PushLocal, StoreLocal, PushBlock, MakeArray, Pick, Send, SendInner, SendPrivate, SendSuper, InitSuper, StoreSlot, Jump, JumpFalse, JumpTrue}
 use Rattle.ns_code.specs.Spelling.{is_selector, is_identifier, is_reserved}
 
 -- a number of one, two or four bytes
@@ -81,6 +82,7 @@ pub record ClassFits (class : ClassCode) : Type 0 where
 
 -- The operands of an instruction fit their fields.
 abbrev pub InstrFits : Instr → Type 0
+InstrFits (PushInt n) = FitsSigned w64 n
 InstrFits (PushSym sel) = IsWord sel.0
 InstrFits (PushText text) = IsWord text
 InstrFits (PushOuter level) = IsByte level

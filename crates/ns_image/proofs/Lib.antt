@@ -1,0 +1,13 @@
+pub mod Loop
+pub mod Instructions
+pub mod Numbered
+pub mod Room
+pub mod Format
+pub mod Fields
+pub mod Records
+pub mod Texts
+pub mod Places
+pub mod Bodies
+pub mod Programs
+pub mod Images
+pub mod Examples

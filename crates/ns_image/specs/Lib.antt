@@ -1,0 +1,7 @@
+pub mod Bytes
+pub mod Read
+pub mod Reads
+pub mod Reading
+pub mod Fault
+pub mod Room
+pub mod Listing

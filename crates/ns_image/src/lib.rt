@@ -1,0 +1,11 @@
+//! The bytes of compiled code, both ways, and its listing.
+#![tactic(auto)]
+
+pub mod fault;
+pub mod laws;
+pub mod list;
+pub mod read;
+pub mod spelling;
+#[cfg(test)]
+mod tests;
+pub mod write;

@@ -1,0 +1,142 @@
+//! Code from the bytes of an image.
+
+ghost use Rattle.std.specs.Prelude.{◌≡◌, IfOk};
+ghost use Rattle.ns_code.specs.Fits.{Fits};
+ghost use Rattle.ns_image.specs.Read.{half};
+ghost use Rattle.ns_image.specs.Reading as spec;
+ghost use Rattle.ns_image.specs.Reads.{Answers, Reads};
+
+use crate::fault::{Fault, ImageFault};
+use crate::read::body::{Body, OldBody};
+use crate::read::class::Class;
+use crate::read::format::{times, up_to};
+use crate::read::input::Input;
+use crate::read::text::{FileName, Literal, names};
+use ns_base::items::Items;
+use ns_base::text::Text;
+use ns_code::program::CodeProgram;
+use std::alloc::Global;
+
+pub mod body;
+pub mod class;
+pub mod format;
+pub mod input;
+pub mod instruction;
+pub mod place;
+pub mod text;
+
+/// How many files, classes and bodies an image has at most.
+const MOST_FILES: u32 = 17;
+
+const MOST_CLASSES: u32 = 4_096;
+
+const MOST_BODIES: u32 = 65_536;
+
+/// The code of an image of version 1 or 2, or the first fault that is met from left to right. In
+/// code of version 1 no file is named, no instruction has a place, and locals have numbers for
+/// names.
+pub fn read(alloc: Global, bytes: &[u8]) -> Result<CodeProgram, ImageFault>
+    ensures exact { Answers (spec.read_image bytes.now) result }
+    ensures fits { IfOk result Fits }
+{
+    read_image(alloc, bytes)
+}
+
+#[tactic(auto, unfolding(crate::specs::Reading::read_image))]
+fn read_image(alloc: Global, bytes: &[u8]) -> Result<CodeProgram, ImageFault>
+    ensures { Answers (spec.read_image bytes.now) result }
+{
+    if !bytes.starts_with(b"NSPK") {
+        return Err(ImageFault::NotAnImage);
+    }
+    read_version(alloc, bytes.len(), &bytes[4..])
+}
+
+/// What follows the mark in an image of so many bytes.
+fn read_version(alloc: Global, size: usize, rest: &[u8]) -> Result<CodeProgram, ImageFault>
+    ensures { Answers (spec.versioned size (half rest.now)) result }
+{
+    let mut input = Input { rest };
+    match input.half() {
+        Err(fault) => Err(fault.in_image(size)),
+        Ok(1) => read_old(alloc, size, input.rest),
+        Ok(2) => read_new(alloc, size, input.rest),
+        Ok(_) => Err(ImageFault::BadVersion),
+    }
+}
+
+/// What follows the version 2 in an image of so many bytes.
+fn read_new(alloc: Global, size: usize, rest: &[u8]) -> Result<CodeProgram, ImageFault>
+    ensures { Answers (spec.answer size (spec.program rest.now)) result }
+{
+    let mut input = Input { rest };
+    match program(alloc, &mut input) {
+        Err(fault) => Err(fault.in_image(size)),
+        Ok(code) => ended(code, input.rest),
+    }
+}
+
+/// What follows the version 1 in an image of so many bytes.
+fn read_old(alloc: Global, size: usize, rest: &[u8]) -> Result<CodeProgram, ImageFault>
+    ensures { Answers (spec.answer size (spec.old_program rest.now)) result }
+{
+    let mut input = Input { rest };
+    match old_program(alloc, &mut input) {
+        Err(fault) => Err(fault.in_image(size)),
+        Ok(code) => ended(code, input.rest),
+    }
+}
+
+/// The code, where no bytes follow.
+fn ended(code: CodeProgram, rest: &[u8]) -> Result<CodeProgram, ImageFault>
+    ensures { Answers (spec.ended code rest.now) result }
+{
+    match rest {
+        [] => Ok(code),
+        [_, ..] => Err(ImageFault::Trailing),
+    }
+}
+
+#[tactic(auto, unfolding(crate::specs::Reading::program))]
+fn program(alloc: Global, input: &mut Input<'_>) -> Result<CodeProgram, Fault>
+    ensures { Reads (spec.program input.old.rest.now) result input.new.rest.now }
+{
+    let files = up_to(alloc, input, &FileName, MOST_FILES)?;
+    let names = names(alloc, input)?;
+    let texts = texts(alloc, input)?;
+    let classes = up_to(alloc, input, &Class, MOST_CLASSES)?;
+    let body = Body { files: files.len() };
+    let bodies = up_to(alloc, input, &body, MOST_BODIES)?;
+    Ok(CodeProgram {
+        files,
+        names,
+        texts,
+        classes,
+        bodies,
+    })
+}
+
+#[tactic(auto, unfolding(crate::specs::Reading::old_program))]
+fn old_program(alloc: Global, input: &mut Input<'_>) -> Result<CodeProgram, Fault>
+    ensures { Reads (spec.old_program input.old.rest.now) result input.new.rest.now }
+{
+    let names = names(alloc, input)?;
+    let texts = texts(alloc, input)?;
+    let classes = up_to(alloc, input, &Class, MOST_CLASSES)?;
+    let bodies = up_to(alloc, input, &OldBody, MOST_BODIES)?;
+    Ok(CodeProgram {
+        files: Items::from_vec(Vec::new(alloc)),
+        names,
+        texts,
+        classes,
+        bodies,
+    })
+}
+
+fn texts(alloc: Global, input: &mut Input<'_>) -> Result<Items<Text>, Fault>
+    ensures { Reads (spec.texts input.old.rest.now) result input.new.rest.now }
+{
+    let count = input.word()?;
+    let texts = times(alloc, input, &Literal, count)?;
+    Ok(texts)
+}

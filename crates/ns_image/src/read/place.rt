@@ -1,0 +1,126 @@
+//! Places of instructions.
+
+ghost use Rattle.std.specs.Prelude.{◌≡◌};
+ghost use Rattle.ns_image.specs.Read as fields;
+ghost use Rattle.ns_image.specs.Reading as spec;
+ghost use Rattle.ns_image.specs.Reads.{Reads};
+
+use crate::fault::Fault;
+use crate::read::input::Input;
+use ns_base::items::Items;
+use ns_base::place::Place;
+use ns_code::instruction::Instr;
+use std::alloc::Global;
+
+/// Whether an instruction carries a place: a send, or the start of a superclass part.
+fn carries_place(instr: Instr) -> bool
+    ensures { result ≡ spec.carries_place instr }
+{
+    match instr {
+        Instr::Send { .. } => true,
+        Instr::SendInner { .. } => true,
+        Instr::SendPrivate { .. } => true,
+        Instr::SendSuper { .. } => true,
+        Instr::InitSuper(_) => true,
+        _ => false,
+    }
+}
+
+/// Whether the instruction of that number carries a place.
+fn is_carrier(instrs: &[Instr], number: u32) -> bool
+    ensures { result ≡ spec.is_carrier instrs.now number }
+{
+    match instrs.get(number as usize) {
+        None => false,
+        Some(instr) => carries_place(*instr),
+    }
+}
+
+/// The number of an instruction that carries a place, and at least this one.
+fn carrier(input: &mut Input<'_>, instrs: &[Instr], least: u64) -> Result<u32, Fault>
+    ensures { Reads (spec.carrier instrs.now least input.old.rest.now) result input.new.rest.now }
+{
+    let left = input.rest.len();
+    let number = input.word()?;
+    if u64::from(number) < least {
+        return Err(Fault::Bad(left));
+    }
+    if !is_carrier(instrs, number) {
+        return Err(Fault::Bad(left));
+    }
+    Ok(number)
+}
+
+/// A number below that of the files.
+fn file(input: &mut Input<'_>, files: usize) -> Result<u32, Fault>
+    ensures { Reads (spec.file files input.old.rest.now) result input.new.rest.now }
+{
+    let left = input.rest.len();
+    let number = input.word()?;
+    if number as usize >= files {
+        return Err(Fault::Bad(left));
+    }
+    Ok(number)
+}
+
+/// A line or a column, which are counted from 1.
+fn from_one(input: &mut Input<'_>) -> Result<u32, Fault>
+    ensures { Reads (spec.from_one input.old.rest.now) result input.new.rest.now }
+{
+    let left = input.rest.len();
+    let number = input.word()?;
+    if number == 0 {
+        return Err(Fault::Bad(left));
+    }
+    Ok(number)
+}
+
+/// A place behind the number of its instruction.
+#[tactic(auto, unfolding(crate::specs::Reading::place))]
+fn place(
+    input: &mut Input<'_>,
+    files: usize,
+    instrs: &[Instr],
+    least: u64,
+) -> Result<(u32, Place), Fault>
+    ensures { Reads (spec.place files instrs.now least input.old.rest.now) result input.new.rest.now }
+{
+    let number = carrier(input, instrs, least)?;
+    let file = file(input, files)?;
+    let line = from_one(input)?;
+    let col = from_one(input)?;
+    Ok((number, Place { file, line, col }))
+}
+
+/// Places behind their count, in the order of their instructions.
+pub fn places(
+    alloc: Global,
+    input: &mut Input<'_>,
+    files: usize,
+    instrs: &[Instr],
+) -> Result<Items<(u32, Place)>, Fault>
+    ensures { Reads (spec.places files instrs.now input.old.rest.now) result input.new.rest.now }
+{
+    let count = input.word()?;
+    let places = places_of(alloc, input, files, instrs, count)?;
+    Ok(places)
+}
+
+fn places_of(
+    alloc: Global,
+    input: &mut Input<'_>,
+    files: usize,
+    instrs: &[Instr],
+    count: u32,
+) -> Result<Items<(u32, Place)>, Fault>
+    ensures { Reads (fields.chained (spec.place files instrs.now) spec.behind_place count 0 input.old.rest.now) result input.new.rest.now }
+{
+    let mut least = 0;
+    let mut places = Vec::new(alloc);
+    'places: for _ in 0..count {
+        let item = place(input, files, instrs, least)?;
+        least = u64::from(item.0) + 1;
+        places.push(item)?;
+    }
+    Ok(Items::from_vec(places))
+}

@@ -1,0 +1,110 @@
+//! Texts, each behind its length.
+
+ghost use Rattle.std.specs.Prelude.{◌≡◌, [], IfOk};
+ghost use Rattle.ns_image.specs.Read as fields;
+ghost use Rattle.ns_image.specs.Reading as spec;
+ghost use Rattle.ns_image.specs.Reads.{Reads, ReadsAs};
+
+use crate::fault::Fault;
+use crate::read::format::Format;
+use crate::read::input::Input;
+use crate::spelling::{is_file_name, is_local_name, is_selector};
+use ns_base::items::Items;
+use ns_base::names::{MOST_NAMES, Names};
+use ns_base::text::Text;
+use std::alloc::Global;
+
+/// A literal text, which may be any bytes.
+pub struct Literal;
+
+impl Format for Literal {
+    type Value = Text;
+
+    ghost reader = { λ _. fields.text };
+
+    fn read(&self, alloc: Global, input: &mut Input<'_>) -> Result<Text, Fault> {
+        let text = input.text()?;
+        let text = Text::of(alloc, text)?;
+        Ok(text)
+    }
+}
+
+/// A file's name.
+pub struct FileName;
+
+impl Format for FileName {
+    type Value = Text;
+
+    ghost reader = { λ _. spec.file_name };
+
+    fn read(&self, alloc: Global, input: &mut Input<'_>) -> Result<Text, Fault> {
+        let left = input.rest.len();
+        let name = input.text()?;
+        if !is_file_name(name) {
+            return Err(Fault::Bad(left));
+        }
+        let name = Text::of(alloc, name)?;
+        Ok(name)
+    }
+}
+
+/// A local's name.
+pub struct LocalName;
+
+impl Format for LocalName {
+    type Value = Text;
+
+    ghost reader = { λ _. spec.local_name };
+
+    fn read(&self, alloc: Global, input: &mut Input<'_>) -> Result<Text, Fault> {
+        let left = input.rest.len();
+        let name = input.text()?;
+        if !is_local_name(name) {
+            return Err(Fault::Bad(left));
+        }
+        let name = Text::of(alloc, name)?;
+        Ok(name)
+    }
+}
+
+/// A name that no earlier one equals, and which then is one of the earlier ones.
+fn name<'a>(input: &mut Input<'a>, earlier: &mut Names) -> Result<&'a [u8], Fault>
+    ensures reads { ReadsAs (λ name. name.now) (spec.name_after earlier.old input.old.rest.now) result input.new.rest.now }
+    ensures earlier { IfOk result (λ name. earlier.new ≡ spec.with_name earlier.old name.now) }
+{
+    let left = input.rest.len();
+    let name = input.text()?;
+    if !is_selector(name) {
+        return Err(Fault::Bad(left));
+    }
+    if earlier.find(name).is_some() {
+        return Err(Fault::Bad(left));
+    }
+    match earlier.intern(name) {
+        Ok(_) => Ok(name),
+        // An image has no more names than a table holds.
+        Err(_) => Err(Fault::Memory),
+    }
+}
+
+/// Names behind their count: each has a selector's form, and no two are equal.
+pub fn names(alloc: Global, input: &mut Input<'_>) -> Result<Items<Text>, Fault>
+    ensures { Reads (spec.names input.old.rest.now) result input.new.rest.now }
+{
+    let count = input.word_up_to(MOST_NAMES as u32)?;
+    let names = names_of(alloc, input, count)?;
+    Ok(names)
+}
+
+fn names_of(alloc: Global, input: &mut Input<'_>, count: u32) -> Result<Items<Text>, Fault>
+    ensures { Reads (fields.chained spec.name_after spec.with_name count [] input.old.rest.now) result input.new.rest.now }
+{
+    let mut earlier = Names::new(alloc);
+    let mut names = Vec::new(alloc);
+    'names: for _ in 0..count {
+        let text = name(input, &mut earlier)?;
+        let text = Text::of(alloc, text)?;
+        names.push(text)?;
+    }
+    Ok(Items::from_vec(names))
+}
