@@ -16,7 +16,7 @@ use Rattle.ns_world.specs.Layout.{declaration_of, layout_of, entry_word}
 use Rattle.ns_world.specs.Starts.{start_of, start_of_cell, has_class, class_name_at, declaration_in}
 use Rattle.ns_world.specs.World.{World}
 use Rattle.ns_world.specs.Lawful.{IsLiveValue}
-use Rattle.ns_world.specs.Later.{AreLater, GoesOn}
+use Rattle.ns_world.specs.Later.{AreLater, RunsOn}
 use Rattle.ns_world.proofs.Above.{chain_none}
 use Rattle.ns_world.proofs.Classes.{IsInOrder, SameClasses, lawful_order, lawful_small, declaration_stays, start_stays, layout_stays, word_stays}
 use Rattle.ns_world.proofs.Firsts.{found_past}
@@ -35,7 +35,7 @@ same_classes old new later order small = record {
     chains class true e s = later.chains class e
     chains class false e s = chain_none new class (omega (arith, small)) s ∙ sym (chain_none old class (omega (arith, order.small)) s)
 
-pub keeps_of : (code : CodeProgram) (old new : World) → GoesOn code old new → KeepsCells old.cells new.cells
+pub keeps_of : (code : CodeProgram) (old new : World) → RunsOn code old new → KeepsCells old.cells new.cells
 keeps_of code old new run = record {
   order = lawful_order old code run.before;
   same = same_classes old.cells new.cells run.later.cells (lawful_order old code run.before) (lawful_small new code run.after);
@@ -46,14 +46,14 @@ keeps_of code old new run = record {
 
 -- ---- cells
 
-pub there_lasts : (number : ℕ) (code : CodeProgram) (old new : World) → GoesOn code old new → IsSome (find_cell old.cells number) → IsSome (find_cell new.cells number)
+pub there_lasts : (number : ℕ) (code : CodeProgram) (old new : World) → RunsOn code old new → IsSome (find_cell old.cells number) → IsSome (find_cell new.cells number)
 there_lasts number code old new run h = found (find_cell old.cells number) refl h
   where
     found : (o : Option Cell) → find_cell old.cells number ≡ o → IsSome o → IsSome (find_cell new.cells number)
     found None e h = absurd (cc)
     found (Some cell) e h = ap is_some (run.later.cells.cells number cell e).there
 
-pub shape_lasts : (number : ℕ) (code : CodeProgram) (old new : World) → GoesOn code old new → IsSome (find_cell old.cells number) → shape_at new.cells number ≡ shape_at old.cells number
+pub shape_lasts : (number : ℕ) (code : CodeProgram) (old new : World) → RunsOn code old new → IsSome (find_cell old.cells number) → shape_at new.cells number ≡ shape_at old.cells number
 shape_lasts number code old new run h = found (find_cell old.cells number) refl h
   where
     found : (o : Option Cell) → find_cell old.cells number ≡ o → IsSome o → shape_at new.cells number ≡ shape_at old.cells number
@@ -63,7 +63,7 @@ shape_lasts number code old new run h = found (find_cell old.cells number) refl 
         let told : Option Cell → NewCell = λ o. option_map_or shape_of o (Mirror Nil) in
         ap told s.there ∙ (s.shape ∙ ap told (sym e))
 
-pub bytes_last : (number : ℕ) (code : CodeProgram) (old new : World) → GoesOn code old new → IsSome (find_cell old.cells number) → bytes_at new.cells number ≡ bytes_at old.cells number
+pub bytes_last : (number : ℕ) (code : CodeProgram) (old new : World) → RunsOn code old new → IsSome (find_cell old.cells number) → bytes_at new.cells number ≡ bytes_at old.cells number
 bytes_last number code old new run h = found (find_cell old.cells number) refl h
   where
     found : (o : Option Cell) → find_cell old.cells number ≡ o → IsSome o → bytes_at new.cells number ≡ bytes_at old.cells number
@@ -72,7 +72,7 @@ bytes_last number code old new run h = found (find_cell old.cells number) refl h
         let s = run.later.cells.cells number cell e in
         ap (λ o. option_map_or cell_bytes o []) s.there ∙ (s.bytes ∙ ap (λ o. option_map_or cell_bytes o []) (sym e))
 
-pub start_lasts : (value : Value) (code : CodeProgram) (old new : World) → GoesOn code old new → IsLiveValue old.cells code value → start_of new.cells value ≡ start_of old.cells value
+pub start_lasts : (value : Value) (code : CodeProgram) (old new : World) → RunsOn code old new → IsLiveValue old.cells code value → start_of new.cells value ≡ start_of old.cells value
 start_lasts (Ref at) code old new run live = ap (λ shape. start_of_cell shape at) (shape_lasts at code old new run live.0)
 start_lasts Nil code old new run live = refl
 start_lasts True code old new run live = refl
@@ -82,7 +82,7 @@ start_lasts (Sym sel) code old new run live = refl
 start_lasts (Kernel class) code old new run live = refl
 
 -- a class keeps its name, and so does none
-pub name_lasts : (from : Start) (code : CodeProgram) (old new : World) → GoesOn code old new → has_class old.cells from ≡ true → class_name_at new.cells from ≡ class_name_at old.cells from
+pub name_lasts : (from : Start) (code : CodeProgram) (old new : World) → RunsOn code old new → has_class old.cells from ≡ true → class_name_at new.cells from ≡ class_name_at old.cells from
 name_lasts (start.Instance class) code old new run s = tested (is_class (find_cell old.cells class)) refl s
   where
     tested : (b : Bool) → is_class (find_cell old.cells class) ≡ b → (b || eqb class no_class) ≡ true → class_name_at new.cells (start.Instance class) ≡ class_name_at old.cells (start.Instance class)
@@ -95,20 +95,20 @@ name_lasts (start.Kernel named) code old new run s = refl
 
 -- ---- classes
 
-pub class_lasts : (class : ℕ) (code : CodeProgram) (old new : World) → GoesOn code old new → is_class (find_cell old.cells class) ≡ true → find_cell new.cells class ≡ find_cell old.cells class
+pub class_lasts : (class : ℕ) (code : CodeProgram) (old new : World) → RunsOn code old new → is_class (find_cell old.cells class) ≡ true → find_cell new.cells class ≡ find_cell old.cells class
 class_lasts class code old new run is = class_same old.cells new.cells class run.later.cells is
 
-pub chain_start_lasts : (class : ℕ) (code : CodeProgram) (old new : World) → GoesOn code old new → is_chain_start old.cells class ≡ true → is_chain_start new.cells class ≡ true
+pub chain_start_lasts : (class : ℕ) (code : CodeProgram) (old new : World) → RunsOn code old new → is_chain_start old.cells class ≡ true → is_chain_start new.cells class ≡ true
 chain_start_lasts class code old new run s = start_stays old.cells new.cells class (keeps_of code old new run).same s
 
-pub chain_lasts : (class : ℕ) (code : CodeProgram) (old new : World) → GoesOn code old new → is_chain_start old.cells class ≡ true → chain_of new.cells class ≡ chain_of old.cells class
+pub chain_lasts : (class : ℕ) (code : CodeProgram) (old new : World) → RunsOn code old new → is_chain_start old.cells class ≡ true → chain_of new.cells class ≡ chain_of old.cells class
 chain_lasts class code old new run s = (keeps_of code old new run).same.chains class s
 
-pub declaration_lasts : (class : ℕ) (code : CodeProgram) (old new : World) → GoesOn code old new → is_class (find_cell old.cells class) ≡ true → declaration_of new.cells class ≡ declaration_of old.cells class
+pub declaration_lasts : (class : ℕ) (code : CodeProgram) (old new : World) → RunsOn code old new → is_class (find_cell old.cells class) ≡ true → declaration_of new.cells class ≡ declaration_of old.cells class
 declaration_lasts class code old new run is = declaration_stays old.cells new.cells class (class_lasts class code old new run is)
 
-pub layout_lasts : (class : ℕ) (code : CodeProgram) (old new : World) → GoesOn code old new → is_chain_start old.cells class ≡ true → layout_of new.cells code class ≡ layout_of old.cells code class
+pub layout_lasts : (class : ℕ) (code : CodeProgram) (old new : World) → RunsOn code old new → is_chain_start old.cells class ≡ true → layout_of new.cells code class ≡ layout_of old.cells code class
 layout_lasts class code old new run s = let k = keeps_of code old new run in layout_stays old.cells new.cells code class k.order k.same s
 
-pub word_lasts : (holder entry : ℕ) (code : CodeProgram) (old new : World) → GoesOn code old new → is_class (find_cell old.cells holder) ≡ true → entry_word new.cells code holder entry ≡ entry_word old.cells code holder entry
+pub word_lasts : (holder entry : ℕ) (code : CodeProgram) (old new : World) → RunsOn code old new → is_class (find_cell old.cells holder) ≡ true → entry_word new.cells code holder entry ≡ entry_word old.cells code holder entry
 word_lasts holder entry code old new run is = let k = keeps_of code old new run in word_stays old.cells new.cells code holder entry k.order k.same is

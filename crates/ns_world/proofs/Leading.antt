@@ -10,7 +10,7 @@ use Rattle.ns_world.specs.Cell.{Cell, ObjectCell, ClassCell, BlockCell, Environm
 use Rattle.ns_world.specs.Heap.{Heap, heap_size, find_cell, is_class, has_superclass, write_word, write_byte}
 use Rattle.ns_world.specs.Seek.{first_such, is_facet, is_top, is_sought, is_nil, may_be_first}
 use Rattle.ns_world.specs.World.{World, made, stepped, entered, left, printed, written, byte_written}
-use Rattle.ns_world.specs.Later.{StaysThere, AreLater, SameFirsts, IsLater, MayCome, GoesOn}
+use Rattle.ns_world.specs.Later.{StaysThere, AreLater, SameFirsts, IsLater, MayCome, RunsOn}
 use Rattle.ns_world.proofs.Chains.{both_of, class_below, found_below, found_in_more, chain_in_more}
 use Rattle.ns_world.proofs.Changing.{changing_leaves, byte_leaves, word_plainly}
 use Rattle.ns_world.proofs.Firsts.{first_without, first_behind, sought_after_word, sought_after_byte}
@@ -93,7 +93,7 @@ later_on first second third one two = record {
   printed = two.printed ∙ (ap (λ output. output ++ two.more) one.printed ∙ append_assoc first.output one.more two.more);
 }
 
-pub run_on : (code : CodeProgram) (first second third : World) → GoesOn code first second → GoesOn code second third → GoesOn code first third
+pub run_on : (code : CodeProgram) (first second third : World) → RunsOn code first second → RunsOn code second third → RunsOn code first third
 run_on code first second third one two = record { before = one.before; after = two.after; later = later_on first second third one.later two.later }
 
 -- ---- one cell more

@@ -3,7 +3,7 @@ use Rattle.std.specs.Prelude.{◌≡◌, ℕ, ◌≤◌, List, ◌++◌, Some, I
 use Rattle.ns_code.specs.declared.program.CodeProgram.{CodeProgram}
 use Rattle.ns_world.specs.declared.seek.Sought.{Sought}
 use Rattle.ns_world.specs.Cell.{Cell, shape_of, cell_bytes}
-use Rattle.ns_world.specs.Heap.{Heap, heap_size, find_cell, is_class, has_superclass, is_ordered, chain_of}
+use Rattle.ns_world.specs.Heap.{Heap, heap_size, find_cell, is_class, has_superclass, is_ordered, is_chain_start, chain_of}
 use Rattle.ns_world.specs.Seek.{first_such, is_sought, may_be_first}
 use Rattle.ns_world.specs.World.{World}
 use Rattle.ns_world.specs.Lawful.{IsLawful}
@@ -44,16 +44,23 @@ pub record MayCome (heap : Heap) (cell : Cell) : Type 0 where
   pub no_first : may_be_first heap (shape_of cell) ≡ false
 
 -- A lawful world of a run, and a lawful later one.
-pub record GoesOn (code : CodeProgram) (old new : World) : Type 0 where
+pub record RunsOn (code : CodeProgram) (old new : World) : Type 0 where
   pub before : IsLawful old code
   pub after : IsLawful new code
   pub later : IsLater old new
 
 -- What holds of a world of a run holds of each later one.
 abbrev pub Lasts : (Heap → CodeProgram → Type 0) → Type 0
-Lasts holds = (code : CodeProgram) (old new : World) → GoesOn code old new → holds old.cells code → holds new.cells code
+Lasts holds = (code : CodeProgram) (old new : World) → RunsOn code old new → holds old.cells code → holds new.cells code
 
 -- What is told of a world of a run is told of each later one, where something held of the first.
 abbrev pub Unchanged : {A : Type 0} → (Heap → CodeProgram → Type 0) → (Heap → CodeProgram → A) → Type 0
 Unchanged holds told =
-    (code : CodeProgram) (old new : World) → GoesOn code old new → holds old.cells code → told new.cells code ≡ told old.cells code
+    (code : CodeProgram) (old new : World) → RunsOn code old new → holds old.cells code → told new.cells code ≡ told old.cells code
+
+-- A class has that number; a chain can start there.
+abbrev pub IsClassAt : ℕ → Heap → CodeProgram → Type 0
+IsClassAt class heap code = IsTrue (is_class (find_cell heap class))
+
+abbrev pub IsStartAt : ℕ → Heap → CodeProgram → Type 0
+IsStartAt class heap code = IsTrue (is_chain_start heap class)

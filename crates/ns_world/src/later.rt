@@ -8,18 +8,18 @@ ghost use Rattle.ns_code.specs.declared.program.CodeProgram.{CodeProgram};
 ghost use Rattle.ns_world.specs.declared.kernel.Start.{Start};
 ghost use Rattle.ns_world.specs.declared.value.Value.{Value};
 ghost use Rattle.ns_world.specs.Cell.{Cell};
-ghost use Rattle.ns_world.specs.Heap.{heap_size, find_cell, is_class, is_chain_start, chain_of, shape_at, bytes_at};
+ghost use Rattle.ns_world.specs.Heap.{heap_size, find_cell, chain_of, shape_at, bytes_at};
 ghost use Rattle.ns_world.specs.Layout.{declaration_of, layout_of, entry_word};
 ghost use Rattle.ns_world.specs.Starts.{start_of, has_class, class_name_at};
 ghost use Rattle.ns_world.specs.World.{World, made, stepped, entered, left, printed, written, byte_written};
 ghost use Rattle.ns_world.specs.Lawful.{IsLiveValue, IsEnvironmentOrNil, HasHolder, FitsBody, FitsEnvironment, BlockIsLawful, MessageIsLawful};
-ghost use Rattle.ns_world.specs.Later.{MayCome, IsLater, GoesOn, Lasts, Unchanged};
+ghost use Rattle.ns_world.specs.Later.{MayCome, IsLater, RunsOn, Lasts, Unchanged, IsClassAt, IsStartAt};
 
 /// Each world is as late as itself, and what is later than a later world is later.
 pub fn later_worlds_compose()
     ensures same { (world : World) → IsLater world world }
     ensures on { (first second third : World) → IsLater first second → IsLater second third → IsLater first third }
-    ensures runs { (code : CodeProgram) (first second third : World) → GoesOn code first second → GoesOn code second third → GoesOn code first third }
+    ensures runs { (code : CodeProgram) (first second third : World) → RunsOn code first second → RunsOn code second third → RunsOn code first third }
 {}
 
 /// Each call of `World` leads to a later world: a cell is made that may come, a word is written, a
@@ -49,12 +49,12 @@ pub fn cells_stay()
 /// A class stays as it is, and its chain, its declaration, the entries of its instances and their
 /// words are those that they were.
 pub fn classes_stay()
-    ensures classes { (class : ℕ) → Unchanged (λ heap code. IsTrue (is_class (find_cell heap class))) (λ heap code. find_cell heap class) }
-    ensures starts { (class : ℕ) → Lasts (λ heap code. IsTrue (is_chain_start heap class)) }
-    ensures chains { (class : ℕ) → Unchanged (λ heap code. IsTrue (is_chain_start heap class)) (λ heap code. chain_of heap class) }
-    ensures declared { (class : ℕ) → Unchanged (λ heap code. IsTrue (is_class (find_cell heap class))) (λ heap code. declaration_of heap class) }
-    ensures layouts { (class : ℕ) → Unchanged (λ heap code. IsTrue (is_chain_start heap class)) (λ heap code. layout_of heap code class) }
-    ensures words { (holder entry : ℕ) → Unchanged (λ heap code. IsTrue (is_class (find_cell heap holder))) (λ heap code. entry_word heap code holder entry) }
+    ensures classes { (class : ℕ) → Unchanged (IsClassAt class) (λ heap code. find_cell heap class) }
+    ensures starts { (class : ℕ) → Lasts (IsStartAt class) }
+    ensures chains { (class : ℕ) → Unchanged (IsStartAt class) (λ heap code. chain_of heap class) }
+    ensures declared { (class : ℕ) → Unchanged (IsClassAt class) (λ heap code. declaration_of heap class) }
+    ensures layouts { (class : ℕ) → Unchanged (IsStartAt class) (λ heap code. layout_of heap code class) }
+    ensures words { (holder entry : ℕ) → Unchanged (IsClassAt holder) (λ heap code. entry_word heap code holder entry) }
 {}
 
 /// What running code and what waits ask of their values lasts: a live value stays live, an
