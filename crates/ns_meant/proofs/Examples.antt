@@ -36,7 +36,7 @@ method access name at expr =
     (p.statements_with (p.more_statements (p.statement_with (Some (at + 3)) expr) p.no_statements) false)))
 
 -- the place of a token, which stands in the column of its number
-abbrev at_column : ℕ → Place
+abbrev pub at_column : ℕ → Place
 at_column n = record { file = 0; line = 1; col = n }
 
 abbrev marks : List Place
@@ -44,7 +44,7 @@ marks =
     at_column 0 ∷ at_column 1 ∷ at_column 2 ∷ at_column 3 ∷ at_column 4 ∷ at_column 5 ∷ at_column 6 ∷ at_column 7 ∷ at_column 8
     ∷ at_column 9 ∷ at_column 10 ∷ at_column 11 ∷ at_column 12 ∷ at_column 13 ∷ at_column 14 ∷ at_column 15 ∷ []
 
-abbrev sent : List ℕ → ℕ → m.Sent
+abbrev pub sent : List ℕ → ℕ → m.Sent
 sent selector n = record { selector = selector; place = at_column n }
 
 -- ---- a class in a class
@@ -137,7 +137,8 @@ plain_body class does =
 abbrev bare_initialiser : ℕ → m.Does
 bare_initialiser n = m.as_initialiser (record { place = at_column n; arguments = m.no_nodes; slots = []; expressions = [] })
 
-abbrev expected : m.Meant
+-- what the file with that class means
+abbrev pub expected : m.Meant
 expected =
     record {
       files = codes "W.ns" ∷ [];
