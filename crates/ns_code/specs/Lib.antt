@@ -1,3 +1,4 @@
+pub mod Table
 pub mod Own
 pub mod Spelling
 pub mod Selector

@@ -1,10 +1,7 @@
 pub mod Bodies
 pub mod Chains
-pub mod Declarations
-pub mod Meaning
 pub mod Names
 pub mod Resolve
-pub mod Resolved
 pub mod Scopes
 pub mod Table
 pub mod Whole

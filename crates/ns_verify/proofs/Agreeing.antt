@@ -7,7 +7,7 @@ use Rattle.std.proofs.lemmas.Bool.{cases_eq, cases_order}
 use Rattle.std.proofs.lemmas.Bool.Decides.{nat_tests}
 use Rattle.ns_code.specs.declared.body.BodyCode.{BodyCode}
 use Rattle.ns_code.specs.declared.instruction.Instr.{Instr}
-use Rattle.ns_verify.specs.Table.{height_after, target, goes_on}
+use Rattle.ns_code.specs.Table.{height_after, target, goes_on}
 use Rattle.ns_verify.specs.Heights.{Pass, begin, known_at, height_at, with_own, give_target, next, differs, falls_apart, known_beside, jumps_apart, heights_from, heights}
 use Rattle.ns_verify.specs.Places.{pass_on, pass_before, height_before}
 

@@ -6,7 +6,7 @@ use Rattle.std.proofs.lemmas.Bool.Decides.{nat_tests}
 use Rattle.ns_code.specs.declared.program.CodeProgram.{CodeProgram}
 use Rattle.ns_code.specs.declared.body.BodyCode.{BodyCode}
 use Rattle.ns_code.specs.declared.instruction.Instr.{Instr}
-use Rattle.ns_verify.specs.Table.{takes, height_after, target, goes_on, ends_wrongly}
+use Rattle.ns_code.specs.Table.{takes, height_after, target, goes_on, ends_wrongly}
 use Rattle.ns_verify.specs.Heights.{falls_apart, jumps_apart}
 use Rattle.ns_verify.specs.Verify.{IsSound}
 use Rattle.ns_verify.specs.Places.{HasNoCause, HeightsAgree, pass_before, height_before, home_of}

@@ -13,7 +13,7 @@ use Rattle.ns_code.specs.Selector.{selector_arity, selector_text}
 use Rattle.ns_code.specs.Soundness.{method_kind, block_kind, initialiser_kind, clause_kind, instance_side, is_name}
 use Rattle.ns_verify.specs.declared.fault.VerifyCause.{VerifyCause}
 use Rattle.ns_verify.specs.declared.fault.VerifyCause.TheVariants.{BadJump, BadHeight, BadSlot, BadScope, BadLiteral, NoReturn}
-use Rattle.ns_verify.specs.Table.{takes, target, goes_on, ends_wrongly}
+use Rattle.ns_code.specs.Table.{takes, target, goes_on, ends_wrongly}
 use Rattle.ns_verify.specs.Heights.{Pass, height_at, falls_apart, jumps_apart}
 use Rattle.ns_verify.specs.Chains.{declaration_at, around, body_at}
 use Rattle.ns_verify.specs.Members.{private_selectors}

@@ -5,7 +5,7 @@ use Rattle.std.specs.Option.{is_none, option_map_or}
 use Rattle.std.specs.List.{slice_index_or}
 use Rattle.ns_code.specs.declared.instruction.Instr.{Instr}
 use Rattle.ns_code.specs.declared.body.BodyCode.{BodyCode}
-use Rattle.ns_verify.specs.Table.{height_after, target, goes_on, starts_super}
+use Rattle.ns_code.specs.Table.{height_after, target, goes_on, starts_super}
 
 -- what the pass knows before an instruction: the heights that instructions have or were given by jumps,
 -- by their numbers; the height with which the one before goes on; whether a superclass part has begun

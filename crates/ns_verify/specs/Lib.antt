@@ -1,4 +1,3 @@
-pub mod Table
 pub mod Heights
 pub mod Chains
 pub mod Members

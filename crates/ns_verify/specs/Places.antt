@@ -5,7 +5,7 @@ use Rattle.ns_code.specs.declared.program.CodeProgram.{CodeProgram}
 use Rattle.ns_code.specs.declared.class.ClassCode.{ClassCode}
 use Rattle.ns_code.specs.declared.body.BodyCode.{BodyCode}
 use Rattle.ns_code.specs.declared.instruction.Instr.{Instr}
-use Rattle.ns_verify.specs.Table.{takes, height_after, target, goes_on}
+use Rattle.ns_code.specs.Table.{takes, height_after, target, goes_on}
 use Rattle.ns_verify.specs.Heights.{Pass, begin, next, height_at}
 use Rattle.ns_verify.specs.Chains.{home_kinds}
 use Rattle.ns_verify.specs.Causes.{cause_at}

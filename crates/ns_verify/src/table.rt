@@ -1,7 +1,7 @@
 //! What each instruction does with operands, and where it goes on.
 
 ghost use Rattle.std.specs.Prelude.{◌≡◌, ◌≤◌, ◌<◌};
-ghost use Rattle.ns_verify.specs.Table as spec;
+ghost use Rattle.ns_code.specs.Table as spec;
 
 use ns_code::instruction::Instr;
 

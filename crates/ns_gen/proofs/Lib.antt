@@ -1,0 +1,12 @@
+pub mod GoesOn
+pub mod InOrder
+pub mod TextsInOrder
+pub mod OneProgram
+pub mod Heights
+pub mod Examples
+pub mod BodyAt
+pub mod WithinGreatest
+pub mod Shown
+pub mod Ending
+pub mod GoodHeights
+pub mod NamesThere

@@ -1,0 +1,5 @@
+//! The generator: the code of a program in which every name has its meaning.
+#![tactic(auto)]
+
+pub mod fault;
+pub mod laws;
