@@ -17,6 +17,7 @@ ghost use Rattle.ns_find.specs.declared.members.Side.{Side};
 ghost use Rattle.ns_find.specs.declared.members.Side.TheVariants as side;
 ghost use Rattle.ns_find.specs.Find.{found_from, found_private, CanStart};
 ghost use Rattle.ns_find.specs.Belonging.{Belongs, factories_at};
+ghost use Rattle.ns_find.specs.Named.{FoundBy, FindsBy};
 ghost use Rattle.ns_find.specs.Memo.{IsRight, AddsNoRow};
 
 /// A kept lookup stays right whatever is made and written, as long as no facet and no first class
@@ -44,4 +45,11 @@ pub fn what_is_found_belongs()
     ensures class { (heap : Heap) (code : CodeProgram) (class : ℕ) (factory : Bool) (sel : ℕ) (kind : Sending) → Belongs heap code side.Class (chain_of heap class) (factories_at class factory) (found_from heap code (ClassSide class factory) sel kind) }
     ensures kernel { (heap : Heap) (code : CodeProgram) (side : Side) (row : KernelRow) (sel : ℕ) (kind : Sending) → Belongs heap code side [] [] (found_from heap code (Kernel row) sel kind) }
     ensures private { (heap : Heap) (code : CodeProgram) (holder : ℕ) (side : Side) (sel : ℕ) → Belongs heap code side (holder ∷ []) [] (found_private heap code holder side sel) }
+{}
+
+/// A method and a factory that are found have the selector that was sought, and where the classes
+/// of the code are sound, they take as many arguments as it.
+pub fn what_is_found_is_named()
+    ensures found { (heap : Heap) (code : CodeProgram) (from : Start) (sel : ℕ) (kind : Sending) → FindsBy heap code from sel kind }
+    ensures private { (heap : Heap) (code : CodeProgram) (holder sel : ℕ) (side : Side) → FoundBy heap code side sel (found_private heap code holder side sel) }
 {}
