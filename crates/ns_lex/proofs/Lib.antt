@@ -4,12 +4,17 @@ pub mod Examples
 pub mod Faults
 pub mod Gaps
 pub mod Numbers
+pub mod OneCut
+pub mod OneGap
+pub mod OneKind
 pub mod Operators
 pub mod Pieces
 pub mod Refused
+pub mod Scanned
 pub mod Singles
 pub mod Steps
 pub mod Stops
 pub mod Strings
 pub mod Symbols
+pub mod Texts
 pub mod Words

@@ -4,6 +4,7 @@
 pub mod bytes;
 pub mod comment;
 pub mod fault;
+pub mod laws;
 pub mod next;
 pub mod number;
 pub mod operator;

@@ -17,7 +17,7 @@ use Rattle.ns_load.proofs.Lengths.{cut_count, cut_within}
 use Rattle.ns_parse.specs.Parse.{parse, parse_by}
 use Rattle.ns_parse.specs.Read.{Outcome}
 use Rattle.ns_parse.proofs.SoundFile.{parse_spelled}
-use Rattle.ns_parse.proofs.Texts.{cuts_told}
+use Rattle.ns_lex.proofs.Texts.{cuts_told}
 use Rattle.ns_scope.specs.Whole.{most_bytes, AllWithin, ArePlacesOf, IsPlaceOf, IsWholeUnit, AreWholeUnits, IsFileName, IsWhole}
 use Rattle.ns_scope.specs.declared.program.Program.{Program}
 use Rattle.ns_tree.specs.Deep.{deep}

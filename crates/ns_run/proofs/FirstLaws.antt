@@ -11,9 +11,9 @@ use Rattle.ns_machine.proofs.TokenLaws.{first_tokens}
 use Rattle.ns_parse.specs.Parse.{parse}
 use Rattle.ns_parse.specs.declared.fault.ParseFault.{ParseFault}
 use Rattle.ns_parse.proofs.SoundFile.{parse_spelled}
-use Rattle.ns_parse.proofs.Texts.{cuts_told}
+use Rattle.ns_lex.proofs.Texts.{cuts_told}
 use Rattle.ns_run.proofs.FirstFile.{IsParsedFirst, first_parsed}
-use Rattle.ns_run.proofs.Scanned.{lexes_scanned}
+use Rattle.ns_lex.proofs.Scanned.{lexes_scanned}
 use Rattle.ns_run.specs.FirstSource.{IsFirstSource, IsTakenFirst}
 use Rattle.ns_tree.specs.Plain as p
 use Rattle.ns_tree.specs.Tokens.{kinds}

@@ -6,10 +6,6 @@ pub mod FirstLaws
 pub mod FirstReads
 pub mod NameLaws
 pub mod NumberLaws
-pub mod OneCut
-pub mod OneGap
-pub mod OneKind
 pub mod PieceLaws
 pub mod ReportLaws
-pub mod Scanned
 pub mod WordLaws

@@ -1,15 +1,11 @@
 //! Laws over the definitions that the top call rests on. Each is the contract of a function that
 //! does nothing.
 
-ghost use Rattle.std.specs.Prelude.{◌≡◌, ◌↔◌, ℕ, List, Ok};
-ghost use Rattle.ns_lex.specs.Lexes.{LexStops, Lexes};
-ghost use Rattle.ns_lex.specs.Scan.{scan};
-ghost use Rattle.ns_lex.specs.declared.piece.Cause.{Cause};
+ghost use Rattle.std.specs.Prelude.{◌≡◌, ◌↔◌, ℕ, List};
 ghost use Rattle.ns_machine.specs.First.{Form};
 ghost use Rattle.ns_run.specs.FirstSource.{IsFirstSource, IsTakenFirst};
 ghost use Rattle.ns_run.specs.Forms.{IsCommandOf, IsForm};
 ghost use Rattle.ns_run.specs.Words.{Command, command_of};
-ghost use Rattle.ns_tree.specs.declared.token.Token.{Token};
 
 /// The words of a form are read as what they spell.
 pub fn forms_are_read()
@@ -19,13 +15,6 @@ pub fn forms_are_read()
 /// What is read of words is what they spell, or the first bad word.
 pub fn first_bad_word()
     ensures { (words : List (List ℕ)) → IsCommandOf words (command_of words) }
-{}
-
-/// One list of tokens at most cuts a source. Then it is the list that is scanned, and so no fault is.
-pub fn sources_are_cut_one_way()
-    ensures one { (source : List ℕ) (ts us : List Token) → Lexes source ts → Lexes source us → ts ≡ us }
-    ensures scanned { (source : List ℕ) (tokens : List Token) → Lexes source tokens → scan source ≡ Ok tokens }
-    ensures no_stop { (source : List ℕ) (tokens : List Token) (at : ℕ) (cause : Cause) → Lexes source tokens → LexStops source at cause → ⊥ }
 {}
 
 /// A source is taken as a unit of the first form exactly where it is of that form, as its bytes tell:

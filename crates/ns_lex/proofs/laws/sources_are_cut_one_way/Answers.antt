@@ -1,6 +1,6 @@
-use Rattle.ns_run.proofs.OneCut.{lexes_whole, one_lexes}
-use Rattle.ns_run.proofs.Scanned.{lexes_scanned}
-use Rattle.ns_run.proofs.laws.sources_are_cut_one_way.Goals as goal
+use Rattle.ns_lex.proofs.OneCut.{lexes_whole, one_lexes}
+use Rattle.ns_lex.proofs.Scanned.{lexes_scanned}
+use Rattle.ns_lex.proofs.laws.sources_are_cut_one_way.Goals as goal
 
 pub returns-clause-one : goal.returns-clause-one
 returns-clause-one c = one_lexes

@@ -12,7 +12,7 @@ use Rattle.ns_lex.specs.declared.piece.Piece.TheVariants as piece
 use Rattle.ns_lex.specs.declared.piece.Cause.{Cause}
 use Rattle.ns_lex.specs.declared.piece.Cause.TheVariants as cause
 use Rattle.ns_lex.proofs.Cutting.{scan_lexes, scan_stops}
-use Rattle.ns_run.proofs.OneCut.{one_lexes, lexes_whole}
+use Rattle.ns_lex.proofs.OneCut.{one_lexes, lexes_whole}
 
 -- ---- no scan wants memory
 

@@ -10,8 +10,8 @@ use Rattle.ns_lex.specs.Spells.{Spells}
 use Rattle.ns_lex.specs.declared.piece.Cause.{Cause}
 use Rattle.ns_lex.specs.declared.piece.Cause.TheVariants as cause
 use Rattle.ns_lex.proofs.Words.{stands_spells}
-use Rattle.ns_run.proofs.OneKind.{all_in, spelled_kind, spelled_some}
-use Rattle.ns_run.proofs.OneGap.{Same, equal_cut, gap_cut, run_cut}
+use Rattle.ns_lex.proofs.OneKind.{all_in, spelled_kind, spelled_some}
+use Rattle.ns_lex.proofs.OneGap.{Same, equal_cut, gap_cut, run_cut}
 
 -- ---- tokens
 
