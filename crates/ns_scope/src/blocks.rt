@@ -1,12 +1,12 @@
 //! The blocks of expressions, each as what is seen from it, in the order of the text.
 
-ghost use Rattle.std.specs.Prelude.{◌≡◌, ◌++◌, OnOk};
+ghost use Rattle.std.specs.Prelude.{◌≡◌, ◌++◌, ◌∷◌, [], OnOk};
 ghost use Rattle.ns_tree.specs.PlainOf.{expr_of, cascade_of, message_of, key_expr_of, keys_of, bin_of, opers_of, un_of, primary_of};
 ghost use Rattle.ns_tree.specs.PlainOf.{exprs_of, block_of, bars_of, slots_of, slot_of, init_of, statements_of, statement_list_of, statement_of};
 ghost use Rattle.ns_scope.specs.Bodies.{expr_blocks, cascade_blocks, message_blocks, key_expr_blocks, keys_blocks, bin_blocks, opers_blocks, un_blocks, primary_blocks};
 ghost use Rattle.ns_scope.specs.Bodies.{items_blocks, block_blocks, inside_blocks, bars_blocks, slots_blocks, slot_blocks, init_blocks, statements_blocks, list_blocks, statement_blocks};
 
-use crate::seen::Seen;
+use crate::scope::Scope;
 use ns_base::no_memory::NoMemory;
 use ns_tree::tree::{
     BinExpr, Block, Expr, KeyExpr, Message, Named, Primary, Slot, SlotInit, Statement, Statements,
@@ -15,7 +15,7 @@ use ns_tree::tree::{
 use std::alloc::Global;
 
 #[cycle(blocks)]
-fn put_expr(alloc: Global, all: &mut Vec<Seen>, scope: &Seen, expr: &Expr) -> Result<(), NoMemory>
+fn put_expr(alloc: Global, all: &mut Vec<Scope>, scope: &Scope, expr: &Expr) -> Result<(), NoMemory>
     ensures { OnOk result (all.new.items ≡ all.old.items ++ expr_blocks scope.now (expr_of expr.now)) }
 {
     put_key_expr(alloc, all, scope, &expr.first)?;
@@ -26,8 +26,8 @@ fn put_expr(alloc: Global, all: &mut Vec<Seen>, scope: &Seen, expr: &Expr) -> Re
 #[cycle(blocks)]
 fn put_cascade(
     alloc: Global,
-    all: &mut Vec<Seen>,
-    scope: &Seen,
+    all: &mut Vec<Scope>,
+    scope: &Scope,
     messages: &[(u32, Message)],
 ) -> Result<(), NoMemory>
     ensures { OnOk result (all.new.items ≡ all.old.items ++ cascade_blocks scope.now (cascade_of messages.now)) }
@@ -41,8 +41,8 @@ fn put_cascade(
 #[cycle(blocks)]
 pub fn put_message(
     alloc: Global,
-    all: &mut Vec<Seen>,
-    scope: &Seen,
+    all: &mut Vec<Scope>,
+    scope: &Scope,
     message: &Message,
 ) -> Result<(), NoMemory>
     ensures { OnOk result (all.new.items ≡ all.old.items ++ message_blocks scope.now (message_of message.now)) }
@@ -57,8 +57,8 @@ pub fn put_message(
 #[cycle(blocks)]
 fn put_key_expr(
     alloc: Global,
-    all: &mut Vec<Seen>,
-    scope: &Seen,
+    all: &mut Vec<Scope>,
+    scope: &Scope,
     expr: &KeyExpr,
 ) -> Result<(), NoMemory>
     ensures { OnOk result (all.new.items ≡ all.old.items ++ key_expr_blocks scope.now (key_expr_of expr.now)) }
@@ -75,8 +75,8 @@ fn put_key_expr(
 #[cycle(blocks)]
 fn put_keys(
     alloc: Global,
-    all: &mut Vec<Seen>,
-    scope: &Seen,
+    all: &mut Vec<Scope>,
+    scope: &Scope,
     keys: &[(Named, BinExpr)],
 ) -> Result<(), NoMemory>
     ensures { OnOk result (all.new.items ≡ all.old.items ++ keys_blocks scope.now (keys_of keys.now)) }
@@ -88,7 +88,12 @@ fn put_keys(
 }
 
 #[cycle(blocks)]
-fn put_bin(alloc: Global, all: &mut Vec<Seen>, scope: &Seen, expr: &BinExpr) -> Result<(), NoMemory>
+fn put_bin(
+    alloc: Global,
+    all: &mut Vec<Scope>,
+    scope: &Scope,
+    expr: &BinExpr,
+) -> Result<(), NoMemory>
     ensures { OnOk result (all.new.items ≡ all.old.items ++ bin_blocks scope.now (bin_of expr.now)) }
 {
     put_un(alloc, all, scope, &expr.first)?;
@@ -99,8 +104,8 @@ fn put_bin(alloc: Global, all: &mut Vec<Seen>, scope: &Seen, expr: &BinExpr) -> 
 #[cycle(blocks)]
 fn put_opers(
     alloc: Global,
-    all: &mut Vec<Seen>,
-    scope: &Seen,
+    all: &mut Vec<Scope>,
+    scope: &Scope,
     opers: &[(Named, UnExpr)],
 ) -> Result<(), NoMemory>
     ensures { OnOk result (all.new.items ≡ all.old.items ++ opers_blocks scope.now (opers_of opers.now)) }
@@ -112,7 +117,7 @@ fn put_opers(
 }
 
 #[cycle(blocks)]
-fn put_un(alloc: Global, all: &mut Vec<Seen>, scope: &Seen, expr: &UnExpr) -> Result<(), NoMemory>
+fn put_un(alloc: Global, all: &mut Vec<Scope>, scope: &Scope, expr: &UnExpr) -> Result<(), NoMemory>
     ensures { OnOk result (all.new.items ≡ all.old.items ++ un_blocks scope.now (un_of expr.now)) }
 {
     put_primary(alloc, all, scope, &expr.primary)
@@ -121,8 +126,8 @@ fn put_un(alloc: Global, all: &mut Vec<Seen>, scope: &Seen, expr: &UnExpr) -> Re
 #[cycle(blocks)]
 fn put_primary(
     alloc: Global,
-    all: &mut Vec<Seen>,
-    scope: &Seen,
+    all: &mut Vec<Scope>,
+    scope: &Scope,
     primary: &Primary,
 ) -> Result<(), NoMemory>
     ensures { OnOk result (all.new.items ≡ all.old.items ++ primary_blocks scope.now (primary_of primary.now)) }
@@ -138,8 +143,8 @@ fn put_primary(
 #[cycle(blocks)]
 fn put_items(
     alloc: Global,
-    all: &mut Vec<Seen>,
-    scope: &Seen,
+    all: &mut Vec<Scope>,
+    scope: &Scope,
     items: &[Expr],
 ) -> Result<(), NoMemory>
     ensures { OnOk result (all.new.items ≡ all.old.items ++ items_blocks scope.now (exprs_of items.now)) }
@@ -150,18 +155,26 @@ fn put_items(
     Ok(())
 }
 
+/// What one body sees.
+pub fn put_scope(all: &mut Vec<Scope>, scope: &Scope) -> Result<(), NoMemory>
+    ensures { OnOk result (all.new.items ≡ all.old.items ++ scope.now ∷ []) }
+{
+    all.push(scope.share()?)?;
+    Ok(())
+}
+
 /// The block, and then those in it.
 #[cycle(blocks)]
 fn put_block(
     alloc: Global,
-    all: &mut Vec<Seen>,
-    scope: &Seen,
+    all: &mut Vec<Scope>,
+    scope: &Scope,
     block: &Block,
 ) -> Result<(), NoMemory>
     ensures { OnOk result (all.new.items ≡ all.old.items ++ block_blocks scope.now (block_of block.now)) }
 {
-    let inner = Seen::block(alloc, scope, &block.params, &block.slots)?;
-    all.push(inner.share()?)?;
+    let inner = Scope::block(alloc, scope, &block.params, &block.slots)?;
+    put_scope(all, &inner)?;
     put_inside(alloc, all, &inner, block)?;
     Ok(())
 }
@@ -170,8 +183,8 @@ fn put_block(
 #[cycle(blocks)]
 fn put_inside(
     alloc: Global,
-    all: &mut Vec<Seen>,
-    scope: &Seen,
+    all: &mut Vec<Scope>,
+    scope: &Scope,
     block: &Block,
 ) -> Result<(), NoMemory>
     ensures { OnOk result (all.new.items ≡ all.old.items ++ inside_blocks scope.now (block_of block.now)) }
@@ -187,8 +200,8 @@ fn put_inside(
 
 pub fn put_bars(
     alloc: Global,
-    all: &mut Vec<Seen>,
-    scope: &Seen,
+    all: &mut Vec<Scope>,
+    scope: &Scope,
     slots: &Option<Vec<Slot>>,
 ) -> Result<(), NoMemory>
     ensures { OnOk result (all.new.items ≡ all.old.items ++ bars_blocks scope.now (bars_of slots.now)) }
@@ -202,8 +215,8 @@ pub fn put_bars(
 #[cycle(blocks)]
 fn put_slots(
     alloc: Global,
-    all: &mut Vec<Seen>,
-    scope: &Seen,
+    all: &mut Vec<Scope>,
+    scope: &Scope,
     slots: &[Slot],
 ) -> Result<(), NoMemory>
     ensures { OnOk result (all.new.items ≡ all.old.items ++ slots_blocks scope.now (slots_of slots.now)) }
@@ -215,7 +228,7 @@ fn put_slots(
 }
 
 #[cycle(blocks)]
-fn put_slot(alloc: Global, all: &mut Vec<Seen>, scope: &Seen, slot: &Slot) -> Result<(), NoMemory>
+fn put_slot(alloc: Global, all: &mut Vec<Scope>, scope: &Scope, slot: &Slot) -> Result<(), NoMemory>
     ensures { OnOk result (all.new.items ≡ all.old.items ++ slot_blocks scope.now (slot_of slot.now)) }
 {
     match &slot.init {
@@ -228,8 +241,8 @@ fn put_slot(alloc: Global, all: &mut Vec<Seen>, scope: &Seen, slot: &Slot) -> Re
 #[cycle(blocks)]
 pub fn put_statements(
     alloc: Global,
-    all: &mut Vec<Seen>,
-    scope: &Seen,
+    all: &mut Vec<Scope>,
+    scope: &Scope,
     body: &Statements,
 ) -> Result<(), NoMemory>
     ensures { OnOk result (all.new.items ≡ all.old.items ++ statements_blocks scope.now (statements_of body.now)) }
@@ -240,8 +253,8 @@ pub fn put_statements(
 #[cycle(blocks)]
 fn put_list(
     alloc: Global,
-    all: &mut Vec<Seen>,
-    scope: &Seen,
+    all: &mut Vec<Scope>,
+    scope: &Scope,
     list: &[Statement],
 ) -> Result<(), NoMemory>
     ensures { OnOk result (all.new.items ≡ all.old.items ++ list_blocks scope.now (statement_list_of list.now)) }

@@ -1,17 +1,18 @@
 //! The bodies of declarations, each as what is seen from it, in the order of their numbers.
 
-ghost use Rattle.std.specs.Prelude.{◌≡◌, ◌++◌, map, OnOk, IfOk, option_map};
+ghost use Rattle.std.specs.Prelude.{◌≡◌, ◌++◌, ◌∷◌, map, OnOk, IfOk, option_map};
 ghost use Rattle.ns_tree.specs.PlainOf.{bars_of, statements_of, pattern_of, clause_of, method_of, class_of, class_side_of, side_of, members_of, member_of, what_of, unit_of};
-ghost use Rattle.ns_scope.specs.Bodies.{super_blocks, clause_bodies, initialiser_bodies, method_bodies, member_methods, methods_bodies, side_bodies, class_side_bodies, own_bodies};
+ghost use Rattle.ns_scope.specs.Scopes.{is_outside};
+ghost use Rattle.ns_scope.specs.Bodies.{super_blocks, bars_blocks, statements_blocks, clause_bodies, initialiser_bodies, method_bodies, member_methods, methods_bodies, side_bodies, class_side_bodies, own_bodies};
 ghost use Rattle.ns_scope.specs.Bodies.{class_bodies, class_inside, nested_bodies, members_bodies, member_nested, what_bodies, unit_bodies, bodies_of};
 
-use crate::blocks::{put_bars, put_message, put_statements};
+use crate::blocks::{put_bars, put_message, put_scope, put_statements};
+use crate::chain::Chain;
 use crate::program::Program;
-use crate::scope::{ClassScope, CodeSide};
+use crate::scope::{ClassScope, CodeSide, Scope};
 use crate::scopes::Scopes;
-use crate::seen::{Classes, Seen};
 use ns_base::no_memory::NoMemory;
-use ns_tree::tree::{Class, Member, Method, Side, SuperClause, Unit, What};
+use ns_tree::tree::{Class, Member, Method, Side, Slot, Statements, SuperClause, Unit, What};
 use std::alloc::Global;
 
 /// The scopes of a program's bodies. The only refusal is want of memory, which also stands for more
@@ -27,10 +28,10 @@ pub fn scopes(alloc: Global, program: &Program) -> Result<Scopes, NoMemory>
 }
 
 /// The bodies of a file.
-fn put_unit(alloc: Global, all: &mut Vec<Seen>, unit: &Unit) -> Result<(), NoMemory>
+fn put_unit(alloc: Global, all: &mut Vec<Scope>, unit: &Unit) -> Result<(), NoMemory>
     ensures { OnOk result (all.new.items ≡ all.old.items ++ unit_bodies (unit_of unit.now)) }
 {
-    let outside = Classes::outside(alloc)?;
+    let outside = Chain::end(alloc)?;
     put_class(alloc, all, &outside, &unit.class)?;
     Ok(())
 }
@@ -39,13 +40,13 @@ fn put_unit(alloc: Global, all: &mut Vec<Seen>, unit: &Unit) -> Result<(), NoMem
 #[cycle(bodies)]
 fn put_class(
     alloc: Global,
-    all: &mut Vec<Seen>,
-    outer: &Classes,
+    all: &mut Vec<Scope>,
+    outer: &Chain<ClassScope>,
     class: &Class,
 ) -> Result<(), NoMemory>
     ensures { OnOk result (all.new.items ≡ all.old.items ++ class_bodies outer.now (class_of class.now)) }
 {
-    let classes = Classes::inside(alloc, ClassScope::of(alloc, class)?, outer)?;
+    let classes = Chain::inside(alloc, ClassScope::of(alloc, class)?, outer)?;
     put_clause(alloc, all, outer, &class.clause)?;
     put_inside(alloc, all, &classes, class)?;
     Ok(())
@@ -55,8 +56,8 @@ fn put_class(
 #[cycle(bodies)]
 fn put_inside(
     alloc: Global,
-    all: &mut Vec<Seen>,
-    classes: &Classes,
+    all: &mut Vec<Scope>,
+    classes: &Chain<ClassScope>,
     class: &Class,
 ) -> Result<(), NoMemory>
     ensures { OnOk result (all.new.items ≡ all.old.items ++ class_inside classes.now (class_of class.now)) }
@@ -68,8 +69,8 @@ fn put_inside(
 /// The initialiser and the methods of a class.
 fn put_own(
     alloc: Global,
-    all: &mut Vec<Seen>,
-    classes: &Classes,
+    all: &mut Vec<Scope>,
+    classes: &Chain<ClassScope>,
     class: &Class,
 ) -> Result<(), NoMemory>
     ensures { OnOk result (all.new.items ≡ all.old.items ++ own_bodies classes.now (class_of class.now)) }
@@ -83,39 +84,60 @@ fn put_own(
 /// The clause of a nested class.
 fn put_clause(
     alloc: Global,
-    all: &mut Vec<Seen>,
-    outer: &Classes,
+    all: &mut Vec<Scope>,
+    outer: &Chain<ClassScope>,
     clause: &Option<SuperClause>,
 ) -> Result<(), NoMemory>
     ensures { OnOk result (all.new.items ≡ all.old.items ++ clause_bodies outer.now (option_map clause_of clause.now)) }
 {
-    if clause.is_some() && !outer.is_outside() {
-        all.push(Seen::clause(alloc, outer)?)?;
+    if clause.is_some() && !is_outside(outer) {
+        all.push(Scope::clause(alloc, outer)?)?;
     }
     Ok(())
 }
 
+/// Whether there are no declarations.
+fn is_outside(classes: &Chain<ClassScope>) -> bool
+    ensures { result ≡ is_outside classes.now }
+{
+    classes.links().split().is_none()
+}
+
 fn put_initialiser(
     alloc: Global,
-    all: &mut Vec<Seen>,
-    classes: &Classes,
+    all: &mut Vec<Scope>,
+    classes: &Chain<ClassScope>,
     class: &Class,
 ) -> Result<(), NoMemory>
     ensures { OnOk result (all.new.items ≡ all.old.items ++ initialiser_bodies classes.now (class_of class.now)) }
 {
-    let scope = Seen::initialiser(alloc, classes, &class.factory)?;
-    all.push(scope.share()?)?;
-    put_super(alloc, all, &scope, &class.clause)?;
-    put_bars(alloc, all, &scope, &class.slots)?;
-    put_statements(alloc, all, &scope, &class.body)?;
-    Ok(())
+    let scope = Scope::initialiser(alloc, classes, &class.factory)?;
+    put_body(alloc, all, &scope, &class.clause, &class.slots, &class.body)
+}
+
+/// A body that stands in no other, which sees this, and the blocks in it. An initialiser may have a
+/// clause.
+fn put_body(
+    alloc: Global,
+    all: &mut Vec<Scope>,
+    scope: &Scope,
+    clause: &Option<SuperClause>,
+    slots: &Option<Vec<Slot>>,
+    body: &Statements,
+) -> Result<(), NoMemory>
+    ensures { OnOk result (all.new.items ≡ all.old.items ++ scope.now ∷ (super_blocks scope.now (option_map clause_of clause.now) ++ (bars_blocks scope.now (bars_of slots.now) ++ statements_blocks scope.now (statements_of body.now)))) }
+{
+    put_scope(all, scope)?;
+    put_super(alloc, all, scope, clause)?;
+    put_bars(alloc, all, scope, slots)?;
+    put_statements(alloc, all, scope, body)
 }
 
 /// The blocks in the message to the superclass.
 fn put_super(
     alloc: Global,
-    all: &mut Vec<Seen>,
-    scope: &Seen,
+    all: &mut Vec<Scope>,
+    scope: &Scope,
     clause: &Option<SuperClause>,
 ) -> Result<(), NoMemory>
     ensures { OnOk result (all.new.items ≡ all.old.items ++ super_blocks scope.now (option_map clause_of clause.now)) }
@@ -131,8 +153,8 @@ fn put_super(
 
 fn put_class_side(
     alloc: Global,
-    all: &mut Vec<Seen>,
-    classes: &Classes,
+    all: &mut Vec<Scope>,
+    classes: &Chain<ClassScope>,
     side: &Option<Side>,
 ) -> Result<(), NoMemory>
     ensures { OnOk result (all.new.items ≡ all.old.items ++ class_side_bodies classes.now (class_side_of side.now)) }
@@ -146,8 +168,8 @@ fn put_class_side(
 /// The methods of a side.
 fn put_side(
     alloc: Global,
-    all: &mut Vec<Seen>,
-    classes: &Classes,
+    all: &mut Vec<Scope>,
+    classes: &Chain<ClassScope>,
     side: CodeSide,
     members: &Side,
 ) -> Result<(), NoMemory>
@@ -158,8 +180,8 @@ fn put_side(
 
 fn put_methods(
     alloc: Global,
-    all: &mut Vec<Seen>,
-    classes: &Classes,
+    all: &mut Vec<Scope>,
+    classes: &Chain<ClassScope>,
     side: CodeSide,
     members: &[Member],
 ) -> Result<(), NoMemory>
@@ -173,8 +195,8 @@ fn put_methods(
 
 fn put_member_method(
     alloc: Global,
-    all: &mut Vec<Seen>,
-    classes: &Classes,
+    all: &mut Vec<Scope>,
+    classes: &Chain<ClassScope>,
     side: CodeSide,
     what: &What,
 ) -> Result<(), NoMemory>
@@ -188,26 +210,23 @@ fn put_member_method(
 
 fn put_method(
     alloc: Global,
-    all: &mut Vec<Seen>,
-    classes: &Classes,
+    all: &mut Vec<Scope>,
+    classes: &Chain<ClassScope>,
     side: CodeSide,
     method: &Method,
 ) -> Result<(), NoMemory>
     ensures { OnOk result (all.new.items ≡ all.old.items ++ method_bodies classes.now side (method_of method.now)) }
 {
-    let scope = Seen::method(alloc, classes, side, &method.pattern.params, &method.slots)?;
-    all.push(scope.share()?)?;
-    put_bars(alloc, all, &scope, &method.slots)?;
-    put_statements(alloc, all, &scope, &method.body)?;
-    Ok(())
+    let scope = Scope::method(alloc, classes, side, &method.pattern.params, &method.slots)?;
+    put_body(alloc, all, &scope, &None, &method.slots, &method.body)
 }
 
 /// The bodies of the classes on a side.
 #[cycle(bodies)]
 fn put_nested(
     alloc: Global,
-    all: &mut Vec<Seen>,
-    classes: &Classes,
+    all: &mut Vec<Scope>,
+    classes: &Chain<ClassScope>,
     side: &Side,
 ) -> Result<(), NoMemory>
     ensures { OnOk result (all.new.items ≡ all.old.items ++ nested_bodies classes.now (side_of side.now)) }
@@ -218,8 +237,8 @@ fn put_nested(
 #[cycle(bodies)]
 fn put_members(
     alloc: Global,
-    all: &mut Vec<Seen>,
-    classes: &Classes,
+    all: &mut Vec<Scope>,
+    classes: &Chain<ClassScope>,
     members: &[Member],
 ) -> Result<(), NoMemory>
     ensures { OnOk result (all.new.items ≡ all.old.items ++ members_bodies classes.now (members_of members.now)) }
@@ -233,8 +252,8 @@ fn put_members(
 #[cycle(bodies)]
 fn put_member(
     alloc: Global,
-    all: &mut Vec<Seen>,
-    classes: &Classes,
+    all: &mut Vec<Scope>,
+    classes: &Chain<ClassScope>,
     member: &Member,
 ) -> Result<(), NoMemory>
     ensures { OnOk result (all.new.items ≡ all.old.items ++ member_nested classes.now (member_of member.now)) }
@@ -245,8 +264,8 @@ fn put_member(
 #[cycle(bodies)]
 fn put_what(
     alloc: Global,
-    all: &mut Vec<Seen>,
-    classes: &Classes,
+    all: &mut Vec<Scope>,
+    classes: &Chain<ClassScope>,
     what: &What,
 ) -> Result<(), NoMemory>
     ensures { OnOk result (all.new.items ≡ all.old.items ++ what_bodies classes.now (what_of what.now)) }

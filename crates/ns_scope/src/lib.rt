@@ -9,6 +9,4 @@ pub mod program;
 pub mod resolve;
 pub mod scope;
 pub mod scopes;
-pub mod seen;
-pub mod stack;
 pub mod table;

@@ -1,8 +1,9 @@
 //! What a body and a side declare.
 
-ghost use Rattle.std.specs.Prelude.{◌≡◌, ◌++◌, ◌∷◌, [], IfOk, OnOk, length, fold, option_map};
+ghost use Rattle.std.specs.Prelude.{◌≡◌, ◌++◌, ◌∷◌, [], IfOk, OnOk, length, not, option_map};
 ghost use Rattle.ns_tree.specs.Plain as p;
 ghost use Rattle.ns_tree.specs.PlainOf.{bars_of, slots_of, slot_of, init_of, side_of, members_of, member_of, what_of, class_of, class_side_of, method_of};
+ghost use Rattle.ns_scope.specs.Table.{has, put_first};
 ghost use Rattle.ns_scope.specs.Names.{declare, table_of, setting_of, numbered, param_settings, slot_settings, bars_settings, locals_of};
 ghost use Rattle.ns_scope.specs.Names.{access_or, setter_of, getter_setter, slot_members, bars_members, selector_of, start_of, what_member, members_named, side_members, instance_members, class_members};
 
@@ -40,9 +41,22 @@ pub fn table_of<V: Copy>(alloc: Global, declared: &[Declared<V>]) -> Result<Tabl
 {
     let mut table = Table::new(alloc);
     for one in declared {
-        table.put_first(Text::of(alloc, one.name.bytes())?, one.value)?;
+        put_declared(alloc, &mut table, one)?;
     }
     Ok(table)
+}
+
+/// Puts a name in, unless it is there. Tells whether it is new.
+pub fn put_declared<V: Copy>(
+    alloc: Global,
+    table: &mut Table<V>,
+    declared: &Declared<V>,
+) -> Result<bool, NoMemory>
+    ensures new { IfOk result (λ new. new ≡ not (has table.old declared.now.name)) }
+    ensures put { OnOk result (table.new ≡ put_first table.old declared.now.name declared.now.value) }
+{
+    let name = Text::of(alloc, declared.name.bytes())?;
+    table.put_first(name, declared.value)
 }
 
 // ---- locals

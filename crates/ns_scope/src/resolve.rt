@@ -3,7 +3,7 @@
 ghost use Rattle.std.specs.Prelude.{◌≡◌, ◌<◌, length, map, IfSome, option_map};
 ghost use Rattle.ns_scope.specs.Resolve.{innermost, own_members, levels, is_private, member_or_self, local_or, resolve};
 
-use crate::chain::Chain;
+use crate::chain::Link;
 use crate::names::Local;
 use crate::scope::{ClassScope, CodeSide};
 use crate::table::Table;
@@ -19,7 +19,7 @@ pub enum Target {
 }
 
 /// The local of the innermost body that declares the name, and how many bodies stand before it.
-pub fn innermost_local(bodies: &Chain<Table<Local>>, name: &[u8]) -> Option<(u32, Local)>
+pub fn innermost_local(bodies: &Link<Table<Local>>, name: &[u8]) -> Option<(u32, Local)>
     ensures local { result ≡ innermost bodies.now name.now }
     ensures within { IfSome result (λ found. found.0 < length bodies.now) }
 {
@@ -35,7 +35,7 @@ pub fn innermost_local(bodies: &Chain<Table<Local>>, name: &[u8]) -> Option<(u32
 
 /// The instance-side member of the innermost declaration that declares the name, and how many
 /// declarations stand before it.
-pub fn innermost_member(classes: &Chain<ClassScope>, name: &[u8]) -> Option<(u32, Access)>
+pub fn innermost_member(classes: &Link<ClassScope>, name: &[u8]) -> Option<(u32, Access)>
     ensures member { result ≡ innermost (map (λ class. class.instance) classes.now) name.now }
     ensures within { IfSome result (λ found. found.0 < length classes.now) }
 {

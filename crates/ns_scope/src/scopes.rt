@@ -4,7 +4,7 @@ ghost use Rattle.std.specs.Prelude.{◌≡◌, ◌<◌, length, Some, IfOk, opti
 ghost use Rattle.ns_scope.specs.Resolve.{resolve};
 
 use crate::resolve::Target;
-use crate::seen::Seen;
+use crate::scope::Scope;
 use ns_base::no_memory::NoMemory;
 use std::marker::Model;
 
@@ -15,7 +15,7 @@ pub struct BodyId(pub u32);
 /// What is seen from each body of a program, by the body's number.
 #[derive(Drop)]
 pub struct Scopes {
-    all: Vec<Seen>,
+    all: Vec<Scope>,
 }
 
 impl Model for Scopes {
@@ -31,7 +31,7 @@ impl Model for Scopes {
 
 impl Scopes {
     /// The scopes of these bodies, unless there are more than 4,294,967,295.
-    pub fn from_vec(all: Vec<Seen>) -> Result<Scopes, NoMemory>
+    pub fn from_vec(all: Vec<Scope>) -> Result<Scopes, NoMemory>
         ensures { IfOk result (λ scopes. scopes ≡ all.items) }
     {
         if all.len() > u32::MAX as usize {

@@ -1,5 +1,5 @@
-pub mod Bars
 pub mod ClassParts
+pub mod Inside
 pub mod Order
 pub mod Past
 pub mod Shapes

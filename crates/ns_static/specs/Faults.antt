@@ -138,6 +138,10 @@ abbrev mutual
   pub statement_faults : Scope → p.Statement → List Found
   statement_faults scope (p.statement_with caret expr) = return_found scope caret ++ expr_faults scope expr
 
+-- what stands in a block, which sees this
+abbrev pub inside_faults : Scope → p.Block → List Found
+inside_faults scope (p.block_with params bars body) = bars_faults scope bars ++ statements_faults scope body
+
 -- ---- declarations
 
 abbrev pub origin_faults : List ClassScope → Origin → List Found
@@ -213,6 +217,11 @@ abbrev mutual
   pub what_faults : List ClassScope → CodeSide → p.What → List Found
   what_faults classes side (p.class_member class) = class_faults classes class
   what_faults classes side (p.method_member method) = method_faults classes side method
+
+-- what stands in a class
+abbrev pub class_inside_faults : List ClassScope → p.Class → List Found
+class_inside_faults classes (p.class_with name factory clause bars body members others) =
+    initialiser_faults classes factory clause bars body ++ (side_faults classes side.Instance members ++ class_side_faults classes others)
 
 -- ---- programs
 

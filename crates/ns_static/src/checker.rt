@@ -9,15 +9,13 @@ ghost use Rattle.ns_static.specs.declared.fault.StaticCause.TheVariants as c;
 use crate::fault::{Many, Placed, StaticCause};
 use crate::least::{earlier, place_at};
 use ns_base::place::Place;
-use ns_scope::scope::Scope;
 use std::alloc::Global;
 
-/// Where the walk stands, the places of the file's tokens, and the least fault so far.
+/// The places of the file's tokens, and the least fault so far.
 #[derive(Drop)]
 pub struct Checker<'a> {
     pub alloc: Global,
     pub marks: &'a [Place],
-    pub scope: Scope,
     pub least: Option<Placed>,
 }
 

@@ -10,12 +10,23 @@ use crate::fault::{Many, StaticCause};
 use ns_base::no_memory::NoMemory;
 use ns_tree::tree::{Class, Member, Side, What};
 
-/// TooMany(Classes), at the 4,097th class, where so many stand before these. Counts them.
-pub fn classes_found(
+/// TooMany(Classes), at the 4,097th class, in a class and those in it, where so many stand before
+/// them. Counts them.
+pub fn classes_found_in(
     checker: &mut Checker<'_>,
     before: &mut u64,
-    names: &[u32],
+    class: &Class,
 ) -> Result<(), NoMemory>
+    ensures found { OnOk result (checker.new ≡ with_found checker.old (classes_found before.old (class_names (class_of class.now)))) }
+    ensures counted { OnOk result (before.new ≡ before.old + length (class_names (class_of class.now))) }
+{
+    let mut names = Vec::new(checker.alloc);
+    class_names(&mut names, class)?;
+    classes_found(checker, before, &names)
+}
+
+/// TooMany(Classes), at the 4,097th class, where so many stand before these. Counts them.
+fn classes_found(checker: &mut Checker<'_>, before: &mut u64, names: &[u32]) -> Result<(), NoMemory>
     ensures found { OnOk result (checker.new ≡ with_found checker.old (classes_found before.old names.now)) }
     ensures counted { OnOk result (before.new ≡ before.old + length names.now) }
 {
@@ -36,7 +47,7 @@ pub fn classes_found(
 
 /// The names of a class and of those in it, as they stand in the text.
 #[cycle(names)]
-pub fn class_names(names: &mut Vec<u32>, class: &Class) -> Result<(), NoMemory>
+fn class_names(names: &mut Vec<u32>, class: &Class) -> Result<(), NoMemory>
     ensures { OnOk result (names.new.items ≡ names.old.items ++ class_names (class_of class.now)) }
 {
     names.push(class.name.at)?;

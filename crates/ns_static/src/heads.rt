@@ -1,6 +1,6 @@
 //! The heads of superclass clauses, which stand in the declarations around the class.
 
-ghost use Rattle.std.specs.Prelude.{◌≡◌, ◌++◌, option_map, reverse, codes};
+ghost use Rattle.std.specs.Prelude.{◌≡◌, ◌++◌, option_map, codes};
 ghost use Rattle.ns_tree.specs.PlainOf.{clause_of, message_of};
 ghost use Rattle.ns_static.specs.Faults.{head_faults, clause_faults, base_faults, over_faults, origin_faults};
 ghost use Rattle.ns_static.specs.Rules.{top_found, is_object, is_object_name, is_here, is_new, is_new_message, clause_start, base_start, origin_start};
@@ -9,60 +9,60 @@ ghost use Rattle.ns_static.specs.Walk.{with_found};
 use crate::checker::{Checker, found_if};
 use crate::fault::StaticCause;
 use crate::rules::outer_found;
+use ns_scope::chain::Chain;
+use ns_scope::scope::ClassScope;
 use ns_tree::tree::{Base, Message, Origin, SuperClause};
 
-pub fn head_faults(checker: &mut Checker<'_>, clause: &Option<SuperClause>)
-    ensures { checker.new ≡ with_found checker.old (head_faults checker.old.scope.classes (option_map clause_of clause.now)) }
+pub fn head_faults(
+    checker: &mut Checker<'_>,
+    outer: &Chain<ClassScope>,
+    clause: &Option<SuperClause>,
+)
+    ensures { checker.new ≡ with_found checker.old (head_faults outer.now (option_map clause_of clause.now)) }
 {
     match clause {
         None => {}
-        Some(clause) => clause_faults(checker, clause),
+        Some(clause) => clause_faults(checker, outer, clause),
     }
 }
 
-fn clause_faults(checker: &mut Checker<'_>, clause: &SuperClause)
-    ensures { checker.new ≡ with_found checker.old (clause_faults checker.old.scope.classes (clause_of clause.now)) }
+fn clause_faults(checker: &mut Checker<'_>, outer: &Chain<ClassScope>, clause: &SuperClause)
+    ensures { checker.new ≡ with_found checker.old (clause_faults outer.now (clause_of clause.now)) }
 {
-    top_found(checker, clause);
-    base_faults(checker, &clause.head);
-    over_faults(checker, &clause.over);
+    top_found(checker, outer, clause);
+    base_faults(checker, outer, &clause.head);
+    over_faults(checker, outer, &clause.over);
 }
 
-fn over_faults(checker: &mut Checker<'_>, over: &Option<Base>)
-    ensures { checker.new ≡ with_found checker.old (over_faults checker.old.scope.classes over.now) }
+fn over_faults(checker: &mut Checker<'_>, outer: &Chain<ClassScope>, over: &Option<Base>)
+    ensures { checker.new ≡ with_found checker.old (over_faults outer.now over.now) }
 {
     match over {
         None => {}
-        Some(base) => base_faults(checker, base),
+        Some(base) => base_faults(checker, outer, base),
     }
 }
 
-fn base_faults(checker: &mut Checker<'_>, base: &Base)
-    ensures { checker.new ≡ with_found checker.old (base_faults checker.old.scope.classes base.now) }
+fn base_faults(checker: &mut Checker<'_>, outer: &Chain<ClassScope>, base: &Base)
+    ensures { checker.new ≡ with_found checker.old (base_faults outer.now base.now) }
 {
     match &base.origin {
         Origin::Here => {}
         Origin::Super => {}
-        Origin::Outer(name) => outer_found(checker, name),
+        Origin::Outer(name) => outer_found(checker, outer, name),
     }
 }
 
 /// TopSuper, at the first token of a top-level clause that isn't `Object` or `Object new`.
-fn top_found(checker: &mut Checker<'_>, clause: &SuperClause)
-    ensures { checker.new ≡ with_found checker.old (top_found checker.old.scope.classes (clause_of clause.now)) }
+fn top_found(checker: &mut Checker<'_>, outer: &Chain<ClassScope>, clause: &SuperClause)
+    ensures { checker.new ≡ with_found checker.old (top_found outer.now (clause_of clause.now)) }
 {
-    match checker.scope.classes.oldest_first() {
-        [] => {
-            let wrong = !is_object(clause);
-            found_if(
-                checker,
-                wrong,
-                base_start(&clause.head),
-                StaticCause::TopSuper,
-            )
-        }
-        [_, ..] => {}
+    if outer.links().split().is_some() {
+        return;
     }
+    let wrong = !is_object(clause);
+    let at = base_start(&clause.head);
+    found_if(checker, wrong, at, StaticCause::TopSuper);
 }
 
 /// Whether it is `Object` or `Object new`.

@@ -1,6 +1,6 @@
 //! The rules on the parts of expressions.
 
-ghost use Rattle.std.specs.Prelude.{◌≡◌, not, map, reverse, slice_get, codes};
+ghost use Rattle.std.specs.Prelude.{◌≡◌, not, slice_get, codes};
 ghost use Rattle.std.specs.List.{list_any};
 ghost use Rattle.std.specs.Str.{bytes_eq};
 ghost use Rattle.ns_tree.specs.PlainOf.{expr_of, key_expr_of, keys_of, bin_of, opers_of, un_of, primary_of, cascade_of, exprs_of};
@@ -13,29 +13,26 @@ ghost use Rattle.ns_static.specs.declared.fault.Role.TheVariants as r;
 
 use crate::checker::{Checker, found, found_if, found_past};
 use crate::fault::{Many, Role, StaticCause};
-use ns_scope::names::{Local, Setting};
-use ns_scope::scope::ClassScope;
-use ns_scope::table::Table;
+use ns_scope::chain::{Chain, Link};
+use ns_scope::names::Setting;
+use ns_scope::scope::{ClassScope, Scope};
 use ns_tree::tree::{BinExpr, Expr, KeyExpr, Message, Named, Primary, UnExpr};
 
 /// FixedLocal, at `x::`, where x can't be set.
-pub fn set_found(checker: &mut Checker<'_>, name: &Named)
-    ensures { checker.new ≡ with_found checker.old (set_found checker.old.scope name.now) }
+pub fn set_found(checker: &mut Checker<'_>, scope: &Scope, name: &Named)
+    ensures { checker.new ≡ with_found checker.old (set_found scope.now name.now) }
 {
-    let wrong = is_fixed(checker.scope.bodies.oldest_first(), name.text.bytes());
+    let wrong = is_fixed(scope, name.text.bytes());
     found_if(checker, wrong, name.at, StaticCause::FixedLocal);
 }
 
-/// Whether the innermost of these bodies that declares the name declares it as fixed.
-fn is_fixed(bodies: &[Table<Local>], name: &[u8]) -> bool
-    ensures { result ≡ is_fixed (innermost (reverse bodies.now) name.now) }
+/// Whether the innermost body that declares the name declares it as fixed.
+fn is_fixed(scope: &Scope, name: &[u8]) -> bool
+    ensures { result ≡ is_fixed (innermost scope.now.bodies name.now) }
 {
-    match bodies {
-        [] => false,
-        [outer @ .., body] => match body.look_up(name) {
-            Some(local) => setting_is_fixed(local.setting),
-            None => is_fixed(outer, name),
-        },
+    match scope.local(name) {
+        None => false,
+        Some((_, local)) => setting_is_fixed(local.setting),
     }
 }
 
@@ -49,15 +46,12 @@ fn setting_is_fixed(setting: Setting) -> bool
 }
 
 /// BadReturn, at `^` outside methods.
-pub fn return_found(checker: &mut Checker<'_>, caret: Option<u32>)
-    ensures { checker.new ≡ with_found checker.old (return_found checker.old.scope caret) }
+pub fn return_found(checker: &mut Checker<'_>, scope: &Scope, caret: Option<u32>)
+    ensures { checker.new ≡ with_found checker.old (return_found scope.now caret) }
 {
     match caret {
         None => {}
-        Some(at) => {
-            let wrong = !checker.scope.in_method;
-            found_if(checker, wrong, at, StaticCause::BadReturn)
-        }
+        Some(at) => found_if(checker, !scope.in_method, at, StaticCause::BadReturn),
     }
 }
 
@@ -72,26 +66,24 @@ pub fn bare_found(checker: &mut Checker<'_>, role: Role, at: u32)
 }
 
 /// NoSuchOuter, at the name of no enclosing class.
-pub fn outer_found(checker: &mut Checker<'_>, name: &Named)
-    ensures { checker.new ≡ with_found checker.old (outer_found checker.old.scope.classes name.now) }
+pub fn outer_found(checker: &mut Checker<'_>, classes: &Chain<ClassScope>, name: &Named)
+    ensures { checker.new ≡ with_found checker.old (outer_found classes.now name.now) }
 {
-    let wrong = !is_around(checker.scope.classes.oldest_first(), name.text.bytes());
+    let wrong = !is_around(classes.links(), name.text.bytes());
     found_if(checker, wrong, name.at, StaticCause::NoSuchOuter);
 }
 
 /// Whether one of these classes has the name.
-fn is_around(classes: &[ClassScope], name: &[u8]) -> bool
-    ensures { result ≡ list_any (λ class. bytes_eq name.now class.name) (reverse classes.now) }
+fn is_around(classes: &Link<ClassScope>, name: &[u8]) -> bool
+    ensures { result ≡ list_any (λ class. bytes_eq name.now class.name) classes.now }
 {
-    match classes {
-        [] => false,
-        [outer @ .., class] => {
-            if name == class.name.bytes() {
-                return true;
-            }
-            is_around(outer, name)
-        }
+    let Some((class, outer)) = classes.split() else {
+        return false;
+    };
+    if name == class.name.bytes() {
+        return true;
     }
+    is_around(outer, name)
 }
 
 /// PlainTooLarge, at a number that is an Integer with a minus alone.

@@ -1,23 +1,22 @@
 //! The faults of the units of a program, one behind the other.
 
-ghost use Rattle.std.specs.Prelude.{◌≡◌, ◌+◌, [], length, map, IfOk, OnOk};
-ghost use Rattle.ns_tree.specs.PlainOf.{unit_of};
+ghost use Rattle.std.specs.Prelude.{◌≡◌, ◌+◌, length, IfOk, OnOk};
+ghost use Rattle.ns_tree.specs.PlainOf.{class_of, unit_of};
 ghost use Rattle.ns_static.specs.Rules.{top_name_found};
 ghost use Rattle.ns_static.specs.Faults.{unit_faults, unit_class, class_name, class_names};
 ghost use Rattle.ns_static.specs.Least.{with_top};
 ghost use Rattle.ns_static.specs.Walk.{with_found, least_after};
 
 use crate::checker::{Checker, found_if};
-use crate::counting::{class_names, classes_found};
+use crate::counting::classes_found_in;
 use crate::declarations::class_faults;
 use crate::fault::{Placed, StaticCause};
 use ns_base::no_memory::NoMemory;
 use ns_base::place::Place;
 use ns_base::text::Text;
-use ns_scope::scope::{CodeSide, Scope};
-use ns_scope::stack::Stack;
+use ns_scope::chain::Chain;
 use ns_scope::table::Table;
-use ns_tree::tree::{Named, Unit};
+use ns_tree::tree::{Class, Named, Unit};
 use std::alloc::Global;
 
 /// What stands before a unit: the names of the units' classes, and how many classes there are.
@@ -39,31 +38,29 @@ pub fn unit_faults(
     ensures names { OnOk result (before.new.names ≡ with_top before.old.names (class_name (unit_class (unit_of unit.now)))) }
     ensures classes { OnOk result (before.new.classes ≡ before.old.classes + length (class_names (unit_class (unit_of unit.now)))) }
 {
-    let scope = outermost(alloc);
     let mut checker = Checker {
         alloc,
         marks,
-        scope,
         least,
     };
-    top_name_found(&mut checker, &mut before.names, &unit.class.name)?;
-    let mut names = Vec::new(alloc);
-    class_names(&mut names, &unit.class)?;
-    classes_found(&mut checker, &mut before.classes, &names)?;
-    class_faults(&mut checker, &unit.class)?;
+    top_class_faults(&mut checker, before, &unit.class)?;
     Ok(checker.least)
 }
 
-/// Outside all classes.
-fn outermost(alloc: Global) -> Scope
-    ensures { result.classes ≡ [] }
+/// The faults of a top-level class.
+fn top_class_faults(
+    checker: &mut Checker<'_>,
+    before: &mut Before,
+    class: &Class,
+) -> Result<(), NoMemory>
+    ensures found { OnOk result (checker.new ≡ with_found checker.old (unit_faults before.old.names before.old.classes (class_of class.now))) }
+    ensures names { OnOk result (before.new.names ≡ with_top before.old.names (class_name (class_of class.now))) }
+    ensures classes { OnOk result (before.new.classes ≡ before.old.classes + length (class_names (class_of class.now))) }
 {
-    Scope {
-        bodies: Stack::new(alloc),
-        side: CodeSide::Instance,
-        in_method: false,
-        classes: Stack::new(alloc),
-    }
+    top_name_found(checker, &mut before.names, &class.name)?;
+    classes_found_in(checker, &mut before.classes, class)?;
+    let outside = Chain::end(checker.alloc)?;
+    class_faults(checker, &outside, class)
 }
 
 /// DuplicateTop, at the name of a top-level class that an earlier one has. Puts the name to those.

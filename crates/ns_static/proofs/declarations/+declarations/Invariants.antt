@@ -5,4 +5,4 @@ use Rattle.ns_static.specs.Walk.{with_found}
 use Rattle.ns_static.proofs.declarations.+declarations.Given as goal
 
 abbrev pub invariant-members_faults-loop-member : goal.invariant-members_faults-loop-member
-invariant-members_faults-loop-member l = with_found l.checker (members_faults l.checker.scope.classes l.code_side (members_of (drop l.member-index l.members))) ≡ with_found l.fn.checker (members_faults l.fn.checker.scope.classes l.code_side (members_of l.members))
+invariant-members_faults-loop-member l = with_found l.checker (members_faults l.classes l.code_side (members_of (drop l.member-index l.members))) ≡ with_found l.fn.checker (members_faults l.classes l.code_side (members_of l.members))

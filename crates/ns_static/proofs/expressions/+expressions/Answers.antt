@@ -1,7 +1,7 @@
 use Rattle.std.proofs.Common.{arith}
 use Rattle.std.proofs.lemmas.Grind.{common_steps}
-use Rattle.ns_tree.proofs.Nodes.{bin_out, expr_out, statements_out, key_expr_none, key_expr_some, block_out, keywords_out, tuple_out}
-use Rattle.ns_static.proofs.Bars.{bars_some}
+use Rattle.ns_tree.proofs.Nodes.{bin_out, expr_out, statements_out, key_expr_none, key_expr_some, block_none, block_some, keywords_out, tuple_out}
+use Rattle.ns_static.proofs.Inside.{block_and_inside}
 use Rattle.ns_static.proofs.expressions.+expressions.Goals as goal
 
 pub bin_faults-returns : goal.bin_faults-returns
@@ -22,8 +22,14 @@ message_faults-returns-in-Keys t c = rw (keywords_out c.args.message.now _ c.in-
 pub statements_faults-returns : goal.statements_faults-returns
 statements_faults-returns t c = rw (statements_out c.args.body.now) (grind (arith, common_steps))
 
-pub block_faults-returns-in_ok-slots_faults-in-Some : goal.block_faults-returns-in_ok-slots_faults-in-Some
-block_faults-returns-in_ok-slots_faults-in-Some t c = rw (block_out c.args.block.now) (grind (arith, common_steps, bars_some))
+pub block_faults-returns : goal.block_faults-returns
+block_faults-returns t c = rw (block_and_inside c.args.scope.now c.args.block.now) (grind (arith, common_steps))
+
+pub inside_faults-returns-in-None : goal.inside_faults-returns-in-None
+inside_faults-returns-in-None t c = rw (block_none c.args.block.now c.in-None.is) (grind (arith, common_steps))
+
+pub inside_faults-returns-in_ok-slots_faults-in-Some : goal.inside_faults-returns-in_ok-slots_faults-in-Some
+inside_faults-returns-in_ok-slots_faults-in-Some t c = rw (block_some c.args.block.now _ c.in-Some.is) (grind (arith, common_steps))
 
 pub primary_faults-returns-in-Tuple : goal.primary_faults-returns-in-Tuple
 primary_faults-returns-in-Tuple t c = rw (tuple_out c.args.primary.now _ _ c.in-Tuple.is) (grind (arith, common_steps))
