@@ -10,3 +10,5 @@ pub mod Shown
 pub mod Ending
 pub mod GoodHeights
 pub mod NamesThere
+pub mod Stand
+pub mod Numbers

@@ -1,5 +1,13 @@
 //! Why a program gets no code.
 
+ghost use Rattle.std.specs.Prelude.{◌≡◌};
+ghost use Rattle.ns_gen.specs.declared.fault.GenFault.TheVariants.{Memory};
+ghost use Rattle.ns_gen.specs.Faults.{gen_fault};
+
+use ns_base::names::NamesFault;
+use ns_base::no_memory::NoMemory;
+use std::alloc::{AllocError, AllocFailed};
+
 /// What can be too large: the names of a program, its bodies, the instructions of a body, or the
 /// operands of a body at one time.
 #[derive(Clone, Copy, Debug, PartialEq, Eq)]
@@ -15,4 +23,40 @@ pub enum SizeKind {
 pub enum GenFault {
     TooLarge(SizeKind),
     Memory,
+}
+
+impl From<AllocError> for GenFault {
+    ghost from_gives = { λ _ e. e ≡ Memory };
+
+    fn from(_error: AllocError) -> GenFault {
+        GenFault::Memory
+    }
+}
+
+impl<T: Drop> From<AllocFailed<T>> for GenFault {
+    ghost from_gives = { λ _ e. e ≡ Memory };
+
+    fn from(_error: AllocFailed<T>) -> GenFault {
+        GenFault::Memory
+    }
+}
+
+impl From<NoMemory> for GenFault {
+    ghost from_gives = { λ _ e. e ≡ Memory };
+
+    fn from(_error: NoMemory) -> GenFault {
+        GenFault::Memory
+    }
+}
+
+/// No number is left for a name, or there is no memory.
+impl From<NamesFault> for GenFault {
+    ghost from_gives = { λ fault e. e ≡ gen_fault fault };
+
+    fn from(fault: NamesFault) -> GenFault {
+        match fault {
+            NamesFault::Full => GenFault::TooLarge(SizeKind::Names),
+            NamesFault::Memory => GenFault::Memory,
+        }
+    }
 }

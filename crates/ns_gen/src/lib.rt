@@ -1,5 +1,7 @@
 //! The generator: the code of a program in which every name has its meaning.
 #![tactic(auto)]
 
+pub mod draft;
 pub mod fault;
 pub mod laws;
+pub mod writer;
