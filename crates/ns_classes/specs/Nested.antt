@@ -24,6 +24,10 @@ has_nested code decl class =
 abbrev pub nested_entry : CodeProgram → ℕ → ℕ → ℕ
 nested_entry code decl class = option_map_or (λ (c : ClassCode). length c.slots + place_of c.nested class) (slice_get code.classes decl) 0
 
+-- the word in which an object keeps a nested class of a holder
+abbrev pub nested_word : Heap → CodeProgram → ℕ → ℕ → ℕ
+nested_word heap code holder class = entry_word heap code holder (nested_entry code (declaration_of heap holder) class)
+
 -- the class that a word keeps, if it keeps one
 abbrev pub kept_in : Value → Option ℕ
 kept_in (Ref class) = Some class

@@ -1,2 +1,3 @@
 pub mod Living
 pub mod Lawful
+pub mod Leading

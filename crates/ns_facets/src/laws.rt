@@ -9,6 +9,7 @@ ghost use Rattle.ns_kdata.specs.Lawful.{LeavesLawful};
 ghost use Rattle.ns_facets.specs.declared.board.Board.{Board};
 ghost use Rattle.ns_facets.specs.declared.row.FacetRow.{FacetRow};
 ghost use Rattle.ns_facets.specs.Facet.{row_outcome};
+ghost use Rattle.ns_kdata.specs.Leading.{LeadsOn};
 
 /// A row's answer is a live value in every world.
 pub fn answers_are_live()
@@ -18,4 +19,9 @@ pub fn answers_are_live()
 /// A row leaves a lawful world lawful: it prints, or changes nothing.
 pub fn rows_keep_lawful()
     ensures { (world : World) (code : CodeProgram) (row : FacetRow) (first second : Value) (board : Board) → IsLawful world code → LeavesLawful code (row_outcome world code row first second board) }
+{}
+
+/// A row leads to a later world: it prints, or changes nothing.
+pub fn rows_lead_on()
+    ensures { (old : World) (code : CodeProgram) (row : FacetRow) (one two : Value) (board : Board) → LeadsOn old (row_outcome old code row one two board) }
 {}

@@ -53,7 +53,7 @@ search_has P code sel kind (member ∷ members) closed absent (here, rest) = tes
     tested false e below = below
 
 -- the first of what is left of a list
-first_left : {A : Type 0} (all : List A) (k : ℕ) (first : A) (rest : List A) → drop k all ≡ first ∷ rest → slice_get all k ≡ Some first
+pub first_left : {A : Type 0} (all : List A) (k : ℕ) (first : A) (rest : List A) → drop k all ≡ first ∷ rest → slice_get all k ≡ Some first
 first_left [] zero first rest e = absurd (cc)
 first_left [] (suc k) first rest e = absurd (cc)
 first_left (x ∷ all) zero first rest e = let is : x ≡ first = cc in ap Some is
@@ -65,7 +65,7 @@ left_inside [] (suc k) first rest e = absurd (cc)
 left_inside (x ∷ all) zero first rest e = omega arith
 left_inside (x ∷ all) (suc k) first rest e = omega (arith, left_inside all k first rest e)
 
-next_left : {A : Type 0} (all : List A) (k : ℕ) (first : A) (rest : List A) → drop k all ≡ first ∷ rest → drop (k + 1) all ≡ rest
+pub next_left : {A : Type 0} (all : List A) (k : ℕ) (first : A) (rest : List A) → drop k all ≡ first ∷ rest → drop (k + 1) all ≡ rest
 next_left [] zero first rest e = absurd (cc)
 next_left [] (suc k) first rest e = absurd (cc)
 next_left (x ∷ all) zero first rest e = let is : all ≡ rest = cc in is

@@ -1,18 +1,25 @@
 -- Classes and rows stay in a world that has made cells or written words since.
-use Rattle.std.proofs.Common.{◌≡◌, ℕ, ◌∷◌, refl, sym, ◌∙◌, Option, Some, None, Bool, true, false}
+use Rattle.std.proofs.Common.{◌≡◌, ℕ, List, ◌∷◌, All, get_or, refl, sym, ◌∙◌, Option, Some, None, Bool, true, false}
 use Rattle.ns_code.specs.declared.program.CodeProgram.{CodeProgram}
 use Rattle.ns_world.specs.declared.value.Value.{Value}
 use Rattle.ns_world.specs.Cell.{Cell, with_word, with_byte}
-use Rattle.ns_world.specs.Heap.{Heap, write_word, write_byte}
+use Rattle.ns_world.specs.Heap.{Heap, find_cell, is_class, write_word, write_byte}
 use Rattle.ns_world.specs.World.{World}
 use Rattle.ns_world.specs.Lawful.{IsLawful}
+use Rattle.ns_world.specs.declared.kernel.Start.{Start}
+use Rattle.ns_world.specs.declared.seek.Sought.TheVariants.{Facet, Top}
+use Rattle.ns_world.specs.Later.{RunsOn}
 use Rattle.ns_world.specs.Seek.{first_such, is_facet, is_top}
 use Rattle.ns_world.proofs.Changing.{word_plainly, byte_plainly}
 use Rattle.ns_world.proofs.Classes.{lawful_order, same_after_making as making_keeps_classes, same_after_changing}
+use Rattle.ns_world.proofs.Lasting.{keeps_of}
 use Rattle.ns_world.proofs.Firsts.{first_without, first_behind, facets_after_word, tops_after_word, facets_after_byte, tops_after_byte}
 use Rattle.ns_find.specs.declared.memo.Kept.{Kept}
+use Rattle.ns_find.specs.declared.found.Sending.{Sending}
+use Rattle.ns_find.specs.declared.members.Side.{Side}
+use Rattle.ns_find.specs.Find.{found_from, found_private, is_start}
 use Rattle.ns_find.specs.Memo.{IsRight, AddsNoRow}
-use Rattle.ns_find.proofs.Staying.{SameRows, found_stays, start_stays}
+use Rattle.ns_find.proofs.Staying.{SameRows, found_stays, private_stays, start_stays}
 
 -- one cell more
 pub same_after_making : (w : World) (code : CodeProgram) (cell : Cell) → IsLawful w code → AddsNoRow w.cells cell → SameRows w.cells (cell ∷ w.cells)
@@ -42,8 +49,33 @@ same_after_byte w code at place byte l = record {
   tops = tops_after_byte w.cells at place byte;
 }
 
+-- all that was made and written since
+pub same_rows : (code : CodeProgram) (old new : World) → RunsOn code old new → SameRows old.cells new.cells
+same_rows code old new run = record {
+  same = (keeps_of code old new run).same;
+  facets = λ kind. run.later.firsts (Facet kind);
+  tops = λ decl. run.later.firsts (Top decl);
+}
+
 -- a kept lookup stays right
 pub right_stays : (w : World) (code : CodeProgram) (after : Heap) (place : Option Kept) → IsLawful w code → SameRows w.cells after → IsRight w.cells code place → IsRight after code place
 right_stays w code after None l same r = r
 right_stays w code after (Some kept) l same r =
     (start_stays w.cells after kept.start same r.0, r.1 ∙ sym (found_stays w code after l same kept.start kept.sel.0 kept.kind r.0))
+
+-- ---- later in a run
+
+pub start_lasts : (from : Start) (code : CodeProgram) (old new : World) → RunsOn code old new → is_start old.cells from ≡ true → is_start new.cells from ≡ true
+start_lasts from code old new run s = start_stays old.cells new.cells from (same_rows code old new run) s
+
+pub found_lasts : (from : Start) (sel : ℕ) (kind : Sending) (code : CodeProgram) (old new : World) → RunsOn code old new → is_start old.cells from ≡ true → found_from new.cells code from sel kind ≡ found_from old.cells code from sel kind
+found_lasts from sel kind code old new run s = found_stays old code new.cells run.before (same_rows code old new run) from sel kind s
+
+pub private_lasts : (holder : ℕ) (side : Side) (sel : ℕ) (code : CodeProgram) (old new : World) → RunsOn code old new → is_class (find_cell old.cells holder) ≡ true → found_private new.cells code holder side sel ≡ found_private old.cells code holder side sel
+private_lasts holder side sel code old new run is = private_stays old code new.cells run.before (same_rows code old new run) holder side sel is
+
+pub right_lasts : (place : Option Kept) (code : CodeProgram) (old new : World) → RunsOn code old new → IsRight old.cells code place → IsRight new.cells code place
+right_lasts place code old new run r = right_stays old code new.cells place run.before (same_rows code old new run) r
+
+pub all_right_last : (places : List (Option Kept)) (code : CodeProgram) (old new : World) → RunsOn code old new → All (IsRight old.cells code) places → All (IsRight new.cells code) places
+all_right_last places code old new run all = λ i d h. right_lasts (get_or places i d) code old new run (all i d h)

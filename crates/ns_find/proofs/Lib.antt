@@ -7,3 +7,5 @@ pub mod Later
 pub mod Fitting
 pub mod Working
 pub mod Belonging
+pub mod Named
+pub mod SoundBodies

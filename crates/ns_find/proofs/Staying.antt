@@ -19,13 +19,14 @@ use Rattle.ns_world.specs.Seek.{first_such, is_facet, is_top}
 use Rattle.ns_world.proofs.Classes.{SameClasses, class_stays, declaration_stays, start_stays as chain_start_stays, started, word_stays, lawful_order}
 use Rattle.ns_find.specs.declared.found.Found.TheVariants.{Getter, Setter, Factory, Absent, Kernel}
 use Rattle.ns_find.specs.declared.found.Sending.{Sending}
+use Rattle.ns_find.specs.declared.found.Sending.TheVariants.{Inner}
 use Rattle.ns_find.specs.declared.members.Wanted.{Wanted}
-use Rattle.ns_find.specs.declared.members.Wanted.TheVariants.{Visible}
+use Rattle.ns_find.specs.declared.members.Wanted.TheVariants.{Visible, Private}
 use Rattle.ns_find.specs.declared.members.Side.{Side}
 use Rattle.ns_find.specs.declared.members.Side.TheVariants.{Instance, Class}
 use Rattle.ns_find.specs.Members.{Member, Numbered, SetterOf, search, is_wanted, slots_members, nested_members, method_members, side_members, holder_members, members_along, factory_member, public_access}
 use Rattle.ns_find.specs.Rows.{kernel_rows, top_rows, manifest_row}
-use Rattle.ns_find.specs.Find.{members_from, found_from, is_start}
+use Rattle.ns_find.specs.Find.{members_from, found_from, found_private, is_start}
 
 -- Each class, each chain and each row of one world is the same in another.
 pub record SameRows (before after : Heap) : Type 0 where
@@ -42,18 +43,18 @@ slots_stay before after code wanted holder f entry (slot ∷ slots) =
     ap (λ word. at word ++ slots_members after code wanted holder (entry + 1) slots) (f entry)
     ∙ ap (λ ms. at (entry_word before code holder entry) ++ ms) (slots_stay before after code wanted holder f (entry + 1) slots)
 
-side_stays : (before after : Heap) (code : CodeProgram) (side : Side) (holder : ℕ) (class : ClassCode) → ((entry : ℕ) → entry_word after code holder entry ≡ entry_word before code holder entry) → side_members after code Visible side holder class ≡ side_members before code Visible side holder class
-side_stays before after code Instance holder class f = ap (λ ms. ms ++ (nested_members Visible holder class.nested ++ method_members Visible holder class.methods)) (slots_stay before after code Visible holder f 0 class.slots)
-side_stays before after code Class holder class f = refl
+side_stays : (before after : Heap) (code : CodeProgram) (wanted : Wanted) (side : Side) (holder : ℕ) (class : ClassCode) → ((entry : ℕ) → entry_word after code holder entry ≡ entry_word before code holder entry) → side_members after code wanted side holder class ≡ side_members before code wanted side holder class
+side_stays before after code wanted Instance holder class f = ap (λ ms. ms ++ (nested_members wanted holder class.nested ++ method_members wanted holder class.methods)) (slots_stay before after code wanted holder f 0 class.slots)
+side_stays before after code wanted Class holder class f = refl
 
-holder_stays : (w : World) (code : CodeProgram) (after : Heap) → IsLawful w code → SameRows w.cells after → (side : Side) (holder : ℕ) → is_class (find_cell w.cells holder) ≡ true → holder_members after code Visible side holder ≡ holder_members w.cells code Visible side holder
-holder_stays w code after l same side holder h =
-    ap (λ n. option_map_or (side_members after code Visible side holder) (slice_get code.classes n) []) (declaration_stays w.cells after holder (same.same.classes holder h))
+holder_stays : (w : World) (code : CodeProgram) (after : Heap) → IsLawful w code → SameRows w.cells after → (wanted : Wanted) (side : Side) (holder : ℕ) → is_class (find_cell w.cells holder) ≡ true → holder_members after code wanted side holder ≡ holder_members w.cells code wanted side holder
+holder_stays w code after l same wanted side holder h =
+    ap (λ n. option_map_or (side_members after code wanted side holder) (slice_get code.classes n) []) (declaration_stays w.cells after holder (same.same.classes holder h))
     ∙ declared (slice_get code.classes (declaration_of w.cells holder))
   where
-    declared : (o : Option ClassCode) → option_map_or (side_members after code Visible side holder) o [] ≡ option_map_or (side_members w.cells code Visible side holder) o []
+    declared : (o : Option ClassCode) → option_map_or (side_members after code wanted side holder) o [] ≡ option_map_or (side_members w.cells code wanted side holder) o []
     declared None = refl
-    declared (Some class) = side_stays w.cells after code side holder class (λ entry. word_stays w.cells after code holder entry (lawful_order w code l) same.same h)
+    declared (Some class) = side_stays w.cells after code wanted side holder class (λ entry. word_stays w.cells after code holder entry (lawful_order w code l) same.same h)
 
 along_stays : (w : World) (code : CodeProgram) (after : Heap) → IsLawful w code → SameRows w.cells after → (side : Side) (chain : List ℕ) (class : ℕ) → chain_of w.cells class ≡ chain → is_chain_start w.cells class ≡ true → members_along after code side chain ≡ members_along w.cells code side chain
 along_stays w code after l same side [] class c s = refl
@@ -63,7 +64,7 @@ along_stays w code after l same side (head ∷ rest) class c s =
     let is : class ≡ head = cc in
     let up : chain_of w.cells (superclass_of w.cells class) ≡ rest = cc in
     let k : is_class (find_cell w.cells head) ≡ true = ap (λ n. is_class (find_cell w.cells n)) (sym is) ∙ f.1 in
-    ap (λ ms. ms ++ members_along after code side rest) (holder_stays w code after l same side head k)
+    ap (λ ms. ms ++ members_along after code side rest) (holder_stays w code after l same Visible side head k)
     ∙ ap (λ ms. holder_members w.cells code Visible side head ++ ms) (along_stays w code after l same side rest (superclass_of w.cells class) up f.0.start)
 
 chain_stays : (w : World) (code : CodeProgram) (after : Heap) → IsLawful w code → SameRows w.cells after → (side : Side) (class : ℕ) → is_chain_start w.cells class ≡ true → members_along after code side (chain_of after class) ≡ members_along w.cells code side (chain_of w.cells class)
@@ -125,6 +126,10 @@ members_stay w code after l same (start.Kernel named) s = ap (λ ms. ms ++ kerne
 -- a lookup finds what it found
 pub found_stays : (w : World) (code : CodeProgram) (after : Heap) → IsLawful w code → SameRows w.cells after → (from : Start) (sel : ℕ) (kind : Sending) → is_start w.cells from ≡ true → found_from after code from sel kind ≡ found_from w.cells code from sel kind
 found_stays w code after l same from sel kind s = ap (λ ms. unwrap_or (search code sel kind ms) Absent) (members_stay w code after l same from s)
+
+-- and so does one of a private member
+pub private_stays : (w : World) (code : CodeProgram) (after : Heap) → IsLawful w code → SameRows w.cells after → (holder : ℕ) (side : Side) (sel : ℕ) → is_class (find_cell w.cells holder) ≡ true → found_private after code holder side sel ≡ found_private w.cells code holder side sel
+private_stays w code after l same holder side sel is = ap (λ ms. unwrap_or (search code sel Inner ms) Absent) (holder_stays w code after l same Private side holder is)
 
 -- a lookup can start where it could
 pub start_stays : (before after : Heap) (from : Start) → SameRows before after → is_start before from ≡ true → is_start after from ≡ true

@@ -1,5 +1,5 @@
 -- Lookup: the members that a start looks through, and what a selector finds among them.
-use Rattle.std.specs.Prelude.{ℕ, List, ◌++◌, Bool, true, false, unwrap_or, if◌then◌else◌}
+use Rattle.std.specs.Prelude.{ℕ, List, ◌++◌, Bool, true, false, IsTrue, unwrap_or, if◌then◌else◌}
 use Rattle.ns_code.specs.declared.program.CodeProgram.{CodeProgram}
 use Rattle.ns_world.specs.declared.kernel.Start.{Start}
 use Rattle.ns_world.specs.declared.kernel.Start.TheVariants.{Instance, ClassSide as SideStart, Kernel}
@@ -46,3 +46,7 @@ abbrev pub is_start : Heap → Start → Bool
 is_start heap (Instance class) = is_chain_start heap class
 is_start heap (SideStart class factory) = if factory then is_class (find_cell heap class) else is_chain_start heap class
 is_start heap (Kernel row) = true
+
+-- A lookup can start there.
+abbrev pub CanStart : Start → Heap → CodeProgram → Type 0
+CanStart start heap code = IsTrue (is_start heap start)

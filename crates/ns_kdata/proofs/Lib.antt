@@ -15,3 +15,4 @@ pub mod Filled
 pub mod Leaving
 pub mod Storing
 pub mod Lawful
+pub mod Leading

@@ -5,3 +5,4 @@ pub mod Rows
 pub mod Datum
 pub mod Living
 pub mod Lawful
+pub mod Leading

@@ -12,6 +12,7 @@ ghost use Rattle.ns_kdata.specs.declared.row.DataRow.{DataRow};
 ghost use Rattle.ns_kdata.specs.Datum.{row_outcome};
 ghost use Rattle.ns_kdata.specs.Living.{AnswersLive};
 ghost use Rattle.ns_kdata.specs.Lawful.{MayHold, LeavesLawful};
+ghost use Rattle.ns_kdata.specs.Leading.{LeadsOn};
 
 /// In a lawful world a row's answer is a live value, where the value that `at:put:` stores is one.
 pub fn answers_are_live()
@@ -27,4 +28,9 @@ pub fn rows_keep_lawful()
 /// be made and may hold it.
 pub fn filled_cells_keep_lawful()
     ensures { (world after : World) (code : CodeProgram) (cell : Cell) → IsLawful world code → IsTrue (has_superclass world.cells cell) → MayBeMade world.cells code (shape_of cell) → MayHold world.cells code cell → made world cell ≡ Some after → IsLawful after code }
+{}
+
+/// A row leads to a later world: it makes a cell, writes a word of an array, or changes nothing.
+pub fn rows_lead_on()
+    ensures { (world : World) (code : CodeProgram) (row : DataRow) (receiver one two : Value) → LeadsOn world (row_outcome world code row receiver one two) }
 {}

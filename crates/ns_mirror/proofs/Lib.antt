@@ -10,3 +10,4 @@ pub mod Living
 pub mod Named
 pub mod Written
 pub mod Lawful
+pub mod Leading

@@ -6,3 +6,4 @@ pub mod Selectors
 pub mod Mirror
 pub mod Living
 pub mod Lawful
+pub mod Leading

@@ -8,6 +8,7 @@ ghost use Rattle.ns_mirror.specs.declared.row.MirrorRow.{MirrorRow};
 ghost use Rattle.ns_mirror.specs.Mirror.{row_outcome};
 ghost use Rattle.ns_mirror.specs.Living.{ReflectsLive};
 ghost use Rattle.ns_mirror.specs.Lawful.{ReflectsLawful};
+ghost use Rattle.ns_mirror.specs.Leading.{ReflectsOn};
 
 /// In a lawful world and for live values a row's answer is live, and so is what it is to send.
 pub fn answers_are_live()
@@ -18,4 +19,9 @@ pub fn answers_are_live()
 /// `slot:put:` stores are live.
 pub fn rows_keep_lawful()
     ensures { (world : World) (code : CodeProgram) (row : MirrorRow) (value first second : Value) → IsLawful world code → IsLiveValue world.cells code first → IsLiveValue world.cells code second → ReflectsLawful code (row_outcome world code row value first second) }
+{}
+
+/// A row leads to a later world: it makes a cell, writes a slot, or changes nothing.
+pub fn rows_lead_on()
+    ensures { (world : World) (code : CodeProgram) (row : MirrorRow) (value one two : Value) → ReflectsOn world (row_outcome world code row value one two) }
 {}

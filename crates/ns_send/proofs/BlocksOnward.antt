@@ -1,16 +1,17 @@
 -- What blocks and the methods that evaluate them leave.
-use Rattle.std.proofs.Common.{List, [], ◌∷◌, length, Bool, true, false, cond, eqb}
+use Rattle.std.proofs.Common.{List, [], ◌∷◌, length, arith, Bool, true, false, cond, eqb}
 use Rattle.std.specs.Prelude.{pos, nat_lt}
 use Rattle.ns_code.specs.declared.program.CodeProgram.{CodeProgram}
 use Rattle.ns_world.specs.declared.value.Value.{Value}
 use Rattle.ns_world.specs.declared.value.Value.TheVariants.{Ref}
 use Rattle.ns_world.specs.declared.ending.Kind.TheVariants.{WrongArity, WrongKind}
-use Rattle.ns_world.specs.declared.ending.LimitKind.TheVariants.{Steps, Depth}
+use Rattle.ns_world.specs.declared.ending.LimitKind.TheVariants.{Steps, Depth, Cells}
 use Rattle.ns_world.specs.declared.cell.NewCell.{NewCell}
 use Rattle.ns_world.specs.declared.cell.NewCell.TheVariants as new
 use Rattle.ns_world.specs.Cell.{Cell}
 use Rattle.ns_world.specs.Heap.{heap_size}
-use Rattle.ns_world.specs.World.{stepped, entered, left}
+use Rattle.ns_world.specs.World.{made, stepped, entered, left}
+use Rattle.ns_world.specs.Later.{MayCome}
 use Rattle.ns_kdata.specs.Arguments.{is_array, items_of, shape_of_value}
 use Rattle.ns_kcode.specs.declared.state.KMethod.{KMethod}
 use Rattle.ns_kcode.specs.declared.state.KState.{KState}
@@ -23,19 +24,25 @@ use Rattle.ns_send.specs.Control.{Progress, in_world, FromBody, Gives, Halts, En
 use Rattle.ns_send.specs.Bodies.{parameters_of, opened}
 use Rattle.ns_send.specs.Blocks.{new_cell, block_entered, evaluated, value_with_arguments, has_arguments, turns_of, method_begun, listed, waiting, turned, item_at, acted, method_next}
 use Rattle.ns_send.specs.Onward.{Onward, after_reached, reached, waiting_reached}
-use Rattle.ns_send.proofs.Growing.{step_grows, leaving_grows}
-use Rattle.ns_send.proofs.Onward.{onward_not, onward_on, onward_in, charged_all, charge_onward, frame_onward, after_cells_onward, opened_onward}
+use Rattle.ns_send.proofs.Growing.{making_grows, step_moves, leaving_moves}
+use Rattle.ns_send.proofs.Onward.{Going, onward_of, onward_not, onward_on, onward_in, charged_all, charge_onward, frame_onward, after_cells_onward, opened_onward}
 
-pub cell_onward : (named : List Value) (cell : Cell) (progress : Progress) → Onward named progress (after_reached (new_cell cell progress))
-cell_onward named cell progress = after_cells_onward named cell progress (Gives (Ref (heap_size progress.world.cells))) (λ next. onward_not named next)
+pub cell_onward : (named : List Value) (cell : Cell) (progress : Progress) → MayCome progress.world.cells cell → Going named progress (after_reached (new_cell cell progress))
+cell_onward named cell progress may = after_cells_onward named cell progress (Gives (Ref (heap_size progress.world.cells))) may (λ next. onward_not named next)
 
-pub block_onward : (named : List Value) (code : CodeProgram) (cell : NewCell) (arguments : List Value) (site : Site) (progress : Progress) → Onward named progress (reached (block_entered code cell arguments site progress))
+-- any cell at all leaves the cells that were there
+pub any_cell_onward : (named : List Value) (cell : Cell) (progress : Progress) → Onward named progress (after_reached (new_cell cell progress))
+any_cell_onward named cell progress =
+    charged_all (λ a. Onward named progress (after_reached a)) Halts Cells (made progress.world cell) progress (Gives (Ref (heap_size progress.world.cells)))
+    (onward_of named progress progress (onward_not named progress)) (λ world e. record { world = making_grows named progress.world world cell e; begun = omega arith })
+
+pub block_onward : (named : List Value) (code : CodeProgram) (cell : NewCell) (arguments : List Value) (site : Site) (progress : Progress) → Going named progress (reached (block_entered code cell arguments site progress))
 block_onward named code (new.Block body env home receiver holder) arguments site progress = tested (eqb (length arguments) (parameters_of code body))
   where
-    tested : (b : Bool) → Onward named progress (reached (cond b (charged halts Steps (stepped progress.world) progress λ progress.
+    tested : (b : Bool) → Going named progress (reached (cond b (charged halts Steps (stepped progress.world) progress λ progress.
         charged halts Depth (entered progress.world) progress
         (opened code halts (Enter FromBody) (record { self = receiver; holder = holder; body = body; home = home; env = env; site = site }) arguments)) (fails WrongArity site progress)))
-    tested true = charge_onward named Steps (stepped progress.world) progress _ (λ world e. step_grows named progress.world world e)
+    tested true = charge_onward named Steps (stepped progress.world) progress _ (λ world e. step_moves named progress.world world e)
         (λ world e. frame_onward named (in_world progress world) (opened code halts (Enter FromBody) _ arguments)
         (λ next. opened_onward named code (Enter FromBody) _ arguments next (λ running locals last. onward_not named last)))
     tested false = onward_not named progress
@@ -48,38 +55,38 @@ block_onward named code (new.Facet kind) arguments site progress = onward_not na
 block_onward named code (new.Mirror shown) arguments site progress = onward_not named progress
 block_onward named code (new.Message sel args) arguments site progress = onward_not named progress
 
-pub evaluated_onward : (named : List Value) (code : CodeProgram) (block : Value) (arguments : List Value) (site : Site) (progress : Progress) → Onward named progress (reached (evaluated code block arguments site progress))
+pub evaluated_onward : (named : List Value) (code : CodeProgram) (block : Value) (arguments : List Value) (site : Site) (progress : Progress) → Going named progress (reached (evaluated code block arguments site progress))
 evaluated_onward named code block arguments site progress = block_onward named code (shape_of_value progress.world.cells block) arguments site progress
 
-pub array_onward : (named : List Value) (block array : Value) (site : Site) (progress : Progress) → Onward named progress (reached (value_with_arguments block array site progress))
+pub array_onward : (named : List Value) (block array : Value) (site : Site) (progress : Progress) → Going named progress (reached (value_with_arguments block array site progress))
 array_onward named block array site progress = tested (is_array progress.world.cells array) (nat_lt 255 (length (items_of progress.world.cells array)))
   where
-    tested : (b c : Bool) → Onward named progress (reached (cond b (cond c (fails WrongArity site progress) (Evaluate block (items_of progress.world.cells array) site progress)) (fails WrongKind site progress)))
+    tested : (b c : Bool) → Going named progress (reached (cond b (cond c (fails WrongArity site progress) (Evaluate block (items_of progress.world.cells array) site progress)) (fails WrongKind site progress)))
     tested true true = onward_not named progress
     tested true false = onward_not named progress
     tested false c = onward_not named progress
 
-pub begun_onward : (named : List Value) (method : KMethod) (receiver first second : Value) (site : Site) (progress : Progress) → Onward named progress (reached (method_begun method receiver first second site progress))
+pub begun_onward : (named : List Value) (method : KMethod) (receiver first second : Value) (site : Site) (progress : Progress) → Going named progress (reached (method_begun method receiver first second site progress))
 begun_onward named method receiver first second site progress = tested (has_arguments progress.world.cells method first second)
   where
-    tested : (b : Bool) → Onward named progress (reached (cond b
+    tested : (b : Bool) → Going named progress (reached (cond b
         (charged halts Depth (entered progress.world) progress (Begin method (beginning receiver first second (pos (turns_of progress.world.cells method receiver))) site)) (fails WrongKind site progress)))
     tested true = frame_onward named progress (Begin method (beginning receiver first second (pos (turns_of progress.world.cells method receiver))) site) (λ next. onward_not named next)
     tested false = onward_not named progress
 
 -- a turn of a loop
-turned_onward : (named : List Value) (turn : Bool) (progress : Progress) (go : Progress → Waiting) → ((next : Progress) → Onward named next (waiting_reached (go next))) → Onward named progress (waiting_reached (turned turn progress go))
+turned_onward : (named : List Value) (turn : Bool) (progress : Progress) (go : Progress → Waiting) → ((next : Progress) → Going named next (waiting_reached (go next))) → Going named progress (waiting_reached (turned turn progress go))
 turned_onward named true progress go goes =
-    charged_all (λ w. Onward named progress (waiting_reached w)) (λ ending progress. Finishes (Halts ending progress)) Steps (stepped progress.world) progress go (onward_not named progress)
-    (λ world e. onward_on named progress (in_world progress world) (waiting_reached (go (in_world progress world))) (onward_in named progress world (step_grows named progress.world world e)) (goes (in_world progress world)))
+    charged_all (λ w. Going named progress (waiting_reached w)) (λ ending progress. Finishes (Halts ending progress)) Steps (stepped progress.world) progress go (onward_not named progress)
+    (λ world e. onward_on named progress (in_world progress world) (waiting_reached (go (in_world progress world))) (onward_in named progress world (step_moves named progress.world world e)) (goes (in_world progress world)))
 turned_onward named false progress go goes = goes progress
 
-pub acted_onward : (named : List Value) (a : KAction) (state : KState) (site : Site) (progress : Progress) → Onward named progress (waiting_reached (acted a state site progress))
+pub acted_onward : (named : List Value) (a : KAction) (state : KState) (site : Site) (progress : Progress) → Going named progress (waiting_reached (acted a state site progress))
 acted_onward named (action.Evaluate block argument turn count) state site progress = turned_onward named turn progress (Waits block (listed argument) (waiting state count)) (λ next. onward_not named next)
 acted_onward named (action.EvaluateItem block item count) state site progress =
     turned_onward named true progress (λ progress. Waits block (item_at progress.world.cells state.receiver item ∷ []) (waiting state count) progress) (λ next. onward_not named next)
-acted_onward named (action.Answer value) state site progress = onward_in named progress (left progress.world) (leaving_grows named progress.world)
+acted_onward named (action.Answer value) state site progress = onward_in named progress (left progress.world) (leaving_moves named progress.world)
 acted_onward named (action.Fail kind) state site progress = onward_not named progress
 
-pub next_onward : (named : List Value) (method : KMethod) (state : KState) (site : Site) (progress : Progress) → Onward named progress (waiting_reached (method_next method state site progress))
+pub next_onward : (named : List Value) (method : KMethod) (state : KState) (site : Site) (progress : Progress) → Going named progress (waiting_reached (method_next method state site progress))
 next_onward named method state site progress = acted_onward named (next method state) state site progress

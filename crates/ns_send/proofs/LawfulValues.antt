@@ -23,9 +23,8 @@ use Rattle.ns_send.specs.Bodies.{is_beside, environment_at, local_stored}
 use Rattle.ns_send.specs.Blocks.{new_cell, new_block, new_text, new_array}
 use Rattle.ns_send.specs.Classes.{slot_filled}
 use Rattle.ns_send.specs.Lawful.{LawfulRun, LawfulAfter, FitsSlot, FitsLocal}
-use Rattle.ns_send.specs.Onward.{Onward}
-use Rattle.ns_send.proofs.Growing.{grown_not, writing_grows}
-use Rattle.ns_send.proofs.Onward.{charged_all, onward_in}
+use Rattle.ns_send.proofs.Growing.{moving_not, writing_moves}
+use Rattle.ns_send.proofs.Onward.{Going, charged_all, onward_in}
 use Rattle.ns_send.proofs.LawfulBodies.{new_live}
 
 -- a new cell that is no environment is a live value
@@ -94,12 +93,12 @@ local_lawful code activation hops place value progress lawful fits live = tested
 
 -- and changes no cell but the environment
 pub local_onward : (code : CodeProgram) (activation : Activation) (hops place : ℕ) (value : Value) (progress : Progress)
-    → Onward (Ref (environment_at progress.world.cells code activation hops) ∷ []) progress (local_stored code activation hops place value progress)
+    → Going (Ref (environment_at progress.world.cells code activation hops) ∷ []) progress (local_stored code activation hops place value progress)
 local_onward code activation hops place value progress = tested (is_beside code activation hops)
   where
     at : ℕ
     at = environment_at progress.world.cells code activation hops
 
-    tested : (b : Bool) → Onward (Ref at ∷ []) progress (in_world progress (cond b progress.world (written progress.world at place value)))
-    tested true = onward_in (Ref at ∷ []) progress progress.world (grown_not (Ref at ∷ []) progress.world)
-    tested false = onward_in (Ref at ∷ []) progress (written progress.world at place value) (writing_grows (Ref at ∷ []) progress.world at place value (0, omega arith, refl))
+    tested : (b : Bool) → Going (Ref at ∷ []) progress (in_world progress (cond b progress.world (written progress.world at place value)))
+    tested true = onward_in (Ref at ∷ []) progress progress.world (moving_not (Ref at ∷ []) progress.world)
+    tested false = onward_in (Ref at ∷ []) progress (written progress.world at place value) (writing_moves (Ref at ∷ []) progress.world at place value (0, omega arith, refl))

@@ -1,5 +1,4 @@
 pub mod Growing
-pub mod RowsGrow
 pub mod Onward
 pub mod ClassesOnward
 pub mod BlocksOnward
@@ -16,3 +15,4 @@ pub mod Places
 pub mod LawfulSends
 pub mod LawfulParts
 pub mod LawfulValues
+pub mod LeadingOn

@@ -8,5 +8,6 @@ pub mod Kernel
 pub mod Sends
 pub mod Report
 pub mod Onward
+pub mod Actions
 pub mod Worked
 pub mod Lawful

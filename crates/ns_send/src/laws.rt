@@ -7,6 +7,7 @@ ghost use Rattle.ns_code.specs.declared.program.CodeProgram.{CodeProgram};
 ghost use Rattle.ns_world.specs.declared.value.Value.{Value};
 ghost use Rattle.ns_world.specs.declared.value.Value.TheVariants.{Ref};
 ghost use Rattle.ns_world.specs.Cell.{Cell};
+ghost use Rattle.ns_world.specs.Later.{IsLater};
 ghost use Rattle.ns_world.specs.Lawful.{IsLiveValue, BlockIsLawful};
 ghost use Rattle.ns_kdata.specs.Arguments.{items_of};
 ghost use Rattle.ns_kcode.specs.declared.state.KMethod.{KMethod};
@@ -18,6 +19,7 @@ ghost use Rattle.ns_send.specs.Bodies.{environment_at, local_stored};
 ghost use Rattle.ns_send.specs.Blocks.{new_cell, new_block, new_text, new_array, evaluated, method_next};
 ghost use Rattle.ns_send.specs.Sends.{Target, receiver_of, sent, sent_plain, performed};
 ghost use Rattle.ns_send.specs.Lawful.{LawfulRun, LawfulAfter, LawfulControl, LawfulPart, LawfulWaiting, LiveState, FitsTarget, FitsSelector, FitsExit, FitsSlot, FitsLocal};
+ghost use Rattle.ns_send.specs.Actions.{Action, progress_after};
 ghost use Rattle.ns_send.specs.Onward.{Onward, touched, reached, after_reached, part_reached, waiting_reached};
 
 /// No send changes a limit, lowers a counter but depth, takes back what was printed, or changes a
@@ -40,6 +42,11 @@ pub fn actions_go_onward()
     ensures body_ended { (code : CodeProgram) (exit : Exit) (activation : Activation) (value : Value) (progress : Progress) → Onward (kept_by exit) progress (after_reached (body_ended code exit activation value progress)) }
     ensures slot_filled { (code : CodeProgram) (activation : Activation) (slot : ℕ) (value : Value) (progress : Progress) → Onward (activation.self ∷ []) progress (slot_filled code activation slot value progress) }
     ensures local_stored { (code : CodeProgram) (activation : Activation) (hops place : ℕ) (value : Value) (progress : Progress) → Onward (Ref (environment_at progress.world.cells code activation hops) ∷ []) progress (local_stored code activation hops place value progress) }
+{}
+
+/// Each action leads to a later world.
+pub fn actions_lead_on()
+    ensures { (code : CodeProgram) (action : Action) (progress : Progress) → IsLater progress.world (progress_after code action progress).world }
 {}
 
 /// In a lawful run a send leaves a lawful world, and what it goes on with is live: the answer, a

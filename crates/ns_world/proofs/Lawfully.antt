@@ -56,7 +56,7 @@ class_lawful before after code number decl encl holder k is l =
       enclosing = λ class e. enclosing_stays before after code class.outer encl holder k (l.enclosing class e);
     }
 
-body_stays : (before after : Heap) (code : CodeProgram) (body : BodyCode) (value : Value) (holder : ℕ) → KeepsCells before after → FitsBody before code body value holder → FitsBody after code body value holder
+pub body_stays : (before after : Heap) (code : CodeProgram) (body : BodyCode) (value : Value) (holder : ℕ) → KeepsCells before after → FitsBody before code body value holder → FitsBody after code body value holder
 body_stays before after code body (Ref self) holder k h = (
   class_stays before after holder k.same h.0,
   declared_stays before after holder k h.0 ∙ h.1,
@@ -87,7 +87,7 @@ has_locals_stays before after at k h = found (find_cell before at) refl h
     found (Some cell) e h = let s = k.cells at cell e in ap (λ o. is_some (environment_in o)) s.is ∙ (s.twins.has_locals ∙ h)
 
 -- an environment fits the body that it fitted
-fits_stays : (depth : ℕ) (before after : Heap) (code : CodeProgram) (body : Option ℕ) (env : Value) → KeepsCells before after → FitsEnvironment depth before code body env → FitsEnvironment depth after code body env
+pub fits_stays : (depth : ℕ) (before after : Heap) (code : CodeProgram) (body : Option ℕ) (env : Value) → KeepsCells before after → FitsEnvironment depth before code body env → FitsEnvironment depth after code body env
 fits_stays zero before after code None env k h = h
 fits_stays zero before after code (Some body) env k h = h
 fits_stays (suc depth) before after code None env k h = h

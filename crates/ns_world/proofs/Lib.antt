@@ -18,6 +18,8 @@ pub mod Classes
 pub mod Twins
 pub mod Staying
 pub mod Lawfully
+pub mod Leading
+pub mod Lasting
 pub mod Making
 pub mod Writing
 pub mod Charging

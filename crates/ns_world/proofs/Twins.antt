@@ -1,10 +1,14 @@
 -- What others see of a cell stays where its words or its bytes are written.
-use Rattle.std.proofs.Common.{◌≡◌, ◌≢◌, ℕ, ◌∷◌, List, length, refl, ap, sym, ◌∙◌, Option, Some, is_some, unwrap_or, Bool, true, false, eqb, length-set, set}
+use Rattle.std.proofs.Common.{◌≡◌, ◌≢◌, ℕ, ◌∷◌, List, length, refl, ap, sym, ◌∙◌, subst, Option, Some, None, is_some, Bool, true, false, eqb, length-set}
+use Rattle.std.specs.Option.{option_map}
 use Rattle.std.proofs.lemmas.Bool.{eqb-true, eq-eqb}
 use Rattle.ns_base.specs.declared.selector.Sel.{Sel}
+use Rattle.ns_code.specs.Selector.{selector_arity}
 use Rattle.ns_code.specs.declared.program.CodeProgram.{CodeProgram}
 use Rattle.ns_world.specs.declared.value.Value.{Value}
-use Rattle.ns_world.specs.Cell.{Cell, ObjectCell, ClassCell, BlockCell, EnvironmentCell, ArrayCell, TextCell, FacetCell, MirrorCell, MessageCell, with_word, with_byte}
+use Rattle.ns_world.specs.declared.cell.NewCell.{NewCell}
+use Rattle.ns_world.specs.declared.cell.NewCell.TheVariants as new
+use Rattle.ns_world.specs.Cell.{Cell, shape_of, ObjectCell, ClassCell, BlockCell, EnvironmentCell, ArrayCell, TextCell, FacetCell, MirrorCell, MessageCell, with_word, with_byte}
 use Rattle.ns_world.specs.Heap.{Heap, find_cell, set_cell, change_cell}
 use Rattle.ns_world.specs.Starts.{is_receiver_cell}
 use Rattle.ns_world.specs.Lawful.{is_environment, class_of_object, environment_in, HasArguments}
@@ -28,39 +32,144 @@ pub record Twins (cell twin : Cell) : Type 0 where
   pub locals : (e : Value × List Value) → environment_in (Some twin) ≡ Some e → TellsLocals (Some cell) e
   pub arguments : (code : CodeProgram) (sel : Sel) → HasArguments code sel (Some cell) → HasArguments code sel (Some twin)
 
+-- ---- what a shape tells of its cell
+
+abbrev receiver_shape : NewCell → Bool
+receiver_shape (new.Environment parent locals) = false
+receiver_shape shape = true
+
+abbrev object_shape : NewCell → Option ℕ
+object_shape (new.Object class words) = Some class
+object_shape shape = None
+
+abbrev environment_shape : NewCell → Option (Value × ℕ)
+environment_shape (new.Environment parent locals) = Some (parent, locals)
+environment_shape shape = None
+
+abbrev HasSize : CodeProgram → Sel → NewCell → Type 0
+HasSize code sel (new.Array size) = size ≡ selector_arity code sel.0
+HasSize code sel shape = ⊥
+
+-- the parent, and how many locals there are
+abbrev counted : Value × List Value → Value × ℕ
+counted e = (e.0, length e.1)
+
+receiver_told : (cell : Cell) → is_receiver_cell (Some cell) ≡ receiver_shape (shape_of cell)
+receiver_told (ObjectCell class entries) = refl
+receiver_told (ClassCell decl encl holder over) = refl
+receiver_told (BlockCell body env home receiver holder) = refl
+receiver_told (EnvironmentCell parent locals) = refl
+receiver_told (ArrayCell items) = refl
+receiver_told (TextCell bytes) = refl
+receiver_told (FacetCell kind) = refl
+receiver_told (MirrorCell mirrored) = refl
+receiver_told (MessageCell sel args) = refl
+
+object_told : (cell : Cell) → class_of_object (Some cell) ≡ object_shape (shape_of cell)
+object_told (ObjectCell class entries) = refl
+object_told (ClassCell decl encl holder over) = refl
+object_told (BlockCell body env home receiver holder) = refl
+object_told (EnvironmentCell parent locals) = refl
+object_told (ArrayCell items) = refl
+object_told (TextCell bytes) = refl
+object_told (FacetCell kind) = refl
+object_told (MirrorCell mirrored) = refl
+object_told (MessageCell sel args) = refl
+
+is_environment_told : (cell : Cell) → is_environment (Some cell) ≡ is_some (environment_shape (shape_of cell))
+is_environment_told (ObjectCell class entries) = refl
+is_environment_told (ClassCell decl encl holder over) = refl
+is_environment_told (BlockCell body env home receiver holder) = refl
+is_environment_told (EnvironmentCell parent locals) = refl
+is_environment_told (ArrayCell items) = refl
+is_environment_told (TextCell bytes) = refl
+is_environment_told (FacetCell kind) = refl
+is_environment_told (MirrorCell mirrored) = refl
+is_environment_told (MessageCell sel args) = refl
+
+locals_told : (cell : Cell) → option_map counted (environment_in (Some cell)) ≡ environment_shape (shape_of cell)
+locals_told (ObjectCell class entries) = refl
+locals_told (ClassCell decl encl holder over) = refl
+locals_told (BlockCell body env home receiver holder) = refl
+locals_told (EnvironmentCell parent locals) = refl
+locals_told (ArrayCell items) = refl
+locals_told (TextCell bytes) = refl
+locals_told (FacetCell kind) = refl
+locals_told (MirrorCell mirrored) = refl
+locals_told (MessageCell sel args) = refl
+
+-- what is asked of a message's arguments is asked of a shape
+abbrev SameSize : CodeProgram → Sel → Cell → Type 0
+SameSize code sel cell = (HasArguments code sel (Some cell) → HasSize code sel (shape_of cell)) × (HasSize code sel (shape_of cell) → HasArguments code sel (Some cell))
+
+arguments_told : (code : CodeProgram) (sel : Sel) (cell : Cell) → SameSize code sel cell
+arguments_told code sel (ObjectCell class entries) = (λ h. h, λ h. h)
+arguments_told code sel (ClassCell decl encl holder over) = (λ h. h, λ h. h)
+arguments_told code sel (BlockCell body env home receiver holder) = (λ h. h, λ h. h)
+arguments_told code sel (EnvironmentCell parent locals) = (λ h. h, λ h. h)
+arguments_told code sel (ArrayCell items) = (λ h. h, λ h. h)
+arguments_told code sel (TextCell bytes) = (λ h. h, λ h. h)
+arguments_told code sel (FacetCell kind) = (λ h. h, λ h. h)
+arguments_told code sel (MirrorCell mirrored) = (λ h. h, λ h. h)
+arguments_told code sel (MessageCell other args) = (λ h. h, λ h. h)
+
+-- what one option tells of locals, where another tells as much
+locals_of_other : (o : Option (Value × List Value)) (e : Value × List Value) → option_map counted o ≡ Some (counted e) → (before : Value × List Value) × (o ≡ Some before) × (counted before ≡ counted e)
+locals_of_other None e h = absurd (cc)
+locals_of_other (Some before) e h = (before, refl, cc)
+
+some_counted : (o : Option (Value × List Value)) → is_some o ≡ is_some (option_map counted o)
+some_counted None = refl
+some_counted (Some e) = refl
+
+-- two cells of one shape
+pub twins_of_shape : (cell twin : Cell) → shape_of twin ≡ shape_of cell → Twins cell twin
+twins_of_shape cell twin h =
+    let locals : option_map counted (environment_in (Some cell)) ≡ option_map counted (environment_in (Some twin)) =
+    locals_told cell ∙ (ap environment_shape (sym h) ∙ sym (locals_told twin)) in
+    record {
+      receiver = receiver_told twin ∙ (ap receiver_shape h ∙ sym (receiver_told cell));
+      object = object_told twin ∙ (ap object_shape h ∙ sym (object_told cell));
+      environment = is_environment_told twin ∙ (ap (λ s. is_some (environment_shape s)) h ∙ sym (is_environment_told cell));
+      has_locals = some_counted (environment_in (Some twin)) ∙ (ap is_some (sym locals) ∙ sym (some_counted (environment_in (Some cell))));
+      locals = λ e is.
+          let f = locals_of_other (environment_in (Some cell)) e (locals ∙ ap (option_map counted) is) in
+          record { before = f.0; is = f.1; parent = ap (λ (p : Value × ℕ). p.0) f.2; count = ap (λ (p : Value × ℕ). p.1) f.2 };
+      arguments = λ code sel a. (arguments_told code sel twin).1 (subst (HasSize code sel) (sym h) ((arguments_told code sel cell).0 a));
+    }
+
 twin_of_itself : (cell : Cell) → Twins cell cell
-twin_of_itself cell = record { receiver = refl; object = refl; environment = refl; has_locals = refl; locals = λ e h. record { before = e; is = h; parent = refl; count = refl }; arguments = λ code sel h. h }
+twin_of_itself cell = twins_of_shape cell cell refl
 
-locals_told : (parent : Value) (locals : List Value) (word : ℕ) (value : Value) (e : Value × List Value) → environment_in (Some (with_word (EnvironmentCell parent locals) word value)) ≡ Some e → TellsLocals (Some (EnvironmentCell parent locals)) e
-locals_told parent locals word value e h =
-    let is : with_word (EnvironmentCell parent locals) word value ≡ EnvironmentCell parent (set locals word value) = refl in
-    let pair : Value × List Value = (parent, set locals word value) in
-    let same : pair ≡ e = ap (λ o. unwrap_or o e) h in
-    record { before = (parent, locals); is = refl; parent = ap (λ (p : Value × List Value). p.0) same; count = sym (length-set locals word value) ∙ ap (λ (p : Value × List Value). length p.1) same }
+-- a word or a byte that is written leaves the shape
+pub word_shape : (word : ℕ) (value : Value) (cell : Cell) → shape_of (with_word cell word value) ≡ shape_of cell
+word_shape word value (ObjectCell class entries) = ap (new.Object class) (length-set entries word value)
+word_shape word value (ClassCell decl encl holder over) = refl
+word_shape word value (BlockCell body env home receiver holder) = refl
+word_shape word value (EnvironmentCell parent locals) = ap (new.Environment parent) (length-set locals word value)
+word_shape word value (ArrayCell items) = ap new.Array (length-set items word value)
+word_shape word value (TextCell bytes) = refl
+word_shape word value (FacetCell kind) = refl
+word_shape word value (MirrorCell mirrored) = refl
+word_shape word value (MessageCell sel args) = refl
 
--- a cell and itself with a word written
+pub byte_shape : (place byte : ℕ) (cell : Cell) → shape_of (with_byte cell place byte) ≡ shape_of cell
+byte_shape place byte (ObjectCell class entries) = refl
+byte_shape place byte (ClassCell decl encl holder over) = refl
+byte_shape place byte (BlockCell body env home receiver holder) = refl
+byte_shape place byte (EnvironmentCell parent locals) = refl
+byte_shape place byte (ArrayCell items) = refl
+byte_shape place byte (TextCell bytes) = ap new.Text (length-set bytes place byte)
+byte_shape place byte (FacetCell kind) = refl
+byte_shape place byte (MirrorCell mirrored) = refl
+byte_shape place byte (MessageCell sel args) = refl
+
+-- so a cell and itself with one of them written are twins
 pub word_twins : (word : ℕ) (value : Value) (cell : Cell) → Twins cell (with_word cell word value)
-word_twins word value (ObjectCell class entries) = record { receiver = refl; object = refl; environment = refl; has_locals = refl; locals = λ e h. absurd (cc); arguments = λ code sel h. h }
-word_twins word value (EnvironmentCell parent locals) = record { receiver = refl; object = refl; environment = refl; has_locals = refl; locals = locals_told parent locals word value; arguments = λ code sel h. h }
-word_twins word value (ArrayCell items) = record { receiver = refl; object = refl; environment = refl; has_locals = refl; locals = λ e h. absurd (cc); arguments = λ code sel h. length-set items word value ∙ h }
-word_twins word value (ClassCell decl encl holder over) = twin_of_itself (ClassCell decl encl holder over)
-word_twins word value (BlockCell body env home receiver holder) = twin_of_itself (BlockCell body env home receiver holder)
-word_twins word value (TextCell bytes) = twin_of_itself (TextCell bytes)
-word_twins word value (FacetCell kind) = twin_of_itself (FacetCell kind)
-word_twins word value (MirrorCell mirrored) = twin_of_itself (MirrorCell mirrored)
-word_twins word value (MessageCell sel args) = twin_of_itself (MessageCell sel args)
+word_twins word value cell = twins_of_shape cell (with_word cell word value) (word_shape word value cell)
 
--- a cell and itself with a byte written
 pub byte_twins : (place byte : ℕ) (cell : Cell) → Twins cell (with_byte cell place byte)
-byte_twins place byte (TextCell bytes) = record { receiver = refl; object = refl; environment = refl; has_locals = refl; locals = λ e h. absurd (cc); arguments = λ code sel h. h }
-byte_twins place byte (ObjectCell class entries) = twin_of_itself (ObjectCell class entries)
-byte_twins place byte (EnvironmentCell parent locals) = twin_of_itself (EnvironmentCell parent locals)
-byte_twins place byte (ArrayCell items) = twin_of_itself (ArrayCell items)
-byte_twins place byte (ClassCell decl encl holder over) = twin_of_itself (ClassCell decl encl holder over)
-byte_twins place byte (BlockCell body env home receiver holder) = twin_of_itself (BlockCell body env home receiver holder)
-byte_twins place byte (FacetCell kind) = twin_of_itself (FacetCell kind)
-byte_twins place byte (MirrorCell mirrored) = twin_of_itself (MirrorCell mirrored)
-byte_twins place byte (MessageCell sel args) = twin_of_itself (MessageCell sel args)
+byte_twins place byte cell = twins_of_shape cell (with_byte cell place byte) (byte_shape place byte cell)
 
 -- A cell is still there, or a twin of it.
 pub record StillThere (after : Heap) (n : ℕ) (cell : Cell) : Type 0 where

@@ -8,5 +8,6 @@ pub mod Starts
 pub mod Layout
 pub mod Lawful
 pub mod Keeping
+pub mod Later
 pub mod Reach
 pub mod Alike

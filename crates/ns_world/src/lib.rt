@@ -5,6 +5,7 @@ pub mod cell;
 pub mod ending;
 mod heap;
 pub mod kernel;
+pub mod later;
 pub mod lawful;
 pub mod laws;
 mod lay;

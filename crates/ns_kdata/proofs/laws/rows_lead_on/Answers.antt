@@ -1,0 +1,5 @@
+use Rattle.ns_kdata.proofs.Leading.{rows_lead_on}
+use Rattle.ns_kdata.proofs.laws.rows_lead_on.Goals as goal
+
+pub returns : goal.returns
+returns c = rows_lead_on

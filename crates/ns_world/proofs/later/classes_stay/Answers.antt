@@ -1,0 +1,20 @@
+use Rattle.ns_world.proofs.Lasting.{class_lasts, chain_start_lasts, chain_lasts, declaration_lasts, layout_lasts, word_lasts}
+use Rattle.ns_world.proofs.later.classes_stay.Goals as goal
+
+pub returns-clause-classes : goal.returns-clause-classes
+returns-clause-classes c = class_lasts
+
+pub returns-clause-starts : goal.returns-clause-starts
+returns-clause-starts c = chain_start_lasts
+
+pub returns-clause-chains : goal.returns-clause-chains
+returns-clause-chains c = chain_lasts
+
+pub returns-clause-declared : goal.returns-clause-declared
+returns-clause-declared c = declaration_lasts
+
+pub returns-clause-layouts : goal.returns-clause-layouts
+returns-clause-layouts c = layout_lasts
+
+pub returns-clause-words : goal.returns-clause-words
+returns-clause-words c = word_lasts
