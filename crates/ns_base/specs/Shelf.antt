@@ -1,5 +1,5 @@
 -- What a shelf answers where its files are told.
-use Rattle.std.specs.Prelude.{◌≡◌, ℕ, List, take, Some, None, Result, Ok, Err, option_map, IsSome}
+use Rattle.std.specs.Prelude.{◌≡◌, ℕ, ◌≤◌, List, take, Option, Some, None, Result, Ok, Err, option_map, IsSome}
 use Rattle.std.specs.Global.{Vec}
 use Rattle.ns_base.specs.Files.{Files, OthersStand, AllStand}
 use Rattle.ns_base.specs.declared.shelf.ShelfFault.{ShelfFault}
@@ -18,3 +18,9 @@ AnswersStore old new name bytes (Ok _) = (new name ≡ Some bytes) × OthersStan
 AnswersStore old new name bytes (Err Missing) = ⊥
 AnswersStore old new name bytes (Err Failed) = OthersStand old new name
 AnswersStore old new name bytes (Err Memory) = AllStand old new
+
+-- A shelf that shows its files and its counts of misses, failed loads and failed stores so was only read: its files and
+-- the count of failed stores stand, and no other count fell.
+abbrev pub OnlyRead : {S : Type 0} → (S → Option Files) → (S → ℕ) → (S → ℕ) → (S → ℕ) → S → S → Type 0
+OnlyRead holds misses faults store_faults old new =
+    (holds new ≡ holds old) × (store_faults new ≡ store_faults old) × (misses old ≤ misses new) × (faults old ≤ faults new)

@@ -4,6 +4,7 @@ use Rattle.std.specs.Prelude.{slice_get, IsSomeAnd, IfErr}
 use Rattle.std.proofs.lemmas.List.{map_more, take_more, map-append, length-map, length-append, length-take-le, drop_more, take-append-drop}
 use Rattle.std.proofs.lemmas.Option.{slice_get-get_or}
 use Rattle.ns_base.specs.Files.{Files}
+use Rattle.ns_base.specs.Shelf.{OnlyRead}
 use Rattle.ns_base.specs.declared.place.Place.{Place}
 use Rattle.ns_load.specs.Answer.{AreRead, AreUnits, IsRead, IsReached, IsSpelling, Tells, TellsFault, TellsFileFault}
 use Rattle.ns_load.specs.Loaded.{Loading, units, stopped, after, with_file, load_from, library, loaded}
@@ -143,3 +144,10 @@ pub library_tells : (files : Files) (names : List (List ℕ)) (lib : Bool) (us :
 library_tells files names lib us ms n (Ok program) e at m s = then_library files names lib us ms e ∙ ap (λ k. after us ms (load_from k (library lib))) (sym at) ∙ m
 library_tells files names lib us ms n (Err fault) e at m s =
     spelled_fault names lib files fault s (λ w. then_library files names lib us ms e ∙ ap (λ k. after us ms (load_from k (library lib))) (sym at) ∙ m w)
+
+-- What was only read, and then only read again, was only read.
+pub read_on : {S : Type 0} (holds : S → Option Files) (misses faults store_faults : S → ℕ) (first second third : S)
+    → OnlyRead holds misses faults store_faults first second → OnlyRead holds misses faults store_faults second third
+    → OnlyRead holds misses faults store_faults first third
+read_on holds misses faults store_faults first second third a b =
+    (b.0 ∙ a.0, b.1 ∙ a.1, omega (arith, a.2, b.2), omega (arith, a.3, b.3))

@@ -3,6 +3,7 @@
 ghost use Rattle.std.specs.Prelude.{◌≡◌, ◌≢◌, ◌≤◌, IfOk, IfErr, IsErrOf, IsUtf8, length, MatchResult, ℕ, List, Some};
 ghost use Rattle.ns_base.specs.Count.{Rose};
 ghost use Rattle.ns_base.specs.Files.{Files};
+ghost use Rattle.ns_base.specs.Shelf.{OnlyRead};
 ghost use Rattle.ns_load.specs.Answer.{IsOfBytes, IsRead, TellsFile};
 ghost use Rattle.ns_load.specs.Source as spec;
 ghost use Rattle.ns_load.specs.declared.fault.LoadCause.TheVariants.{Missing, ReadFault, TooLong};
@@ -29,10 +30,7 @@ pub fn load_file<S: Shelf>(
     ensures told { (files : Files) → S.holds shelf.old ≡ Some files → TellsFile file (files name.now) result }
     ensures read { IfOk result (λ source. IsRead file (unit_of source.unit) source.marks) }
 
-    ensures files_stand { S.holds shelf.new ≡ S.holds shelf.old }
-    ensures store_faults { S.store_faults shelf.new ≡ S.store_faults shelf.old }
-    ensures misses { S.misses shelf.old ≤ S.misses shelf.new }
-    ensures faults { S.faults shelf.old ≤ S.faults shelf.new }
+    ensures only_read { OnlyRead S.holds S.misses S.faults S.store_faults shelf.old shelf.new }
     ensures missing { (k : ℕ) → IsErrOf result (At Missing k) → Rose (S.misses shelf.old) (S.misses shelf.new) }
     ensures read_fault { (k : ℕ) → IsErrOf result (At ReadFault k) → Rose (S.faults shelf.old) (S.faults shelf.new) }
 {

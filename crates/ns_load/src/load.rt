@@ -3,6 +3,7 @@
 ghost use Rattle.std.specs.Prelude.{◌≡◌, ◌≢◌, ◌≤◌, ◌+◌, ◌++◌, ◌∷◌, All, IfErr, IfOk, IsErrOf, IsUtf8, length, map, OnOk, OnErr, ℕ, List, Some, [], MatchResult};
 ghost use Rattle.ns_base.specs.Count.{Rose};
 ghost use Rattle.ns_base.specs.Files.{Files};
+ghost use Rattle.ns_base.specs.Shelf.{OnlyRead};
 ghost use Rattle.ns_load.specs.Answer.{AreRead, IsSpelling, Tells, TellsParts};
 ghost use Rattle.ns_load.specs.Loaded as spec;
 ghost use Rattle.ns_load.specs.Source as source_lem;
@@ -43,10 +44,7 @@ pub fn load<S: Shelf>(
     // Each fault has its cause, and no file is changed.
     ensures missing { (k : ℕ) → IsErrOf result (At Missing k) → Rose (S.misses shelf.old) (S.misses shelf.new) }
     ensures read_fault { (k : ℕ) → IsErrOf result (At ReadFault k) → Rose (S.faults shelf.old) (S.faults shelf.new) }
-    ensures misses { S.misses shelf.old ≤ S.misses shelf.new }
-    ensures faults { S.faults shelf.old ≤ S.faults shelf.new }
-    ensures files_stand { S.holds shelf.new ≡ S.holds shelf.old }
-    ensures store_faults { S.store_faults shelf.new ≡ S.store_faults shelf.old }
+    ensures only_read { OnlyRead S.holds S.misses S.faults S.store_faults shelf.old shelf.new }
 {
     let mut parts = Parts::new(alloc);
     match load_files(alloc, shelf, names, &mut parts) {
@@ -74,10 +72,7 @@ fn load_files<S: Shelf>(
 
     ensures missing { (k : ℕ) → IsErrOf result (At Missing k) → Rose (S.misses shelf.old) (S.misses shelf.new) }
     ensures read_fault { (k : ℕ) → IsErrOf result (At ReadFault k) → Rose (S.faults shelf.old) (S.faults shelf.new) }
-    ensures misses { S.misses shelf.old ≤ S.misses shelf.new }
-    ensures faults { S.faults shelf.old ≤ S.faults shelf.new }
-    ensures files_stand { S.holds shelf.new ≡ S.holds shelf.old }
-    ensures store_faults { S.store_faults shelf.new ≡ S.store_faults shelf.old }
+    ensures only_read { OnlyRead S.holds S.misses S.faults S.store_faults shelf.old shelf.new }
 {
     let mut file: u32 = 0;
     'files: for name in names {

@@ -3,6 +3,7 @@
 ghost use Rattle.std.specs.Prelude.{◌≡◌, ◌≤◌, map, ℕ, List, Some, All, IfOk, IsErrOf, IsSome, IsUtf8, length, string_bytes};
 ghost use Rattle.ns_base.specs.Count.{Rose};
 ghost use Rattle.ns_base.specs.Files.{Files};
+ghost use Rattle.ns_base.specs.Shelf.{OnlyRead};
 ghost use Rattle.ns_load.specs.declared.fault.LoadCause.TheVariants.{ReadFault};
 ghost use Rattle.ns_print.specs.Printed.{printed};
 ghost use Rattle.ns_run.specs.Meaning as spec;
@@ -42,9 +43,7 @@ pub fn on_files<S: Shelf>(
     requires { length names.now ≤ 16 }
     ensures told { (files : Files) → S.holds shelf.old ≡ Some files → IfOk result (λ r. r ≡ spec.of_files task (map string_bytes names.now) lib files) }
     ensures ending { IfOk result (λ r. IsEnding r.status) }
-    ensures files_stand { S.holds shelf.new ≡ S.holds shelf.old }
-    ensures faults { S.faults shelf.old ≤ S.faults shelf.new }
-    ensures misses { S.misses shelf.old ≤ S.misses shelf.new }
+    ensures only_read { OnlyRead S.holds S.misses S.faults S.store_faults shelf.old shelf.new }
     ensures read_fault { IsErrOf result Stop.ReadFault → Rose (S.faults shelf.old) (S.faults shelf.new) }
     ensures read_fault_there { (files : Files) → S.holds shelf.old ≡ Some files → IsErrOf result Stop.ReadFault → SomeOf (map string_bytes names.now) (λ file. IsSome (files file)) }
     ensures missing { IfOk result (λ r. (name : List ℕ) → IsMissing name r → Rose (S.misses shelf.old) (S.misses shelf.new)) }
@@ -69,9 +68,7 @@ fn on_texts<S: Shelf>(
     requires same { texts.now ≡ map string_bytes names.now }
     ensures told { (files : Files) → S.holds shelf.old ≡ Some files → IfOk result (λ r. r ≡ spec.of_files task texts.now lib files) }
     ensures ending { IfOk result (λ r. IsEnding r.status) }
-    ensures files_stand { S.holds shelf.new ≡ S.holds shelf.old }
-    ensures faults { S.faults shelf.old ≤ S.faults shelf.new }
-    ensures misses { S.misses shelf.old ≤ S.misses shelf.new }
+    ensures only_read { OnlyRead S.holds S.misses S.faults S.store_faults shelf.old shelf.new }
     ensures read_fault { IsErrOf result Stop.ReadFault → Rose (S.faults shelf.old) (S.faults shelf.new) }
     ensures read_fault_there { (files : Files) → S.holds shelf.old ≡ Some files → IsErrOf result Stop.ReadFault → SomeOf texts.now (λ file. IsSome (files file)) }
     ensures missing { IfOk result (λ r. (name : List ℕ) → IsMissing name r → Rose (S.misses shelf.old) (S.misses shelf.new)) }

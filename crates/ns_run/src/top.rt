@@ -3,6 +3,7 @@
 ghost use Rattle.std.specs.Prelude.{◌≡◌, ◌⊎◌, ◌≤◌, map, ℕ, List, Some, IfOk, IsErrOf, string_bytes};
 ghost use Rattle.ns_base.specs.Count.{Rose};
 ghost use Rattle.ns_base.specs.Files.{Files};
+ghost use Rattle.ns_base.specs.Shelf.{OnlyRead};
 ghost use Rattle.ns_run.specs.Meaning as spec;
 ghost use Rattle.ns_run.specs.Outcome.{HasAFile, IsEnding, Leaves, NamesMissing, TellsMissing};
 ghost use Rattle.ns_run.specs.Words.{command_of};
@@ -56,9 +57,7 @@ pub fn nspk<S: Shelf, O: Sink, E: Sink>(
 fn work<S: Shelf>(alloc: Global, line: &[String], shelf: &mut S) -> Result<Report, Stop>
     ensures told { (files : Files) → S.holds shelf.old ≡ Some files → IfOk result (λ r. r ≡ spec.meaning (map string_bytes line.now) files) }
     ensures ending { IfOk result (λ r. IsEnding r.status) }
-    ensures files_stand { S.holds shelf.new ≡ S.holds shelf.old }
-    ensures faults { S.faults shelf.old ≤ S.faults shelf.new }
-    ensures misses { S.misses shelf.old ≤ S.misses shelf.new }
+    ensures only_read { OnlyRead S.holds S.misses S.faults S.store_faults shelf.old shelf.new }
     ensures read_fault { IsErrOf result Stop.ReadFault → Rose (S.faults shelf.old) (S.faults shelf.new) }
     ensures read_fault_there { (files : Files) → S.holds shelf.old ≡ Some files → IsErrOf result Stop.ReadFault → HasAFile (command_of (map string_bytes line.now)) files }
     ensures missing { IfOk result (λ r. NamesMissing (command_of (map string_bytes line.now)) r → Rose (S.misses shelf.old) (S.misses shelf.new)) }

@@ -1,7 +1,7 @@
 use Rattle.std.proofs.Common.{IsUtf8, sym, subst, ap, ◌≡◌, ◌∙◌, ◌+◌, ◌∷◌, ◌++◌, [], length, map, arith}
 use Rattle.std.proofs.lemmas.List.{map-append, length-map}
 use Rattle.std.proofs.lemmas.List.Elements.{All-get_or}
-use Rattle.ns_load.proofs.Loads.{next_fault, next_file, next_name, next_read, one_longer}
+use Rattle.ns_load.proofs.Loads.{next_fault, next_file, next_name, next_read, one_longer, read_on}
 use Rattle.ns_load.proofs.load.load_files.Goals as goal
 use Rattle.ns_tree.specs.PlainOf.{unit_of}
 
@@ -12,7 +12,7 @@ load_file-requires g c =
 pub returns-in-Err-clause-told : goal.returns-in-Err-clause-told
 returns-in-Err-clause-told g c = λ files e.
     next_fault files c.args.names.now c.files.name-index c.files.file c.name-item.result _ _ c.in-Err.fault c.files-test.true c.name-item.is c.files.invariant.number
-    (c.files.invariant.told files e) (c.in-Err.ensures.told files (c.files.invariant.files_stand ∙ e))
+    (c.files.invariant.told files e) (c.in-Err.ensures.told files (c.files.invariant.only_read.0 ∙ e))
 
 pub files-preserved : goal.files-preserved
 files-preserved g c =
@@ -22,13 +22,10 @@ files-preserved g c =
     record {
       told = λ files e.
           next_file files c.args.names.now c.files.name-index c.files.file c.name-item.result _ _ _ _ (unit_of c.in-Ok.source.unit) c.in-Ok.source.marks c.files-test.true c.name-item.is c.files.invariant.number
-          (c.files.invariant.told files e) (c.in-Ok.ensures.told files (c.files.invariant.files_stand ∙ e)) more c.in_ok-add-in-Ok.ensures.marks;
+          (c.files.invariant.told files e) (c.in-Ok.ensures.told files (c.files.invariant.only_read.0 ∙ e)) more c.in_ok-add-in-Ok.ensures.marks;
       names = next_name c.args.names.now c.files.name-index c.name-item.result _ _ c.files-test.true c.name-item.is c.files.invariant.names (c.in_ok-add-in-Ok.ensures.files ∙ ap (λ name. c.files.parts.files.items ++ name ∷ []) (c.in_ok-kept.ensures ∙ c.bytes.ensures));
       number = omega (arith, c.files.invariant.number);
       count = one_longer c.files.parts.units.items c.add.new.self.units.items c.in-Ok.source.unit c.files.name-index c.in_ok-add-in-Ok.ensures.units c.files.invariant.count;
       read = next_read c.files.file _ _ _ _ (unit_of c.in-Ok.source.unit) c.in-Ok.source.marks c.files.invariant.read (omega (arith, c.files.invariant.number, c.files.invariant.count, length-map c.files.parts.units.items unit_of)) c.in-Ok.ensures.read more c.in_ok-add-in-Ok.ensures.marks;
-      files_stand = c.load_file.ensures.files_stand ∙ c.files.invariant.files_stand;
-      store_faults = c.load_file.ensures.store_faults ∙ c.files.invariant.store_faults;
-      misses = omega (arith, c.files.invariant.misses, c.load_file.ensures.misses);
-      faults = omega (arith, c.files.invariant.faults, c.load_file.ensures.faults);
+      only_read = read_on g.S.Shelf.holds g.S.Shelf.misses g.S.Shelf.faults g.S.Shelf.store_faults _ _ _ c.files.invariant.only_read c.load_file.ensures.only_read;
     }

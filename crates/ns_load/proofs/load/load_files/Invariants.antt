@@ -1,5 +1,6 @@
-use Rattle.std.proofs.Common.{◌≡◌, ◌≤◌, Some, map, take, length}
+use Rattle.std.proofs.Common.{◌≡◌, Some, map, take, length}
 use Rattle.ns_base.specs.Files.{Files}
+use Rattle.ns_base.specs.Shelf.{OnlyRead}
 use Rattle.ns_load.specs.Answer.{AreRead}
 use Rattle.ns_load.specs.Loaded.{load_from, units}
 use Rattle.ns_tree.specs.PlainOf.{unit_of}
@@ -13,8 +14,5 @@ invariant-files g l = record {
   number : l.file ≡ l.name-index;
   count : length l.parts.units.items ≡ l.name-index;
   read : AreRead 0 (map unit_of l.parts.units.items) l.parts.marks.items;
-  files_stand : g.S.Shelf.holds l.shelf ≡ g.S.Shelf.holds l.fn.shelf;
-  store_faults : g.S.Shelf.store_faults l.shelf ≡ g.S.Shelf.store_faults l.fn.shelf;
-  misses : g.S.Shelf.misses l.fn.shelf ≤ g.S.Shelf.misses l.shelf;
-  faults : g.S.Shelf.faults l.fn.shelf ≤ g.S.Shelf.faults l.shelf;
+  only_read : OnlyRead g.S.Shelf.holds g.S.Shelf.misses g.S.Shelf.faults g.S.Shelf.store_faults l.fn.shelf l.shelf;
 }
