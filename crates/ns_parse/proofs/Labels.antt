@@ -1,17 +1,16 @@
 -- A loop that reads items with labels before each, while the next token begins one.
 use Rattle.std.proofs.Common.{◌≡◌, ℕ, zero, suc, ◌+◌, ◌-◌, ◌≤◌, ◌<◌, cond, List, [], ◌∷◌, ◌++◌, length, map, Bool, true, false, refl, sym, ap, ◌∙◌, length-append, arith}
 use Rattle.ns_tree.specs.declared.token.Kind.{Kind}
-use Rattle.ns_tree.specs.declared.token.Token.{Token}
 use Rattle.ns_tree.specs.declared.tree.Member.{Member}
 use Rattle.ns_tree.specs.Plain as p
 use Rattle.ns_tree.specs.PlainOf.{what_of, members_of}
-use Rattle.ns_tree.specs.Tokens.{kinds}
 use Rattle.ns_parse.specs.declared.fault.ParseFault.{ParseFault}
 use Rattle.ns_parse.specs.declared.fault.ParseFault.TheVariants.{TooDeep, Syntax, Memory}
 use Rattle.ns_parse.specs.Classes.{MemberForm, members_from, tail_from, side_from}
+use Rattle.ns_parse.specs.Left.{Left}
 use Rattle.ns_parse.specs.Read.{Outcome, Reader, got, fault, and_then, begins, read_mapped, read_labelled, read_label_turns, put_item, Labelled, tail, item}
-use Rattle.ns_parse.specs.Reads.{Fails}
-use Rattle.ns_parse.proofs.Loops.{length_kinds}
+use Rattle.ns_parse.specs.Reads.{Fails, Gives, next_is}
+use Rattle.ns_parse.proofs.Takes.{Takes, fewer, left_by}
 
 -- these items with their labels, before others
 abbrev pub labelled : {L A : Type 0} → List (L × A) → Labelled L A → Labelled L A
@@ -36,9 +35,9 @@ module _ {L A : Type 0} (labels : Reader L) (first : Kind → Bool) (p : Reader 
   turn t l n ts = read_label_turns labels first p t l n ts
 
   -- A loop that began with some labels has read these items, then other labels, and stands at another place.
-  pub record Labels (xs : List (L × A)) (l : L) (n : ℕ) (rest : List Token) (l0 : L) (start : ℕ) (all : List Token) : Type 0 where
-    pub reads : prefixed xs (turn (length (kinds all) - length xs) l n (kinds rest)) ≡ turn (length (kinds all)) l0 start (kinds all)
-    pub room : length rest + length xs ≤ length all
+  pub record Labels (xs : List (L × A)) (l : L) (now : Left) (l0 : L) (start : Left) : Type 0 where
+    pub reads : prefixed xs (turn (length start.kinds - length xs) l now.at now.kinds) ≡ turn (length start.kinds) l0 start.at start.kinds
+    pub room : length now.kinds + length xs ≤ length start.kinds
 
   prefixed_none : (o : Outcome (Labelled L A)) → prefixed [] o ≡ o
   prefixed_none (got r n ts) = refl
@@ -59,29 +58,28 @@ module _ {L A : Type 0} (labels : Reader L) (first : Kind → Bool) (p : Reader 
   turn_ends (suc t) l n ts h = ap (λ v. cond v (then_labels t l (p n ts)) (got (tail l) n ts)) h
 
   -- no items yet
-  pub labels_start : (l : L) (n : ℕ) (all : List Token) (xs : List (L × A)) → xs ≡ [] → Labels xs l n all l n all
-  labels_start l n all xs none = record {
-    reads = ap (λ v. prefixed v (turn (length (kinds all) - length v) l n (kinds all))) none ∙ prefixed_none _ ∙ ap (λ t. turn t l n (kinds all)) (omega arith);
+  pub labels_start : (l : L) (start : Left) (xs : List (L × A)) → xs ≡ [] → Labels xs l start l start
+  labels_start l start xs none = record {
+    reads = ap (λ v. prefixed v (turn (length start.kinds - length v) l start.at start.kinds)) none ∙ prefixed_none _ ∙ ap (λ t. turn t l start.at start.kinds) (omega arith);
     room = omega (arith, ap length none);
   }
 
-  room_left : (xs : List (L × A)) (rest all : List Token) → begins first (kinds rest) ≡ true → length rest + length xs ≤ length all → length xs < length (kinds all)
-  room_left xs rest all h room = omega (arith, begun_long first (kinds rest) h, length_kinds rest, length_kinds all)
+  room_left : (xs : List (L × A)) (now start : Left) → next_is first now ≡ true → length now.kinds + length xs ≤ length start.kinds → length xs < length start.kinds
+  room_left xs now start h room = omega (arith, begun_long first now.kinds h, room)
 
   -- one item more, and labels behind it
-  pub labels_on : (xs ys : List (L × A)) (l : L) (n : ℕ) (rest : List Token) (l0 : L) (start : ℕ) (all : List Token) (a : A) (m : ℕ) (more : List Token) (l' : L) (m' : ℕ) (more' : List Token) → Labels xs l n rest l0 start all
-      → begins first (kinds rest) ≡ true → p n (kinds rest) ≡ got a m (kinds more) → length more < length rest → labels m (kinds more) ≡ got l' m' (kinds more') → length more' ≤ length more → ys ≡ xs ++ (l, a) ∷ []
-      → Labels ys l' m' more' l0 start all
-  labels_on xs ys l n rest l0 start all a m more l' m' more' g h e shorter el shorter' grown =
-      let t : ℕ = length (kinds all) - length ys in
+  pub labels_on : (xs ys : List (L × A)) (l : L) (now : Left) (l0 : L) (start : Left) (a : A) (new : Left) (l' : L) (behind : Left) → Takes 0 labels → Takes 1 p → Labels xs l now l0 start → next_is first now ≡ true
+      → Gives p a now new → Gives labels l' new behind → ys ≡ xs ++ (l, a) ∷ [] → Labels ys l' behind l0 start
+  labels_on xs ys l now l0 start a new l' behind R P g h e el grown =
+      let t : ℕ = length start.kinds - length ys in
       let count : length ys ≡ length xs + 1 = ap length grown ∙ length-append xs ((l, a) ∷ []) in
-      let left : length xs < length (kinds all) = room_left xs rest all h g.room in
-      let turns : length (kinds all) - length xs ≡ suc t = omega arith in
+      let left : length xs < length start.kinds = room_left xs now start h g.room in
+      let turns : length start.kinds - length xs ≡ suc t = omega arith in
       record {
-        reads = ap (λ v. prefixed v (turn t l' m' (kinds more'))) grown ∙ prefixed_one xs l a (turn t l' m' (kinds more'))
+        reads = ap (λ v. prefixed v (turn t l' behind.at behind.kinds)) grown ∙ prefixed_one xs l a (turn t l' behind.at behind.kinds)
             ∙ ap (λ o. prefixed xs (and_then (and_then o (read_label_turns labels first p t)) (put_item labels first p l a))) (sym el)
-            ∙ ap (prefixed xs) (sym (turn_reads t l n (kinds rest) (got a m (kinds more)) h e)) ∙ ap (λ u. prefixed xs (turn u l n (kinds rest))) (sym turns) ∙ g.reads;
-        room = omega (arith, g.room);
+            ∙ ap (prefixed xs) (sym (turn_reads t l now.at now.kinds (got a new.at new.kinds) h e)) ∙ ap (λ u. prefixed xs (turn u l now.at now.kinds)) (sym turns) ∙ g.reads;
+        room = omega (arith, g.room, fewer p now new a P e, left_by 0 labels new.at new.kinds l' behind.at behind.kinds R el);
       }
 
   module _ {B : Type 0} (to : Labelled L A → B) where
@@ -93,31 +91,31 @@ module _ {L A : Type 0} (labels : Reader L) (first : Kind → Bool) (p : Reader 
     begins_with n ts l0 start us e = ap (λ o. made (and_then o (λ l m us. read_label_turns labels first p (length us) l m us))) e
 
     -- no more items
-    pub labels_end : (xs : List (L × A)) (l : L) (n : ℕ) (rest : List Token) (l0 : L) (start : ℕ) (all : List Token) (n0 : ℕ) (ts0 : List Kind) (b : B) → labels n0 ts0 ≡ got l0 start (kinds all) → Labels xs l n rest l0 start all
-        → begins first (kinds rest) ≡ false → b ≡ to (labelled xs (tail l)) → read_mapped to (read_labelled labels first p) n0 ts0 ≡ got b n (kinds rest)
-    labels_end xs l n rest l0 start all n0 ts0 b e g h same =
-        begins_with n0 ts0 l0 start (kinds all) e ∙ ap made (sym g.reads ∙ ap (prefixed xs) (turn_ends (length (kinds all) - length xs) l n (kinds rest) h)) ∙ ap (λ v. got v n (kinds rest)) (sym same)
+    pub labels_end : (xs : List (L × A)) (l : L) (now : Left) (l0 : L) (start : Left) (old : Left) (b : B) → Gives labels l0 old start → Labels xs l now l0 start
+        → next_is first now ≡ false → b ≡ to (labelled xs (tail l)) → Gives (read_mapped to (read_labelled labels first p)) b old now
+    labels_end xs l now l0 start old b e g h same =
+        begins_with old.at old.kinds l0 start.at start.kinds e ∙ ap made (sym g.reads ∙ ap (prefixed xs) (turn_ends (length start.kinds - length xs) l now.at now.kinds h)) ∙ ap (λ v. got v now.at now.kinds) (sym same)
 
     -- an item can't be read
-    pub labels_stuck : (xs : List (L × A)) (l : L) (n : ℕ) (rest : List Token) (l0 : L) (start : ℕ) (all : List Token) (n0 : ℕ) (ts0 : List Kind) (e : ParseFault) → labels n0 ts0 ≡ got l0 start (kinds all) → Labels xs l n rest l0 start all
-        → begins first (kinds rest) ≡ true → Fails (p n (kinds rest)) e → Fails (read_mapped to (read_labelled labels first p) n0 ts0) e
-    labels_stuck xs l n rest l0 start all n0 ts0 (Syntax k) e g h f =
-        let t : ℕ = length (kinds all) - length xs - 1 in
-        let turns : length (kinds all) - length xs ≡ suc t = omega (arith, room_left xs rest all h g.room) in
-        begins_with n0 ts0 l0 start (kinds all) e ∙ ap made (sym g.reads ∙ ap (λ u. prefixed xs (turn u l n (kinds rest))) turns ∙ ap (prefixed xs) (turn_reads t l n (kinds rest) (fault k) h f))
-    labels_stuck xs l n rest l0 start all n0 ts0 (TooDeep k) e g h f = f
-    labels_stuck xs l n rest l0 start all n0 ts0 Memory e g h f = tt
+    pub labels_stuck : (xs : List (L × A)) (l : L) (now : Left) (l0 : L) (start : Left) (old : Left) (e : ParseFault) → Gives labels l0 old start → Labels xs l now l0 start
+        → next_is first now ≡ true → Fails (p now.at now.kinds) e → Fails (read_mapped to (read_labelled labels first p) old.at old.kinds) e
+    labels_stuck xs l now l0 start old (Syntax k) e g h f =
+        let t : ℕ = length start.kinds - length xs - 1 in
+        let turns : length start.kinds - length xs ≡ suc t = omega (arith, room_left xs now start h g.room) in
+        begins_with old.at old.kinds l0 start.at start.kinds e ∙ ap made (sym g.reads ∙ ap (λ u. prefixed xs (turn u l now.at now.kinds)) turns ∙ ap (prefixed xs) (turn_reads t l now.at now.kinds (fault k) h f))
+    labels_stuck xs l now l0 start old (TooDeep k) e g h f = f
+    labels_stuck xs l now l0 start old Memory e g h f = tt
 
     -- the labels behind an item can't be read
-    pub labels_lost : (xs : List (L × A)) (l : L) (n : ℕ) (rest : List Token) (l0 : L) (start : ℕ) (all : List Token) (n0 : ℕ) (ts0 : List Kind) (a : A) (m : ℕ) (us : List Kind) (e : ParseFault) → labels n0 ts0 ≡ got l0 start (kinds all) → Labels xs l n rest l0 start all
-        → begins first (kinds rest) ≡ true → p n (kinds rest) ≡ got a m us → Fails (labels m us) e → Fails (read_mapped to (read_labelled labels first p) n0 ts0) e
-    labels_lost xs l n rest l0 start all n0 ts0 a m us (Syntax k) e g h ep f =
-        let t : ℕ = length (kinds all) - length xs - 1 in
-        let turns : length (kinds all) - length xs ≡ suc t = omega (arith, room_left xs rest all h g.room) in
-        begins_with n0 ts0 l0 start (kinds all) e
-        ∙ ap made (sym g.reads ∙ ap (λ u. prefixed xs (turn u l n (kinds rest))) turns ∙ ap (prefixed xs) (turn_reads t l n (kinds rest) (got a m us) h ep ∙ ap (λ o. and_then (and_then o (read_label_turns labels first p t)) (put_item labels first p l a)) f))
-    labels_lost xs l n rest l0 start all n0 ts0 a m us (TooDeep k) e g h ep f = f
-    labels_lost xs l n rest l0 start all n0 ts0 a m us Memory e g h ep f = tt
+    pub labels_lost : (xs : List (L × A)) (l : L) (now : Left) (l0 : L) (start : Left) (old : Left) (a : A) (m : ℕ) (us : List Kind) (e : ParseFault) → Gives labels l0 old start → Labels xs l now l0 start
+        → next_is first now ≡ true → p now.at now.kinds ≡ got a m us → Fails (labels m us) e → Fails (read_mapped to (read_labelled labels first p) old.at old.kinds) e
+    labels_lost xs l now l0 start old a m us (Syntax k) e g h ep f =
+        let t : ℕ = length start.kinds - length xs - 1 in
+        let turns : length start.kinds - length xs ≡ suc t = omega (arith, room_left xs now start h g.room) in
+        begins_with old.at old.kinds l0 start.at start.kinds e
+        ∙ ap made (sym g.reads ∙ ap (λ u. prefixed xs (turn u l now.at now.kinds)) turns ∙ ap (prefixed xs) (turn_reads t l now.at now.kinds (got a m us) h ep ∙ ap (λ o. and_then (and_then o (read_label_turns labels first p t)) (put_item labels first p l a)) f))
+    labels_lost xs l now l0 start old a m us (TooDeep k) e g h ep f = f
+    labels_lost xs l now l0 start old a m us Memory e g h ep f = tt
 
 -- ---- members of a side
 

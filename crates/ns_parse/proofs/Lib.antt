@@ -10,4 +10,6 @@ pub mod SoundMarks
 pub mod SoundPatterns
 pub mod SoundTokens
 pub mod Steps
-pub mod Texts
+pub mod Takes
+pub mod TakesNodes
+pub mod TakesTokens

@@ -2,16 +2,16 @@
 use Rattle.std.proofs.Common.{◌≡◌, ℕ, zero, suc, ◌+◌, ◌-◌, ◌≤◌, ◌<◌, cond, List, [], ◌∷◌, ◌++◌, length, Bool, true, false, refl, sym, ap, ◌∙◌, length-append, arith}
 use Rattle.std.proofs.lemmas.List.{append-nil}
 use Rattle.ns_tree.specs.declared.token.Kind.{Kind}
-use Rattle.ns_tree.specs.declared.token.Token.{Token}
 use Rattle.ns_tree.specs.Rule.{Listed, none, last, next}
-use Rattle.ns_tree.specs.Tokens.{kinds}
 use Rattle.ns_parse.specs.declared.fault.ParseFault.{ParseFault}
 use Rattle.ns_parse.specs.declared.fault.ParseFault.TheVariants.{TooDeep, Syntax, Memory}
 use Rattle.ns_parse.specs.declared.mark.Mark.{Mark}
+use Rattle.ns_parse.specs.Left.{Left}
 use Rattle.ns_parse.specs.Mark.{is_mark, skip, flag}
 use Rattle.ns_parse.specs.Read.{Outcome, Reader, got, fault, and_then, begins, read_mapped, read_listed, read_list_turns, behind, put_next, items, ends_there, ends_separated}
-use Rattle.ns_parse.specs.Reads.{Fails}
-use Rattle.ns_parse.proofs.Loops.{length_kinds}
+use Rattle.ns_parse.specs.Reads.{Fails, Gives, next_is}
+use Rattle.ns_parse.proofs.Takes.{Takes, fewer}
+use Rattle.ns_parse.proofs.TakesTokens.{takes_skip}
 
 -- these items, each with a separator, before a list
 abbrev pub nexts : {A : Type 0} → List A → Listed A → Listed A
@@ -85,9 +85,9 @@ flag_stays b sep n (k ∷ ts) m us e = let h = by_false (is_mark sep k) k n ts m
 
 module _ {A : Type 0} (first : Kind → Bool) (sep : Mark) (p : Reader A) where
   -- A loop over the tokens from a place on has read these items, each with its separator, and stands at another place.
-  pub record Lists (xs : List A) (n : ℕ) (rest : List Token) (start : ℕ) (all : List Token) : Type 0 where
-    pub reads : followed xs (read_list_turns first (is_mark sep) p (length (kinds all) - length xs) n (kinds rest)) ≡ read_listed first (is_mark sep) p start (kinds all)
-    pub room : length rest + length xs ≤ length all
+  pub record Lists (xs : List A) (now start : Left) : Type 0 where
+    pub reads : followed xs (read_list_turns first (is_mark sep) p (length start.kinds - length xs) now.at now.kinds) ≡ read_listed first (is_mark sep) p start.at start.kinds
+    pub room : length now.kinds + length xs ≤ length start.kinds
 
   followed_none : (o : Outcome (Listed A)) → followed [] o ≡ o
   followed_none (got xs n ts) = refl
@@ -125,37 +125,34 @@ module _ {A : Type 0} (first : Kind → Bool) (sep : Mark) (p : Reader A) where
       ∙ ap (λ i. and_then (again i ts) (put_next first (is_mark sep) p a)) place ∙ ap (λ w. and_then (again m w) (put_next first (is_mark sep) p a)) left
 
   -- no items yet
-  pub lists_start : (n : ℕ) (all : List Token) (xs : List A) → xs ≡ [] → Lists xs n all n all
-  lists_start n all xs empty = record {
-    reads = ap (λ v. followed v (turn (length (kinds all) - length v) n (kinds all))) empty ∙ followed_none _ ∙ ap (λ t. turn t n (kinds all)) (omega arith);
+  pub lists_start : (start : Left) (xs : List A) → xs ≡ [] → Lists xs start start
+  lists_start start xs empty = record {
+    reads = ap (λ v. followed v (turn (length start.kinds - length v) start.at start.kinds)) empty ∙ followed_none _ ∙ ap (λ t. turn t start.at start.kinds) (omega arith);
     room = omega (arith, ap length empty);
   }
 
-  room_left : (xs : List A) (rest all : List Token) → begins first (kinds rest) ≡ true → length rest + length xs ≤ length all → length xs < length (kinds all)
-  room_left xs rest all h room = omega (arith, begun_long first (kinds rest) h, length_kinds rest, length_kinds all)
+  room_left : (xs : List A) (now start : Left) → next_is first now ≡ true → length now.kinds + length xs ≤ length start.kinds → length xs < length start.kinds
+  room_left xs now start h room = omega (arith, begun_long first now.kinds h, room)
 
   -- one item and its separator more
-  pub lists_on : (xs ys : List A) (n : ℕ) (rest : List Token) (start : ℕ) (all : List Token) (a : A) (m : ℕ) (more : List Token) (m' : ℕ) (more' : List Token) → Lists xs n rest start all → begins first (kinds rest) ≡ true
-      → p n (kinds rest) ≡ got a m (kinds more) → length more < length rest → begins (is_mark sep) (kinds more) ≡ true → skip sep m (kinds more) ≡ got tt m' (kinds more') → length more' ≤ length more → ys ≡ xs ++ a ∷ []
-      → Lists ys m' more' start all
-  lists_on xs ys n rest start all a m more m' more' g h e shorter s es shorter' grown =
-      let t : ℕ = length (kinds all) - length ys in
+  pub lists_on : (xs ys : List A) (now start : Left) (a : A) (new past : Left) → Takes 1 p → Lists xs now start → next_is first now ≡ true → Gives p a now new → next_is (is_mark sep) new ≡ true → Gives (skip sep) tt new past → ys ≡ xs ++ a ∷ []
+      → Lists ys past start
+  lists_on xs ys now start a new past P g h e s es grown =
+      let t : ℕ = length start.kinds - length ys in
       let count : length ys ≡ length xs + 1 = ap length grown ∙ length-append xs (a ∷ []) in
-      let left : length xs < length (kinds all) = room_left xs rest all h g.room in
-      let turns : length (kinds all) - length xs ≡ suc t = omega arith in
+      let left : length xs < length start.kinds = room_left xs now start h g.room in
+      let turns : length start.kinds - length xs ≡ suc t = omega arith in
       record {
-        reads = ap (λ v. followed v (turn t m' (kinds more'))) grown ∙ followed_one xs a (turn t m' (kinds more'))
-            ∙ ap (followed xs) (sym (behind_goes (turn t) a m (kinds more) m' (kinds more') s es))
-            ∙ ap (followed xs) (sym (turn_reads t n (kinds rest) (got a m (kinds more)) h e)) ∙ ap (λ u. followed xs (turn u n (kinds rest))) (sym turns) ∙ g.reads;
-        room = omega (arith, g.room);
+        reads = ap (λ v. followed v (turn t past.at past.kinds)) grown ∙ followed_one xs a (turn t past.at past.kinds)
+            ∙ ap (followed xs) (sym (behind_goes (turn t) a new.at new.kinds past.at past.kinds s es))
+            ∙ ap (followed xs) (sym (turn_reads t now.at now.kinds (got a new.at new.kinds) h e)) ∙ ap (λ u. followed xs (turn u now.at now.kinds)) (sym turns) ∙ g.reads;
+        room = omega (arith, g.room, fewer p now new a P e, fewer (skip sep) new past tt (takes_skip sep) es);
       }
 
   -- the same, where it is asked whether the separator is there
-  pub lists_flag : (xs ys : List A) (n : ℕ) (rest : List Token) (start : ℕ) (all : List Token) (a : A) (m : ℕ) (more : List Token) (m' : ℕ) (more' : List Token) → Lists xs n rest start all → begins first (kinds rest) ≡ true
-      → p n (kinds rest) ≡ got a m (kinds more) → length more < length rest → flag sep m (kinds more) ≡ got true m' (kinds more') → length more' ≤ length more → ys ≡ xs ++ a ∷ []
-      → Lists ys m' more' start all
-  lists_flag xs ys n rest start all a m more m' more' g h e shorter f shorter' grown =
-      lists_on xs ys n rest start all a m more m' more' g h e shorter (flag_begins sep m (kinds more) m' (kinds more') f) (flag_skips sep m (kinds more) m' (kinds more') f) shorter' grown
+  pub lists_flag : (xs ys : List A) (now start : Left) (a : A) (new past : Left) → Takes 1 p → Lists xs now start → next_is first now ≡ true → Gives p a now new → Gives (flag sep) true new past → ys ≡ xs ++ a ∷ [] → Lists ys past start
+  lists_flag xs ys now start a new past P g h e f grown =
+      lists_on xs ys now start a new past P g h e (flag_begins sep new.at new.kinds past.at past.kinds f) (flag_skips sep new.at new.kinds past.at past.kinds f) grown
 
   module _ {B : Type 0} (to : List A → Bool → B) where
     abbrev pub made : Listed A → B
@@ -167,42 +164,40 @@ module _ {A : Type 0} (first : Kind → Bool) (sep : Mark) (p : Reader A) where
         ap (λ o. and_then o (λ a m us. got (made a) m us)) e ∙ ap (λ v. got v n ts) (ap (λ ys. to ys (ends_separated l)) i ∙ ap (to xs) s ∙ sym same)
 
     -- a last item without a separator
-    pub lists_last : (xs : List A) (n : ℕ) (rest : List Token) (start : ℕ) (all : List Token) (a : A) (m : ℕ) (more : List Token) (ys : List A) (b : B) → Lists xs n rest start all → begins first (kinds rest) ≡ true
-        → p n (kinds rest) ≡ got a m (kinds more) → begins (is_mark sep) (kinds more) ≡ false → ys ≡ xs ++ a ∷ [] → b ≡ to ys false
-        → read_mapped made (read_listed first (is_mark sep) p) start (kinds all) ≡ got b m (kinds more)
-    lists_last xs n rest start all a m more ys b g h e s grown same =
-        let t : ℕ = length (kinds all) - length xs - 1 in
-        let turns : length (kinds all) - length xs ≡ suc t = omega (arith, room_left xs rest all h g.room) in
-        made_of (read_listed first (is_mark sep) p start (kinds all)) (nexts xs (last a)) ys false b m (kinds more)
-        (sym g.reads ∙ ap (λ u. followed xs (turn u n (kinds rest))) turns ∙ ap (followed xs) (turn_reads t n (kinds rest) (got a m (kinds more)) h e ∙ behind_ends (turn t) a m (kinds more) s))
+    pub lists_last : (xs : List A) (now start : Left) (a : A) (new : Left) (ys : List A) (b : B) → Lists xs now start → next_is first now ≡ true → Gives p a now new → next_is (is_mark sep) new ≡ false → ys ≡ xs ++ a ∷ [] → b ≡ to ys false
+        → Gives (read_mapped made (read_listed first (is_mark sep) p)) b start new
+    lists_last xs now start a new ys b g h e s grown same =
+        let t : ℕ = length start.kinds - length xs - 1 in
+        let turns : length start.kinds - length xs ≡ suc t = omega (arith, room_left xs now start h g.room) in
+        made_of (read_listed first (is_mark sep) p start.at start.kinds) (nexts xs (last a)) ys false b new.at new.kinds
+        (sym g.reads ∙ ap (λ u. followed xs (turn u now.at now.kinds)) turns ∙ ap (followed xs) (turn_reads t now.at now.kinds (got a new.at new.kinds) h e ∙ behind_ends (turn t) a new.at new.kinds s))
         (nexts_items xs (last a) ∙ sym grown) (last_separated xs a) same
 
     -- no item behind the last separator, or none at all
-    pub lists_end : (xs : List A) (n : ℕ) (rest : List Token) (start : ℕ) (all : List Token) (b : B) → Lists xs n rest start all → begins first (kinds rest) ≡ false → b ≡ to xs (is_some xs)
-        → read_mapped made (read_listed first (is_mark sep) p) start (kinds all) ≡ got b n (kinds rest)
-    lists_end xs n rest start all b g h same =
-        made_of (read_listed first (is_mark sep) p start (kinds all)) (nexts xs none) xs (is_some xs) b n (kinds rest)
-        (sym g.reads ∙ ap (followed xs) (turn_ends (length (kinds all) - length xs) n (kinds rest) h))
+    pub lists_end : (xs : List A) (now start : Left) (b : B) → Lists xs now start → next_is first now ≡ false → b ≡ to xs (is_some xs)
+        → Gives (read_mapped made (read_listed first (is_mark sep) p)) b start now
+    lists_end xs now start b g h same =
+        made_of (read_listed first (is_mark sep) p start.at start.kinds) (nexts xs none) xs (is_some xs) b now.at now.kinds
+        (sym g.reads ∙ ap (followed xs) (turn_ends (length start.kinds - length xs) now.at now.kinds h))
         (nexts_items xs none ∙ append-nil xs) (none_separated xs) same
 
     -- the same, where it is asked whether the separator is there
-    pub lists_last_flag : (xs : List A) (n : ℕ) (rest : List Token) (start : ℕ) (all : List Token) (a : A) (m : ℕ) (more : List Token) (m' : ℕ) (more' : List Token) (ys : List A) (b : B) → Lists xs n rest start all → begins first (kinds rest) ≡ true
-        → p n (kinds rest) ≡ got a m (kinds more) → flag sep m (kinds more) ≡ got false m' (kinds more') → ys ≡ xs ++ a ∷ [] → b ≡ to ys false
-        → read_mapped made (read_listed first (is_mark sep) p) start (kinds all) ≡ got b m' (kinds more')
-    lists_last_flag xs n rest start all a m more m' more' ys b g h e f grown same =
-        lists_last xs n rest start all a m more ys b g h e (flag_lacks sep m (kinds more) m' (kinds more') f) grown same
-        ∙ flag_stays b sep m (kinds more) m' (kinds more') f
+    pub lists_last_flag : (xs : List A) (now start : Left) (a : A) (new past : Left) (ys : List A) (b : B) → Lists xs now start → next_is first now ≡ true → Gives p a now new → Gives (flag sep) false new past → ys ≡ xs ++ a ∷ [] → b ≡ to ys false
+        → Gives (read_mapped made (read_listed first (is_mark sep) p)) b start past
+    lists_last_flag xs now start a new past ys b g h e f grown same =
+        lists_last xs now start a new ys b g h e (flag_lacks sep new.at new.kinds past.at past.kinds f) grown same
+        ∙ flag_stays b sep new.at new.kinds past.at past.kinds f
 
     stuck_made : (o : Outcome (Listed A)) (k : ℕ) → o ≡ fault k → and_then o (λ a m us. got (made a) m us) ≡ fault k
     stuck_made o k e = ap (λ o. and_then o (λ a m us. got (made a) m us)) e
 
     -- an item can't be read
-    pub lists_stuck : (xs : List A) (n : ℕ) (rest : List Token) (start : ℕ) (all : List Token) (e : ParseFault) → Lists xs n rest start all → begins first (kinds rest) ≡ true → Fails (p n (kinds rest)) e
-        → Fails (read_mapped made (read_listed first (is_mark sep) p) start (kinds all)) e
-    lists_stuck xs n rest start all (Syntax k) g h f =
-        let t : ℕ = length (kinds all) - length xs - 1 in
-        let turns : length (kinds all) - length xs ≡ suc t = omega (arith, room_left xs rest all h g.room) in
-        stuck_made (read_listed first (is_mark sep) p start (kinds all)) k
-        (sym g.reads ∙ ap (λ u. followed xs (turn u n (kinds rest))) turns ∙ ap (followed xs) (turn_reads t n (kinds rest) (fault k) h f))
-    lists_stuck xs n rest start all (TooDeep k) g h f = f
-    lists_stuck xs n rest start all Memory g h f = tt
+    pub lists_stuck : (xs : List A) (now start : Left) (e : ParseFault) → Lists xs now start → next_is first now ≡ true → Fails (p now.at now.kinds) e
+        → Fails (read_mapped made (read_listed first (is_mark sep) p) start.at start.kinds) e
+    lists_stuck xs now start (Syntax k) g h f =
+        let t : ℕ = length start.kinds - length xs - 1 in
+        let turns : length start.kinds - length xs ≡ suc t = omega (arith, room_left xs now start h g.room) in
+        stuck_made (read_listed first (is_mark sep) p start.at start.kinds) k
+        (sym g.reads ∙ ap (λ u. followed xs (turn u now.at now.kinds)) turns ∙ ap (followed xs) (turn_reads t now.at now.kinds (fault k) h f))
+    lists_stuck xs now start (TooDeep k) g h f = f
+    lists_stuck xs now start Memory g h f = tt

@@ -99,6 +99,10 @@ module _ (primary : Reader p.Primary) where
   unfoldable pub head : Reader ClassHead
   head = read_after (skip m.ClassWord) (read_both (name s.Ident) (read_both factory (read_after (skip m.Equals) (read_maybe starts_base clause))))
 
+  -- what stands before the sides of a class
+  abbrev pub class_opening : Reader (ClassHead × (p.Bars × p.Statements))
+  class_opening = read_both head (body h.Object)
+
   -- over the members of an instance side
   module _ (what : Reader p.What) where
     -- what a member of that side is
@@ -120,8 +124,12 @@ module _ (primary : Reader p.Primary) where
     unfoldable pub class_side : Reader p.ClassSide
     class_side = read_or (is_mark m.Colon) (read_mapped p.class_side_with (read_after (skip m.Colon) (side sides.ClassObject))) (read_none p.no_class_side)
 
+    -- the side of the instances, and that of the class, if it is there
+    abbrev pub both_sides : Reader (p.Side × p.ClassSide)
+    both_sides = read_both (side sides.Instance) class_side
+
     unfoldable pub class : Reader p.Class
-    class = read_mapped class_from (read_both (read_both head (body h.Object)) (read_both (side sides.Instance) class_side))
+    class = read_mapped class_from (read_both class_opening both_sides)
 
     unfoldable pub class_or_method : Reader p.What
     class_or_method = read_or (is_mark m.ClassWord) (read_mapped p.class_member class) method_member

@@ -119,11 +119,15 @@ module _ (primary : Reader p.Primary) where
 
   -- ---- slots and statements
 
+  -- an expression and a full stop
+  abbrev pub value : Reader p.Expr
+  value = read_until (expr o.ButBar) (skip m.Stop)
+
   -- an equals sign or `::=`, an expression and a full stop; or a full stop or none
   unfoldable pub init : Reader p.SlotInit
   init =
-      read_or (is_mark m.Equals) (read_mapped p.fixed (read_after (skip m.Equals) (read_until (expr o.ButBar) (skip m.Stop))))
-      (read_or (is_mark m.SlotSet) (read_mapped p.mutable (read_after (skip m.SlotSet) (read_until (expr o.ButBar) (skip m.Stop))))
+      read_or (is_mark m.Equals) (read_mapped p.fixed (read_after (skip m.Equals) value))
+      (read_or (is_mark m.SlotSet) (read_mapped p.mutable (read_after (skip m.SlotSet) value))
       (read_mapped p.bare (flag m.Stop)))
 
   unfoldable pub slot : Holder → Reader p.Slot
@@ -152,12 +156,18 @@ module _ (primary : Reader p.Primary) where
   unfoldable pub block : Reader p.Block
   block = read_mapped block_from (read_both params (read_both (bars h.Code) statements))
 
+  abbrev pub paren : Reader p.Primary
+  paren = read_mapped p.paren (read_after (skip m.Open) (read_until (expr o.All) (skip m.Close)))
+
+  abbrev pub block_literal : Reader p.Primary
+  block_literal = read_mapped p.block_literal (read_after (skip m.OpenBlock) (read_until block (skip m.CloseBlock)))
+
+  abbrev pub tuple : Reader p.Primary
+  tuple = read_after (skip m.OpenTuple) (read_until tuple_items (skip m.CloseTuple))
+
   -- an expression in parentheses, a block or a tuple
   unfoldable pub bracketed : Reader p.Primary
-  bracketed =
-      read_or (is_mark m.Open) (read_mapped p.paren (read_after (skip m.Open) (read_until (expr o.All) (skip m.Close))))
-      (read_or (is_mark m.OpenBlock) (read_mapped p.block_literal (read_after (skip m.OpenBlock) (read_until block (skip m.CloseBlock))))
-      (read_after (skip m.OpenTuple) (read_until tuple_items (skip m.CloseTuple))))
+  bracketed = read_or (is_mark m.Open) paren (read_or (is_mark m.OpenBlock) block_literal tuple)
 
   -- a primary with brackets or without
   unfoldable pub any_primary : Reader p.Primary

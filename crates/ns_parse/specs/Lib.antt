@@ -1,4 +1,5 @@
 pub mod Read
+pub mod Left
 pub mod Mark
 pub mod Name
 pub mod Leaf

@@ -1,16 +1,14 @@
 //! Classes, their members, and the file: a function for each rule of the grammar. The depth is how many
 //! brackets may still open in an expression, the nesting how many classes may still nest.
 
-ghost use Rattle.std.specs.Prelude.{◌≡◌, ◌<◌, ◌≤◌, length, option_map, IfOk};
+ghost use Rattle.std.specs.Prelude.{◌≡◌, option_map};
 ghost use Rattle.ns_tree.specs.PlainOf.{message_of, clause_of, method_of, class_of, side_of, what_of, class_side_of, unit_of};
-ghost use Rattle.ns_tree.specs.Tokens.{kinds};
 ghost use Rattle.ns_parse.specs.Classes as spec;
 ghost use Rattle.ns_parse.specs.Expressions as exprs;
-ghost use Rattle.ns_parse.specs.Read.{begins, read_maybe, read_mapped};
-ghost use Rattle.ns_parse.specs.Leaf as leaves;
+ghost use Rattle.ns_parse.specs.Read.{read_maybe};
 ghost use Rattle.ns_parse.specs.Pattern as patterns;
-ghost use Rattle.ns_parse.specs.Reads.{Reads};
-ghost use Rattle.ns_parse.specs.Views.{head_view, body_view, member_view};
+ghost use Rattle.ns_parse.specs.Reads.{Reads, next_is};
+ghost use Rattle.ns_parse.specs.Views.{head_view, body_view, opening_view, sides_view, member_view};
 
 use crate::expressions::{Holder, bars, keys, statements};
 use crate::fault::ParseFault;
@@ -58,7 +56,7 @@ fn starts_what(side: SideOf, kind: &Kind) -> bool
 }
 
 fn sees_member(tokens: &Tokens<'_>, side: SideOf) -> bool
-    ensures { result ≡ begins (spec.starts_member side) (kinds tokens.now.rest.now) }
+    ensures { result ≡ next_is (spec.starts_member side) tokens.now }
 {
     match tokens.rest {
         [first, ..] => is_access(&first.kind) || starts_what(side, &first.kind),
@@ -73,8 +71,7 @@ fn super_message(
     tokens: &mut Tokens<'_>,
     depth: usize,
 ) -> Result<Option<Message>, ParseFault>
-    ensures reads { Reads (option_map message_of) (spec.super_message (exprs.primary depth) tokens.old.at (kinds tokens.old.rest.now)) result tokens.new.at tokens.new.rest.now }
-    ensures moves { IfOk result (λ _. length tokens.new.rest.now ≤ length tokens.old.rest.now) }
+    ensures { Reads (option_map message_of) (spec.super_message (exprs.primary depth)) result tokens.old tokens.new }
 {
     if sees_name(tokens, Sort::Ident) {
         let name = name(alloc, tokens, Sort::Ident)?;
@@ -89,8 +86,7 @@ fn super_message(
 
 /// Reads the sign between a mixin and its superclass, and the superclass, if they are there.
 fn over(alloc: Global, tokens: &mut Tokens<'_>) -> Result<Option<Base>, ParseFault>
-    ensures reads { Reads (λ base. base) (spec.over tokens.old.at (kinds tokens.old.rest.now)) result tokens.new.at tokens.new.rest.now }
-    ensures moves { IfOk result (λ _. length tokens.new.rest.now ≤ length tokens.old.rest.now) }
+    ensures { Reads (λ base. base) spec.over result tokens.old tokens.new }
 {
     if sees(tokens, Mark::Over) {
         skip(tokens, Mark::Over)?;
@@ -104,8 +100,7 @@ fn over(alloc: Global, tokens: &mut Tokens<'_>) -> Result<Option<Base>, ParseFau
 /// Reads a superclass clause.
 #[tactic(auto, unfolding(crate::specs::Classes::clause))]
 fn clause(alloc: Global, tokens: &mut Tokens<'_>, depth: usize) -> Result<SuperClause, ParseFault>
-    ensures reads { Reads clause_of (spec.clause (exprs.primary depth) tokens.old.at (kinds tokens.old.rest.now)) result tokens.new.at tokens.new.rest.now }
-    ensures moves { IfOk result (λ _. length tokens.new.rest.now ≤ length tokens.old.rest.now) }
+    ensures { Reads clause_of (spec.clause (exprs.primary depth)) result tokens.old tokens.new }
 {
     let head = base(alloc, tokens)?;
     let over = over(alloc, tokens)?;
@@ -119,8 +114,7 @@ fn maybe_clause(
     tokens: &mut Tokens<'_>,
     depth: usize,
 ) -> Result<Option<SuperClause>, ParseFault>
-    ensures reads { Reads (option_map clause_of) (read_maybe patterns.starts_base (spec.clause (exprs.primary depth)) tokens.old.at (kinds tokens.old.rest.now)) result tokens.new.at tokens.new.rest.now }
-    ensures moves { IfOk result (λ _. length tokens.new.rest.now ≤ length tokens.old.rest.now) }
+    ensures { Reads (option_map clause_of) (read_maybe patterns.starts_base (spec.clause (exprs.primary depth))) result tokens.old tokens.new }
 {
     if sees_base(tokens) {
         let clause = clause(alloc, tokens, depth)?;
@@ -138,21 +132,24 @@ fn body(
     depth: usize,
     holder: Holder,
 ) -> Result<(Option<Vec<Slot>>, Statements), ParseFault>
-    ensures reads { Reads body_view (spec.body (exprs.primary depth) holder tokens.old.at (kinds tokens.old.rest.now)) result tokens.new.at tokens.new.rest.now }
-    ensures moves { IfOk result (λ _. length tokens.new.rest.now < length tokens.old.rest.now) }
+    ensures { Reads body_view (spec.body (exprs.primary depth) holder) result tokens.old tokens.new }
 {
     skip(tokens, Mark::Open)?;
     let slots = bars(alloc, tokens, depth, holder)?;
     let body = statements(alloc, tokens, depth)?;
-    skip(tokens, Mark::Close)?;
-    Ok((slots, body))
+    match skip(tokens, Mark::Close) {
+        Ok(()) => Ok((slots, body)),
+        Err(fault) => {
+            drop(body);
+            Err(fault)
+        }
+    }
 }
 
 /// Reads a method.
 #[tactic(auto, unfolding(crate::specs::Classes::method))]
 fn method(alloc: Global, tokens: &mut Tokens<'_>, depth: usize) -> Result<Method, ParseFault>
-    ensures reads { Reads method_of (spec.method (exprs.primary depth) tokens.old.at (kinds tokens.old.rest.now)) result tokens.new.at tokens.new.rest.now }
-    ensures moves { IfOk result (λ _. length tokens.new.rest.now < length tokens.old.rest.now) }
+    ensures { Reads method_of (spec.method (exprs.primary depth)) result tokens.old tokens.new }
 {
     let pattern = pattern(alloc, tokens)?;
     skip(tokens, Mark::Equals)?;
@@ -162,8 +159,7 @@ fn method(alloc: Global, tokens: &mut Tokens<'_>, depth: usize) -> Result<Method
 
 /// Reads a method as a member.
 fn method_member(alloc: Global, tokens: &mut Tokens<'_>, depth: usize) -> Result<What, ParseFault>
-    ensures reads { Reads what_of (spec.method_member (exprs.primary depth) tokens.old.at (kinds tokens.old.rest.now)) result tokens.new.at tokens.new.rest.now }
-    ensures moves { IfOk result (λ _. length tokens.new.rest.now < length tokens.old.rest.now) }
+    ensures { Reads what_of (spec.method_member (exprs.primary depth)) result tokens.old tokens.new }
 {
     let method = method(alloc, tokens, depth)?;
     Ok(make::method_member(method))
@@ -176,8 +172,7 @@ fn head(
     tokens: &mut Tokens<'_>,
     depth: usize,
 ) -> Result<(Named, Option<Pattern>, Option<SuperClause>), ParseFault>
-    ensures reads { Reads head_view (spec.head (exprs.primary depth) tokens.old.at (kinds tokens.old.rest.now)) result tokens.new.at tokens.new.rest.now }
-    ensures moves { IfOk result (λ _. length tokens.new.rest.now < length tokens.old.rest.now) }
+    ensures { Reads head_view (spec.head (exprs.primary depth)) result tokens.old tokens.new }
 {
     skip(tokens, Mark::ClassWord)?;
     let name = name(alloc, tokens, Sort::Ident)?;
@@ -185,6 +180,42 @@ fn head(
     skip(tokens, Mark::Equals)?;
     let clause = maybe_clause(alloc, tokens, depth)?;
     Ok((name, factory, clause))
+}
+
+/// What stands before the sides of a class: its name, factory and superclass clause, and its
+/// initialiser.
+#[derive(Drop)]
+struct Opening {
+    head: (Named, Option<Pattern>, Option<SuperClause>),
+    body: (Option<Vec<Slot>>, Statements),
+}
+
+/// Reads what stands before the sides of a class.
+fn class_opening(
+    alloc: Global,
+    tokens: &mut Tokens<'_>,
+    depth: usize,
+) -> Result<Opening, ParseFault>
+    ensures { Reads opening_view (spec.class_opening (exprs.primary depth)) result tokens.old tokens.new }
+{
+    let head = head(alloc, tokens, depth)?;
+    match body(alloc, tokens, depth, Holder::Object) {
+        Ok(body) => Ok(Opening { head, body }),
+        Err(fault) => {
+            drop(head);
+            Err(fault)
+        }
+    }
+}
+
+/// The class of its parts.
+fn whole_class(opening: Opening, sides: (Side, Option<Side>)) -> Class
+    ensures { class_of result ≡ spec.class_from (opening_view opening, sides_view sides) }
+{
+    let (name, factory, clause) = opening.head;
+    let (slots, body) = opening.body;
+    let (side, class_side) = sides;
+    make::class(name, factory, clause, slots, body, side, class_side)
 }
 
 /// Reads a class or a method of an instance side.
@@ -196,8 +227,7 @@ fn what(
     depth: usize,
     nesting: usize,
 ) -> Result<What, ParseFault>
-    ensures reads { Reads what_of (spec.what (exprs.primary depth) nesting tokens.old.at (kinds tokens.old.rest.now)) result tokens.new.at tokens.new.rest.now }
-    ensures moves { IfOk result (λ _. length tokens.new.rest.now < length tokens.old.rest.now) }
+    ensures { Reads what_of (spec.what (exprs.primary depth) nesting) result tokens.old tokens.new }
 {
     if nesting == 0 {
         let what = method_member(alloc, tokens, depth)?;
@@ -217,8 +247,7 @@ fn class_or_method(
     depth: usize,
     nesting: usize,
 ) -> Result<What, ParseFault>
-    ensures reads { Reads what_of (spec.class_or_method (exprs.primary depth) (spec.what (exprs.primary depth) nesting) tokens.old.at (kinds tokens.old.rest.now)) result tokens.new.at tokens.new.rest.now }
-    ensures moves { IfOk result (λ _. length tokens.new.rest.now < length tokens.old.rest.now) }
+    ensures { Reads what_of (spec.class_or_method (exprs.primary depth) (spec.what (exprs.primary depth) nesting)) result tokens.old tokens.new }
 {
     if sees(tokens, Mark::ClassWord) {
         let class = class(alloc, tokens, depth, nesting)?;
@@ -239,14 +268,36 @@ fn class(
     depth: usize,
     nesting: usize,
 ) -> Result<Class, ParseFault>
-    ensures reads { Reads class_of (spec.class (exprs.primary depth) (spec.what (exprs.primary depth) nesting) tokens.old.at (kinds tokens.old.rest.now)) result tokens.new.at tokens.new.rest.now }
-    ensures moves { IfOk result (λ _. length tokens.new.rest.now < length tokens.old.rest.now) }
+    ensures { Reads class_of (spec.class (exprs.primary depth) (spec.what (exprs.primary depth) nesting)) result tokens.old tokens.new }
 {
-    let (name, factory, clause) = head(alloc, tokens, depth)?;
-    let (slots, body) = body(alloc, tokens, depth, Holder::Object)?;
+    let opening = class_opening(alloc, tokens, depth)?;
+    match both_sides(alloc, tokens, depth, nesting) {
+        Ok(sides) => Ok(whole_class(opening, sides)),
+        Err(fault) => {
+            drop(opening);
+            Err(fault)
+        }
+    }
+}
+
+/// Reads both sides of a class.
+#[cycle(classes)]
+fn both_sides(
+    alloc: Global,
+    tokens: &mut Tokens<'_>,
+    depth: usize,
+    nesting: usize,
+) -> Result<(Side, Option<Side>), ParseFault>
+    ensures { Reads sides_view (spec.both_sides (exprs.primary depth) (spec.what (exprs.primary depth) nesting)) result tokens.old tokens.new }
+{
     let side = side(alloc, tokens, depth, nesting, SideOf::Instance)?;
-    let class_side = class_side(alloc, tokens, depth, nesting)?;
-    Ok(make::class(name, factory, clause, slots, body, side, class_side))
+    match class_side(alloc, tokens, depth, nesting) {
+        Ok(class_side) => Ok((side, class_side)),
+        Err(fault) => {
+            drop(side);
+            Err(fault)
+        }
+    }
 }
 
 /// Reads a colon and a class side, if they are there.
@@ -258,8 +309,7 @@ fn class_side(
     depth: usize,
     nesting: usize,
 ) -> Result<Option<Side>, ParseFault>
-    ensures reads { Reads class_side_of (spec.class_side (exprs.primary depth) (spec.what (exprs.primary depth) nesting) tokens.old.at (kinds tokens.old.rest.now)) result tokens.new.at tokens.new.rest.now }
-    ensures moves { IfOk result (λ _. length tokens.new.rest.now ≤ length tokens.old.rest.now) }
+    ensures { Reads class_side_of (spec.class_side (exprs.primary depth) (spec.what (exprs.primary depth) nesting)) result tokens.old tokens.new }
 {
     if sees(tokens, Mark::Colon) {
         skip(tokens, Mark::Colon)?;
@@ -280,13 +330,17 @@ fn side(
     nesting: usize,
     side: SideOf,
 ) -> Result<Side, ParseFault>
-    ensures reads { Reads side_of (spec.side (exprs.primary depth) (spec.what (exprs.primary depth) nesting) side tokens.old.at (kinds tokens.old.rest.now)) result tokens.new.at tokens.new.rest.now }
-    ensures moves { IfOk result (λ _. length tokens.new.rest.now < length tokens.old.rest.now) }
+    ensures { Reads side_of (spec.side (exprs.primary depth) (spec.what (exprs.primary depth) nesting) side) result tokens.old tokens.new }
 {
     skip(tokens, Mark::Open)?;
     let members = members(alloc, tokens, depth, nesting, side)?;
-    skip(tokens, Mark::Close)?;
-    Ok(members)
+    match skip(tokens, Mark::Close) {
+        Ok(()) => Ok(members),
+        Err(fault) => {
+            drop(members);
+            Err(fault)
+        }
+    }
 }
 
 /// Reads the members of a side with their categories, as many as there are, and the categories behind
@@ -299,8 +353,7 @@ fn members(
     nesting: usize,
     side: SideOf,
 ) -> Result<Side, ParseFault>
-    ensures reads { Reads side_of (spec.members (exprs.primary depth) (spec.what (exprs.primary depth) nesting) side tokens.old.at (kinds tokens.old.rest.now)) result tokens.new.at tokens.new.rest.now }
-    ensures moves { IfOk result (λ _. length tokens.new.rest.now ≤ length tokens.old.rest.now) }
+    ensures { Reads side_of (spec.members (exprs.primary depth) (spec.what (exprs.primary depth) nesting) side) result tokens.old tokens.new }
 {
     let mut items = Vec::new(alloc);
     let mut categories = strings(alloc, tokens)?;
@@ -326,8 +379,7 @@ fn member(
     nesting: usize,
     side: SideOf,
 ) -> Result<(Option<Access>, What), ParseFault>
-    ensures reads { Reads member_view (spec.member (exprs.primary depth) (spec.what (exprs.primary depth) nesting) side tokens.old.at (kinds tokens.old.rest.now)) result tokens.new.at tokens.new.rest.now }
-    ensures moves { IfOk result (λ _. length tokens.new.rest.now < length tokens.old.rest.now) }
+    ensures { Reads member_view (spec.member (exprs.primary depth) (spec.what (exprs.primary depth) nesting) side) result tokens.old tokens.new }
 {
     let access = access(tokens);
     let what = what_of(alloc, tokens, depth, nesting, side)?;
@@ -343,8 +395,7 @@ fn what_of(
     nesting: usize,
     side: SideOf,
 ) -> Result<What, ParseFault>
-    ensures reads { Reads what_of (spec.what_of (exprs.primary depth) (spec.what (exprs.primary depth) nesting) side tokens.old.at (kinds tokens.old.rest.now)) result tokens.new.at tokens.new.rest.now }
-    ensures moves { IfOk result (λ _. length tokens.new.rest.now < length tokens.old.rest.now) }
+    ensures { Reads what_of (spec.what_of (exprs.primary depth) (spec.what (exprs.primary depth) nesting) side) result tokens.old tokens.new }
 {
     match side {
         SideOf::Instance => {
@@ -360,7 +411,7 @@ fn what_of(
 
 /// Reads the category of a file, if there is one.
 fn category(alloc: Global, tokens: &mut Tokens<'_>) -> Result<Option<Text>, ParseFault>
-    ensures reads { Reads (λ text. text) (spec.category tokens.old.at (kinds tokens.old.rest.now)) result tokens.new.at tokens.new.rest.now }
+    ensures { Reads (λ text. text) spec.category result tokens.old tokens.new }
 {
     if sees_string(tokens) {
         let text = string(alloc, tokens)?;
@@ -373,7 +424,7 @@ fn category(alloc: Global, tokens: &mut Tokens<'_>) -> Result<Option<Text>, Pars
 /// Reads a file.
 #[tactic(auto, unfolding(crate::specs::Classes::file))]
 pub fn file(alloc: Global, tokens: &mut Tokens<'_>, depth: usize) -> Result<Unit, ParseFault>
-    ensures reads { Reads unit_of (spec.file depth tokens.old.at (kinds tokens.old.rest.now)) result tokens.new.at tokens.new.rest.now }
+    ensures { Reads unit_of (spec.file depth) result tokens.old tokens.new }
 {
     let marker = skip_if(tokens, Mark::Newspeak3);
     let category = category(alloc, tokens)?;

@@ -1,15 +1,12 @@
 //! Expressions, slots, statements and blocks: a function for each rule of the grammar. The depth is how
-//! many brackets may still open.
+//! many brackets may still open. A node that is let go with a fault is passed to `drop`, so that its drop is
+//! proved once and not in each function.
 
-ghost use Rattle.std.specs.Prelude.{◌≡◌, ◌<◌, ◌≤◌, length, true, IfOk};
+ghost use Rattle.std.specs.Prelude.{◌≡◌};
 ghost use Rattle.ns_tree.specs.PlainOf.{expr_of, message_of, key_expr_of, bin_of, un_of, primary_of, block_of, slot_of, init_of, statements_of, statement_of, opers_of, keys_of, cascade_of, slots_of, bars_of};
-ghost use Rattle.ns_tree.specs.Tokens.{kinds};
 ghost use Rattle.ns_parse.specs.Expressions as spec;
 ghost use Rattle.ns_parse.specs.Leaf as leaves;
-ghost use Rattle.ns_parse.specs.Name as names;
-ghost use Rattle.ns_parse.specs.declared.name.Sort.TheVariants as sort;
-ghost use Rattle.ns_parse.specs.Read.{begins, got};
-ghost use Rattle.ns_parse.specs.Reads.{Reads};
+ghost use Rattle.ns_parse.specs.Reads.{Gives, Reads, next_is};
 ghost use Rattle.ns_parse.specs.Views.{oper_view, key_view, cascaded_view};
 
 use crate::fault::ParseFault;
@@ -63,7 +60,7 @@ fn starts_slot(holder: Holder, kind: &Kind) -> bool
 }
 
 fn sees_leaf(tokens: &Tokens<'_>) -> bool
-    ensures { result ≡ begins leaves.starts_leaf (kinds tokens.now.rest.now) }
+    ensures { result ≡ next_is leaves.starts_leaf tokens.now }
 {
     match tokens.rest {
         [first, ..] => starts_leaf(&first.kind),
@@ -72,7 +69,7 @@ fn sees_leaf(tokens: &Tokens<'_>) -> bool
 }
 
 fn sees_un(tokens: &Tokens<'_>) -> bool
-    ensures { result ≡ begins spec.starts_un (kinds tokens.now.rest.now) }
+    ensures { result ≡ next_is spec.starts_un tokens.now }
 {
     match tokens.rest {
         [first, ..] => starts_un(&first.kind),
@@ -81,7 +78,7 @@ fn sees_un(tokens: &Tokens<'_>) -> bool
 }
 
 fn sees_expr(tokens: &Tokens<'_>) -> bool
-    ensures { result ≡ begins spec.starts_expr (kinds tokens.now.rest.now) }
+    ensures { result ≡ next_is spec.starts_expr tokens.now }
 {
     match tokens.rest {
         [first, ..] => starts_expr(&first.kind),
@@ -90,7 +87,7 @@ fn sees_expr(tokens: &Tokens<'_>) -> bool
 }
 
 fn sees_statement(tokens: &Tokens<'_>) -> bool
-    ensures { result ≡ begins spec.starts_statement (kinds tokens.now.rest.now) }
+    ensures { result ≡ next_is spec.starts_statement tokens.now }
 {
     match tokens.rest {
         [first, ..] => starts_statement(&first.kind),
@@ -99,7 +96,7 @@ fn sees_statement(tokens: &Tokens<'_>) -> bool
 }
 
 fn sees_slot(tokens: &Tokens<'_>, holder: Holder) -> bool
-    ensures { result ≡ begins (spec.starts_slot holder) (kinds tokens.now.rest.now) }
+    ensures { result ≡ next_is (spec.starts_slot holder) tokens.now }
 {
     match tokens.rest {
         [first, ..] => starts_slot(holder, &first.kind),
@@ -109,8 +106,7 @@ fn sees_slot(tokens: &Tokens<'_>, holder: Holder) -> bool
 
 /// Reads the access word of a slot, if it may have one and has it.
 fn slot_access(tokens: &mut Tokens<'_>, holder: Holder) -> Option<Access>
-    ensures reads { spec.slot_access holder tokens.old.at (kinds tokens.old.rest.now) ≡ got result tokens.new.at (kinds tokens.new.rest.now) }
-    ensures moves { length tokens.new.rest.now ≤ length tokens.old.rest.now }
+    ensures { Gives (spec.slot_access holder) result tokens.old tokens.new }
 {
     match holder {
         Holder::Object => access(tokens),
@@ -122,8 +118,7 @@ fn slot_access(tokens: &mut Tokens<'_>, holder: Holder) -> Option<Access>
 #[cycle(exprs)]
 #[tactic(auto, unfolding(crate::specs::Expressions::primary))]
 fn primary(alloc: Global, tokens: &mut Tokens<'_>, depth: usize) -> Result<Primary, ParseFault>
-    ensures reads { Reads primary_of (spec.primary depth tokens.old.at (kinds tokens.old.rest.now)) result tokens.new.at tokens.new.rest.now }
-    ensures moves { IfOk result (λ _. length tokens.new.rest.now < length tokens.old.rest.now) }
+    ensures { Reads primary_of (spec.primary depth) result tokens.old tokens.new }
 {
     if depth == 0 {
         let primary = leaf(alloc, tokens)?;
@@ -138,8 +133,7 @@ fn primary(alloc: Global, tokens: &mut Tokens<'_>, depth: usize) -> Result<Prima
 #[cycle(exprs)]
 #[tactic(auto, unfolding(crate::specs::Expressions::any_primary))]
 fn any_primary(alloc: Global, tokens: &mut Tokens<'_>, depth: usize) -> Result<Primary, ParseFault>
-    ensures reads { Reads primary_of (spec.any_primary (spec.primary depth) tokens.old.at (kinds tokens.old.rest.now)) result tokens.new.at tokens.new.rest.now }
-    ensures moves { IfOk result (λ _. length tokens.new.rest.now < length tokens.old.rest.now) }
+    ensures { Reads primary_of (spec.any_primary (spec.primary depth)) result tokens.old tokens.new }
 {
     if sees_leaf(tokens) {
         let primary = leaf(alloc, tokens)?;
@@ -154,26 +148,75 @@ fn any_primary(alloc: Global, tokens: &mut Tokens<'_>, depth: usize) -> Result<P
 #[cycle(exprs)]
 #[tactic(auto, unfolding(crate::specs::Expressions::bracketed))]
 fn bracketed(alloc: Global, tokens: &mut Tokens<'_>, depth: usize) -> Result<Primary, ParseFault>
-    ensures reads { Reads primary_of (spec.bracketed (spec.primary depth) tokens.old.at (kinds tokens.old.rest.now)) result tokens.new.at tokens.new.rest.now }
-    ensures moves { IfOk result (λ _. length tokens.new.rest.now < length tokens.old.rest.now) }
+    ensures { Reads primary_of (spec.bracketed (spec.primary depth)) result tokens.old tokens.new }
 {
     if sees(tokens, Mark::Open) {
-        skip(tokens, Mark::Open)?;
-        let inner = expr(alloc, tokens, depth, Operators::All)?;
-        skip(tokens, Mark::Close)?;
-        let primary = make::paren(alloc, inner)?;
+        let primary = paren(alloc, tokens, depth)?;
         Ok(primary)
     } else if sees(tokens, Mark::OpenBlock) {
-        skip(tokens, Mark::OpenBlock)?;
-        let block = block(alloc, tokens, depth)?;
-        skip(tokens, Mark::CloseBlock)?;
-        let primary = make::block_literal(alloc, block)?;
+        let primary = block_literal(alloc, tokens, depth)?;
         Ok(primary)
     } else {
-        skip(tokens, Mark::OpenTuple)?;
-        let tuple = tuple_items(alloc, tokens, depth)?;
-        skip(tokens, Mark::CloseTuple)?;
-        Ok(tuple)
+        let primary = tuple(alloc, tokens, depth)?;
+        Ok(primary)
+    }
+}
+
+/// Reads an expression in parentheses.
+#[cycle(exprs)]
+fn paren(alloc: Global, tokens: &mut Tokens<'_>, depth: usize) -> Result<Primary, ParseFault>
+    ensures { Reads primary_of (spec.paren (spec.primary depth)) result tokens.old tokens.new }
+{
+    skip(tokens, Mark::Open)?;
+    let inner = expr(alloc, tokens, depth, Operators::All)?;
+    match skip(tokens, Mark::Close) {
+        Ok(()) => {
+            let primary = make::paren(alloc, inner)?;
+            Ok(primary)
+        }
+        Err(fault) => {
+            drop(inner);
+            Err(fault)
+        }
+    }
+}
+
+/// Reads a block with its brackets.
+#[cycle(exprs)]
+fn block_literal(
+    alloc: Global,
+    tokens: &mut Tokens<'_>,
+    depth: usize,
+) -> Result<Primary, ParseFault>
+    ensures { Reads primary_of (spec.block_literal (spec.primary depth)) result tokens.old tokens.new }
+{
+    skip(tokens, Mark::OpenBlock)?;
+    let block = block(alloc, tokens, depth)?;
+    match skip(tokens, Mark::CloseBlock) {
+        Ok(()) => {
+            let primary = make::block_literal(alloc, block)?;
+            Ok(primary)
+        }
+        Err(fault) => {
+            drop(block);
+            Err(fault)
+        }
+    }
+}
+
+/// Reads a tuple.
+#[cycle(exprs)]
+fn tuple(alloc: Global, tokens: &mut Tokens<'_>, depth: usize) -> Result<Primary, ParseFault>
+    ensures { Reads primary_of (spec.tuple (spec.primary depth)) result tokens.old tokens.new }
+{
+    skip(tokens, Mark::OpenTuple)?;
+    let items = tuple_items(alloc, tokens, depth)?;
+    match skip(tokens, Mark::CloseTuple) {
+        Ok(()) => Ok(items),
+        Err(fault) => {
+            drop(items);
+            Err(fault)
+        }
     }
 }
 
@@ -181,13 +224,17 @@ fn bracketed(alloc: Global, tokens: &mut Tokens<'_>, depth: usize) -> Result<Pri
 #[cycle(exprs)]
 #[tactic(auto, unfolding(crate::specs::Expressions::un))]
 fn un(alloc: Global, tokens: &mut Tokens<'_>, depth: usize) -> Result<UnExpr, ParseFault>
-    ensures reads { Reads un_of (spec.un (spec.primary depth) tokens.old.at (kinds tokens.old.rest.now)) result tokens.new.at tokens.new.rest.now }
-    ensures moves { IfOk result (λ _. length tokens.new.rest.now < length tokens.old.rest.now) }
+    ensures { Reads un_of (spec.un (spec.primary depth)) result tokens.old tokens.new }
 {
     let at = tokens.at as u32;
     let primary = primary(alloc, tokens, depth)?;
-    let names = names(alloc, tokens, Sort::Ident)?;
-    Ok(make::un(at, primary, names))
+    match names(alloc, tokens, Sort::Ident) {
+        Ok(names) => Ok(make::un(at, primary, names)),
+        Err(fault) => {
+            drop(primary);
+            Err(fault)
+        }
+    }
 }
 
 /// Reads an operator and its argument.
@@ -198,8 +245,7 @@ fn oper(
     depth: usize,
     operators: Operators,
 ) -> Result<(Named, UnExpr), ParseFault>
-    ensures reads { Reads oper_view (spec.oper (spec.primary depth) operators tokens.old.at (kinds tokens.old.rest.now)) result tokens.new.at tokens.new.rest.now }
-    ensures moves { IfOk result (λ _. length tokens.new.rest.now < length tokens.old.rest.now) }
+    ensures { Reads oper_view (spec.oper (spec.primary depth) operators) result tokens.old tokens.new }
 {
     let operator = name(alloc, tokens, Sort::Operator(operators))?;
     let argument = un(alloc, tokens, depth)?;
@@ -214,8 +260,7 @@ fn opers(
     depth: usize,
     operators: Operators,
 ) -> Result<Vec<(Named, UnExpr)>, ParseFault>
-    ensures reads { Reads (λ opers. opers_of opers.items) (spec.opers (spec.primary depth) operators tokens.old.at (kinds tokens.old.rest.now)) result tokens.new.at tokens.new.rest.now }
-    ensures moves { IfOk result (λ _. length tokens.new.rest.now ≤ length tokens.old.rest.now) }
+    ensures { Reads (λ opers. opers_of opers.items) (spec.opers (spec.primary depth) operators) result tokens.old tokens.new }
 {
     let mut items = Vec::new(alloc);
     'items: while sees_name(tokens, Sort::Operator(operators)) {
@@ -234,12 +279,16 @@ fn bin(
     depth: usize,
     operators: Operators,
 ) -> Result<BinExpr, ParseFault>
-    ensures reads { Reads bin_of (spec.bin (spec.primary depth) operators tokens.old.at (kinds tokens.old.rest.now)) result tokens.new.at tokens.new.rest.now }
-    ensures moves { IfOk result (λ _. length tokens.new.rest.now < length tokens.old.rest.now) }
+    ensures { Reads bin_of (spec.bin (spec.primary depth) operators) result tokens.old tokens.new }
 {
     let first = un(alloc, tokens, depth)?;
-    let more = opers(alloc, tokens, depth, operators)?;
-    Ok(make::bin(first, more))
+    match opers(alloc, tokens, depth, operators) {
+        Ok(more) => Ok(make::bin(first, more)),
+        Err(fault) => {
+            drop(first);
+            Err(fault)
+        }
+    }
 }
 
 /// Reads a key and its argument.
@@ -250,8 +299,7 @@ fn key(
     depth: usize,
     operators: Operators,
 ) -> Result<(Named, BinExpr), ParseFault>
-    ensures reads { Reads key_view (spec.key (spec.primary depth) operators tokens.old.at (kinds tokens.old.rest.now)) result tokens.new.at tokens.new.rest.now }
-    ensures moves { IfOk result (λ _. length tokens.new.rest.now < length tokens.old.rest.now) }
+    ensures { Reads key_view (spec.key (spec.primary depth) operators) result tokens.old tokens.new }
 {
     let part = name(alloc, tokens, Sort::Key)?;
     let argument = bin(alloc, tokens, depth, operators)?;
@@ -266,9 +314,7 @@ pub fn keys(
     depth: usize,
     operators: Operators,
 ) -> Result<Vec<(Named, BinExpr)>, ParseFault>
-    ensures reads { Reads (λ keys. keys_of keys.items) (spec.keys (spec.primary depth) operators tokens.old.at (kinds tokens.old.rest.now)) result tokens.new.at tokens.new.rest.now }
-    ensures moves { IfOk result (λ _. length tokens.new.rest.now ≤ length tokens.old.rest.now) }
-    ensures takes { begins (names.is_name sort.Key) (kinds tokens.old.rest.now) ≡ true → IfOk result (λ _. length tokens.new.rest.now < length tokens.old.rest.now) }
+    ensures { Reads (λ keys. keys_of keys.items) (spec.keys (spec.primary depth) operators) result tokens.old tokens.new }
 {
     let mut items = Vec::new(alloc);
     'items: while sees_name(tokens, Sort::Key) {
@@ -287,13 +333,17 @@ fn key_expr(
     depth: usize,
     operators: Operators,
 ) -> Result<KeyExpr, ParseFault>
-    ensures reads { Reads key_expr_of (spec.key_expr (spec.primary depth) operators tokens.old.at (kinds tokens.old.rest.now)) result tokens.new.at tokens.new.rest.now }
-    ensures moves { IfOk result (λ _. length tokens.new.rest.now < length tokens.old.rest.now) }
+    ensures { Reads key_expr_of (spec.key_expr (spec.primary depth) operators) result tokens.old tokens.new }
 {
     if sees_un(tokens) {
         let receiver = bin(alloc, tokens, depth, operators)?;
-        let keys = keys(alloc, tokens, depth, operators)?;
-        Ok(make::sent(receiver, keys))
+        match keys(alloc, tokens, depth, operators) {
+            Ok(keys) => Ok(make::sent(receiver, keys)),
+            Err(fault) => {
+                drop(receiver);
+                Err(fault)
+            }
+        }
     } else if sees_name(tokens, Sort::Key) {
         let keys = keys(alloc, tokens, depth, operators)?;
         Ok(make::implicit(keys))
@@ -311,8 +361,7 @@ fn message(
     depth: usize,
     operators: Operators,
 ) -> Result<Message, ParseFault>
-    ensures reads { Reads message_of (spec.message (spec.primary depth) operators tokens.old.at (kinds tokens.old.rest.now)) result tokens.new.at tokens.new.rest.now }
-    ensures moves { IfOk result (λ _. length tokens.new.rest.now ≤ length tokens.old.rest.now) }
+    ensures { Reads message_of (spec.message (spec.primary depth) operators) result tokens.old tokens.new }
 {
     if sees_name(tokens, Sort::Ident) {
         let name = name(alloc, tokens, Sort::Ident)?;
@@ -336,8 +385,7 @@ fn cascaded(
     depth: usize,
     operators: Operators,
 ) -> Result<(u32, Message), ParseFault>
-    ensures reads { Reads cascaded_view (spec.cascaded (spec.primary depth) operators tokens.old.at (kinds tokens.old.rest.now)) result tokens.new.at tokens.new.rest.now }
-    ensures moves { IfOk result (λ _. length tokens.new.rest.now < length tokens.old.rest.now) }
+    ensures { Reads cascaded_view (spec.cascaded (spec.primary depth) operators) result tokens.old tokens.new }
 {
     let at = place(tokens, Mark::Semi)?;
     let message = message(alloc, tokens, depth, operators)?;
@@ -352,8 +400,7 @@ fn cascade(
     depth: usize,
     operators: Operators,
 ) -> Result<Vec<(u32, Message)>, ParseFault>
-    ensures reads { Reads (λ messages. cascade_of messages.items) (spec.cascade (spec.primary depth) operators tokens.old.at (kinds tokens.old.rest.now)) result tokens.new.at tokens.new.rest.now }
-    ensures moves { IfOk result (λ _. length tokens.new.rest.now ≤ length tokens.old.rest.now) }
+    ensures { Reads (λ messages. cascade_of messages.items) (spec.cascade (spec.primary depth) operators) result tokens.old tokens.new }
 {
     let mut items = Vec::new(alloc);
     'items: while sees(tokens, Mark::Semi) {
@@ -372,31 +419,47 @@ fn expr(
     depth: usize,
     operators: Operators,
 ) -> Result<Expr, ParseFault>
-    ensures reads { Reads expr_of (spec.expr (spec.primary depth) operators tokens.old.at (kinds tokens.old.rest.now)) result tokens.new.at tokens.new.rest.now }
-    ensures moves { IfOk result (λ _. length tokens.new.rest.now < length tokens.old.rest.now) }
+    ensures { Reads expr_of (spec.expr (spec.primary depth) operators) result tokens.old tokens.new }
 {
     let sets = names(alloc, tokens, Sort::SetKey)?;
     let first = key_expr(alloc, tokens, depth, operators)?;
-    let more = cascade(alloc, tokens, depth, operators)?;
-    Ok(make::expr(sets, first, more))
+    match cascade(alloc, tokens, depth, operators) {
+        Ok(more) => Ok(make::expr(sets, first, more)),
+        Err(fault) => {
+            drop(first);
+            Err(fault)
+        }
+    }
+}
+
+/// Reads an expression and the full stop behind it.
+#[cycle(exprs)]
+fn value(alloc: Global, tokens: &mut Tokens<'_>, depth: usize) -> Result<Expr, ParseFault>
+    ensures { Reads expr_of (spec.value (spec.primary depth)) result tokens.old tokens.new }
+{
+    let value = expr(alloc, tokens, depth, Operators::ButBar)?;
+    match skip(tokens, Mark::Stop) {
+        Ok(()) => Ok(value),
+        Err(fault) => {
+            drop(value);
+            Err(fault)
+        }
+    }
 }
 
 /// Reads how a slot begins.
 #[cycle(exprs)]
 #[tactic(auto, unfolding(crate::specs::Expressions::init))]
 fn init(alloc: Global, tokens: &mut Tokens<'_>, depth: usize) -> Result<SlotInit, ParseFault>
-    ensures reads { Reads init_of (spec.init (spec.primary depth) tokens.old.at (kinds tokens.old.rest.now)) result tokens.new.at tokens.new.rest.now }
-    ensures moves { IfOk result (λ _. length tokens.new.rest.now ≤ length tokens.old.rest.now) }
+    ensures { Reads init_of (spec.init (spec.primary depth)) result tokens.old tokens.new }
 {
     if sees(tokens, Mark::Equals) {
         skip(tokens, Mark::Equals)?;
-        let value = expr(alloc, tokens, depth, Operators::ButBar)?;
-        skip(tokens, Mark::Stop)?;
+        let value = value(alloc, tokens, depth)?;
         Ok(make::fixed(value))
     } else if sees(tokens, Mark::SlotSet) {
         skip(tokens, Mark::SlotSet)?;
-        let value = expr(alloc, tokens, depth, Operators::ButBar)?;
-        skip(tokens, Mark::Stop)?;
+        let value = value(alloc, tokens, depth)?;
         Ok(make::mutable(value))
     } else {
         let stop = skip_if(tokens, Mark::Stop);
@@ -413,8 +476,7 @@ fn slot(
     depth: usize,
     holder: Holder,
 ) -> Result<Slot, ParseFault>
-    ensures reads { Reads slot_of (spec.slot (spec.primary depth) holder tokens.old.at (kinds tokens.old.rest.now)) result tokens.new.at tokens.new.rest.now }
-    ensures moves { IfOk result (λ _. length tokens.new.rest.now < length tokens.old.rest.now) }
+    ensures { Reads slot_of (spec.slot (spec.primary depth) holder) result tokens.old tokens.new }
 {
     let access = slot_access(tokens, holder);
     let name = name(alloc, tokens, Sort::Ident)?;
@@ -430,8 +492,7 @@ fn slots(
     depth: usize,
     holder: Holder,
 ) -> Result<Vec<Slot>, ParseFault>
-    ensures reads { Reads (λ slots. slots_of slots.items) (spec.slots (spec.primary depth) holder tokens.old.at (kinds tokens.old.rest.now)) result tokens.new.at tokens.new.rest.now }
-    ensures moves { IfOk result (λ _. length tokens.new.rest.now ≤ length tokens.old.rest.now) }
+    ensures { Reads (λ slots. slots_of slots.items) (spec.slots (spec.primary depth) holder) result tokens.old tokens.new }
 {
     let mut items = Vec::new(alloc);
     'items: while sees_slot(tokens, holder) {
@@ -450,8 +511,7 @@ pub fn bars(
     depth: usize,
     holder: Holder,
 ) -> Result<Option<Vec<Slot>>, ParseFault>
-    ensures reads { Reads bars_of (spec.bars (spec.primary depth) holder tokens.old.at (kinds tokens.old.rest.now)) result tokens.new.at tokens.new.rest.now }
-    ensures moves { IfOk result (λ _. length tokens.new.rest.now ≤ length tokens.old.rest.now) }
+    ensures { Reads bars_of (spec.bars (spec.primary depth) holder) result tokens.old tokens.new }
 {
     if sees(tokens, Mark::Bar) {
         skip(tokens, Mark::Bar)?;
@@ -467,8 +527,7 @@ pub fn bars(
 #[cycle(exprs)]
 #[tactic(auto, unfolding(crate::specs::Expressions::statement))]
 fn statement(alloc: Global, tokens: &mut Tokens<'_>, depth: usize) -> Result<Statement, ParseFault>
-    ensures reads { Reads statement_of (spec.statement (spec.primary depth) tokens.old.at (kinds tokens.old.rest.now)) result tokens.new.at tokens.new.rest.now }
-    ensures moves { IfOk result (λ _. length tokens.new.rest.now < length tokens.old.rest.now) }
+    ensures { Reads statement_of (spec.statement (spec.primary depth)) result tokens.old tokens.new }
 {
     let caret = place_if(tokens, Mark::Caret);
     let expr = expr(alloc, tokens, depth, Operators::All)?;
@@ -482,8 +541,7 @@ pub fn statements(
     tokens: &mut Tokens<'_>,
     depth: usize,
 ) -> Result<Statements, ParseFault>
-    ensures reads { Reads statements_of (spec.statements (spec.primary depth) tokens.old.at (kinds tokens.old.rest.now)) result tokens.new.at tokens.new.rest.now }
-    ensures moves { IfOk result (λ _. length tokens.new.rest.now ≤ length tokens.old.rest.now) }
+    ensures { Reads statements_of (spec.statements (spec.primary depth)) result tokens.old tokens.new }
 {
     let mut items = Vec::new(alloc);
     'items: while sees_statement(tokens) {
@@ -500,8 +558,7 @@ pub fn statements(
 /// Reads the elements of a tuple, as many as there are.
 #[cycle(exprs)]
 fn tuple_items(alloc: Global, tokens: &mut Tokens<'_>, depth: usize) -> Result<Primary, ParseFault>
-    ensures reads { Reads primary_of (spec.tuple_items (spec.primary depth) tokens.old.at (kinds tokens.old.rest.now)) result tokens.new.at tokens.new.rest.now }
-    ensures moves { IfOk result (λ _. length tokens.new.rest.now ≤ length tokens.old.rest.now) }
+    ensures { Reads primary_of (spec.tuple_items (spec.primary depth)) result tokens.old tokens.new }
 {
     let mut items = Vec::new(alloc);
     'items: while sees_expr(tokens) {
@@ -519,8 +576,7 @@ fn tuple_items(alloc: Global, tokens: &mut Tokens<'_>, depth: usize) -> Result<P
 #[cycle(exprs)]
 #[tactic(auto, unfolding(crate::specs::Expressions::block))]
 fn block(alloc: Global, tokens: &mut Tokens<'_>, depth: usize) -> Result<Block, ParseFault>
-    ensures reads { Reads block_of (spec.block (spec.primary depth) tokens.old.at (kinds tokens.old.rest.now)) result tokens.new.at tokens.new.rest.now }
-    ensures moves { IfOk result (λ _. length tokens.new.rest.now ≤ length tokens.old.rest.now) }
+    ensures { Reads block_of (spec.block (spec.primary depth)) result tokens.old tokens.new }
 {
     let params = params(alloc, tokens)?;
     let slots = bars(alloc, tokens, depth, Holder::Code)?;

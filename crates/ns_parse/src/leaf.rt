@@ -1,11 +1,9 @@
 //! Single tokens that are values: numbers, strings, access words, and primaries of one token.
 
-ghost use Rattle.std.specs.Prelude.{◌≡◌, ◌<◌, ◌≤◌, length, map, Some, None, MatchOption, IfOk};
+ghost use Rattle.std.specs.Prelude.{◌≡◌, Some, None, MatchOption, IfOk};
 ghost use Rattle.ns_tree.specs.PlainOf.{primary_of};
-ghost use Rattle.ns_tree.specs.Tokens.{kinds};
 ghost use Rattle.ns_parse.specs.Leaf as spec;
-ghost use Rattle.ns_parse.specs.Read.{begins, got};
-ghost use Rattle.ns_parse.specs.Reads.{Reads};
+ghost use Rattle.ns_parse.specs.Reads.{Gives, Reads, next_is};
 
 use crate::fault::ParseFault;
 use crate::mark::{Mark, is_mark, sees, skip};
@@ -19,8 +17,7 @@ use std::alloc::Global;
 
 /// Reads a number.
 fn number(tokens: &mut Tokens<'_>) -> Result<u64, ParseFault>
-    ensures reads { Reads (λ size. size) (spec.number tokens.old.at (kinds tokens.old.rest.now)) result tokens.new.at tokens.new.rest.now }
-    ensures moves { IfOk result (λ _. length tokens.new.rest.now < length tokens.old.rest.now) }
+    ensures { Reads (λ size. size) spec.number result tokens.old tokens.new }
 {
     let at = tokens.at;
     match tokens.rest {
@@ -39,7 +36,7 @@ fn number(tokens: &mut Tokens<'_>) -> Result<u64, ParseFault>
 
 /// Whether a string is next.
 pub fn sees_string(tokens: &Tokens<'_>) -> bool
-    ensures { result ≡ begins spec.is_string (kinds tokens.now.rest.now) }
+    ensures { result ≡ next_is spec.is_string tokens.now }
 {
     match tokens.rest {
         [first, ..] => match &first.kind {
@@ -52,8 +49,7 @@ pub fn sees_string(tokens: &Tokens<'_>) -> bool
 
 /// Reads a string.
 pub fn string(alloc: Global, tokens: &mut Tokens<'_>) -> Result<Text, ParseFault>
-    ensures reads { Reads (λ text. text) (spec.string tokens.old.at (kinds tokens.old.rest.now)) result tokens.new.at tokens.new.rest.now }
-    ensures moves { IfOk result (λ _. length tokens.new.rest.now < length tokens.old.rest.now) }
+    ensures { Reads (λ text. text) spec.string result tokens.old tokens.new }
 {
     let at = tokens.at;
     match tokens.rest {
@@ -72,8 +68,7 @@ pub fn string(alloc: Global, tokens: &mut Tokens<'_>) -> Result<Text, ParseFault
 
 /// Reads strings, as many as there are.
 pub fn strings(alloc: Global, tokens: &mut Tokens<'_>) -> Result<Vec<Text>, ParseFault>
-    ensures reads { Reads (λ texts. texts.items) (spec.strings tokens.old.at (kinds tokens.old.rest.now)) result tokens.new.at tokens.new.rest.now }
-    ensures moves { IfOk result (λ _. length tokens.new.rest.now ≤ length tokens.old.rest.now) }
+    ensures { Reads (λ texts. texts.items) spec.strings result tokens.old tokens.new }
 {
     let mut texts = Vec::new(alloc);
     'texts: while sees_string(tokens) {
@@ -114,8 +109,7 @@ pub fn is_access(kind: &Kind) -> bool
 
 /// Reads an access word, if there is one.
 pub fn access(tokens: &mut Tokens<'_>) -> Option<Access>
-    ensures reads { spec.maybe_access tokens.old.at (kinds tokens.old.rest.now) ≡ got result tokens.new.at (kinds tokens.new.rest.now) }
-    ensures moves { length tokens.new.rest.now ≤ length tokens.old.rest.now }
+    ensures { Gives spec.maybe_access result tokens.old tokens.new }
 {
     let at = tokens.at;
     match tokens.rest {
@@ -180,7 +174,7 @@ fn is_simple(kind: &Kind) -> bool
 
 /// Whether a primary of one token is next.
 fn sees_simple(tokens: &Tokens<'_>) -> bool
-    ensures { result ≡ begins spec.is_simple (kinds tokens.now.rest.now) }
+    ensures { result ≡ next_is spec.is_simple tokens.now }
 {
     match tokens.rest {
         [first, ..] => is_simple(&first.kind),
@@ -190,8 +184,7 @@ fn sees_simple(tokens: &Tokens<'_>) -> bool
 
 /// Reads a primary of one token.
 fn simple(alloc: Global, tokens: &mut Tokens<'_>) -> Result<Primary, ParseFault>
-    ensures reads { Reads primary_of (spec.simple tokens.old.at (kinds tokens.old.rest.now)) result tokens.new.at tokens.new.rest.now }
-    ensures moves { IfOk result (λ _. length tokens.new.rest.now < length tokens.old.rest.now) }
+    ensures { Reads primary_of spec.simple result tokens.old tokens.new }
 {
     let at = tokens.at;
     match tokens.rest {
@@ -210,8 +203,7 @@ fn simple(alloc: Global, tokens: &mut Tokens<'_>) -> Result<Primary, ParseFault>
 /// Reads a primary without brackets.
 #[tactic(auto, unfolding(crate::specs::Leaf::leaf))]
 pub fn leaf(alloc: Global, tokens: &mut Tokens<'_>) -> Result<Primary, ParseFault>
-    ensures reads { Reads primary_of (spec.leaf tokens.old.at (kinds tokens.old.rest.now)) result tokens.new.at tokens.new.rest.now }
-    ensures moves { IfOk result (λ _. length tokens.new.rest.now < length tokens.old.rest.now) }
+    ensures { Reads primary_of spec.leaf result tokens.old tokens.new }
 {
     if sees_simple(tokens) {
         let primary = simple(alloc, tokens)?;

@@ -1,10 +1,8 @@
 //! Tokens of one spelling: signs, and words and names with a meaning of their own.
 
-ghost use Rattle.std.specs.Prelude.{◌≡◌, ◌<◌, ◌≤◌, length, IfOk};
-ghost use Rattle.ns_tree.specs.Tokens.{kinds};
+ghost use Rattle.std.specs.Prelude.{◌≡◌};
 ghost use Rattle.ns_parse.specs.Mark as spec;
-ghost use Rattle.ns_parse.specs.Read.{begins, got};
-ghost use Rattle.ns_parse.specs.Reads.{Reads};
+ghost use Rattle.ns_parse.specs.Reads.{Gives, Reads, next_is};
 
 use crate::fault::ParseFault;
 use crate::tokens::Tokens;
@@ -99,7 +97,7 @@ fn is_ident(mark: Mark, text: &[u8]) -> bool
 
 /// Whether the mark is the next token.
 pub fn sees(tokens: &Tokens<'_>, mark: Mark) -> bool
-    ensures { result ≡ begins (spec.is_mark mark) (kinds tokens.now.rest.now) }
+    ensures { result ≡ next_is (spec.is_mark mark) tokens.now }
 {
     match tokens.rest {
         [first, ..] => is_mark(mark, &first.kind),
@@ -109,8 +107,7 @@ pub fn sees(tokens: &Tokens<'_>, mark: Mark) -> bool
 
 /// Reads the mark, and answers its number.
 pub fn place(tokens: &mut Tokens<'_>, mark: Mark) -> Result<u32, ParseFault>
-    ensures reads { Reads (λ at. at) (spec.place mark tokens.old.at (kinds tokens.old.rest.now)) result tokens.new.at tokens.new.rest.now }
-    ensures moves { IfOk result (λ _. length tokens.new.rest.now < length tokens.old.rest.now) }
+    ensures { Reads (λ at. at) (spec.place mark) result tokens.old tokens.new }
 {
     let at = tokens.at;
     match tokens.rest {
@@ -129,8 +126,7 @@ pub fn place(tokens: &mut Tokens<'_>, mark: Mark) -> Result<u32, ParseFault>
 
 /// Reads the mark.
 pub fn skip(tokens: &mut Tokens<'_>, mark: Mark) -> Result<(), ParseFault>
-    ensures reads { Reads (λ none. none) (spec.skip mark tokens.old.at (kinds tokens.old.rest.now)) result tokens.new.at tokens.new.rest.now }
-    ensures moves { IfOk result (λ _. length tokens.new.rest.now < length tokens.old.rest.now) }
+    ensures { Reads (λ none. none) (spec.skip mark) result tokens.old tokens.new }
 {
     let at = tokens.at;
     match tokens.rest {
@@ -149,8 +145,7 @@ pub fn skip(tokens: &mut Tokens<'_>, mark: Mark) -> Result<(), ParseFault>
 
 /// Reads the mark if it is next, and answers whether it was.
 pub fn skip_if(tokens: &mut Tokens<'_>, mark: Mark) -> bool
-    ensures reads { spec.flag mark tokens.old.at (kinds tokens.old.rest.now) ≡ got result tokens.new.at (kinds tokens.new.rest.now) }
-    ensures moves { length tokens.new.rest.now ≤ length tokens.old.rest.now }
+    ensures { Gives (spec.flag mark) result tokens.old tokens.new }
 {
     let at = tokens.at;
     match tokens.rest {
@@ -169,8 +164,7 @@ pub fn skip_if(tokens: &mut Tokens<'_>, mark: Mark) -> bool
 
 /// Reads the mark if it is next, and answers its number.
 pub fn place_if(tokens: &mut Tokens<'_>, mark: Mark) -> Option<u32>
-    ensures reads { spec.maybe_place mark tokens.old.at (kinds tokens.old.rest.now) ≡ got result tokens.new.at (kinds tokens.new.rest.now) }
-    ensures moves { length tokens.new.rest.now ≤ length tokens.old.rest.now }
+    ensures { Gives (spec.maybe_place mark) result tokens.old tokens.new }
 {
     let at = tokens.at;
     match tokens.rest {

@@ -1,10 +1,8 @@
 //! Names, keys and operators.
 
-ghost use Rattle.std.specs.Prelude.{◌≡◌, ◌<◌, ◌≤◌, length, IfOk};
-ghost use Rattle.ns_tree.specs.Tokens.{kinds};
+ghost use Rattle.std.specs.Prelude.{◌≡◌};
 ghost use Rattle.ns_parse.specs.Name as spec;
-ghost use Rattle.ns_parse.specs.Read.{begins};
-ghost use Rattle.ns_parse.specs.Reads.{Reads};
+ghost use Rattle.ns_parse.specs.Reads.{Reads, next_is};
 
 use crate::fault::ParseFault;
 use crate::tokens::Tokens;
@@ -69,7 +67,7 @@ fn text_of(kind: &Kind) -> &[u8]
 
 /// Whether a token of that sort is next.
 pub fn sees_name(tokens: &Tokens<'_>, sort: Sort) -> bool
-    ensures { result ≡ begins (spec.is_name sort) (kinds tokens.now.rest.now) }
+    ensures { result ≡ next_is (spec.is_name sort) tokens.now }
 {
     match tokens.rest {
         [first, ..] => is_name(sort, &first.kind),
@@ -79,8 +77,7 @@ pub fn sees_name(tokens: &Tokens<'_>, sort: Sort) -> bool
 
 /// Reads a token of that sort.
 pub fn name(alloc: Global, tokens: &mut Tokens<'_>, sort: Sort) -> Result<Named, ParseFault>
-    ensures reads { Reads (λ name. name) (spec.name sort tokens.old.at (kinds tokens.old.rest.now)) result tokens.new.at tokens.new.rest.now }
-    ensures moves { IfOk result (λ _. length tokens.new.rest.now < length tokens.old.rest.now) }
+    ensures { Reads (λ name. name) (spec.name sort) result tokens.old tokens.new }
 {
     let at = tokens.at;
     match tokens.rest {
@@ -103,8 +100,7 @@ pub fn name(alloc: Global, tokens: &mut Tokens<'_>, sort: Sort) -> Result<Named,
 
 /// Reads tokens of that sort, as many as there are.
 pub fn names(alloc: Global, tokens: &mut Tokens<'_>, sort: Sort) -> Result<Vec<Named>, ParseFault>
-    ensures reads { Reads (λ names. names.items) (spec.names sort tokens.old.at (kinds tokens.old.rest.now)) result tokens.new.at tokens.new.rest.now }
-    ensures moves { IfOk result (λ _. length tokens.new.rest.now ≤ length tokens.old.rest.now) }
+    ensures { Reads (λ names. names.items) (spec.names sort) result tokens.old tokens.new }
 {
     let mut names = Vec::new(alloc);
     'names: while sees_name(tokens, sort) {

@@ -20,10 +20,7 @@ fn whole(alloc: Global, tokens: &[Token]) -> Result<Unit, ParseFault>
     requires { length tokens.now ≤ 1048576 }
     ensures { MatchResult result (λ unit. spec.whole (spec.unit (kinds tokens.now)) ≡ Ok (unit_of unit)) (λ fault. fault ≢ Memory → spec.whole (spec.unit (kinds tokens.now)) ≡ Err fault) }
 {
-    let mut left = Tokens {
-        rest: tokens,
-        at: 0,
-    };
+    let mut left = Tokens::of(tokens);
     let unit = file(alloc, &mut left, tokens.len())?;
     match left.rest {
         [] => Ok(unit),

@@ -1,11 +1,9 @@
 //! Patterns of methods and factories, and the bases of a superclass clause.
 
-ghost use Rattle.std.specs.Prelude.{◌≡◌, ◌<◌, ◌≤◌, length, option_map, IfOk};
+ghost use Rattle.std.specs.Prelude.{◌≡◌, option_map, IfOk};
 ghost use Rattle.ns_tree.specs.PlainOf.{pattern_of};
-ghost use Rattle.ns_tree.specs.Tokens.{kinds};
 ghost use Rattle.ns_parse.specs.Pattern as spec;
-ghost use Rattle.ns_parse.specs.Read.{begins};
-ghost use Rattle.ns_parse.specs.Reads.{Reads};
+ghost use Rattle.ns_parse.specs.Reads.{Reads, next_is};
 
 use crate::fault::ParseFault;
 use crate::mark::{Mark, sees, skip};
@@ -53,8 +51,7 @@ fn keyword(alloc: Global, pairs: Vec<(Named, Named)>) -> Result<Pattern, NoMemor
 
 /// Reads a key and its parameter.
 fn key_param(alloc: Global, tokens: &mut Tokens<'_>) -> Result<(Named, Named), ParseFault>
-    ensures reads { Reads (λ pair. pair) (spec.key_param tokens.old.at (kinds tokens.old.rest.now)) result tokens.new.at tokens.new.rest.now }
-    ensures moves { IfOk result (λ _. length tokens.new.rest.now < length tokens.old.rest.now) }
+    ensures { Reads (λ pair. pair) spec.key_param result tokens.old tokens.new }
 {
     let part = name(alloc, tokens, Sort::Key)?;
     let param = name(alloc, tokens, Sort::Ident)?;
@@ -63,8 +60,7 @@ fn key_param(alloc: Global, tokens: &mut Tokens<'_>) -> Result<(Named, Named), P
 
 /// Reads keys with their parameters, as many as there are.
 fn key_params(alloc: Global, tokens: &mut Tokens<'_>) -> Result<Vec<(Named, Named)>, ParseFault>
-    ensures reads { Reads (λ pairs. pairs.items) (spec.key_params tokens.old.at (kinds tokens.old.rest.now)) result tokens.new.at tokens.new.rest.now }
-    ensures moves { IfOk result (λ _. length tokens.new.rest.now ≤ length tokens.old.rest.now) }
+    ensures { Reads (λ pairs. pairs.items) spec.key_params result tokens.old tokens.new }
 {
     let mut pairs = Vec::new(alloc);
     'pairs: while sees_name(tokens, Sort::Key) {
@@ -77,8 +73,7 @@ fn key_params(alloc: Global, tokens: &mut Tokens<'_>) -> Result<Vec<(Named, Name
 /// Reads the pattern of a method.
 #[tactic(auto, unfolding(crate::specs::Pattern::pattern))]
 pub fn pattern(alloc: Global, tokens: &mut Tokens<'_>) -> Result<Pattern, ParseFault>
-    ensures reads { Reads pattern_of (spec.pattern tokens.old.at (kinds tokens.old.rest.now)) result tokens.new.at tokens.new.rest.now }
-    ensures moves { IfOk result (λ _. length tokens.new.rest.now ≤ length tokens.old.rest.now) }
+    ensures { Reads pattern_of spec.pattern result tokens.old tokens.new }
 {
     if sees_name(tokens, Sort::Ident) {
         let alone = name(alloc, tokens, Sort::Ident)?;
@@ -101,8 +96,7 @@ pub fn pattern(alloc: Global, tokens: &mut Tokens<'_>) -> Result<Pattern, ParseF
 /// Reads the pattern of a factory, if there is one.
 #[tactic(auto, unfolding(crate::specs::Pattern::factory))]
 pub fn factory(alloc: Global, tokens: &mut Tokens<'_>) -> Result<Option<Pattern>, ParseFault>
-    ensures reads { Reads (option_map pattern_of) (spec.factory tokens.old.at (kinds tokens.old.rest.now)) result tokens.new.at tokens.new.rest.now }
-    ensures moves { IfOk result (λ _. length tokens.new.rest.now ≤ length tokens.old.rest.now) }
+    ensures { Reads (option_map pattern_of) spec.factory result tokens.old tokens.new }
 {
     if sees_name(tokens, Sort::Ident) {
         let alone = name(alloc, tokens, Sort::Ident)?;
@@ -120,8 +114,7 @@ pub fn factory(alloc: Global, tokens: &mut Tokens<'_>) -> Result<Option<Pattern>
 /// Reads a base.
 #[tactic(auto, unfolding(crate::specs::Pattern::base))]
 pub fn base(alloc: Global, tokens: &mut Tokens<'_>) -> Result<Base, ParseFault>
-    ensures reads { Reads (λ base. base) (spec.base tokens.old.at (kinds tokens.old.rest.now)) result tokens.new.at tokens.new.rest.now }
-    ensures moves { IfOk result (λ _. length tokens.new.rest.now < length tokens.old.rest.now) }
+    ensures { Reads (λ base. base) spec.base result tokens.old tokens.new }
 {
     if sees(tokens, Mark::SuperWord) {
         skip(tokens, Mark::SuperWord)?;
@@ -149,8 +142,7 @@ pub fn base(alloc: Global, tokens: &mut Tokens<'_>) -> Result<Base, ParseFault>
 
 /// Reads a colon and a name.
 fn param(alloc: Global, tokens: &mut Tokens<'_>) -> Result<Named, ParseFault>
-    ensures reads { Reads (λ name. name) (spec.param tokens.old.at (kinds tokens.old.rest.now)) result tokens.new.at tokens.new.rest.now }
-    ensures moves { IfOk result (λ _. length tokens.new.rest.now < length tokens.old.rest.now) }
+    ensures { Reads (λ name. name) spec.param result tokens.old tokens.new }
 {
     skip(tokens, Mark::Colon)?;
     let name = name(alloc, tokens, Sort::Ident)?;
@@ -159,8 +151,7 @@ fn param(alloc: Global, tokens: &mut Tokens<'_>) -> Result<Named, ParseFault>
 
 /// Reads colons with names, as many as there are.
 fn colon_params(alloc: Global, tokens: &mut Tokens<'_>) -> Result<Vec<Named>, ParseFault>
-    ensures reads { Reads (λ names. names.items) (spec.colon_params tokens.old.at (kinds tokens.old.rest.now)) result tokens.new.at tokens.new.rest.now }
-    ensures moves { IfOk result (λ _. length tokens.new.rest.now ≤ length tokens.old.rest.now) }
+    ensures { Reads (λ names. names.items) spec.colon_params result tokens.old tokens.new }
 {
     let mut names = Vec::new(alloc);
     'names: while sees(tokens, Mark::Colon) {
@@ -173,8 +164,7 @@ fn colon_params(alloc: Global, tokens: &mut Tokens<'_>) -> Result<Vec<Named>, Pa
 /// Reads the parameters of a block and the bar behind them, if there are any.
 #[tactic(auto, unfolding(crate::specs::Pattern::params))]
 pub fn params(alloc: Global, tokens: &mut Tokens<'_>) -> Result<Vec<Named>, ParseFault>
-    ensures reads { Reads (λ names. names.items) (spec.params tokens.old.at (kinds tokens.old.rest.now)) result tokens.new.at tokens.new.rest.now }
-    ensures moves { IfOk result (λ _. length tokens.new.rest.now ≤ length tokens.old.rest.now) }
+    ensures { Reads (λ names. names.items) spec.params result tokens.old tokens.new }
 {
     if sees(tokens, Mark::Colon) {
         let names = colon_params(alloc, tokens)?;
@@ -187,7 +177,7 @@ pub fn params(alloc: Global, tokens: &mut Tokens<'_>) -> Result<Vec<Named>, Pars
 
 /// Whether a base is next.
 pub fn sees_base(tokens: &Tokens<'_>) -> bool
-    ensures { result ≡ begins spec.starts_base (kinds tokens.now.rest.now) }
+    ensures { result ≡ next_is spec.starts_base tokens.now }
 {
     match tokens.rest {
         [first, ..] => match &first.kind {

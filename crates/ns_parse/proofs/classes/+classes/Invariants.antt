@@ -23,15 +23,18 @@ decreases-side l = 16 * l.nesting + 4
 abbrev pub decreases-class_side : goal.decreases-class_side
 decreases-class_side l = 16 * l.nesting + 5
 
+abbrev pub decreases-both_sides : goal.decreases-both_sides
+decreases-both_sides l = 16 * l.nesting + 6
+
 abbrev pub decreases-class : goal.decreases-class
-decreases-class l = 16 * l.nesting + 6
+decreases-class l = 16 * l.nesting + 7
 
 abbrev pub decreases-class_or_method : goal.decreases-class_or_method
-decreases-class_or_method l = 16 * l.nesting + 7
+decreases-class_or_method l = 16 * l.nesting + 8
 
 abbrev pub invariant-members-items : goal.invariant-members-items
 invariant-members-items l =
-    Labels strings (x.starts_member l.side) (x.member (primary l.depth) (x.what (primary l.depth) l.nesting) l.side) (map member_pair l.items.items) l.categories.items l.tokens.at l.tokens.rest.now l.initial.categories.items l.initial.tokens.at l.initial.tokens.rest.now
+    Labels strings (x.starts_member l.side) (x.member (primary l.depth) (x.what (primary l.depth) l.nesting) l.side) (map member_pair l.items.items) l.categories.items l.tokens l.initial.categories.items l.initial.tokens
 
 abbrev pub decreases-members-items : goal.decreases-members-items
-decreases-members-items l = length l.tokens.rest.now
+decreases-members-items l = length l.tokens.kinds

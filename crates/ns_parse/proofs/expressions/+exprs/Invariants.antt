@@ -1,6 +1,5 @@
-use Rattle.std.proofs.Common.{◌≡◌, ◌+◌, ◌*◌, ◌<◌, ◌⊎◌, length, map}
+use Rattle.std.proofs.Common.{◌+◌, ◌*◌, length, map}
 use Rattle.ns_tree.specs.PlainOf.{expr_of, slot_of, statement_of}
-use Rattle.ns_tree.specs.Tokens.{kinds}
 use Rattle.ns_parse.specs.Mark.{is_mark}
 use Rattle.ns_parse.specs.Name.{is_name}
 use Rattle.ns_parse.specs.Views.{oper_view, key_view, cascaded_view}
@@ -48,71 +47,80 @@ decreases-cascade l = 32 * l.depth + 10
 abbrev pub decreases-expr : goal.decreases-expr
 decreases-expr l = 32 * l.depth + 11
 
+abbrev pub decreases-value : goal.decreases-value
+decreases-value l = 32 * l.depth + 12
+
 abbrev pub decreases-init : goal.decreases-init
-decreases-init l = 32 * l.depth + 12
+decreases-init l = 32 * l.depth + 13
 
 abbrev pub decreases-slot : goal.decreases-slot
-decreases-slot l = 32 * l.depth + 13
+decreases-slot l = 32 * l.depth + 14
 
 abbrev pub decreases-slots : goal.decreases-slots
-decreases-slots l = 32 * l.depth + 14
+decreases-slots l = 32 * l.depth + 15
 
 abbrev pub decreases-bars : goal.decreases-bars
-decreases-bars l = 32 * l.depth + 15
+decreases-bars l = 32 * l.depth + 16
 
 abbrev pub decreases-statement : goal.decreases-statement
-decreases-statement l = 32 * l.depth + 16
+decreases-statement l = 32 * l.depth + 17
 
 abbrev pub decreases-statements : goal.decreases-statements
-decreases-statements l = 32 * l.depth + 17
+decreases-statements l = 32 * l.depth + 18
 
 abbrev pub decreases-tuple_items : goal.decreases-tuple_items
-decreases-tuple_items l = 32 * l.depth + 18
+decreases-tuple_items l = 32 * l.depth + 19
 
 abbrev pub decreases-block : goal.decreases-block
-decreases-block l = 32 * l.depth + 19
+decreases-block l = 32 * l.depth + 20
+
+abbrev pub decreases-paren : goal.decreases-paren
+decreases-paren l = 32 * l.depth + 21
+
+abbrev pub decreases-block_literal : goal.decreases-block_literal
+decreases-block_literal l = 32 * l.depth + 22
+
+abbrev pub decreases-tuple : goal.decreases-tuple
+decreases-tuple l = 32 * l.depth + 23
 
 abbrev pub decreases-bracketed : goal.decreases-bracketed
-decreases-bracketed l = 32 * l.depth + 20
+decreases-bracketed l = 32 * l.depth + 24
 
 abbrev pub decreases-any_primary : goal.decreases-any_primary
-decreases-any_primary l = 32 * l.depth + 21
+decreases-any_primary l = 32 * l.depth + 25
 
 abbrev pub invariant-opers-items : goal.invariant-opers-items
-invariant-opers-items l = Goes (is_name (sort.Operator l.operators)) (x.oper (x.primary l.depth) l.operators) (map oper_view l.items.items) l.tokens.at l.tokens.rest.now l.fn.tokens.at l.fn.tokens.rest.now
+invariant-opers-items l = Goes (is_name (sort.Operator l.operators)) (x.oper (x.primary l.depth) l.operators) (map oper_view l.items.items) l.tokens l.fn.tokens
 
 abbrev pub decreases-opers-items : goal.decreases-opers-items
-decreases-opers-items l = length l.tokens.rest.now
+decreases-opers-items l = length l.tokens.kinds
 
 abbrev pub invariant-cascade-items : goal.invariant-cascade-items
-invariant-cascade-items l = Goes (is_mark mark.Semi) (x.cascaded (x.primary l.depth) l.operators) (map cascaded_view l.items.items) l.tokens.at l.tokens.rest.now l.fn.tokens.at l.fn.tokens.rest.now
+invariant-cascade-items l = Goes (is_mark mark.Semi) (x.cascaded (x.primary l.depth) l.operators) (map cascaded_view l.items.items) l.tokens l.fn.tokens
 
 abbrev pub decreases-cascade-items : goal.decreases-cascade-items
-decreases-cascade-items l = length l.tokens.rest.now
+decreases-cascade-items l = length l.tokens.kinds
 
 abbrev pub invariant-slots-items : goal.invariant-slots-items
-invariant-slots-items l = Goes (x.starts_slot l.holder) (x.slot (x.primary l.depth) l.holder) (map slot_of l.items.items) l.tokens.at l.tokens.rest.now l.fn.tokens.at l.fn.tokens.rest.now
+invariant-slots-items l = Goes (x.starts_slot l.holder) (x.slot (x.primary l.depth) l.holder) (map slot_of l.items.items) l.tokens l.fn.tokens
 
 abbrev pub decreases-slots-items : goal.decreases-slots-items
-decreases-slots-items l = length l.tokens.rest.now
+decreases-slots-items l = length l.tokens.kinds
 
 abbrev pub invariant-statements-items : goal.invariant-statements-items
-invariant-statements-items l = Lists x.starts_statement mark.Stop (x.statement (x.primary l.depth)) (map statement_of l.items.items) l.tokens.at l.tokens.rest.now l.fn.tokens.at l.fn.tokens.rest.now
+invariant-statements-items l = Lists x.starts_statement mark.Stop (x.statement (x.primary l.depth)) (map statement_of l.items.items) l.tokens l.fn.tokens
 
 abbrev pub decreases-statements-items : goal.decreases-statements-items
-decreases-statements-items l = length l.tokens.rest.now
+decreases-statements-items l = length l.tokens.kinds
 
 abbrev pub invariant-tuple_items-items : goal.invariant-tuple_items-items
-invariant-tuple_items-items l = Lists x.starts_expr mark.Stop (x.expr (x.primary l.depth) All) (map expr_of l.items.items) l.tokens.at l.tokens.rest.now l.fn.tokens.at l.fn.tokens.rest.now
+invariant-tuple_items-items l = Lists x.starts_expr mark.Stop (x.expr (x.primary l.depth) All) (map expr_of l.items.items) l.tokens l.fn.tokens
 
 abbrev pub decreases-tuple_items-items : goal.decreases-tuple_items-items
-decreases-tuple_items-items l = length l.tokens.rest.now
+decreases-tuple_items-items l = length l.tokens.kinds
 
 abbrev pub invariant-keys-items : goal.invariant-keys-items
-invariant-keys-items l = record {
-  goes : Goes (is_name sort.Key) (x.key (x.primary l.depth) l.operators) (map key_view l.items.items) l.tokens.at l.tokens.rest.now l.fn.tokens.at l.fn.tokens.rest.now;
-  moved : (length l.tokens.rest.now < length l.fn.tokens.rest.now) ⊎ (kinds l.tokens.rest.now ≡ kinds l.fn.tokens.rest.now);
-}
+invariant-keys-items l = Goes (is_name sort.Key) (x.key (x.primary l.depth) l.operators) (map key_view l.items.items) l.tokens l.fn.tokens
 
 abbrev pub decreases-keys-items : goal.decreases-keys-items
-decreases-keys-items l = length l.tokens.rest.now
+decreases-keys-items l = length l.tokens.kinds

@@ -4,7 +4,7 @@ use Rattle.ns_parse.proofs.Loops.{Goes}
 use Rattle.ns_parse.proofs.leaf.strings.Given as goal
 
 abbrev pub invariant-texts : goal.invariant-texts
-invariant-texts l = Goes is_string string l.texts.items l.tokens.at l.tokens.rest.now l.fn.tokens.at l.fn.tokens.rest.now
+invariant-texts l = Goes is_string string l.texts.items l.tokens l.fn.tokens
 
 abbrev pub decreases-texts : goal.decreases-texts
-decreases-texts l = length l.tokens.rest.now
+decreases-texts l = length l.tokens.kinds

@@ -6,7 +6,7 @@ use Rattle.ns_parse.proofs.Loops.{Goes}
 use Rattle.ns_parse.proofs.pattern.colon_params.Given as goal
 
 abbrev pub invariant-names : goal.invariant-names
-invariant-names l = Goes (is_mark Colon) param l.names.items l.tokens.at l.tokens.rest.now l.fn.tokens.at l.fn.tokens.rest.now
+invariant-names l = Goes (is_mark Colon) param l.names.items l.tokens l.fn.tokens
 
 abbrev pub decreases-names : goal.decreases-names
-decreases-names l = length l.tokens.rest.now
+decreases-names l = length l.tokens.kinds

@@ -6,7 +6,7 @@ use Rattle.ns_parse.proofs.Loops.{Goes}
 use Rattle.ns_parse.proofs.pattern.key_params.Given as goal
 
 abbrev pub invariant-pairs : goal.invariant-pairs
-invariant-pairs l = Goes (is_name Key) key_param l.pairs.items l.tokens.at l.tokens.rest.now l.fn.tokens.at l.fn.tokens.rest.now
+invariant-pairs l = Goes (is_name Key) key_param l.pairs.items l.tokens l.fn.tokens
 
 abbrev pub decreases-pairs : goal.decreases-pairs
-decreases-pairs l = length l.tokens.rest.now
+decreases-pairs l = length l.tokens.kinds
