@@ -7,8 +7,6 @@
 ghost use Rattle.std.specs.Prelude.{◌≡◌, true};
 ghost use Rattle.ns_verify.specs.Counts.{HasFewParts};
 
-use crate::fault::Fault;
-use crate::faults::first_fault;
 use ns_base::items::Items;
 use ns_base::no_memory::NoMemory;
 use ns_base::selector::Sel;
@@ -17,6 +15,8 @@ use ns_code::body::BodyCode;
 use ns_code::class::{ClassCode, MethodCode, NestedCode, SlotCode};
 use ns_code::instruction::Instr;
 use ns_code::program::CodeProgram;
+use ns_verify::fault::Fault;
+use ns_verify::faults::first_fault;
 use std::alloc::Global;
 
 pub const PUBLIC: u8 = 0;
@@ -191,19 +191,25 @@ const BODIES: [Body; 11] = [
     },
 ];
 
-/// The first fault of the sample with these classes and with another body in the place of one.
-pub fn fault(
+/// Whether that is the first fault of the sample with these classes and with another body in the place
+/// of one.
+pub fn has_fault(
     alloc: Global,
     classes: &[Class],
     changed: u32,
     body: Body,
-) -> Result<Option<Fault>, NoMemory> {
-    let code = program(alloc, classes, changed, body)?;
+    wanted: Option<Fault>,
+) -> bool {
+    let Ok(code) = program(alloc, classes, changed, body) else {
+        return false;
+    };
     if !has_few_parts(&code) {
-        return Ok(None);
+        return false;
     }
-    let fault = first_fault(alloc, &code)?;
-    Ok(fault)
+    match first_fault(alloc, &code) {
+        Ok(found) => found == wanted,
+        Err(_) => false,
+    }
 }
 
 /// The sample with other instructions in one body.

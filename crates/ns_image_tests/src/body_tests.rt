@@ -1,8 +1,6 @@
 //! Small programs whose bodies are sound or have a first fault.
 
-use crate::fault::VerifyCause::{BadHeight, BadJump, BadLiteral, BadScope, BadSlot, NoReturn};
-use crate::fault::{Fault, VerifyCause, Where};
-use crate::sample::{A, B, BAR, BLOCK, Body, FOO, METHOD, fault, with_instrs};
+use crate::sample::{A, B, BAR, BLOCK, Body, FOO, METHOD, has_fault, with_instrs};
 use ns_base::selector::Sel;
 use ns_code::instruction::Instr;
 use ns_code::instruction::Instr::{
@@ -10,7 +8,9 @@ use ns_code::instruction::Instr::{
     PushLocal, PushNil, PushOuter, PushSelf, PushSym, PushText, PushTrue, Return, ReturnHome,
     ReturnSelf, Send, SendInner, SendPrivate, SendSuper, StoreLocal, StoreSlot,
 };
-use std::test::Fail;
+use ns_verify::fault::VerifyCause::{BadHeight, BadJump, BadLiteral, BadScope, BadSlot, NoReturn};
+use ns_verify::fault::{Fault, VerifyCause, Where};
+use std::alloc::Global;
 
 const LOCAL_0: Instr = PushLocal { hops: 0, index: 0 };
 
@@ -152,13 +152,17 @@ static SOUND: [(u32, &[Instr]); 27] = [
 ];
 
 #[test]
-fn sound_bodies(rt: HostRuntime) -> Result<(), Fail> {
-    let alloc = rt.alloc();
-    for (row, (number, instrs)) in SOUND.iter().enumerate() {
-        let found = fault(alloc, &[A, B], *number, with_instrs(*number, instrs))?;
-        assert_eq!(rt; found, None, "row {row}");
+fn sound_bodies_have_no_fault(rt: HostRuntime) {
+    assert!(rt; are_sound(rt.alloc()));
+}
+
+fn are_sound(alloc: Global) -> bool {
+    'rows: for (number, instrs) in &SOUND {
+        if !has_fault(alloc, &[A, B], *number, with_instrs(*number, instrs), None) {
+            return false;
+        }
     }
-    Ok(())
+    true
 }
 
 /// The number of a body, its instructions, the cause of its first fault and the instruction.
@@ -234,17 +238,27 @@ static FAULTY: [(u32, &[Instr], VerifyCause, u32); 58] = [
 ];
 
 #[test]
-fn faulty_bodies(rt: HostRuntime) -> Result<(), Fail> {
-    let alloc = rt.alloc();
-    for (row, (number, instrs, cause, at)) in FAULTY.iter().enumerate() {
-        let found = fault(alloc, &[A, B], *number, with_instrs(*number, instrs))?;
+fn faulty_bodies_have_their_first_fault(rt: HostRuntime) {
+    assert!(rt; have_faults(rt.alloc()));
+}
+
+fn have_faults(alloc: Global) -> bool {
+    'rows: for (number, instrs, cause, at) in &FAULTY {
         let wanted = Fault {
             cause: *cause,
             at: Where::Body(*number, *at),
         };
-        assert_eq!(rt; found, Some(wanted), "row {row}");
+        if !has_fault(
+            alloc,
+            &[A, B],
+            *number,
+            with_instrs(*number, instrs),
+            Some(wanted),
+        ) {
+            return false;
+        }
     }
-    Ok(())
+    true
 }
 
 /// Bodies as wholes, and whether they are sound.
@@ -336,19 +350,20 @@ static HEADS: [(u32, Body, bool); 13] = [
 ];
 
 #[test]
-fn heads_of_bodies(rt: HostRuntime) -> Result<(), Fail> {
-    let alloc = rt.alloc();
-    for (row, (number, body, sound)) in HEADS.iter().enumerate() {
-        let found = fault(alloc, &[A, B], *number, *body)?;
-        let wanted = Fault {
+fn bodies_stand_where_their_kind_may(rt: HostRuntime) {
+    assert!(rt; have_heads(rt.alloc()));
+}
+
+fn have_heads(alloc: Global) -> bool {
+    'rows: for (number, body, sound) in &HEADS {
+        let bad = Fault {
             cause: BadScope,
             at: Where::Body(*number, 0),
         };
-        assert_eq!(rt;
-            found,
-            if *sound { None } else { Some(wanted) },
-            "row {row}"
-        );
+        let wanted = if *sound { None } else { Some(bad) };
+        if !has_fault(alloc, &[A, B], *number, *body, wanted) {
+            return false;
+        }
     }
-    Ok(())
+    true
 }
