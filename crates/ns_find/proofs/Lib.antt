@@ -4,6 +4,4 @@ pub mod Parts
 pub mod Keeping
 pub mod Staying
 pub mod Later
-pub mod Fitting
-pub mod Working
 pub mod Belonging

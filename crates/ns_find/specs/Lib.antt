@@ -3,4 +3,3 @@ pub mod Rows
 pub mod Find
 pub mod Belonging
 pub mod Memo
-pub mod Worked
