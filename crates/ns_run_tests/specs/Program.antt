@@ -39,9 +39,9 @@ class_base =
 abbrev pub class_part : ClassCode
 class_part = class_of 11 (Some 0) 7 [] [] [] []
 
--- Sub has the slots `x ::=` and `z =` and the public method `baz`.
+-- Sub has the slots `x ::=` and `z =`, the public method `baz`, and a `bar` of its own with the same body.
 abbrev pub class_sub : ClassCode
-class_sub = class_of 2 None 8 (mutable_slot_of 3 2 ∷ slot_of 5 0 ∷ []) [] (method_of 12 0 9 ∷ []) []
+class_sub = class_of 2 None 8 (mutable_slot_of 3 2 ∷ slot_of 5 0 ∷ []) [] (method_of 12 0 9 ∷ method_of 9 0 9 ∷ []) []
 
 -- a second class named Base
 abbrev pub class_other : ClassCode

@@ -43,7 +43,7 @@ const BOARD: Value = Value::Ref(5);
 
 const AT_PUT: Value = Value::Sym(Sel(14));
 
-/// The methods, by their bodies and holders.
+/// The methods, by their bodies and holders. The `bar` of Sub has the body of `baz`.
 const BAR: Found = Found::Method { body: 1, holder: 6 };
 
 const HID: Found = Found::Method { body: 2, holder: 6 };
@@ -94,7 +94,10 @@ type Lookup = (Value, u32, Sending, Found);
 const OF_OBJECTS: &[Lookup] = &[
     (BASE_OBJECT, 6, PLAIN, FOO),
     (SUB_OBJECT, 12, PLAIN, BAZ),
-    (SUB_OBJECT, 9, PLAIN, BAR),
+    (SUB_OBJECT, 6, PLAIN, FOO),
+    // the nearest of two
+    (BASE_OBJECT, 9, PLAIN, BAR),
+    (SUB_OBJECT, 9, PLAIN, BAZ),
     (BASE_OBJECT, 12, INNER, Found::Absent),
     // protected
     (BASE_OBJECT, 7, PLAIN, Found::NotPublic),
@@ -206,6 +209,7 @@ fn are_private(alloc: Global) -> bool {
 
 /// A holder, whether the code is of its class side, a selector, and what is found above.
 const ABOVE: &[(u32, bool, u32, Found)] = &[
+    (10, false, 9, BAR),
     (10, false, 7, HID),
     (10, false, 3, GET_X),
     (10, false, 12, Found::Absent),

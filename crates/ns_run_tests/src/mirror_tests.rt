@@ -161,7 +161,7 @@ const LISTS: &[Listing] = &[
     (MirrorRow::SlotNames, Int(3), &[]),
     (MirrorRow::SlotNames, PAIR, &[]),
     (MirrorRow::Selectors, BASE_OBJECT, &[9, 6]),
-    (MirrorRow::Selectors, SUB_OBJECT, &[12]),
+    (MirrorRow::Selectors, SUB_OBJECT, &[12, 9]),
     (MirrorRow::Selectors, PART_OBJECT, &[]),
     (MirrorRow::Selectors, BASE, &[10]),
     (MirrorRow::Selectors, SUB, &[]),

@@ -180,7 +180,7 @@ fn class_sub(alloc: Global) -> Result<ClassCode, NoMemory>
     ensures { IfOk result (λ class. class ≡ spec.class_sub) }
 {
     let slots = vec![in alloc; mutable_slot(3, 2), slot(5, 0)]?;
-    let methods = vec![in alloc; method(12, 0, 9)]?;
+    let methods = vec![in alloc; method(12, 0, 9), method(9, 0, 9)]?;
     Ok(class(2, None, 8, slots, Vec::new(alloc), methods, Vec::new(alloc)))
 }
 
