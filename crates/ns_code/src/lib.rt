@@ -7,5 +7,3 @@ pub mod instruction;
 pub mod own;
 pub mod program;
 pub mod selector;
-#[cfg(test)]
-mod tests;

@@ -4,8 +4,6 @@ pub mod Parts
 pub mod Keeping
 pub mod Staying
 pub mod Later
-pub mod Fitting
-pub mod Working
 pub mod Belonging
 pub mod Named
 pub mod SoundBodies

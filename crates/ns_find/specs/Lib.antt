@@ -4,4 +4,3 @@ pub mod Find
 pub mod Belonging
 pub mod Named
 pub mod Memo
-pub mod Worked

@@ -6,6 +6,4 @@ pub mod laws;
 pub mod list;
 pub mod read;
 pub mod spelling;
-#[cfg(test)]
-mod tests;
 pub mod write;

@@ -4,5 +4,3 @@
 pub mod laws;
 pub mod next;
 pub mod state;
-#[cfg(test)]
-mod tests;

@@ -14,7 +14,6 @@ use Rattle.ns_world.specs.declared.ending.Ending.TheVariants.{Done, Limit}
 use Rattle.ns_world.specs.Cell.{ObjectCell, ClassCell, EnvironmentCell, ArrayCell, MessageCell}
 use Rattle.ns_world.specs.Heap.{Heap}
 use Rattle.ns_world.specs.World.{written}
-use Rattle.ns_find.specs.Worked.{sel, worked_with}
 use Rattle.ns_kcode.specs.declared.state.KMethod.TheVariants as method
 use Rattle.ns_kcode.specs.Rows.{beginning}
 use Rattle.ns_send.specs.declared.site.Site.{Site}
@@ -25,11 +24,11 @@ use Rattle.ns_send.specs.Classes.{super_part, body_ended}
 use Rattle.ns_send.specs.Blocks.{evaluated, method_next}
 use Rattle.ns_send.specs.Sends.{to_value, to_self, ToPrivate, ToSuper, sent}
 use Rattle.ns_send.specs.Report.{report_line}
-use Rattle.ns_send.specs.Worked.{small_code, small_cells, small_progress, small_site, in_m}
+use Rattle.ns_send.specs.Worked.{sel, small_world, small_code, small_cells, small_progress, small_site, in_m}
 
 -- a run of these cells in which so many steps, frames and method activations were charged
 abbrev at : Heap → ℕ → ℕ → ℕ → Progress
-at cells steps depth begun = record (small_progress cells) { world = record (worked_with cells) { steps = steps; depth = depth }; begun = begun }
+at cells steps depth begun = record (small_progress cells) { world = record (small_world cells) { steps = steps; depth = depth }; begun = begun }
 
 abbrev start : Progress
 start = at small_cells 0 0 5
@@ -46,14 +45,14 @@ abbrev in_mixin : Activation
 in_mixin = record in_m { self = Ref 16; holder = 8 }
 
 -- a setter stores its argument and answers its receiver
-setter_answers_its_receiver : send (Ref 13) 6 (Int (pos 7) ∷ []) ≡ gives (Ref 13) (in_world (at small_cells 1 0 5) (written (record (worked_with small_cells) { steps = 1 }) 13 0 (Int (pos 7))))
+setter_answers_its_receiver : send (Ref 13) 6 (Int (pos 7) ∷ []) ≡ gives (Ref 13) (in_world (at small_cells 1 0 5) (written (record (small_world small_cells) { steps = 1 }) 13 0 (Int (pos 7))))
 setter_answers_its_receiver = refl
 
 -- a mixin that is applied twice has a slot of each application
-mixin_sets_its_own : send (Ref 16) 6 (Int (pos 7) ∷ []) ≡ gives (Ref 16) (in_world (at small_cells 1 0 5) (written (record (worked_with small_cells) { steps = 1 }) 16 2 (Int (pos 7))))
+mixin_sets_its_own : send (Ref 16) 6 (Int (pos 7) ∷ []) ≡ gives (Ref 16) (in_world (at small_cells 1 0 5) (written (record (small_world small_cells) { steps = 1 }) 16 2 (Int (pos 7))))
 mixin_sets_its_own = refl
 
-super_sets_the_slot_above : sent small_code in_mixin ToSuper (sel 6) (Int (pos 9) ∷ []) None start ≡ gives (Ref 16) (in_world (at small_cells 1 0 5) (written (record (worked_with small_cells) { steps = 1 }) 16 0 (Int (pos 9))))
+super_sets_the_slot_above : sent small_code in_mixin ToSuper (sel 6) (Int (pos 9) ∷ []) None start ≡ gives (Ref 16) (in_world (at small_cells 1 0 5) (written (record (small_world small_cells) { steps = 1 }) 16 0 (Int (pos 9))))
 super_sets_the_slot_above = refl
 
 -- a protected member isn't public, a private one is not found, and `self` reaches both
@@ -103,7 +102,7 @@ abbrev in_head : Activation
 in_head = record in_m { body = 5; site = site_of (Declared 1) 7 }
 
 class_is_kept : body_ended small_code (FromClause 13 4 2) in_head (Kernel Object) (at small_cells 1 1 5)
-    ≡ Gives (Ref 26) (in_world (at small_cells 1 0 5) (written (record (worked_with (ClassCell 2 (Ref 13) (Ref 4) (Kernel Object) ∷ small_cells)) { steps = 1 }) 13 1 (Ref 26)))
+    ≡ Gives (Ref 26) (in_world (at small_cells 1 0 5) (written (record (small_world (ClassCell 2 (Ref 13) (Ref 4) (Kernel Object) ∷ small_cells)) { steps = 1 }) 13 1 (Ref 26)))
 class_is_kept = refl
 
 head_is_no_class : body_ended small_code (FromClause 13 4 2) in_head (Int (pos 3)) (at small_cells 1 1 5) ≡ Halts (error kind.NotAClass (site_of (Declared 1) 7)) (at small_cells 1 0 5)
@@ -145,7 +144,7 @@ no_block = refl
 
 -- a row of the kernel: errors first, and then the one change
 array_is_written : send (Ref 21) 9 (Int (pos 1) ∷ Int (pos 5) ∷ [])
-    ≡ gives (Int (pos 5)) (in_world (at small_cells 1 0 5) (written (record (worked_with small_cells) { steps = 1 }) 21 0 (Int (pos 5))))
+    ≡ gives (Int (pos 5)) (in_world (at small_cells 1 0 5) (written (record (small_world small_cells) { steps = 1 }) 21 0 (Int (pos 5))))
 array_is_written = refl
 
 out_of_range : send (Ref 21) 9 (Int (pos 2) ∷ Int (pos 5) ∷ []) ≡ fails kind.OutOfRange (site_of (KernelName row.Array) 9) (at small_cells 1 0 5)

@@ -1,18 +1,32 @@
 -- A small program with a proxy, a module and a mixin, and a world of it, on which the actions are tried.
-use Rattle.std.specs.Prelude.{ℕ, List, [], ◌∷◌, true, false, Some, None, codes, replicate}
+use Rattle.std.specs.Prelude.{ℕ, List, [], ◌∷◌, true, false, Option, Some, None, codes, replicate}
+use Rattle.ns_base.specs.declared.selector.Sel.{Sel}
 use Rattle.ns_code.specs.declared.program.CodeProgram.{CodeProgram}
 use Rattle.ns_code.specs.declared.class.ClassCode.{ClassCode}
+use Rattle.ns_code.specs.declared.class.SlotCode.{SlotCode}
+use Rattle.ns_code.specs.declared.class.NestedCode.{NestedCode}
+use Rattle.ns_code.specs.declared.class.MethodCode.{MethodCode}
 use Rattle.ns_code.specs.declared.body.BodyCode.{BodyCode}
 use Rattle.ns_world.specs.declared.value.Value.TheVariants.{Nil, Kernel, Ref}
 use Rattle.ns_world.specs.declared.value.KClass.TheVariants.{Object}
 use Rattle.ns_world.specs.declared.kernel.ClassName.TheVariants.{Declared}
 use Rattle.ns_world.specs.Cell.{ObjectCell, ClassCell, BlockCell, ArrayCell}
 use Rattle.ns_world.specs.Heap.{Heap}
-use Rattle.ns_find.specs.Worked.{sel, method_of, class_of, worked_with}
+use Rattle.ns_world.specs.World.{World}
 use Rattle.ns_facets.specs.declared.board.Board.{Board}
 use Rattle.ns_facets.specs.declared.board.Plain.TheVariants as plain
 use Rattle.ns_send.specs.Control.{Progress, Activation}
 use Rattle.ns_send.specs.declared.site.Site.{Site}
+
+abbrev pub sel : ℕ → Sel
+sel number = record { 0 = number }
+
+abbrev pub method_of : ℕ → ℕ → ℕ → MethodCode
+method_of number access body = record { sel = sel number; access = access; body = body }
+
+-- a class whose factory and whose superclass message are `new`
+abbrev pub class_of : ℕ → Option ℕ → ℕ → List SlotCode → List NestedCode → List MethodCode → List MethodCode → ClassCode
+class_of name outer init slots nested methods side_methods = record { name = sel name; outer = outer; factory = sel 1; params = 0; clause = None; init = init; super_sel = sel 1; slots = slots; nested = nested; methods = methods; side_methods = side_methods }
 
 -- the names by their numbers: 0 P, 1 new, 2 doesNotUnderstand:, 3 go:, 4 M, 5 v, 6 v:, 7 Inner, 8 base, 9 at:put:,
 -- 10 <:, 11 value, 12 to:do:, 13 secret, 14 hid
@@ -58,12 +72,16 @@ small_cells =
     ∷ ClassCell 1 Nil Nil (Ref 4) ∷ ClassCell 1 Nil Nil (Kernel Object) ∷ ClassCell 0 Nil Nil (Kernel Object)
     ∷ []
 
+-- a world of these cells in which nothing was charged but them
+abbrev pub small_world : Heap → World
+small_world cells = record { cells = cells; limits = record { steps = 10; cells = 2000; depth = 10; out = 10 }; steps = 0; depth = 0; output = [] }
+
 abbrev pub no_board : Board
 no_board = record { places = replicate 64 plain.Nil }
 
 -- five method activations have begun
 abbrev pub small_progress : Heap → Progress
-small_progress cells = record { world = worked_with cells; board = no_board; begun = 5 }
+small_progress cells = record { world = small_world cells; board = no_board; begun = 5 }
 
 abbrev pub small_site : Site
 small_site = record { place = None; class = Declared 1; sel = sel 14 }

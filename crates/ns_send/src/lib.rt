@@ -12,5 +12,3 @@ pub mod begin;
 pub mod laws;
 pub mod row;
 pub mod site;
-#[cfg(test)]
-mod tests;

@@ -5,7 +5,6 @@ mod Places
 mod Order
 mod Agreeing
 mod Law
-mod LeastFits
 mod Examples
 mod Used
 mod Usable

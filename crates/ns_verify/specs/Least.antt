@@ -1,4 +1,4 @@
--- The least code that can be admitted, on which the tests run: one class, of one body of a height.
+-- The least code that can be admitted, on which the examples are built: one class, of one body of a height.
 use Rattle.std.specs.Prelude.{ℕ, [], ◌∷◌, codes, None, false}
 use Rattle.ns_base.specs.declared.selector.Sel.{Sel}
 use Rattle.ns_code.specs.declared.program.CodeProgram.{CodeProgram}

@@ -10,8 +10,6 @@ pub mod lawful;
 pub mod laws;
 mod lay;
 mod seek;
-#[cfg(test)]
-mod tests;
 pub mod value;
 mod word;
 pub mod world;

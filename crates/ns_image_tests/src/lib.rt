@@ -1,0 +1,12 @@
+//! Tests of images and of the verifier: an image of each version with its listing and what is refused of
+//! it, and small programs with the first fault of each.
+#![tactic(auto)]
+
+#[cfg(test)]
+mod body_tests;
+#[cfg(test)]
+mod class_tests;
+#[cfg(test)]
+mod image_tests;
+#[cfg(test)]
+mod sample;

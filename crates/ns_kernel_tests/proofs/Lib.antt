@@ -1,5 +1,0 @@
-pub mod Fitting
-pub mod Stages
-pub mod Readiness
-pub mod Walking
-pub mod Telling
