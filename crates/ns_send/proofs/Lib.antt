@@ -18,3 +18,4 @@ pub mod LawfulValues
 pub mod LeadingOn
 pub mod Counting
 pub mod Spending
+pub mod Lasting

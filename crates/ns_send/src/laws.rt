@@ -1,24 +1,24 @@
 //! What holds of every action. Each function does nothing, and its contract is the law.
 
-ghost use Rattle.std.specs.Prelude.{ℕ, [], ◌∷◌, List, Option, All};
+ghost use Rattle.std.specs.Prelude.{ℕ, [], ◌∷◌, List, length, Option, All, IsTrue};
 ghost use Rattle.ns_base.specs.declared.place.Place.{Place};
 ghost use Rattle.ns_base.specs.declared.selector.Sel.{Sel};
 ghost use Rattle.ns_code.specs.declared.program.CodeProgram.{CodeProgram};
 ghost use Rattle.ns_world.specs.declared.value.Value.{Value};
 ghost use Rattle.ns_world.specs.declared.value.Value.TheVariants.{Ref};
 ghost use Rattle.ns_world.specs.Cell.{Cell};
-ghost use Rattle.ns_world.specs.Later.{IsLater};
+ghost use Rattle.ns_world.specs.Later.{IsLater, Lasts, Unchanged};
 ghost use Rattle.ns_world.specs.Lawful.{IsLiveValue, BlockIsLawful};
-ghost use Rattle.ns_kdata.specs.Arguments.{items_of};
+ghost use Rattle.ns_kdata.specs.Arguments.{items_of, is_array};
 ghost use Rattle.ns_kcode.specs.declared.state.KMethod.{KMethod};
 ghost use Rattle.ns_kcode.specs.declared.state.KState.{KState};
 ghost use Rattle.ns_send.specs.declared.site.Site.{Site};
 ghost use Rattle.ns_send.specs.Control.{Progress, Activation, Exit};
 ghost use Rattle.ns_send.specs.Classes.{super_part, body_ended, slot_filled, kept_by};
 ghost use Rattle.ns_send.specs.Bodies.{environment_at, local_stored};
-ghost use Rattle.ns_send.specs.Blocks.{new_cell, new_block, new_text, new_array, evaluated, method_next};
+ghost use Rattle.ns_send.specs.Blocks.{new_cell, new_block, new_text, new_array, evaluated, method_next, is_block, has_arguments};
 ghost use Rattle.ns_send.specs.Sends.{Target, receiver_of, sent, sent_plain, performed};
-ghost use Rattle.ns_send.specs.Lawful.{LawfulRun, LawfulAfter, LawfulControl, LawfulPart, LawfulWaiting, LiveState, FitsTarget, FitsSelector, FitsExit, FitsSlot, FitsLocal};
+ghost use Rattle.ns_send.specs.Lawful.{LawfulRun, LawfulAfter, LawfulControl, LawfulPart, LawfulWaiting, LiveState, LiveActivation, FitsActivation, FitsTarget, FitsSelector, FitsExit, FitsSlot, FitsLocal};
 ghost use Rattle.ns_send.specs.Actions.{Action, progress_after};
 ghost use Rattle.ns_send.specs.Spending.{Spends};
 ghost use Rattle.ns_send.specs.Onward.{Onward, touched, reached, after_reached, part_reached, waiting_reached};
@@ -55,6 +55,27 @@ pub fn actions_lead_on()
 /// gives it back.
 pub fn actions_spend_exactly()
     ensures { (code : CodeProgram) (action : Action) (progress : Progress) → Spends code action progress }
+{}
+
+/// What frames ask of their values lasts while the run goes on: running code fits its self and its
+/// holder, its values are live, its end can be met, and its sends and its slots are there.
+pub fn frames_last()
+    ensures fits { (activation : Activation) → Lasts (λ heap code. FitsActivation heap code activation) }
+    ensures live { (activation : Activation) (beside : List Value) → Lasts (λ heap code. LiveActivation heap code activation beside) }
+    ensures exits { (exit : Exit) → Lasts (λ heap code. FitsExit heap code exit) }
+    ensures targets { (activation : Activation) (target : Target) → Lasts (λ heap code. FitsTarget heap code activation target) }
+    ensures slots { (activation : Activation) (slot : ℕ) → Lasts (λ heap code. FitsSlot heap code activation slot) }
+{}
+
+/// So does what is asked where a send, a block or a method of the kernel waits; a block stays one, and
+/// an array stays one of as many elements.
+pub fn what_waits_lasts()
+    ensures selectors { (sel : Sel) (values : List Value) → Lasts (λ heap code. FitsSelector heap code sel values) }
+    ensures states { (state : KState) → Lasts (λ heap code. LiveState heap code state) }
+    ensures arguments { (method : KMethod) (first second : Value) → Lasts (λ heap code. IsTrue (has_arguments heap method first second)) }
+    ensures blocks { (block : Value) → Lasts (λ heap code. IsTrue (is_block heap block)) }
+    ensures arrays { (array : Value) → Lasts (λ heap code. IsTrue (is_array heap array)) }
+    ensures sizes { (array : Value) → Unchanged (λ heap code. IsLiveValue heap code array) (λ heap code. length (items_of heap array)) }
 {}
 
 /// In a lawful run a send leaves a lawful world, and what it goes on with is live: the answer, a
