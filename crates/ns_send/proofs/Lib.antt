@@ -19,3 +19,6 @@ pub mod LeadingOn
 pub mod Counting
 pub mod Spending
 pub mod Lasting
+pub mod Running
+pub mod Fitting
+pub mod Handing

@@ -73,7 +73,7 @@ outwards world code number decl decl' (Some (MirrorCell shown)) lawful e t is ou
 outwards world code number decl decl' (Some (MessageCell sel args)) lawful e t is outer = absurd (cc)
 
 -- the side of a body is that of instances where it isn't the class side
-instance_body : (code : CodeProgram) (number : ℕ) (body : BodyCode) → slice_get code.bodies number ≡ Some body → body.side ≤ 1 → side_of_body code number ≡ InstanceSide → body.side ≡ 0
+pub instance_body : (code : CodeProgram) (number : ℕ) (body : BodyCode) → slice_get code.bodies number ≡ Some body → body.side ≤ 1 → side_of_body code number ≡ InstanceSide → body.side ≡ 0
 instance_body code number body e few s = sided body.side refl few
   where
     is : side_of_body code number ≡ side_of (eqb body.side class_side)

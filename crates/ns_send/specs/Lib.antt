@@ -10,5 +10,6 @@ pub mod Report
 pub mod Onward
 pub mod Actions
 pub mod Spending
+pub mod Fitting
 pub mod Worked
 pub mod Lawful

@@ -21,6 +21,7 @@ ghost use Rattle.ns_send.specs.Sends.{Target, receiver_of, sent, sent_plain, per
 ghost use Rattle.ns_send.specs.Lawful.{LawfulRun, LawfulAfter, LawfulControl, LawfulPart, LawfulWaiting, LiveState, LiveActivation, FitsActivation, FitsTarget, FitsSelector, FitsExit, FitsSlot, FitsLocal};
 ghost use Rattle.ns_send.specs.Actions.{Action, progress_after};
 ghost use Rattle.ns_send.specs.Spending.{Spends};
+ghost use Rattle.ns_send.specs.Fitting.{Asks, HandsOn};
 ghost use Rattle.ns_send.specs.Onward.{Onward, touched, reached, after_reached, part_reached, waiting_reached};
 
 /// No send changes a limit, lowers a counter but depth, takes back what was printed, or changes a
@@ -108,4 +109,11 @@ pub fn values_keep_lawful()
     ensures block { (code : CodeProgram) (activation : Activation) (body : ℕ) (progress : Progress) → LawfulRun code progress → BlockIsLawful progress.world.cells code body activation.env activation.self activation.holder → LawfulAfter code (new_block activation body progress) }
     ensures slot { (code : CodeProgram) (activation : Activation) (slot : ℕ) (value : Value) (progress : Progress) → LawfulRun code progress → FitsSlot progress.world.cells code activation slot → IsLiveValue progress.world.cells code value → LawfulRun code (slot_filled code activation slot value progress) }
     ensures local { (code : CodeProgram) (activation : Activation) (hops place : ℕ) (value : Value) (progress : Progress) → LawfulRun code progress → FitsLocal progress.world.cells code activation hops → IsLiveValue progress.world.cells code value → LawfulRun code (local_stored code activation hops place value progress) }
+{}
+
+/// In a lawful run a send and an evaluation hand on what the next action asks for: a body that fits
+/// its self and its holder, with an end that can be met; a method of the kernel with its arguments;
+/// or a send that waits with a selector and as many live arguments as it takes.
+pub fn what_is_handed_on_fits()
+    ensures { (code : CodeProgram) (action : Action) (progress : Progress) → LawfulRun code progress → Asks progress.world.cells code action → HandsOn code action progress }
 {}
