@@ -227,7 +227,7 @@ method_fits code body holder receiver arguments site progress runs =
     (λ env locals last more. λ run. (runs_last code progress.world last (record { self = receiver; holder = holder; body = body; home = progress.begun; env = env; site = site }) runs run, tt))))
 
 -- the declaration of a class is one of the code
-class_there : (world : World) (code : CodeProgram) (class : ℕ) → IsLawful world code → is_class (find_cell world.cells class) ≡ true → IsSome (slice_get code.classes (declaration_of world.cells class))
+pub class_there : (world : World) (code : CodeProgram) (class : ℕ) → IsLawful world code → is_class (find_cell world.cells class) ≡ true → IsSome (slice_get code.classes (declaration_of world.cells class))
 class_there world code class lawful is = found (find_cell world.cells class) refl is
   where
     found : (o : Option Cell) → find_cell world.cells class ≡ o → is_class o ≡ true → IsSome (slice_get code.classes (declaration_of world.cells class))

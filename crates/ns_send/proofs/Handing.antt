@@ -35,6 +35,7 @@ use Rattle.ns_send.proofs.LawfulSends.{super_fits, body_declared}
 use Rattle.ns_send.proofs.Suiting.{found_suits, private_suits}
 use Rattle.ns_send.proofs.Places.{places_fit}
 use Rattle.ns_send.proofs.Running.{RunsBody, found_runs, outer_private, super_runs}
+use Rattle.ns_send.proofs.PartsFit.{super_part_fits}
 use Rattle.ns_send.proofs.Fitting.{FitsLater, opened_fits, runs_last, fits_now, stepped_fits}
 
 -- ---- sends
@@ -123,7 +124,7 @@ evaluated_later code (Kernel class) arguments site progress lawful = tt
 
 -- ---- all of them
 
-pub action_hands_on : (code : CodeProgram) (action : Action) (progress : Progress) → LawfulRun code progress → Asks progress.world.cells code action → HandsOn code action progress
+pub action_hands_on : (code : CodeProgram) (action : Action) (progress : Progress) → LawfulRun code progress → Asks code action progress → HandsOn code action progress
 action_hands_on code (Sends activation target sel values place) progress lawful asks = sent_fits code activation target sel values place progress lawful asks.0 asks.1
 action_hands_on code (SendsPlain receiver sel values place) progress lawful asks = plain_fits code receiver sel values place progress lawful asks.0 asks.1
 action_hands_on code (Performs receiver sel array site) progress lawful asks = plain_fits code receiver sel (items_of progress.world.cells (Ref array)) site.place progress lawful asks.0 asks.1
@@ -131,7 +132,7 @@ action_hands_on code (Evaluates block arguments site) progress lawful asks =
     fits_now progress.world code (evaluated code block arguments site progress) lawful (evaluated_onward [] code block arguments site progress).world.later
     (evaluated_lawful code block arguments site progress lawful asks) (evaluated_later code block arguments site progress lawful)
 action_hands_on code (Continues method state site) progress lawful asks = tt
-action_hands_on code (BeginsPart activation arguments) progress lawful asks = tt
+action_hands_on code (BeginsPart activation arguments) progress lawful asks = super_part_fits code activation arguments progress lawful asks.0 asks.1
 action_hands_on code EndsPart progress lawful asks = tt
 action_hands_on code (EndsBody exit activation value) progress lawful asks = tt
 action_hands_on code (MakesBlock activation body) progress lawful asks = tt

@@ -164,7 +164,7 @@ size_lasts (Sym sel) code old later run live = refl
 size_lasts (Kernel class) code old later run live = refl
 
 -- a holder of an object is a class
-holder_is_class : (world : World) (code : CodeProgram) (self : Value) (holder : ℕ) → IsLawful world code → HasHolder world.cells self holder → is_class (find_cell world.cells holder) ≡ true
+pub holder_is_class : (world : World) (code : CodeProgram) (self : Value) (holder : ℕ) → IsLawful world code → HasHolder world.cells self holder → is_class (find_cell world.cells holder) ≡ true
 holder_is_class world code (Ref at) holder lawful has = found (find_cell world.cells at) refl has
   where
     found : (o : Option Cell) → find_cell world.cells at ≡ o → ForSome (class_of_object o) (λ class. Contains (chain_of world.cells class) holder) × IsSome (class_of_object o) → is_class (find_cell world.cells holder) ≡ true

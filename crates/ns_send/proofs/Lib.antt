@@ -22,3 +22,4 @@ pub mod Lasting
 pub mod Running
 pub mod Fitting
 pub mod Handing
+pub mod PartsFit

@@ -31,7 +31,7 @@ pub record FitsPlace (heap : Heap) (code : CodeProgram) (side : Side) (place : P
   pub holder_is : is_class (find_cell heap place.holder) ≡ true
   pub declaration_is : declaration_of heap place.holder ≡ decl
 
-holder_live : (heap : Heap) (code : CodeProgram) (value : Value) (holder : ℕ) → HasHolder heap value holder → IsLiveValue heap code value
+pub holder_live : (heap : Heap) (code : CodeProgram) (value : Value) (holder : ℕ) → HasHolder heap value holder → IsLiveValue heap code value
 holder_live heap code (Ref at) holder has = object_live heap code at has.1
 holder_live heap code Nil holder has = absurd has
 holder_live heap code True holder has = absurd has

@@ -111,9 +111,9 @@ pub fn values_keep_lawful()
     ensures local { (code : CodeProgram) (activation : Activation) (hops place : ℕ) (value : Value) (progress : Progress) → LawfulRun code progress → FitsLocal progress.world.cells code activation hops → IsLiveValue progress.world.cells code value → LawfulRun code (local_stored code activation hops place value progress) }
 {}
 
-/// In a lawful run a send and an evaluation hand on what the next action asks for: a body that fits
-/// its self and its holder, with an end that can be met; a method of the kernel with its arguments;
-/// or a send that waits with a selector and as many live arguments as it takes.
+/// In a lawful run a send, an evaluation and a superclass part hand on what the next action asks
+/// for: a body that fits its self and its holder, with an end that can be met; a method of the kernel
+/// with its arguments; or a send that waits with a selector and as many live arguments as it takes.
 pub fn what_is_handed_on_fits()
-    ensures { (code : CodeProgram) (action : Action) (progress : Progress) → LawfulRun code progress → Asks progress.world.cells code action → HandsOn code action progress }
+    ensures { (code : CodeProgram) (action : Action) (progress : Progress) → LawfulRun code progress → Asks code action progress → HandsOn code action progress }
 {}
