@@ -16,3 +16,10 @@ pub mod LawfulSends
 pub mod LawfulParts
 pub mod LawfulValues
 pub mod LeadingOn
+pub mod Counting
+pub mod Spending
+pub mod Lasting
+pub mod Running
+pub mod Fitting
+pub mod Handing
+pub mod PartsFit

@@ -9,5 +9,7 @@ pub mod Sends
 pub mod Report
 pub mod Onward
 pub mod Actions
+pub mod Spending
+pub mod Fitting
 pub mod Worked
 pub mod Lawful
