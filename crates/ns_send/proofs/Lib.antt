@@ -16,3 +16,5 @@ pub mod LawfulSends
 pub mod LawfulParts
 pub mod LawfulValues
 pub mod LeadingOn
+pub mod Counting
+pub mod Spending

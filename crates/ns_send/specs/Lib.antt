@@ -9,5 +9,6 @@ pub mod Sends
 pub mod Report
 pub mod Onward
 pub mod Actions
+pub mod Spending
 pub mod Worked
 pub mod Lawful

@@ -20,6 +20,7 @@ ghost use Rattle.ns_send.specs.Blocks.{new_cell, new_block, new_text, new_array,
 ghost use Rattle.ns_send.specs.Sends.{Target, receiver_of, sent, sent_plain, performed};
 ghost use Rattle.ns_send.specs.Lawful.{LawfulRun, LawfulAfter, LawfulControl, LawfulPart, LawfulWaiting, LiveState, FitsTarget, FitsSelector, FitsExit, FitsSlot, FitsLocal};
 ghost use Rattle.ns_send.specs.Actions.{Action, progress_after};
+ghost use Rattle.ns_send.specs.Spending.{Spends};
 ghost use Rattle.ns_send.specs.Onward.{Onward, touched, reached, after_reached, part_reached, waiting_reached};
 
 /// No send changes a limit, lowers a counter but depth, takes back what was printed, or changes a
@@ -47,6 +48,13 @@ pub fn actions_go_onward()
 /// Each action leads to a later world.
 pub fn actions_lead_on()
     ensures { (code : CodeProgram) (action : Action) (progress : Progress) → IsLater progress.world (progress_after code action progress).world }
+{}
+
+/// Each action charges exactly so much: a send and an evaluation a step, each frame that is entered
+/// one of depth, and each method one activation, whose number is its home; each end of a frame
+/// gives it back.
+pub fn actions_spend_exactly()
+    ensures { (code : CodeProgram) (action : Action) (progress : Progress) → Spends code action progress }
 {}
 
 /// In a lawful run a send leaves a lawful world, and what it goes on with is live: the answer, a
