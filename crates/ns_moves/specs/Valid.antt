@@ -16,10 +16,10 @@ use Rattle.ns_facets.specs.declared.row.Grants.{Grants}
 use Rattle.ns_kdata.specs.Arguments.{items_of, is_array}
 use Rattle.ns_send.specs.Control.{Progress}
 use Rattle.ns_send.specs.Blocks.{is_block}
+use Rattle.ns_send.specs.Start.{standing_cells, size_of_cells}
 use Rattle.ns_send.specs.Lawful.{LawfulRun, FitsSelector}
 use Rattle.ns_verify.specs.Verify.{IsSound}
 use Rattle.ns_moves.specs.State.{Frame, Pending, Sending, Performing, Evaluating, Phase, Start, First, State, Unbegun, Going, Pends, Ended, Stuck}
-use Rattle.ns_moves.specs.Starts.{standing_cells, size_of_cells}
 use Rattle.ns_moves.specs.ValidFrames.{FitsSite, Nothing, awaited_for, has_block_home, homes_fall, FramesAreValid}
 
 -- ---- the world

@@ -7,6 +7,7 @@ pub mod Rows
 pub mod Kernel
 pub mod Sends
 pub mod Report
+pub mod Start
 pub mod Onward
 pub mod Actions
 pub mod Spending

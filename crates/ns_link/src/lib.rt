@@ -1,0 +1,4 @@
+//! The machine does what a source means: on the code of a program it comes to the end that the program's trees mean.
+#![tactic(auto)]
+
+pub mod laws;
