@@ -3,5 +3,8 @@
 
 pub mod draft;
 pub mod fault;
+pub mod here;
 pub mod laws;
+pub mod reach;
+pub mod receiver;
 pub mod writer;
