@@ -12,3 +12,6 @@ pub mod GoodHeights
 pub mod NamesThere
 pub mod Stand
 pub mod Numbers
+pub mod Composing
+pub mod Saying
+pub mod Counted

@@ -1,7 +1,9 @@
 -- What is written of nodes and messages: the whole of a node, and a message behind its receiver.
-use Rattle.std.specs.Prelude.{ℕ, List, [], ◌∷◌, ◌++◌, length}
+use Rattle.std.specs.Prelude.{ℕ, ◌+◌, List, [], ◌∷◌, ◌++◌, length}
 use Rattle.ns_scope.specs.declared.scope.Scope.{Scope}
 use Rattle.ns_tree.specs.declared.tree.Named.{Named}
+use Rattle.ns_tree.specs.Plain as p
+use Rattle.ns_scope.specs.Bodies as b
 use Rattle.ns_meant.specs.Program as m
 use Rattle.ns_meant.specs.Expressions as e
 use Rattle.ns_meant.specs.Tables.{put_all, node_names, nodes_names, node_texts, nodes_texts}
@@ -108,3 +110,33 @@ with_names here receiver (name ∷ names) before =
 abbrev pub left : {A : Type 0} → Receiver → List A → Receiver
 left receiver [] = receiver
 left receiver (message ∷ messages) = v.Value
+
+-- ---- binary and keyword messages; the number beside them is that of the next block's body
+
+-- with binary messages in turn to a receiver
+abbrev pub with_opers : e.Standing → ℕ → Receiver → p.Opers → Written → Written
+with_opers here next receiver p.no_opers before = before
+with_opers here next receiver (p.more_opers name argument rest) before =
+    with_opers here (next + length (b.un_blocks here.scope argument)) v.Value rest
+    (with_message here.scope receiver (e.name_sent here name) (e.one (e.un_node here next argument)) before)
+
+-- what is left of a receiver behind them
+abbrev pub opers_left : Receiver → p.Opers → Receiver
+opers_left receiver p.no_opers = receiver
+opers_left receiver (p.more_opers name argument rest) = v.Value
+
+-- with a keyword message, where there are keys
+abbrev pub with_keywords : e.Standing → ℕ → Receiver → p.Keys → Written → Written
+with_keywords here next receiver p.no_keys before = before
+with_keywords here next receiver (p.more_keys name argument rest) before =
+    with_message here.scope receiver (e.keys_sent here (p.more_keys name argument rest)) (e.keys_nodes here next (p.more_keys name argument rest)) before
+
+-- how many keys there are
+abbrev pub keys_count : p.Keys → ℕ
+keys_count p.no_keys = 0
+keys_count (p.more_keys name argument rest) = keys_count rest + 1
+
+-- what is left of a receiver behind keys
+abbrev pub keys_left : Receiver → p.Keys → Receiver
+keys_left receiver p.no_keys = receiver
+keys_left receiver (p.more_keys name argument rest) = v.Value

@@ -4,7 +4,9 @@
 pub mod draft;
 pub mod fault;
 pub mod here;
+pub mod keys;
 pub mod laws;
+pub mod literals;
 pub mod reach;
 pub mod receiver;
 pub mod writer;
