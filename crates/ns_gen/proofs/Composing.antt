@@ -25,11 +25,11 @@ written_is n n' t t' l l' p q r =
 
 -- ---- lines behind those of a node or of nodes
 
-behind_node : (node : m.Node) (k : ℕ) (before after : List Line) → (before ++ node_lines k node []) ++ after ≡ before ++ node_lines k node after
+pub behind_node : (node : m.Node) (k : ℕ) (before after : List Line) → (before ++ node_lines k node []) ++ after ≡ before ++ node_lines k node after
 behind_node node k before after =
     append_assoc before (node_lines k node []) after ∙ ap (before ++◌) (sym (node_goes_on node k [] after))
 
-behind_nodes : (nodes : m.Nodes) (k : ℕ) (before after : List Line) → (before ++ nodes_lines k nodes []) ++ after ≡ before ++ nodes_lines k nodes after
+pub behind_nodes : (nodes : m.Nodes) (k : ℕ) (before after : List Line) → (before ++ nodes_lines k nodes []) ++ after ≡ before ++ nodes_lines k nodes after
 behind_nodes nodes k before after =
     append_assoc before (nodes_lines k nodes []) after ∙ ap (before ++◌) (sym (nodes_go_on nodes k [] after))
 

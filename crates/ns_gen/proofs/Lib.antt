@@ -15,3 +15,5 @@ pub mod Numbers
 pub mod Composing
 pub mod Saying
 pub mod Counted
+pub mod BlockCounts
+pub mod Setting

@@ -1,6 +1,7 @@
 //! The generator: the code of a program in which every name has its meaning.
 #![tactic(auto)]
 
+pub mod counting;
 pub mod draft;
 pub mod fault;
 pub mod here;
@@ -9,4 +10,5 @@ pub mod laws;
 pub mod literals;
 pub mod reach;
 pub mod receiver;
+pub mod sets;
 pub mod writer;

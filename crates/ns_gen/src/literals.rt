@@ -61,12 +61,7 @@ pub fn put_symbol(writer: &mut Writer, name: &Text) -> Result<(), GenFault>
 }
 
 /// A name alone: a local, or an implicit send.
-pub fn put_named(
-    writer: &mut Writer,
-    here: &Here<'_>,
-    text: &Text,
-    at: u32,
-) -> Result<(), GenFault>
+pub fn put_named(writer: &mut Writer, here: &Here<'_>, text: &Text, at: u32) -> Result<(), GenFault>
     ensures { OnOk result (writer.new ≡ with_node (name_node (standing here.now) (sent_at (standing here.now) text.now at)) writer.old) }
 {
     match here.resolve(text.bytes()) {
