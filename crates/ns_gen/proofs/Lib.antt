@@ -12,3 +12,8 @@ pub mod GoodHeights
 pub mod NamesThere
 pub mod Stand
 pub mod Numbers
+pub mod Composing
+pub mod Saying
+pub mod Counted
+pub mod BlockCounts
+pub mod Setting

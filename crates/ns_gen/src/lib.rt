@@ -1,7 +1,14 @@
 //! The generator: the code of a program in which every name has its meaning.
 #![tactic(auto)]
 
+pub mod counting;
 pub mod draft;
 pub mod fault;
+pub mod here;
+pub mod keys;
 pub mod laws;
+pub mod literals;
+pub mod reach;
+pub mod receiver;
+pub mod sets;
 pub mod writer;

@@ -53,6 +53,11 @@ impl Writer {
         }
     }
 
+    /// Where its memory comes from.
+    pub fn alloc(&self) -> Global {
+        self.alloc
+    }
+
     /// An instruction that names no selector.
     pub fn does(&mut self, instr: Instr) -> Result<(), GenFault>
         ensures put { OnOk result (self.new ≡ with_line self.old (does instr)) }
