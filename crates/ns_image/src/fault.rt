@@ -25,7 +25,7 @@ pub enum ImageFault {
 }
 
 /// Why a field can't be read.
-#[derive(Clone, Copy, Debug, PartialEq, Eq)]
+#[derive(Clone, Copy)]
 pub enum Fault {
     /// It runs past the end.
     Truncated,

@@ -39,9 +39,9 @@ impl Parts {
         ensures files { OnOk result (self.new.files.items ≡ self.old.files.items ++ name ∷ []) }
         ensures marks { OnOk result (self.new.marks.items ≡ self.old.marks.items ++ source.marks ∷ []) }
     {
-        self.files.push(name)?;
         self.units.push(source.unit)?;
         self.marks.push(source.marks)?;
+        self.files.push(name)?;
         Ok(())
     }
 

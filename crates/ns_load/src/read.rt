@@ -42,7 +42,6 @@ pub fn read(alloc: Global, file: u32, source: &[u8]) -> Result<Source, LoadFault
     }
 }
 
-#[tactic(auto, using(crate::proofs::Sources::grammatical_fault))]
 fn read_tokens(
     alloc: Global,
     file: u32,
@@ -55,27 +54,30 @@ fn read_tokens(
     ensures exact { MatchResult result (λ read. spec.read_tokens file source.now tokens.now ≡ spec.spells (unit_of read.unit) read.marks) (λ fault. fault ≢ Memory → spec.read_tokens file source.now tokens.now ≡ spec.refused fault) }
     ensures spelling { IfErr result IsSpelling }
 {
-    match parse(alloc, tokens) {
-        Ok(unit) => placed(alloc, file, source, tokens, unit),
-        Err(fault) => Err(grammatical(file, source, tokens, fault)),
+    match marks(alloc, file, source, tokens) {
+        Ok(marks) => parsed(alloc, file, source, tokens, marks),
+        Err(NoMemory) => Err(LoadFault::Memory),
     }
 }
 
-/// A unit with the places of its tokens.
-fn placed(
+/// What tokens with these places spell, or the first fault of the grammar.
+#[tactic(auto, using(crate::proofs::Sources::grammatical_fault))]
+fn parsed(
     alloc: Global,
     file: u32,
     source: &[u8],
     tokens: &[Token],
-    unit: Unit,
+    marks: Items<Place>,
 ) -> Result<Source, LoadFault>
     requires short { length source.now ≤ 1048576 }
-    requires in_order { InOrder 0 (length source.now) tokens.now }
-    ensures { MatchResult result (λ read. (unit_of read.unit ≡ unit_of unit) × (read.marks ≡ places.marks file source.now tokens.now)) (λ fault. fault ≡ Memory) }
+    requires few { length tokens.now ≤ 1048576 }
+    requires marks { marks ≡ places.marks file source.now tokens.now }
+    ensures exact { MatchResult result (λ read. spec.read_tokens file source.now tokens.now ≡ spec.spells (unit_of read.unit) read.marks) (λ fault. fault ≢ Memory → spec.read_tokens file source.now tokens.now ≡ spec.refused fault) }
+    ensures spelling { IfErr result IsSpelling }
 {
-    match marks(alloc, file, source, tokens) {
-        Ok(marks) => Ok(Source { unit, marks }),
-        Err(NoMemory) => Err(LoadFault::Memory),
+    match parse(alloc, tokens) {
+        Ok(unit) => Ok(Source { unit, marks }),
+        Err(fault) => Err(grammatical(file, source, tokens, fault)),
     }
 }
 

@@ -92,17 +92,23 @@ pub fn names(alloc: Global, input: &mut Input<'_>) -> Result<Items<Text>, Fault>
     ensures { Reads (spec.names input.old.rest.now) result input.new.rest.now }
 {
     let count = input.word_up_to(MOST_NAMES as u32)?;
-    let names = names_of(alloc, input, count)?;
+    let mut earlier = Names::new(alloc);
+    let names = names_of(alloc, input, &mut earlier, count)?;
     Ok(names)
 }
 
-fn names_of(alloc: Global, input: &mut Input<'_>, count: u32) -> Result<Items<Text>, Fault>
-    ensures { Reads (fields.chained spec.name_after spec.with_name count [] input.old.rest.now) result input.new.rest.now }
+/// So many names behind earlier ones.
+fn names_of(
+    alloc: Global,
+    input: &mut Input<'_>,
+    earlier: &mut Names,
+    count: u32,
+) -> Result<Items<Text>, Fault>
+    ensures { Reads (fields.chained spec.name_after spec.with_name count earlier.old input.old.rest.now) result input.new.rest.now }
 {
-    let mut earlier = Names::new(alloc);
     let mut names = Vec::new(alloc);
     'names: for _ in 0..count {
-        let text = name(input, &mut earlier)?;
+        let text = name(input, earlier)?;
         let text = Text::of(alloc, text)?;
         names.push(text)?;
     }

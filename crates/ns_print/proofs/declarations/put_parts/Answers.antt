@@ -15,3 +15,6 @@ returns c =
     let e : zip c.loop-part.part-iterator.a.rest.now c.loop-part.part-iterator.b.rest.now ≡ [] = no_pairs _ _ (either_empty_from_Zip c.loop-part.part-iterator c.next.new.self c.next.result c.in-None.is c.next.ensures.steps) in
     let i = rw e at c.loop-part.invariant in
     grind (arith, common_steps, i)
+
+pub loop-part-preserved : goal.loop-part-preserved
+loop-part-preserved c = grind (arith, common_steps)

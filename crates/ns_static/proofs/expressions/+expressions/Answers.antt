@@ -1,4 +1,4 @@
-use Rattle.std.proofs.Common.{arith}
+use Rattle.std.proofs.Common.{arith, refl}
 use Rattle.std.proofs.lemmas.Grind.{common_steps}
 use Rattle.ns_tree.proofs.Nodes.{bin_out, expr_out, statements_out, key_expr_none, key_expr_some, block_none, block_some, keywords_out, tuple_out}
 use Rattle.ns_static.proofs.Inside.{block_and_inside}
@@ -33,3 +33,57 @@ inside_faults-returns-in_ok-slots_faults-in-Some t c = rw (block_some c.args.blo
 
 pub primary_faults-returns-in-Tuple : goal.primary_faults-returns-in-Tuple
 primary_faults-returns-in-Tuple t c = rw (tuple_out c.args.primary.now _ _ c.in-Tuple.is) (grind (arith, common_steps))
+
+pub cascade_faults-loop-message-init : goal.cascade_faults-loop-message-init
+cascade_faults-loop-message-init t c = refl
+
+pub cascade_faults-loop-message-preserved : goal.cascade_faults-loop-message-preserved
+cascade_faults-loop-message-preserved t c = grind (arith, common_steps)
+
+pub cascade_faults-returns : goal.cascade_faults-returns
+cascade_faults-returns t c = grind (arith, common_steps)
+
+pub keys_faults-loop-key-init : goal.keys_faults-loop-key-init
+keys_faults-loop-key-init t c = refl
+
+pub keys_faults-loop-key-preserved : goal.keys_faults-loop-key-preserved
+keys_faults-loop-key-preserved t c = grind (arith, common_steps)
+
+pub keys_faults-returns : goal.keys_faults-returns
+keys_faults-returns t c = grind (arith, common_steps)
+
+pub opers_faults-loop-oper-init : goal.opers_faults-loop-oper-init
+opers_faults-loop-oper-init t c = refl
+
+pub opers_faults-loop-oper-preserved : goal.opers_faults-loop-oper-preserved
+opers_faults-loop-oper-preserved t c = grind (arith, common_steps)
+
+pub opers_faults-returns : goal.opers_faults-returns
+opers_faults-returns t c = grind (arith, common_steps)
+
+pub items_faults-loop-item-init : goal.items_faults-loop-item-init
+items_faults-loop-item-init t c = refl
+
+pub items_faults-loop-item-preserved : goal.items_faults-loop-item-preserved
+items_faults-loop-item-preserved t c = grind (arith, common_steps)
+
+pub items_faults-returns : goal.items_faults-returns
+items_faults-returns t c = grind (arith, common_steps)
+
+pub slots_faults-loop-slot-init : goal.slots_faults-loop-slot-init
+slots_faults-loop-slot-init t c = refl
+
+pub slots_faults-loop-slot-preserved : goal.slots_faults-loop-slot-preserved
+slots_faults-loop-slot-preserved t c = grind (arith, common_steps)
+
+pub slots_faults-returns : goal.slots_faults-returns
+slots_faults-returns t c = grind (arith, common_steps)
+
+pub list_faults-loop-statement-init : goal.list_faults-loop-statement-init
+list_faults-loop-statement-init t c = refl
+
+pub list_faults-loop-statement-preserved : goal.list_faults-loop-statement-preserved
+list_faults-loop-statement-preserved t c = grind (arith, common_steps)
+
+pub list_faults-returns : goal.list_faults-returns
+list_faults-returns t c = grind (arith, common_steps)
