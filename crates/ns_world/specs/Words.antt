@@ -6,6 +6,8 @@ use Rattle.ns_world.specs.declared.value.Value.TheVariants.{Nil, True, False, In
 use Rattle.ns_world.specs.declared.cell.FacetKind.TheVariants.{Manifest}
 use Rattle.ns_world.specs.declared.cell.NewCell.{NewCell}
 use Rattle.ns_world.specs.declared.cell.NewCell.TheVariants as new
+use Rattle.ns_world.specs.declared.head.Head.{Head}
+use Rattle.ns_world.specs.declared.head.Head.TheVariants as head
 use Rattle.ns_world.specs.declared.word.Word.{Word}
 use Rattle.ns_world.specs.declared.word.Word.TheVariants.{Nil as NilWord, True as TrueWord, False as FalseWord, Int as IntWord, Sym as SymWord, Kernel as KernelWord, Ref as RefWord, Bytes, Object, Class, Block, Array, Text, Facet, Mirror, Message}
 use Rattle.ns_world.specs.Cell.{Cell, ObjectCell, ClassCell, BlockCell, EnvironmentCell, ArrayCell, TextCell, FacetCell, MirrorCell, MessageCell, text_words}
@@ -148,3 +150,16 @@ shape_in (Facet kind) words = new.Facet kind
 shape_in Mirror words = new.Mirror (value_at words 0)
 shape_in (Message sel) words = new.Message sel (value_at words 0)
 shape_in parent words = new.Environment (value_in parent) (beside_in parent)
+
+-- what a head tells by itself
+abbrev pub head_in : Word → Head
+head_in (Bytes bytes) = head.Mirror
+head_in (Object class words) = head.Object class words
+head_in (Class decl) = head.Class decl
+head_in (Block body home) = head.Block body home
+head_in (Array size) = head.Array size
+head_in (Text bytes) = head.Text bytes
+head_in (Facet kind) = head.Facet kind
+head_in Mirror = head.Mirror
+head_in (Message sel) = head.Message sel
+head_in parent = head.Environment (beside_in parent)

@@ -4,11 +4,13 @@ ghost use Rattle.std.specs.Prelude.{◌≡◌, ℕ, ◌+◌, ◌^◌, ◌<◌, �
 ghost use Rattle.std.specs.List.{slice_index_or};
 ghost use Rattle.ns_world.specs.Cell.{cell_size, fresh};
 ghost use Rattle.ns_world.specs.Heap.{heap_size, has_superclass, words_at, word_at, open_words_at, write_word, bytes_at, byte_at, write_byte, find_cell, shape_at, is_class, chain_of, superclass_of, is_chain_start, declared_class};
-ghost use Rattle.ns_world.specs.Words.{shape_in, words_behind};
+ghost use Rattle.ns_world.specs.Head.{head_at};
+ghost use Rattle.ns_world.specs.Words.{shape_in, head_in, words_behind};
 ghost use Rattle.ns_world.specs.Seek.{first_such, is_sought, is_nil, is_top, may_be_first};
 ghost use Rattle.ns_world.specs.declared.word.Word.TheVariants.{Bytes, Nil};
 
 use crate::cell::NewCell;
+use crate::head::Head;
 use crate::kernel::NO_CLASS;
 use crate::lay::{lay, text_words};
 use crate::seek::{Sought, is_sought_at};
@@ -147,6 +149,14 @@ impl Heap {
         self.words[word] = with_byte(self.words[word], (place % 8) as usize, byte);
     }
 
+    /// The kind and the size of a cell.
+    pub fn head(&self, at: u32) -> Head
+        requires { IsSome (find_cell self.now.cells at) }
+        ensures { result ≡ head_at self.now.cells at }
+    {
+        head_in(self.words[at as usize])
+    }
+
     /// The kind, the sizes and the fixed parts with which a cell was made.
     pub fn cell(&self, at: u32) -> NewCell
         requires { IsSome (find_cell self.now.cells at) }
@@ -272,6 +282,26 @@ fn shape_in(head: Word, next: Word, second: Word, third: Word) -> NewCell
         },
         parent => NewCell::Environment {
             parent: value_in(parent),
+            locals: beside_in(parent),
+        },
+    }
+}
+
+/// What a head tells by itself.
+fn head_in(head: Word) -> Head
+    ensures { result ≡ head_in head }
+{
+    match head {
+        Word::Bytes(_) => Head::Mirror,
+        Word::Object { class, words } => Head::Object { class, words },
+        Word::Class { decl } => Head::Class { decl },
+        Word::Block { body, home } => Head::Block { body, home },
+        Word::Array { size } => Head::Array { size },
+        Word::Text { bytes } => Head::Text { bytes },
+        Word::Facet(kind) => Head::Facet(kind),
+        Word::Mirror => Head::Mirror,
+        Word::Message(sel) => Head::Message(sel),
+        parent => Head::Environment {
             locals: beside_in(parent),
         },
     }
