@@ -64,13 +64,20 @@ pub start_told : (heap : Heap) (at : ℕ) → start_at_head (head_at heap at) at
 start_told heap at = start_head (shape_at heap at) at
 
 head_of_word : (first : Word) (words : List Word) → head_of_shape (shape_in first words) ≡ head_in first
-head_of_word (word.Nil beside) words = refl
-head_of_word (word.True beside) words = refl
-head_of_word (word.False beside) words = refl
-head_of_word (word.Int beside number) words = refl
-head_of_word (word.Sym beside sel) words = refl
-head_of_word (word.Kernel beside class) words = refl
-head_of_word (word.Ref beside at) words = refl
+head_of_word word.Nil words = refl
+head_of_word word.True words = refl
+head_of_word word.False words = refl
+head_of_word (word.Int number) words = refl
+head_of_word (word.Sym sel) words = refl
+head_of_word (word.Kernel class) words = refl
+head_of_word (word.Ref at) words = refl
+head_of_word (word.NilWith beside) words = refl
+head_of_word (word.TrueWith beside) words = refl
+head_of_word (word.FalseWith beside) words = refl
+head_of_word (word.IntWith beside number) words = refl
+head_of_word (word.SymWith beside sel) words = refl
+head_of_word (word.KernelWith beside class) words = refl
+head_of_word (word.RefWith beside at) words = refl
 head_of_word (word.Bytes bytes) words = refl
 head_of_word (word.Object class count) words = refl
 head_of_word (word.Class decl) words = refl
@@ -95,5 +102,5 @@ reads_head heap words n laid h = found (find_cell heap n) refl h
         let within : n < length words = omega (arith, found_below heap n cell e, length-laid_out heap, ap length laid) in
         record {
           inside = within;
-          told = λ d. ap head_in (get_or_default words n d (word.Nil 0) within) ∙ (sym (head_of_word (get_or words n (word.Nil 0)) _) ∙ ap head_of_shape (shape_told heap words n laid h));
+          told = λ d. ap head_in (get_or_default words n d word.Nil within) ∙ (sym (head_of_word (get_or words n word.Nil) _) ∙ ap head_of_shape (shape_told heap words n laid h));
         }

@@ -127,7 +127,7 @@ impl Heap {
         ensures cells { self.new ≡ record self.old { cells = write_word self.old.cells at word value } }
         ensures size { heap_size self.new.cells ≡ heap_size self.old.cells }
     {
-        self.words[at as usize + 1 + word as usize] = word_of(value, 0);
+        self.words[at as usize + 1 + word as usize] = word_of(value);
     }
 
     /// A byte of a text.
@@ -244,11 +244,11 @@ fn bound_with(first: bool, number: usize, bound: usize) -> usize
 
 /// The word of that place, and the word of nil past the end.
 fn word_or_nil(words: &[Word], at: usize) -> Word
-    ensures { result ≡ slice_index_or words.now at (Nil 0) }
+    ensures { result ≡ slice_index_or words.now at Nil }
 {
     match words.get(at) {
         Some(word) => *word,
-        None => Word::Nil { beside: 0 },
+        None => Word::Nil,
     }
 }
 
