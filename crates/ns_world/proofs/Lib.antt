@@ -12,6 +12,7 @@ pub mod Above
 pub mod Seeking
 pub mod ShapeTests
 pub mod HeadTests
+pub mod Next
 pub mod Changing
 pub mod Firsts
 pub mod Bounding

@@ -3,7 +3,7 @@
 ghost use Rattle.std.specs.Prelude.{◌≡◌, ℕ, ◌+◌, ◌^◌, ◌<◌, ◌≤◌, List, [], ◌∷◌, length, true, false, ◌&&◌, is_none, Some, slice_get, slice_index, slice_set, IsTrue, IsSome, OnOk, OnErr, if◌then◌else◌};
 ghost use Rattle.std.specs.List.{slice_index_or};
 ghost use Rattle.ns_world.specs.Cell.{cell_size, fresh};
-ghost use Rattle.ns_world.specs.Heap.{heap_size, has_superclass, words_at, word_at, open_words_at, write_word, bytes_at, byte_at, write_byte, find_cell, shape_at, is_class, chain_of, superclass_of, is_chain_start, declared_class};
+ghost use Rattle.ns_world.specs.Heap.{heap_size, has_superclass, words_at, word_at, open_words_at, write_word, bytes_at, byte_at, write_byte, find_cell, shape_at, next_number, is_class, chain_of, superclass_of, is_chain_start, declared_class};
 ghost use Rattle.ns_world.specs.Head.{head_at};
 ghost use Rattle.ns_world.specs.Words.{shape_in, head_in, words_behind};
 ghost use Rattle.ns_world.specs.Seek.{first_such, is_sought, is_nil, is_top, may_be_first};
@@ -155,6 +155,15 @@ impl Heap {
         ensures { result ≡ head_at self.now.cells at }
     {
         head_in(self.words[at as usize])
+    }
+
+    /// The number behind a cell: that of the next, or how many cells are used.
+    pub fn next(&self, at: u32) -> u32
+        requires { IsSome (find_cell self.now.cells at) }
+        ensures { result ≡ next_number self.now.cells at }
+    {
+        let next = u64::from(at) + 1 + words_behind(self.words[at as usize]);
+        next as u32
     }
 
     /// The kind, the sizes and the fixed parts with which a cell was made.

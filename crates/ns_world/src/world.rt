@@ -4,7 +4,7 @@ ghost use Rattle.std.specs.Prelude.{◌≡◌, ◌-◌, ◌<◌, ◌≤◌, [], 
 ghost use Rattle.ns_base.specs.Limits.{InRange};
 ghost use Rattle.ns_world.specs.declared.ending.LimitKind.TheVariants.{Steps, Depth, Out};
 ghost use Rattle.ns_world.specs.Cell.{fresh};
-ghost use Rattle.ns_world.specs.Heap.{has_superclass, words_at, word_at, open_words_at, bytes_at, byte_at, find_cell, shape_at, is_class, is_chain_start, chain_of, superclass_of};
+ghost use Rattle.ns_world.specs.Heap.{has_superclass, words_at, word_at, open_words_at, bytes_at, byte_at, find_cell, shape_at, next_number, is_class, is_chain_start, chain_of, superclass_of};
 ghost use Rattle.ns_world.specs.Seek.{first_such, is_facet, is_top};
 ghost use Rattle.ns_world.specs.Head.{head_at};
 ghost use Rattle.ns_world.specs.Starts.{has_class, class_name_at, is_receiver, start_of};
@@ -147,6 +147,14 @@ impl World {
         ensures { result ≡ head_at self.now.world.cells at }
     {
         self.heap.head(at)
+    }
+
+    /// The number behind a live cell: that of the next, or how many cells are used.
+    pub fn next(&self, at: u32) -> u32
+        requires { IsSome (find_cell self.now.world.cells at) }
+        ensures { result ≡ next_number self.now.world.cells at }
+    {
+        self.heap.next(at)
     }
 
     /// Whether a live cell is a class.
