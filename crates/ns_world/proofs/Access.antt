@@ -7,33 +7,33 @@ use Rattle.ns_world.specs.declared.word.Word.{Word}
 use Rattle.ns_world.specs.Cell.{Cell, ObjectCell, ClassCell, BlockCell, EnvironmentCell, ArrayCell, TextCell, FacetCell, MirrorCell, MessageCell, cell_size, cell_words, open_words, with_word}
 use Rattle.ns_world.specs.Heap.{Heap, find_cell, set_cell, words_at, word_at, open_words_at, write_word}
 use Rattle.ns_world.specs.Words.{word_of, value_in, words_of, laid_out}
-use Rattle.ns_world.proofs.LaidOut.{value_in-word_of, length-laid_out}
+use Rattle.ns_world.proofs.LaidOut.{value_in-word_of, value_in-word_beside, length-laid_out}
 use Rattle.ns_world.proofs.Standing.{stands-within, word_of_cell, set_word_of_cell}
 use Rattle.ns_world.proofs.Replacing.{Replaces, Stays, set_cell_stays}
 
 -- a value among many that were laid out
-mapped : (values : List Value) (k : ℕ) (d : Word) → k < length values → value_in (get_or (map (word_of 0) values) k d) ≡ get_or values k Nil
+mapped : (values : List Value) (k : ℕ) (d : Word) → k < length values → value_in (get_or (map word_of values) k d) ≡ get_or values k Nil
 mapped [] k d h = absurd (omega arith)
-mapped (value ∷ values) zero d h = value_in-word_of 0 value
+mapped (value ∷ values) zero d h = value_in-word_of value
 mapped (value ∷ values) (suc k) d h = mapped values k d (omega arith)
 
 -- a word behind a head holds the cell's value
 pub value_in_cell : (cell : Cell) (k : ℕ) (d : Word) → k < length (cell_words cell) → value_in (get_or (words_of cell) (suc k) d) ≡ get_or (cell_words cell) k Nil
 value_in_cell (ObjectCell class entries) k d h = mapped entries k d h
-value_in_cell (ClassCell decl encl holder over) zero d h = value_in-word_of 0 encl
-value_in_cell (ClassCell decl encl holder over) (suc zero) d h = value_in-word_of 0 holder
-value_in_cell (ClassCell decl encl holder over) (suc (suc zero)) d h = value_in-word_of 0 over
+value_in_cell (ClassCell decl encl holder over) zero d h = value_in-word_of encl
+value_in_cell (ClassCell decl encl holder over) (suc zero) d h = value_in-word_of holder
+value_in_cell (ClassCell decl encl holder over) (suc (suc zero)) d h = value_in-word_of over
 value_in_cell (ClassCell decl encl holder over) (suc (suc (suc k))) d h = absurd (omega arith)
-value_in_cell (BlockCell body env home receiver holder) zero d h = value_in-word_of 0 receiver
-value_in_cell (BlockCell body env home receiver holder) (suc zero) d h = value_in-word_of holder env
+value_in_cell (BlockCell body env home receiver holder) zero d h = value_in-word_of receiver
+value_in_cell (BlockCell body env home receiver holder) (suc zero) d h = value_in-word_beside holder env
 value_in_cell (BlockCell body env home receiver holder) (suc (suc k)) d h = absurd (omega arith)
 value_in_cell (EnvironmentCell parent locals) k d h = mapped locals k d h
 value_in_cell (ArrayCell items) k d h = mapped items k d h
 value_in_cell (TextCell bytes) k d h = absurd (omega arith)
 value_in_cell (FacetCell kind) k d h = absurd (omega arith)
-value_in_cell (MirrorCell mirrored) zero d h = value_in-word_of 0 mirrored
+value_in_cell (MirrorCell mirrored) zero d h = value_in-word_of mirrored
 value_in_cell (MirrorCell mirrored) (suc k) d h = absurd (omega arith)
-value_in_cell (MessageCell sel args) zero d h = value_in-word_of 0 args
+value_in_cell (MessageCell sel args) zero d h = value_in-word_of args
 value_in_cell (MessageCell sel args) (suc k) d h = absurd (omega arith)
 
 words_fit : (cell : Cell) → 1 + length (cell_words cell) ≤ cell_size cell
@@ -72,12 +72,12 @@ reads_word heap words n k laid h = found (find_cell heap n) refl
         }
 
 -- a written word changes one word of the cell
-pub words_of-with_word : (cell : Cell) (k : ℕ) (value : Value) → k < length (open_words cell) → words_of (with_word cell k value) ≡ set (words_of cell) (suc k) (word_of 0 value)
-words_of-with_word (ObjectCell class entries) k value h = rw (length-set entries k value, map-set (word_of 0) entries k value) refl
+pub words_of-with_word : (cell : Cell) (k : ℕ) (value : Value) → k < length (open_words cell) → words_of (with_word cell k value) ≡ set (words_of cell) (suc k) (word_of value)
+words_of-with_word (ObjectCell class entries) k value h = rw (length-set entries k value, map-set word_of entries k value) refl
 words_of-with_word (ClassCell decl encl holder over) k value h = absurd (omega arith)
 words_of-with_word (BlockCell body env home receiver holder) k value h = absurd (omega arith)
-words_of-with_word (EnvironmentCell parent locals) k value h = rw (length-set locals k value, map-set (word_of 0) locals k value) refl
-words_of-with_word (ArrayCell items) k value h = rw (length-set items k value, map-set (word_of 0) items k value) refl
+words_of-with_word (EnvironmentCell parent locals) k value h = rw (length-set locals k value, map-set word_of locals k value) refl
+words_of-with_word (ArrayCell items) k value h = rw (length-set items k value, map-set word_of items k value) refl
 words_of-with_word (TextCell bytes) k value h = absurd (omega arith)
 words_of-with_word (FacetCell kind) k value h = absurd (omega arith)
 words_of-with_word (MirrorCell mirrored) k value h = absurd (omega arith)
@@ -109,7 +109,7 @@ open_fits (MessageCell sel args) = omega arith
 -- What is known of a write into a live cell: where it goes, and the words afterwards.
 pub record WritesWord (heap : Heap) (words : List Word) (n k : ℕ) (value : Value) : Type 0 where
   pub inside : n + 1 + k < length words
-  pub after : laid_out (write_word heap n k value) ≡ set words (n + 1 + k) (word_of 0 value)
+  pub after : laid_out (write_word heap n k value) ≡ set words (n + 1 + k) (word_of value)
   pub stays : Stays heap (write_word heap n k value)
 
 pub writes_word : (heap : Heap) (words : List Word) (n k : ℕ) (value : Value) → laid_out heap ≡ words → k < length (open_words_at heap n) → WritesWord heap words n k value
@@ -126,7 +126,7 @@ writes_word heap words n k value laid h = found (find_cell heap n) refl
           inside = omega (arith, stands-within heap n cell e, length-laid_out heap, ap length laid);
           after =
               ap laid_out is
-              ∙ (set_word_of_cell heap n cell (with_word cell k value) (suc k) (word_of 0 value) e fits (words_of-with_word cell k value here)
-              ∙ (ap (λ ws. set ws (n + suc k) (word_of 0 value)) laid ∙ ap (λ i. set words i (word_of 0 value)) at));
+              ∙ (set_word_of_cell heap n cell (with_word cell k value) (suc k) (word_of value) e fits (words_of-with_word cell k value here)
+              ∙ (ap (λ ws. set ws (n + suc k) (word_of value)) laid ∙ ap (λ i. set words i (word_of value)) at));
           stays = let s = set_cell_stays heap n cell (with_word cell k value) e (with_word-replaces cell k value here) in rw is s;
         }

@@ -11,6 +11,8 @@ pub mod Shapes
 pub mod Above
 pub mod Seeking
 pub mod ShapeTests
+pub mod HeadTests
+pub mod Next
 pub mod Changing
 pub mod Firsts
 pub mod Bounding

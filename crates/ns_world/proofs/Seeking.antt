@@ -10,7 +10,7 @@ use Rattle.ns_world.specs.declared.seek.Sought.{Sought}
 use Rattle.ns_world.specs.declared.seek.Sought.TheVariants.{Facet, Top}
 use Rattle.ns_world.specs.Cell.{Cell, ObjectCell, ClassCell, BlockCell, EnvironmentCell, ArrayCell, TextCell, FacetCell, MirrorCell, MessageCell, cell_size}
 use Rattle.ns_world.specs.Heap.{Heap, heap_size}
-use Rattle.ns_world.specs.Words.{word_of, head_of, body_of, words_of, words_behind, laid_out}
+use Rattle.ns_world.specs.Words.{word_of, word_beside, head_of, body_of, words_of, words_behind, laid_out}
 use Rattle.ns_world.specs.Seek.{is_sought, is_sought_at, is_nil, is_nil_at, earlier_or, first_such}
 use Rattle.ns_world.proofs.LaidOut.{flat, laid_out-flat, words_behind-head, length-words}
 
@@ -53,7 +53,7 @@ first_from-reverse test (cell ∷ earlier) =
     ∙ (ap (λ m. earlier_or (first_from test 0 (reverse earlier)) (cond (test cell) (Some m) None)) size
     ∙ ap (λ o. earlier_or o (cond (test cell) (Some (heap_size earlier)) None)) (first_from-reverse test earlier)))
 
-nil_at : (value : Value) → is_nil_at (word_of 0 value) ≡ is_nil value
+nil_at : (value : Value) → is_nil_at (word_of value) ≡ is_nil value
 nil_at Nil = refl
 nil_at True = refl
 nil_at False = refl
@@ -62,7 +62,7 @@ nil_at (Sym sel) = refl
 nil_at (Kernel class) = refl
 nil_at (Ref at) = refl
 
-not_parent : (sought : Sought) (n : ℕ) (value : Value) (next : Word) → is_sought_at sought (word_of n value) next ≡ false
+not_parent : (sought : Sought) (n : ℕ) (value : Value) (next : Word) → is_sought_at sought (word_beside n value) next ≡ false
 not_parent (Facet kind) n Nil next = refl
 not_parent (Facet kind) n True next = refl
 not_parent (Facet kind) n False next = refl
@@ -79,11 +79,11 @@ not_parent (Top decl) n (Kernel class) next = refl
 not_parent (Top decl) n (Ref at) next = refl
 
 -- the words of a cell tell whether it is sought
-sought_cell : (sought : Sought) (cell : Cell) (rest : List Word) → is_sought_at sought (head_of cell) (get_or (words_of cell ++ rest) 1 (NilWord 0)) ≡ is_sought sought cell
+sought_cell : (sought : Sought) (cell : Cell) (rest : List Word) → is_sought_at sought (head_of cell) (get_or (words_of cell ++ rest) 1 NilWord) ≡ is_sought sought cell
 sought_cell (Facet kind) (ObjectCell class entries) rest = refl
 sought_cell (Facet kind) (ClassCell decl encl holder over) rest = refl
 sought_cell (Facet kind) (BlockCell body env home receiver holder) rest = refl
-sought_cell (Facet kind) (EnvironmentCell parent locals) rest = not_parent (Facet kind) (length locals) parent (get_or (words_of (EnvironmentCell parent locals) ++ rest) 1 (NilWord 0))
+sought_cell (Facet kind) (EnvironmentCell parent locals) rest = not_parent (Facet kind) (length locals) parent (get_or (words_of (EnvironmentCell parent locals) ++ rest) 1 NilWord)
 sought_cell (Facet kind) (ArrayCell items) rest = refl
 sought_cell (Facet kind) (TextCell bytes) rest = refl
 sought_cell (Facet kind) (FacetCell other) rest = refl
@@ -92,7 +92,7 @@ sought_cell (Facet kind) (MessageCell sel args) rest = refl
 sought_cell (Top decl) (ObjectCell class entries) rest = refl
 sought_cell (Top decl) (ClassCell other encl holder over) rest = rw (nil_at encl) refl
 sought_cell (Top decl) (BlockCell body env home receiver holder) rest = refl
-sought_cell (Top decl) (EnvironmentCell parent locals) rest = not_parent (Top decl) (length locals) parent (get_or (words_of (EnvironmentCell parent locals) ++ rest) 1 (NilWord 0))
+sought_cell (Top decl) (EnvironmentCell parent locals) rest = not_parent (Top decl) (length locals) parent (get_or (words_of (EnvironmentCell parent locals) ++ rest) 1 NilWord)
 sought_cell (Top decl) (ArrayCell items) rest = refl
 sought_cell (Top decl) (TextCell bytes) rest = refl
 sought_cell (Top decl) (FacetCell other) rest = refl
@@ -113,9 +113,9 @@ past cell rest words at next n e = sym (drop-append_seam cell rest) ∙ (ap (dro
 
 -- one step of the walk, from a cell's head to the next
 pub record Step (sought : Sought) (words : List Word) (whole : Option ℕ) (at : ℕ) : Type 0 where
-  pub here : is_sought_at sought (get_or words at (NilWord 0)) (get_or words (at + 1) (NilWord 0)) ≡ true → whole ≡ Some at
-  pub next : is_sought_at sought (get_or words at (NilWord 0)) (get_or words (at + 1) (NilWord 0)) ≡ false → Walks sought words whole (at + 1 + words_behind (get_or words at (NilWord 0)))
-  pub inside : at + 1 + words_behind (get_or words at (NilWord 0)) ≤ length words
+  pub here : is_sought_at sought (get_or words at NilWord) (get_or words (at + 1) NilWord) ≡ true → whole ≡ Some at
+  pub next : is_sought_at sought (get_or words at NilWord) (get_or words (at + 1) NilWord) ≡ false → Walks sought words whole (at + 1 + words_behind (get_or words at NilWord))
+  pub inside : at + 1 + words_behind (get_or words at NilWord) ≤ length words
 
 pub walk_step : (sought : Sought) (words : List Word) (whole : Option ℕ) (at : ℕ) → at < length words → Walks sought words whole at → Step sought words whole at
 unfolding flat first_from
@@ -124,19 +124,19 @@ walk_step sought words whole at h w = stepped w.left w.is w.gives
     stepped : (left : List Cell) → flat left ≡ drop at words → first_from (is_sought sought) at left ≡ whole → Step sought words whole at
     stepped [] e g = absurd (omega (arith, ap length e, length-drop at words))
     stepped (cell ∷ left) e g =
-        let head : get_or words at (NilWord 0) ≡ head_of cell =
-        ap (λ i. get_or words i (NilWord 0)) (omega arith) ∙ (sym (get_or-drop at words 0 (NilWord 0)) ∙ ap (λ ws. get_or ws 0 (NilWord 0)) (sym e)) in
-        let next : get_or words (at + 1) (NilWord 0) ≡ get_or (words_of cell ++ flat left) 1 (NilWord 0) =
-        sym (get_or-drop at words 1 (NilWord 0)) ∙ ap (λ ws. get_or ws 1 (NilWord 0)) (sym e) in
-        let told : is_sought_at sought (get_or words at (NilWord 0)) (get_or words (at + 1) (NilWord 0)) ≡ is_sought sought cell =
-        ap (λ w. is_sought_at sought w (get_or words (at + 1) (NilWord 0))) head ∙ (ap (is_sought_at sought (head_of cell)) next ∙ sought_cell sought cell (flat left)) in
-        let behind : words_behind (get_or words at (NilWord 0)) ≡ length (body_of cell) = ap words_behind head ∙ words_behind-head cell in
-        let size : at + 1 + words_behind (get_or words at (NilWord 0)) ≡ at + cell_size cell = omega (arith, behind, length-words cell) in
+        let head : get_or words at NilWord ≡ head_of cell =
+        ap (λ i. get_or words i NilWord) (omega arith) ∙ (sym (get_or-drop at words 0 NilWord) ∙ ap (λ ws. get_or ws 0 NilWord) (sym e)) in
+        let next : get_or words (at + 1) NilWord ≡ get_or (words_of cell ++ flat left) 1 NilWord =
+        sym (get_or-drop at words 1 NilWord) ∙ ap (λ ws. get_or ws 1 NilWord) (sym e) in
+        let told : is_sought_at sought (get_or words at NilWord) (get_or words (at + 1) NilWord) ≡ is_sought sought cell =
+        ap (λ w. is_sought_at sought w (get_or words (at + 1) NilWord)) head ∙ (ap (is_sought_at sought (head_of cell)) next ∙ sought_cell sought cell (flat left)) in
+        let behind : words_behind (get_or words at NilWord) ≡ length (body_of cell) = ap words_behind head ∙ words_behind-head cell in
+        let size : at + 1 + words_behind (get_or words at NilWord) ≡ at + cell_size cell = omega (arith, behind, length-words cell) in
         record {
           here = λ t. sym g ∙ ap (λ b. cond b (Some at) (first_from (is_sought sought) (at + cell_size cell) left)) (sym told ∙ t);
           next = λ f. record {
             left = left;
-            is = past (words_of cell) (flat left) words at (at + 1 + words_behind (get_or words at (NilWord 0))) (omega (arith, size, length-words cell)) e;
+            is = past (words_of cell) (flat left) words at (at + 1 + words_behind (get_or words at NilWord)) (omega (arith, size, length-words cell)) e;
             gives = ap (λ n. first_from (is_sought sought) n left) size ∙ (sym (ap (λ b. cond b (Some at) (first_from (is_sought sought) (at + cell_size cell) left)) (sym told ∙ f)) ∙ g);
           };
           inside = omega (arith, size, length-words cell, ap length e, length-drop at words, length-append (words_of cell) (flat left));
@@ -148,11 +148,11 @@ pub record Told (sought : Sought) (words : List Word) (whole : Option ℕ) (at b
   pub next : found ≡ false → Walks sought words whole (at + (1 + behind))
   pub inside : at + (1 + behind) ≤ length words
 
-pub walk_told : (sought : Sought) (words : List Word) (whole : Option ℕ) (at behind : ℕ) (head next : Word) (found : Bool) → at < length words → Walks sought words whole at → head ≡ get_or words at (NilWord 0) → next ≡ get_or words (at + 1) (NilWord 0) → found ≡ is_sought_at sought head next → behind ≡ words_behind head → Told sought words whole at behind found
+pub walk_told : (sought : Sought) (words : List Word) (whole : Option ℕ) (at behind : ℕ) (head next : Word) (found : Bool) → at < length words → Walks sought words whole at → head ≡ get_or words at NilWord → next ≡ get_or words (at + 1) NilWord → found ≡ is_sought_at sought head next → behind ≡ words_behind head → Told sought words whole at behind found
 walk_told sought words whole at behind head next found h w eh en ef eb =
     let s = walk_step sought words whole at h w in
-    let test : is_sought_at sought (get_or words at (NilWord 0)) (get_or words (at + 1) (NilWord 0)) ≡ found = cc in
-    let on : at + 1 + words_behind (get_or words at (NilWord 0)) ≡ at + (1 + behind) = omega (arith, eb ∙ ap words_behind eh) in
+    let test : is_sought_at sought (get_or words at NilWord) (get_or words (at + 1) NilWord) ≡ found = cc in
+    let on : at + 1 + words_behind (get_or words at NilWord) ≡ at + (1 + behind) = omega (arith, eb ∙ ap words_behind eh) in
     record {
       here = λ t. sym (s.here (test ∙ t));
       next = λ f. let P : ℕ → Type 0 = λ n. Walks sought words whole n in subst P on (s.next (test ∙ f));

@@ -122,3 +122,7 @@ declared_class _ = no_class
 -- the number of the superclass of a class, where it is declared
 abbrev pub superclass_of : Heap → ℕ → ℕ
 superclass_of heap class = declared_class (superclass_in (find_cell heap class))
+
+-- the number behind the cell of that number: that of the next cell, or how many cells are used
+abbrev pub next_number : Heap → ℕ → ℕ
+next_number heap number = number + option_map_or cell_size (find_cell heap number) 0

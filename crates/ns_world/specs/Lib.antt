@@ -5,6 +5,7 @@ pub mod View
 pub mod Seek
 pub mod World
 pub mod Starts
+pub mod Head
 pub mod Layout
 pub mod Lawful
 pub mod Keeping

@@ -61,7 +61,7 @@ may_be_first heap cell = false
 
 -- the same tests on words
 abbrev pub is_nil_at : Word → Bool
-is_nil_at (NilWord beside) = true
+is_nil_at (NilWord) = true
 is_nil_at _ = false
 
 abbrev pub is_facet_at : FacetKind → Word → Bool

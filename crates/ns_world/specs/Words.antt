@@ -6,40 +6,58 @@ use Rattle.ns_world.specs.declared.value.Value.TheVariants.{Nil, True, False, In
 use Rattle.ns_world.specs.declared.cell.FacetKind.TheVariants.{Manifest}
 use Rattle.ns_world.specs.declared.cell.NewCell.{NewCell}
 use Rattle.ns_world.specs.declared.cell.NewCell.TheVariants as new
+use Rattle.ns_world.specs.declared.head.Head.{Head}
+use Rattle.ns_world.specs.declared.head.Head.TheVariants as head
 use Rattle.ns_world.specs.declared.word.Word.{Word}
-use Rattle.ns_world.specs.declared.word.Word.TheVariants.{Nil as NilWord, True as TrueWord, False as FalseWord, Int as IntWord, Sym as SymWord, Kernel as KernelWord, Ref as RefWord, Bytes, Object, Class, Block, Array, Text, Facet, Mirror, Message}
+use Rattle.ns_world.specs.declared.word.Word.TheVariants.{Nil as NilWord, True as TrueWord, False as FalseWord, Int as IntWord, Sym as SymWord, Kernel as KernelWord, Ref as RefWord, Bytes, Object, Class, Block, Array, Text, Facet, Mirror, Message, NilWith, TrueWith, FalseWith, IntWith, SymWith, KernelWith, RefWith}
 use Rattle.ns_world.specs.Cell.{Cell, ObjectCell, ClassCell, BlockCell, EnvironmentCell, ArrayCell, TextCell, FacetCell, MirrorCell, MessageCell, text_words}
 use Rattle.ns_world.specs.Heap.{Heap}
 
--- the word of a value, with a number beside it
-abbrev pub word_of : ℕ → Value → Word
-word_of beside Nil = NilWord beside
-word_of beside True = TrueWord beside
-word_of beside False = FalseWord beside
-word_of beside (Int number) = IntWord beside number
-word_of beside (Sym sel) = SymWord beside sel
-word_of beside (Kernel class) = KernelWord beside class
-word_of beside (Ref at) = RefWord beside at
+-- the word of a value
+abbrev pub word_of : Value → Word
+word_of Nil = NilWord
+word_of True = TrueWord
+word_of False = FalseWord
+word_of (Int number) = IntWord number
+word_of (Sym sel) = SymWord sel
+word_of (Kernel class) = KernelWord class
+word_of (Ref at) = RefWord at
+
+-- the word of a value with a number beside it
+abbrev pub word_beside : ℕ → Value → Word
+word_beside beside Nil = NilWith beside
+word_beside beside True = TrueWith beside
+word_beside beside False = FalseWith beside
+word_beside beside (Int number) = IntWith beside number
+word_beside beside (Sym sel) = SymWith beside sel
+word_beside beside (Kernel class) = KernelWith beside class
+word_beside beside (Ref at) = RefWith beside at
 
 -- the value of a word, nil where it holds none
 abbrev pub value_in : Word → Value
-value_in (TrueWord beside) = True
-value_in (FalseWord beside) = False
-value_in (IntWord beside number) = Int number
-value_in (SymWord beside sel) = Sym sel
-value_in (KernelWord beside class) = Kernel class
-value_in (RefWord beside at) = Ref at
+value_in TrueWord = True
+value_in FalseWord = False
+value_in (IntWord number) = Int number
+value_in (SymWord sel) = Sym sel
+value_in (KernelWord class) = Kernel class
+value_in (RefWord at) = Ref at
+value_in (TrueWith beside) = True
+value_in (FalseWith beside) = False
+value_in (IntWith beside number) = Int number
+value_in (SymWith beside sel) = Sym sel
+value_in (KernelWith beside class) = Kernel class
+value_in (RefWith beside at) = Ref at
 value_in _ = Nil
 
--- the number beside the value of a word, 0 where it holds none
+-- the number beside the value of a word, 0 where none stands there
 abbrev pub beside_in : Word → ℕ
-beside_in (NilWord beside) = beside
-beside_in (TrueWord beside) = beside
-beside_in (FalseWord beside) = beside
-beside_in (IntWord beside number) = beside
-beside_in (SymWord beside sel) = beside
-beside_in (KernelWord beside class) = beside
-beside_in (RefWord beside at) = beside
+beside_in (NilWith beside) = beside
+beside_in (TrueWith beside) = beside
+beside_in (FalseWith beside) = beside
+beside_in (IntWith beside number) = beside
+beside_in (SymWith beside sel) = beside
+beside_in (KernelWith beside class) = beside
+beside_in (RefWith beside at) = beside
 beside_in _ = 0
 
 -- the first eight bytes, filled up with 0
@@ -62,7 +80,7 @@ abbrev pub head_of : Cell → Word
 head_of (ObjectCell class entries) = Object class (length entries)
 head_of (ClassCell decl encl holder over) = Class decl
 head_of (BlockCell body env home receiver holder) = Block body home
-head_of (EnvironmentCell parent locals) = word_of (length locals) parent
+head_of (EnvironmentCell parent locals) = word_beside (length locals) parent
 head_of (ArrayCell items) = Array (length items)
 head_of (TextCell bytes) = Text (length bytes)
 head_of (FacetCell kind) = Facet kind
@@ -71,15 +89,15 @@ head_of (MessageCell sel args) = Message sel
 
 -- the words behind it
 abbrev pub body_of : Cell → List Word
-body_of (ObjectCell class entries) = map (word_of 0) entries
-body_of (ClassCell decl encl holder over) = word_of 0 encl ∷ word_of 0 holder ∷ word_of 0 over ∷ []
-body_of (BlockCell body env home receiver holder) = word_of 0 receiver ∷ word_of holder env ∷ []
-body_of (EnvironmentCell parent locals) = map (word_of 0) locals
-body_of (ArrayCell items) = map (word_of 0) items
+body_of (ObjectCell class entries) = map word_of entries
+body_of (ClassCell decl encl holder over) = word_of encl ∷ word_of holder ∷ word_of over ∷ []
+body_of (BlockCell body env home receiver holder) = word_of receiver ∷ word_beside holder env ∷ []
+body_of (EnvironmentCell parent locals) = map word_of locals
+body_of (ArrayCell items) = map word_of items
 body_of (TextCell bytes) = packed (text_words (length bytes)) bytes
 body_of (FacetCell kind) = []
-body_of (MirrorCell mirrored) = word_of 0 mirrored ∷ []
-body_of (MessageCell sel args) = word_of 0 args ∷ NilWord 0 ∷ []
+body_of (MirrorCell mirrored) = word_of mirrored ∷ []
+body_of (MessageCell sel args) = word_of args ∷ NilWord ∷ []
 
 -- the words of a cell
 abbrev pub words_of : Cell → List Word
@@ -105,7 +123,7 @@ words_behind parent = beside_in parent
 
 -- the value of a word of a list
 abbrev pub value_at : List Word → ℕ → Value
-value_at words k = value_in (slice_index_or words k (NilWord 0))
+value_at words k = value_in (slice_index_or words k NilWord)
 
 -- the values of the first words
 abbrev pub values_in : ℕ → List Word → List Value
@@ -117,7 +135,7 @@ cell_of (Bytes bytes) words = FacetCell Manifest
 cell_of (Object class count) words = ObjectCell class (values_in count words)
 cell_of (Class decl) words = ClassCell decl (value_at words 0) (value_at words 1) (value_at words 2)
 cell_of (Block body home) words =
-    BlockCell body (value_at words 1) home (value_at words 0) (beside_in (slice_index_or words 1 (NilWord 0)))
+    BlockCell body (value_at words 1) home (value_at words 0) (beside_in (slice_index_or words 1 NilWord))
 cell_of (Array size) words = ArrayCell (values_in size words)
 cell_of (Text bytes) words = TextCell (take bytes (unpacked words))
 cell_of (Facet kind) words = FacetCell kind
@@ -141,10 +159,23 @@ shape_in (Bytes bytes) words = new.Mirror Nil
 shape_in (Object class count) words = new.Object class count
 shape_in (Class decl) words = new.Class decl (value_at words 0) (value_at words 1) (value_at words 2)
 shape_in (Block body home) words =
-    new.Block body (value_at words 1) home (value_at words 0) (beside_in (slice_index_or words 1 (NilWord 0)))
+    new.Block body (value_at words 1) home (value_at words 0) (beside_in (slice_index_or words 1 NilWord))
 shape_in (Array size) words = new.Array size
 shape_in (Text bytes) words = new.Text bytes
 shape_in (Facet kind) words = new.Facet kind
 shape_in Mirror words = new.Mirror (value_at words 0)
 shape_in (Message sel) words = new.Message sel (value_at words 0)
 shape_in parent words = new.Environment (value_in parent) (beside_in parent)
+
+-- what a head tells by itself
+abbrev pub head_in : Word → Head
+head_in (Bytes bytes) = head.Mirror
+head_in (Object class words) = head.Object class words
+head_in (Class decl) = head.Class decl
+head_in (Block body home) = head.Block body home
+head_in (Array size) = head.Array size
+head_in (Text bytes) = head.Text bytes
+head_in (Facet kind) = head.Facet kind
+head_in Mirror = head.Mirror
+head_in (Message sel) = head.Message sel
+head_in parent = head.Environment (beside_in parent)

@@ -3,12 +3,14 @@
 ghost use Rattle.std.specs.Prelude.{◌≡◌, ℕ, ◌+◌, ◌^◌, ◌<◌, ◌≤◌, List, [], ◌∷◌, length, true, false, ◌&&◌, is_none, Some, slice_get, slice_index, slice_set, IsTrue, IsSome, OnOk, OnErr, if◌then◌else◌};
 ghost use Rattle.std.specs.List.{slice_index_or};
 ghost use Rattle.ns_world.specs.Cell.{cell_size, fresh};
-ghost use Rattle.ns_world.specs.Heap.{heap_size, has_superclass, words_at, word_at, open_words_at, write_word, bytes_at, byte_at, write_byte, find_cell, shape_at, is_class, chain_of, superclass_of, is_chain_start, declared_class};
-ghost use Rattle.ns_world.specs.Words.{shape_in, words_behind};
+ghost use Rattle.ns_world.specs.Heap.{heap_size, has_superclass, words_at, word_at, open_words_at, write_word, bytes_at, byte_at, write_byte, find_cell, shape_at, next_number, is_class, chain_of, superclass_of, is_chain_start, declared_class};
+ghost use Rattle.ns_world.specs.Head.{head_at};
+ghost use Rattle.ns_world.specs.Words.{shape_in, head_in, words_behind};
 ghost use Rattle.ns_world.specs.Seek.{first_such, is_sought, is_nil, is_top, may_be_first};
 ghost use Rattle.ns_world.specs.declared.word.Word.TheVariants.{Bytes, Nil};
 
 use crate::cell::NewCell;
+use crate::head::Head;
 use crate::kernel::NO_CLASS;
 use crate::lay::{lay, text_words};
 use crate::seek::{Sought, is_sought_at};
@@ -125,7 +127,7 @@ impl Heap {
         ensures cells { self.new ≡ record self.old { cells = write_word self.old.cells at word value } }
         ensures size { heap_size self.new.cells ≡ heap_size self.old.cells }
     {
-        self.words[at as usize + 1 + word as usize] = word_of(value, 0);
+        self.words[at as usize + 1 + word as usize] = word_of(value);
     }
 
     /// A byte of a text.
@@ -145,6 +147,23 @@ impl Heap {
     {
         let word = at as usize + 1 + (place / 8) as usize;
         self.words[word] = with_byte(self.words[word], (place % 8) as usize, byte);
+    }
+
+    /// The kind and the size of a cell.
+    pub fn head(&self, at: u32) -> Head
+        requires { IsSome (find_cell self.now.cells at) }
+        ensures { result ≡ head_at self.now.cells at }
+    {
+        head_in(self.words[at as usize])
+    }
+
+    /// The number behind a cell: that of the next, or how many cells are used.
+    pub fn next(&self, at: u32) -> u32
+        requires { IsSome (find_cell self.now.cells at) }
+        ensures { result ≡ next_number self.now.cells at }
+    {
+        let next = u64::from(at) + 1 + words_behind(self.words[at as usize]);
+        next as u32
     }
 
     /// The kind, the sizes and the fixed parts with which a cell was made.
@@ -234,11 +253,11 @@ fn bound_with(first: bool, number: usize, bound: usize) -> usize
 
 /// The word of that place, and the word of nil past the end.
 fn word_or_nil(words: &[Word], at: usize) -> Word
-    ensures { result ≡ slice_index_or words.now at (Nil 0) }
+    ensures { result ≡ slice_index_or words.now at Nil }
 {
     match words.get(at) {
         Some(word) => *word,
-        None => Word::Nil { beside: 0 },
+        None => Word::Nil,
     }
 }
 
@@ -272,6 +291,26 @@ fn shape_in(head: Word, next: Word, second: Word, third: Word) -> NewCell
         },
         parent => NewCell::Environment {
             parent: value_in(parent),
+            locals: beside_in(parent),
+        },
+    }
+}
+
+/// What a head tells by itself.
+fn head_in(head: Word) -> Head
+    ensures { result ≡ head_in head }
+{
+    match head {
+        Word::Bytes(_) => Head::Mirror,
+        Word::Object { class, words } => Head::Object { class, words },
+        Word::Class { decl } => Head::Class { decl },
+        Word::Block { body, home } => Head::Block { body, home },
+        Word::Array { size } => Head::Array { size },
+        Word::Text { bytes } => Head::Text { bytes },
+        Word::Facet(kind) => Head::Facet(kind),
+        Word::Mirror => Head::Mirror,
+        Word::Message(sel) => Head::Message(sel),
+        parent => Head::Environment {
             locals: beside_in(parent),
         },
     }

@@ -8,7 +8,7 @@ ghost use Rattle.ns_world.specs.Words.{words_of};
 
 use crate::cell::NewCell;
 use crate::value::Value;
-use crate::word::{Word, word_of};
+use crate::word::{Word, word_beside, word_of};
 
 /// How many words a cell takes.
 pub fn size_of_cell(cell: NewCell) -> u64
@@ -62,12 +62,12 @@ pub fn lay(words: &mut Vec<Word>, cell: NewCell)
         NewCell::Array { size } => lay_array(words, size),
         NewCell::Text { bytes } => lay_text(words, bytes),
         NewCell::Facet(kind) => put(words, &[Word::Facet(kind)]),
-        NewCell::Mirror(mirrored) => put(words, &[Word::Mirror, word_of(mirrored, 0)]),
-        NewCell::Message { sel, args } => put(words, &[Word::Message(sel), word_of(args, 0), NIL]),
+        NewCell::Mirror(mirrored) => put(words, &[Word::Mirror, word_of(mirrored)]),
+        NewCell::Message { sel, args } => put(words, &[Word::Message(sel), word_of(args), NIL]),
     }
 }
 
-const NIL: Word = Word::Nil { beside: 0 };
+const NIL: Word = Word::Nil;
 
 /// An object's words begin as nil.
 fn lay_object(words: &mut Vec<Word>, class: u32, count: u32)
@@ -94,7 +94,7 @@ fn lay_class(words: &mut Vec<Word>, decl: u32, encl: Value, holder: Value, over:
     let head = Word::Class { decl };
     put(
         words,
-        &[head, word_of(encl, 0), word_of(holder, 0), word_of(over, 0)],
+        &[head, word_of(encl), word_of(holder), word_of(over)],
     );
 }
 
@@ -104,7 +104,7 @@ fn lay_block(words: &mut Vec<Word>, body: u32, env: Value, home: u64, receiver: 
     ensures capacity { vec_capacity words.old ≤ vec_capacity words.new }
 {
     let head = Word::Block { body, home };
-    put(words, &[head, word_of(receiver, 0), word_of(env, holder)]);
+    put(words, &[head, word_of(receiver), word_beside(env, holder)]);
 }
 
 /// The parent of an environment stands in its head, with the number of locals beside it.
@@ -114,7 +114,7 @@ fn lay_environment(words: &mut Vec<Word>, parent: Value, locals: u32)
     ensures items { words.new.items ≡ words.old.items ++ words_of (fresh (Environment parent locals)) }
     ensures capacity { vec_capacity words.old ≤ vec_capacity words.new }
 {
-    fill(words, word_of(parent, locals), u64::from(locals), NIL);
+    fill(words, word_beside(parent, locals), u64::from(locals), NIL);
 }
 
 #[tactic(auto, using(crate::proofs::Freshly::new_array_words))]

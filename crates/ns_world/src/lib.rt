@@ -3,6 +3,7 @@
 
 pub mod cell;
 pub mod ending;
+pub mod head;
 mod heap;
 pub mod kernel;
 pub mod later;

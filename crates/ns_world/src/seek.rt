@@ -59,7 +59,7 @@ fn is_nil_at(word: Word) -> bool
     ensures { result ≡ is_nil_at word }
 {
     match word {
-        Word::Nil { .. } => true,
+        Word::Nil => true,
         _ => false,
     }
 }

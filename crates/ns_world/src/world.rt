@@ -4,20 +4,22 @@ ghost use Rattle.std.specs.Prelude.{◌≡◌, ◌-◌, ◌<◌, ◌≤◌, [], 
 ghost use Rattle.ns_base.specs.Limits.{InRange};
 ghost use Rattle.ns_world.specs.declared.ending.LimitKind.TheVariants.{Steps, Depth, Out};
 ghost use Rattle.ns_world.specs.Cell.{fresh};
-ghost use Rattle.ns_world.specs.Heap.{has_superclass, words_at, word_at, open_words_at, bytes_at, byte_at, find_cell, shape_at, is_class, is_chain_start, chain_of, superclass_of};
+ghost use Rattle.ns_world.specs.Heap.{has_superclass, words_at, word_at, open_words_at, bytes_at, byte_at, find_cell, shape_at, next_number, is_class, is_chain_start, chain_of, superclass_of};
 ghost use Rattle.ns_world.specs.Seek.{first_such, is_facet, is_top};
-ghost use Rattle.ns_world.specs.Starts.{has_class, class_name_at, is_receiver, start_of, start_of_cell, kernel_class_row, facet_row, is_class_shape, declaration_in};
+ghost use Rattle.ns_world.specs.Head.{head_at};
+ghost use Rattle.ns_world.specs.Starts.{has_class, class_name_at, is_receiver, start_of};
 ghost use Rattle.ns_world.specs.declared.kernel.Start.TheVariants.{Instance};
 ghost use Rattle.ns_world.specs.Layout.{declaration_of};
 ghost use Rattle.ns_world.specs.World.{SameRoom, MakesCell, Charges, empty_world, counters_of, stepped, entered, left, printed, written, byte_written};
 
 use crate::cell::{CellLimit, FacetKind, NewCell};
 use crate::ending::{Counters, LimitKind};
+use crate::head::{Head, declared_at_head, is_class_head, kernel_class_row, start_at_head};
 use crate::heap::Heap;
 use crate::kernel::{ClassName, KernelRow, NO_CLASS, Start};
 use crate::lay::size_of_cell;
 use crate::seek::Sought;
-use crate::value::{KClass, Value};
+use crate::value::Value;
 use ns_base::limits::Limits;
 use ns_base::no_memory::NoMemory;
 use std::alloc::Global;
@@ -139,24 +141,42 @@ impl World {
         self.heap.cell(at)
     }
 
+    /// The kind and the size of a live cell, which stand in its first word.
+    pub fn head(&self, at: u32) -> Head
+        requires { IsSome (find_cell self.now.world.cells at) }
+        ensures { result ≡ head_at self.now.world.cells at }
+    {
+        self.heap.head(at)
+    }
+
+    /// The number behind a live cell: that of the next, or how many cells are used.
+    pub fn next(&self, at: u32) -> u32
+        requires { IsSome (find_cell self.now.world.cells at) }
+        ensures { result ≡ next_number self.now.world.cells at }
+    {
+        self.heap.next(at)
+    }
+
     /// Whether a live cell is a class.
-    #[tactic(auto, using(crate::proofs::ShapeTests::is_class_told))]
+    #[tactic(auto, using(crate::proofs::HeadTests::class_told))]
     pub fn is_class(&self, at: u32) -> bool
         requires { IsSome (find_cell self.now.world.cells at) }
         ensures { result ≡ is_class (find_cell self.now.world.cells at) }
     {
-        is_class_shape(self.heap.cell(at))
+        is_class_head(self.heap.head(at))
     }
 
     /// The declaration of a class.
+    #[tactic(auto, using(crate::proofs::HeadTests::declaration_told))]
     pub fn declaration(&self, class: u32) -> u32
         requires { IsTrue (is_class (find_cell self.now.world.cells class)) }
         ensures { result ≡ declaration_of self.now.world.cells class }
     {
-        declaration_in(self.heap.cell(class))
+        declared_at_head(self.heap.head(class))
     }
 
     /// Where the lookup of a send to this value starts. An environment is no receiver.
+    #[tactic(auto, using(crate::proofs::HeadTests::start_told))]
     pub fn start(&self, value: Value) -> Start
         requires { IsTrue (is_receiver self.now.world.cells value) }
         ensures { result ≡ start_of self.now.world.cells value }
@@ -168,7 +188,7 @@ impl World {
             Value::Int(_) => Start::Kernel(KernelRow::Integer),
             Value::Sym(_) => Start::Kernel(KernelRow::Symbol),
             Value::Kernel(class) => Start::Kernel(kernel_class_row(class)),
-            Value::Ref(at) => start_of_cell(self.heap.cell(at), at),
+            Value::Ref(at) => start_at_head(self.heap.head(at), at),
         }
     }
 
@@ -330,64 +350,5 @@ impl World {
     {
         self.steps = steps;
         self.depth = depth;
-    }
-}
-
-fn is_class_shape(cell: NewCell) -> bool
-    ensures { result ≡ is_class_shape cell }
-{
-    match cell {
-        NewCell::Class { .. } => true,
-        _ => false,
-    }
-}
-
-fn declaration_in(cell: NewCell) -> u32
-    ensures { result ≡ declaration_in cell }
-{
-    match cell {
-        NewCell::Class { decl, .. } => decl,
-        _ => 0,
-    }
-}
-
-fn kernel_class_row(class: KClass) -> KernelRow
-    ensures { result ≡ kernel_class_row class }
-{
-    match class {
-        KClass::Object => KernelRow::ObjectClass,
-        KClass::Array => KernelRow::ArrayClass,
-    }
-}
-
-fn start_of_cell(cell: NewCell, at: u32) -> Start
-    ensures { result ≡ start_of_cell cell at }
-{
-    match cell {
-        NewCell::Object { class, .. } => Start::Instance(class),
-        NewCell::Class { .. } => Start::ClassSide {
-            class: at,
-            factory: true,
-        },
-        NewCell::Block { .. } => Start::Kernel(KernelRow::Block),
-        NewCell::Environment { .. } => Start::Kernel(KernelRow::Object),
-        NewCell::Array { .. } => Start::Kernel(KernelRow::Array),
-        NewCell::Text { .. } => Start::Kernel(KernelRow::String),
-        NewCell::Facet(kind) => Start::Kernel(facet_row(kind)),
-        NewCell::Mirror(_) => Start::Kernel(KernelRow::Mirror),
-        NewCell::Message { .. } => Start::Kernel(KernelRow::Message),
-    }
-}
-
-fn facet_row(kind: FacetKind) -> KernelRow
-    ensures { result ≡ facet_row kind }
-{
-    match kind {
-        FacetKind::Manifest => KernelRow::Manifest,
-        FacetKind::Platform => KernelRow::Platform,
-        FacetKind::Console => KernelRow::Console,
-        FacetKind::Mirrors => KernelRow::Mirrors,
-        FacetKind::Kernel => KernelRow::Kernel,
-        FacetKind::Board => KernelRow::Board,
     }
 }
