@@ -158,7 +158,7 @@ const WHILE_LOOPS: &[Row] = &[
     (KMethod::WhileFalse, LOOP_AGAIN, EVALUATE),
 ];
 
-/// How many times a block is evaluated: a method, its state, and what the turns begin with.
+/// Loops that count, in numbers, in turns or in elements.
 const TURNS: &[Row] = &[
     (
         KMethod::ToDo,
