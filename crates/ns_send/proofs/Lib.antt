@@ -23,3 +23,4 @@ pub mod Running
 pub mod Fitting
 pub mod Handing
 pub mod PartsFit
+pub mod RowsSuit

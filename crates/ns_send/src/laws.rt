@@ -112,8 +112,9 @@ pub fn values_keep_lawful()
 {}
 
 /// In a lawful run a send, an evaluation and a superclass part hand on what the next action asks
-/// for: a body that fits its self and its holder, with an end that can be met; a method of the kernel
-/// with its arguments; or a send that waits with a selector and as many live arguments as it takes.
+/// for: a body that fits its self and its holder, with an end that can be met; a block that is to be
+/// evaluated; a method of the kernel with a receiver and arguments of its kinds; or a send that waits
+/// with a selector and as many live arguments as it takes.
 pub fn what_is_handed_on_fits()
     ensures { (code : CodeProgram) (action : Action) (progress : Progress) → LawfulRun code progress → Asks code action progress → HandsOn code action progress }
 {}
