@@ -30,7 +30,7 @@ use Rattle.ns_send.proofs.LawfulSends.{answered_lawful}
 use Rattle.ns_send.proofs.Nesting.{nested_inner}
 use Rattle.ns_send.proofs.Suiting.{Suits, found_suits}
 use Rattle.ns_send.specs.Blocks.{is_block}
-use Rattle.ns_send.specs.Fitting.{belongs_to}
+use Rattle.ns_send.specs.Fitting.{belongs_to, FitsMethod}
 use Rattle.ns_send.proofs.RowsSuit.{RowSuits, FoundSuits}
 use Rattle.ns_send.proofs.Running.{RunsBody, Runs, body_runs, instance_fits, found_runs}
 use Rattle.ns_send.proofs.Lasting.{block_lasts, belonging_lasts, activation_lasts, exit_lasts, arguments_last}
@@ -84,8 +84,7 @@ abbrev pub FitsLater : World → CodeProgram → Control → Type 0
 FitsLater old code (Now after) = Unit {0}
 FitsLater old code (Enter exit activation locals progress) = RunsOn code old progress.world → FitsActivation progress.world.cells code activation × FitsExit progress.world.cells code exit
 FitsLater old code (Evaluate block arguments site progress) = RunsOn code old progress.world → is_block progress.world.cells block ≡ true
-FitsLater old code (Begin method state site progress) = RunsOn code old progress.world
-    → (has_arguments progress.world.cells method state.first state.second ≡ true) × (belongs_to progress.world.cells state.receiver method ≡ true)
+FitsLater old code (Begin method state site progress) = RunsOn code old progress.world → FitsMethod progress.world.cells method state
 FitsLater old code (WaitsToPerform receiver sel array site progress) = RunsOn code old progress.world → FitsSelector progress.world.cells code sel (items_of progress.world.cells (value.Ref array))
 
 -- ---- rows of the kernel
@@ -162,7 +161,7 @@ begun_fits code method receiver first second site progress suits = tested (has_a
     go = Begin method (beginning receiver first second (pos (turns_of progress.world.cells method receiver))) site
 
     tested : (b : Bool) → has_arguments progress.world.cells method first second ≡ b → FitsLater progress.world code (cond b (charged halts Depth (entered progress.world) progress go) (fails WrongKind site progress))
-    tested true t = charged_all (FitsLater progress.world code) halts Depth (entered progress.world) progress go tt (λ world e. λ run. (arguments_last method first second code progress.world world run t, belonging_lasts method receiver code progress.world world run suits))
+    tested true t = charged_all (FitsLater progress.world code) halts Depth (entered progress.world) progress go tt (λ world e. λ run. record { arguments = arguments_last method first second code progress.world world run t; receiver = belonging_lasts method receiver code progress.world world run suits })
     tested false t = tt
 
 row_fits : (code : CodeProgram) (r : Row) (sel : Sel) (receiver : Value) (arguments : List Value) (site : Site) (progress : Progress) → LawfulRun code progress → All (IsLiveValue progress.world.cells code) arguments → RowSuits progress.world.cells receiver r

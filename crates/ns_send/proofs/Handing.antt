@@ -36,6 +36,7 @@ use Rattle.ns_send.proofs.Suiting.{found_suits, private_suits}
 use Rattle.ns_send.proofs.Places.{places_fit}
 use Rattle.ns_send.proofs.Running.{RunsBody, found_runs, outer_private, super_runs}
 use Rattle.ns_send.proofs.RowsSuit.{value_suits, above_suits, own_suits}
+use Rattle.ns_send.proofs.WaitsFit.{method_hands_on}
 use Rattle.ns_send.proofs.PartsFit.{super_part_fits}
 use Rattle.ns_send.proofs.Fitting.{FitsLater, opened_fits, runs_last, fits_now, stepped_fits}
 
@@ -134,7 +135,7 @@ action_hands_on code (Performs receiver sel array site) progress lawful asks = p
 action_hands_on code (Evaluates block arguments site) progress lawful asks =
     fits_now progress.world code (evaluated code block arguments site progress) lawful (evaluated_onward [] code block arguments site progress).world.later
     (evaluated_lawful code block arguments site progress lawful asks) (evaluated_later code block arguments site progress lawful)
-action_hands_on code (Continues method state site) progress lawful asks = tt
+action_hands_on code (Continues method state site) progress lawful asks = method_hands_on method state site progress asks
 action_hands_on code (BeginsPart activation arguments) progress lawful asks = super_part_fits code activation arguments progress lawful asks.0 asks.1
 action_hands_on code EndsPart progress lawful asks = tt
 action_hands_on code (EndsBody exit activation value) progress lawful asks = tt

@@ -24,3 +24,4 @@ pub mod Fitting
 pub mod Handing
 pub mod PartsFit
 pub mod RowsSuit
+pub mod WaitsFit
