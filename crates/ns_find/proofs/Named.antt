@@ -29,11 +29,11 @@ use Rattle.ns_find.specs.Named.{HasNamed, IsNamedBy}
 use Rattle.ns_find.proofs.Belonging.{first_left, next_left}
 
 -- what is found with each member of a list that is there and has a name has a property
-abbrev EachNamed : (Found → Type 0) → CodeProgram → ℕ → List Member → Type 0
+abbrev pub EachNamed : (Found → Type 0) → CodeProgram → ℕ → List Member → Type 0
 EachNamed P code sel [] = Unit {0}
 EachNamed P code sel (member ∷ members) = (is_named code sel member.name ≡ true → P member.found) × EachNamed P code sel members
 
-named_append : (P : Found → Type 0) (code : CodeProgram) (sel : ℕ) (first later : List Member) → EachNamed P code sel first → EachNamed P code sel later → EachNamed P code sel (first ++ later)
+pub named_append : (P : Found → Type 0) (code : CodeProgram) (sel : ℕ) (first later : List Member) → EachNamed P code sel first → EachNamed P code sel later → EachNamed P code sel (first ++ later)
 named_append P code sel [] later one two = two
 named_append P code sel (member ∷ first) later (here, one) two = (here, named_append P code sel first later one two)
 
@@ -45,7 +45,7 @@ allowed_has P Plain access found closed open' = tested (eqb access public_access
     tested true = open'
     tested false = closed
 
-search_named : (P : Found → Type 0) (code : CodeProgram) (sel : ℕ) (kind : Sending) (members : List Member) → P NotPublic → P Absent → EachNamed P code sel members → P (unwrap_or (search code sel kind members) Absent)
+pub search_named : (P : Found → Type 0) (code : CodeProgram) (sel : ℕ) (kind : Sending) (members : List Member) → P NotPublic → P Absent → EachNamed P code sel members → P (unwrap_or (search code sel kind members) Absent)
 search_named P code sel kind [] closed absent each = absent
 search_named P code sel kind (member ∷ members) closed absent (here, rest) = tested (is_named code sel member.name && member.there) refl (search_named P code sel kind members closed absent rest)
   where

@@ -29,8 +29,11 @@ use Rattle.ns_send.proofs.LawfulRows.{mirrored_live}
 use Rattle.ns_send.proofs.LawfulSends.{answered_lawful}
 use Rattle.ns_send.proofs.Nesting.{nested_inner}
 use Rattle.ns_send.proofs.Suiting.{Suits, found_suits}
+use Rattle.ns_send.specs.Blocks.{is_block}
+use Rattle.ns_send.specs.Fitting.{belongs_to, FitsMethod}
+use Rattle.ns_send.proofs.RowsSuit.{RowSuits, FoundSuits}
 use Rattle.ns_send.proofs.Running.{RunsBody, Runs, body_runs, instance_fits, found_runs}
-use Rattle.ns_send.proofs.Lasting.{activation_lasts, exit_lasts, arguments_last}
+use Rattle.ns_send.proofs.Lasting.{block_lasts, belonging_lasts, activation_lasts, exit_lasts, arguments_last}
 use Rattle.ns_base.specs.declared.selector.Sel.{Sel}
 use Rattle.ns_code.specs.declared.program.CodeProgram.{CodeProgram}
 use Rattle.ns_code.specs.declared.own.Own.TheVariants.{DoesNotUnderstand}
@@ -80,8 +83,8 @@ use Rattle.ns_code.specs.Selector.{own_number}
 abbrev pub FitsLater : World → CodeProgram → Control → Type 0
 FitsLater old code (Now after) = Unit {0}
 FitsLater old code (Enter exit activation locals progress) = RunsOn code old progress.world → FitsActivation progress.world.cells code activation × FitsExit progress.world.cells code exit
-FitsLater old code (Evaluate block arguments site progress) = Unit {0}
-FitsLater old code (Begin method state site progress) = RunsOn code old progress.world → has_arguments progress.world.cells method state.first state.second ≡ true
+FitsLater old code (Evaluate block arguments site progress) = RunsOn code old progress.world → is_block progress.world.cells block ≡ true
+FitsLater old code (Begin method state site progress) = RunsOn code old progress.world → FitsMethod progress.world.cells method state
 FitsLater old code (WaitsToPerform receiver sel array site progress) = RunsOn code old progress.world → FitsSelector progress.world.cells code sel (items_of progress.world.cells (value.Ref array))
 
 -- ---- rows of the kernel
@@ -143,41 +146,41 @@ data_fits old code values.MessageArguments receiver arguments site progress = ou
 facet_fits : (old : World) (code : CodeProgram) (r : FacetRow) (arguments : List Value) (site : Site) (progress : Progress) → FitsLater old code (facet_reached code r arguments site progress)
 facet_fits old code r arguments site progress = outcome_fits old code (facet_outcome progress.world code r arguments progress.board) site (record progress { board = board_after r arguments progress.board })
 
-array_fits : (old : World) (code : CodeProgram) (block array : Value) (site : Site) (progress : Progress) → FitsLater old code (value_with_arguments block array site progress)
-array_fits old code block array site progress = tested (is_array progress.world.cells array) (nat_lt 255 (length (items_of progress.world.cells array)))
+array_fits : (code : CodeProgram) (block array : Value) (site : Site) (progress : Progress) → is_block progress.world.cells block ≡ true → FitsLater progress.world code (value_with_arguments block array site progress)
+array_fits code block array site progress suits = tested (is_array progress.world.cells array) (nat_lt 255 (length (items_of progress.world.cells array)))
   where
-    tested : (b c : Bool) → FitsLater old code (cond b (cond c (fails WrongArity site progress) (Evaluate block (items_of progress.world.cells array) site progress)) (fails WrongKind site progress))
+    tested : (b c : Bool) → FitsLater progress.world code (cond b (cond c (fails WrongArity site progress) (Evaluate block (items_of progress.world.cells array) site progress)) (fails WrongKind site progress))
     tested true true = tt
-    tested true false = tt
+    tested true false = λ run. block_lasts block code progress.world progress.world run suits
     tested false c = tt
 
-begun_fits : (code : CodeProgram) (method : KMethod) (receiver first second : Value) (site : Site) (progress : Progress) → FitsLater progress.world code (method_begun method receiver first second site progress)
-begun_fits code method receiver first second site progress = tested (has_arguments progress.world.cells method first second) refl
+begun_fits : (code : CodeProgram) (method : KMethod) (receiver first second : Value) (site : Site) (progress : Progress) → belongs_to progress.world.cells receiver method ≡ true → FitsLater progress.world code (method_begun method receiver first second site progress)
+begun_fits code method receiver first second site progress suits = tested (has_arguments progress.world.cells method first second) refl
   where
     go : Progress → Control
     go = Begin method (beginning receiver first second (pos (turns_of progress.world.cells method receiver))) site
 
     tested : (b : Bool) → has_arguments progress.world.cells method first second ≡ b → FitsLater progress.world code (cond b (charged halts Depth (entered progress.world) progress go) (fails WrongKind site progress))
-    tested true t = charged_all (FitsLater progress.world code) halts Depth (entered progress.world) progress go tt (λ world e. λ run. arguments_last method first second code progress.world world run t)
+    tested true t = charged_all (FitsLater progress.world code) halts Depth (entered progress.world) progress go tt (λ world e. λ run. record { arguments = arguments_last method first second code progress.world world run t; receiver = belonging_lasts method receiver code progress.world world run suits })
     tested false t = tt
 
-row_fits : (code : CodeProgram) (r : Row) (sel : Sel) (receiver : Value) (arguments : List Value) (site : Site) (progress : Progress) → LawfulRun code progress → All (IsLiveValue progress.world.cells code) arguments
+row_fits : (code : CodeProgram) (r : Row) (sel : Sel) (receiver : Value) (arguments : List Value) (site : Site) (progress : Progress) → LawfulRun code progress → All (IsLiveValue progress.world.cells code) arguments → RowSuits progress.world.cells receiver r
     → FitsLater progress.world code (row_reached code r sel receiver arguments site progress)
-row_fits code (row.Data d) sel receiver arguments site progress lawful all = data_fits progress.world code d receiver arguments site progress
-row_fits code (row.Integer i) sel receiver arguments site progress lawful all = answer_fits progress.world code (integer i (number_of receiver) (argument arguments 0)) site progress
-row_fits code row.Top sel receiver arguments site progress lawful all = facet_fits progress.world code (facet.Top sel) arguments site progress
-row_fits code (row.Facet f) sel receiver arguments site progress lawful all = facet_fits progress.world code f arguments site progress
-row_fits code (row.Mirror m) sel receiver arguments site progress lawful all =
+row_fits code (row.Data d) sel receiver arguments site progress lawful all suits = data_fits progress.world code d receiver arguments site progress
+row_fits code (row.Integer i) sel receiver arguments site progress lawful all suits = answer_fits progress.world code (integer i (number_of receiver) (argument arguments 0)) site progress
+row_fits code row.Top sel receiver arguments site progress lawful all suits = facet_fits progress.world code (facet.Top sel) arguments site progress
+row_fits code (row.Facet f) sel receiver arguments site progress lawful all suits = facet_fits progress.world code f arguments site progress
+row_fits code (row.Mirror m) sel receiver arguments site progress lawful all suits =
     let shown = mirrored progress.world.cells (cell_number receiver) in
     let one = get_live (IsLiveValue progress.world.cells code) arguments 0 all (tt, refl) in
     let two = get_live (IsLiveValue progress.world.cells code) arguments 1 all (tt, refl) in
     reflected_fits progress.world code (mirror progress.world code m (cell_number receiver) arguments) site progress
     (mirrors_live progress.world code m shown (argument arguments 0) (argument arguments 1) lawful (mirrored_live progress.world code (cell_number receiver) lawful) one two)
-row_fits code (row.Method m) sel receiver arguments site progress lawful all = begun_fits code m receiver (argument arguments 0) (argument arguments 1) site progress
-row_fits code row.Apply sel receiver arguments site progress lawful all = tt
-row_fits code row.Value sel receiver arguments site progress lawful all = tt
-row_fits code row.ValueWithArguments sel receiver arguments site progress lawful all = array_fits progress.world code receiver (argument arguments 0) site progress
-row_fits code row.NumArgs sel receiver arguments site progress lawful all = tt
+row_fits code (row.Method m) sel receiver arguments site progress lawful all suits = begun_fits code m receiver (argument arguments 0) (argument arguments 1) site progress suits
+row_fits code row.Apply sel receiver arguments site progress lawful all suits = tt
+row_fits code row.Value sel receiver arguments site progress lawful all suits = λ run. block_lasts receiver code progress.world progress.world run suits
+row_fits code row.ValueWithArguments sel receiver arguments site progress lawful all suits = array_fits code receiver (argument arguments 0) site progress suits
+row_fits code row.NumArgs sel receiver arguments site progress lawful all suits = tt
 
 -- ---- bodies
 
@@ -339,15 +342,15 @@ nested_fits code (value.Kernel kernel) holder class site progress lawful has is 
 -- ---- members
 
 listed_fits : (code : CodeProgram) (member : Found) (sel : Sel) (receiver : Value) (values : List Value) (site : Site) (progress : Progress) → LawfulRun code progress → IsLiveValue progress.world.cells code receiver → All (IsLiveValue progress.world.cells code) values
-    → Suits progress.world.cells code receiver member → Runs progress.world.cells code receiver member → FitsLater progress.world code (done_with code member sel receiver (Listed values) site progress)
-listed_fits code (found.Method body holder) sel receiver values site progress lawful live all suits runs = method_fits code body holder receiver (Listed values) site progress runs
-listed_fits code (found.Getter holder word) sel receiver values site progress lawful live all suits runs = tt
-listed_fits code (found.Setter holder word) sel receiver values site progress lawful live all suits runs = set_fits code word receiver (Listed values) progress
-listed_fits code (found.Nested class holder) sel receiver values site progress lawful live all suits runs = nested_fits code receiver holder class site progress lawful suits.0 suits.1 suits.2
-listed_fits code (found.Factory class) sel receiver values site progress lawful live all suits runs = factory_fits code class (Listed values) site progress suits
-listed_fits code (found.Kernel number) sel receiver values site progress lawful live all suits runs = row_fits code (row_at number) sel receiver values site progress lawful all
-listed_fits code found.NotPublic sel receiver values site progress lawful live all suits runs = tt
-listed_fits code found.Absent sel receiver values site progress lawful live all suits runs = tt
+    → Suits progress.world.cells code receiver member → Runs progress.world.cells code receiver member → FoundSuits progress.world.cells receiver member → FitsLater progress.world code (done_with code member sel receiver (Listed values) site progress)
+listed_fits code (found.Method body holder) sel receiver values site progress lawful live all suits runs rows = method_fits code body holder receiver (Listed values) site progress runs
+listed_fits code (found.Getter holder word) sel receiver values site progress lawful live all suits runs rows = tt
+listed_fits code (found.Setter holder word) sel receiver values site progress lawful live all suits runs rows = set_fits code word receiver (Listed values) progress
+listed_fits code (found.Nested class holder) sel receiver values site progress lawful live all suits runs rows = nested_fits code receiver holder class site progress lawful suits.0 suits.1 suits.2
+listed_fits code (found.Factory class) sel receiver values site progress lawful live all suits runs rows = factory_fits code class (Listed values) site progress suits
+listed_fits code (found.Kernel number) sel receiver values site progress lawful live all suits runs rows = row_fits code (row_at number) sel receiver values site progress lawful all rows
+listed_fits code found.NotPublic sel receiver values site progress lawful live all suits runs rows = tt
+listed_fits code found.Absent sel receiver values site progress lawful live all suits runs rows = tt
 
 absent_fits : (code : CodeProgram) (member : Found) (sel : Sel) (receiver : Value) (values : List Value) (site : Site) (progress : Progress) → LawfulRun code progress → Suits progress.world.cells code receiver member → Runs progress.world.cells code receiver member
     → FitsLater progress.world code (not_found code member sel receiver values site progress)
@@ -361,17 +364,17 @@ absent_fits code found.NotPublic sel receiver values site progress lawful suits 
 absent_fits code found.Absent sel receiver values site progress lawful suits runs = tt
 
 answered_fits : (code : CodeProgram) (member : Found) (sel : Sel) (receiver : Value) (values : List Value) (site : Site) (progress : Progress) → LawfulRun code progress → IsLiveValue progress.world.cells code receiver → FitsSelector progress.world.cells code sel values
-    → Suits progress.world.cells code receiver member → Runs progress.world.cells code receiver member → FitsLater progress.world code (answered_by code member sel receiver values site progress)
-answered_fits code found.Absent sel receiver values site progress lawful live fits suits runs =
+    → Suits progress.world.cells code receiver member → Runs progress.world.cells code receiver member → FoundSuits progress.world.cells receiver member → FitsLater progress.world code (answered_by code member sel receiver values site progress)
+answered_fits code found.Absent sel receiver values site progress lawful live fits suits runs rows =
     absent_fits code (found_from progress.world.cells code (start_of progress.world.cells receiver) (own_number code DoesNotUnderstand) Inner) sel receiver values site progress lawful
     (found_suits progress.world code receiver (own_number code DoesNotUnderstand) Inner lawful) (found_runs progress.world code receiver (own_number code DoesNotUnderstand) Inner lawful live)
-answered_fits code (found.Method body holder) sel receiver values site progress lawful live fits suits runs = listed_fits code (found.Method body holder) sel receiver values site progress lawful live fits.live suits runs
-answered_fits code (found.Getter holder word) sel receiver values site progress lawful live fits suits runs = listed_fits code (found.Getter holder word) sel receiver values site progress lawful live fits.live suits runs
-answered_fits code (found.Setter holder word) sel receiver values site progress lawful live fits suits runs = listed_fits code (found.Setter holder word) sel receiver values site progress lawful live fits.live suits runs
-answered_fits code (found.Nested class holder) sel receiver values site progress lawful live fits suits runs = listed_fits code (found.Nested class holder) sel receiver values site progress lawful live fits.live suits runs
-answered_fits code (found.Factory class) sel receiver values site progress lawful live fits suits runs = listed_fits code (found.Factory class) sel receiver values site progress lawful live fits.live suits runs
-answered_fits code (found.Kernel number) sel receiver values site progress lawful live fits suits runs = listed_fits code (found.Kernel number) sel receiver values site progress lawful live fits.live suits runs
-answered_fits code found.NotPublic sel receiver values site progress lawful live fits suits runs = listed_fits code found.NotPublic sel receiver values site progress lawful live fits.live suits runs
+answered_fits code (found.Method body holder) sel receiver values site progress lawful live fits suits runs rows = listed_fits code (found.Method body holder) sel receiver values site progress lawful live fits.live suits runs rows
+answered_fits code (found.Getter holder word) sel receiver values site progress lawful live fits suits runs rows = listed_fits code (found.Getter holder word) sel receiver values site progress lawful live fits.live suits runs rows
+answered_fits code (found.Setter holder word) sel receiver values site progress lawful live fits suits runs rows = listed_fits code (found.Setter holder word) sel receiver values site progress lawful live fits.live suits runs rows
+answered_fits code (found.Nested class holder) sel receiver values site progress lawful live fits suits runs rows = listed_fits code (found.Nested class holder) sel receiver values site progress lawful live fits.live suits runs rows
+answered_fits code (found.Factory class) sel receiver values site progress lawful live fits suits runs rows = listed_fits code (found.Factory class) sel receiver values site progress lawful live fits.live suits runs rows
+answered_fits code (found.Kernel number) sel receiver values site progress lawful live fits suits runs rows = listed_fits code (found.Kernel number) sel receiver values site progress lawful live fits.live suits runs rows
+answered_fits code found.NotPublic sel receiver values site progress lawful live fits suits runs rows = listed_fits code found.NotPublic sel receiver values site progress lawful live fits.live suits runs rows
 
 -- ---- plain sends
 
@@ -379,13 +382,13 @@ answered_fits code found.NotPublic sel receiver values site progress lawful live
 pub fits_now : (old : World) (code : CodeProgram) (control : Control) → IsLawful old code → IsLater old (reached control).world → LawfulControl code control → FitsLater old code control → FitsNext code control
 fits_now old code (Now after) before later lawful fits = tt
 fits_now old code (Enter exit activation locals progress) before later lawful fits = fits (record { before = before; after = lawful.0; later = later })
-fits_now old code (Evaluate block arguments site progress) before later lawful fits = tt
+fits_now old code (Evaluate block arguments site progress) before later lawful fits = fits (record { before = before; after = lawful.0; later = later })
 fits_now old code (Begin method state site progress) before later lawful fits = fits (record { before = before; after = lawful.0; later = later })
 fits_now old code (WaitsToPerform receiver sel array site progress) before later lawful fits = fits (record { before = before; after = lawful.0; later = later })
 
 pub stepped_fits : (code : CodeProgram) (member : Found) (sel : Sel) (receiver : Value) (values : List Value) (site : Site) (progress : Progress) → LawfulRun code progress → IsLiveValue progress.world.cells code receiver → FitsSelector progress.world.cells code sel values
-    → Suits progress.world.cells code receiver member → Runs progress.world.cells code receiver member → FitsNext code (charged halts Steps (stepped progress.world) progress (answered_by code member sel receiver values site))
-stepped_fits code member sel receiver values site progress lawful live fits suits runs =
+    → Suits progress.world.cells code receiver member → Runs progress.world.cells code receiver member → FoundSuits progress.world.cells receiver member → FitsNext code (charged halts Steps (stepped progress.world) progress (answered_by code member sel receiver values site))
+stepped_fits code member sel receiver values site progress lawful live fits suits runs rows =
     charged_all (FitsNext code) halts Steps (stepped progress.world) progress (answered_by code member sel receiver values site) tt
     (λ world e.
     let same = step_cells progress.world world e in
@@ -394,8 +397,9 @@ stepped_fits code member sel receiver values site progress lawful live fits suit
     let fits' : FitsSelector world.cells code sel values = subst (λ cells. FitsSelector cells code sel values) (sym same) fits in
     let suits' : Suits world.cells code receiver member = subst (λ cells. Suits cells code receiver member) (sym same) suits in
     let runs' : Runs world.cells code receiver member = subst (λ cells. Runs cells code receiver member) (sym same) runs in
+    let rows' : FoundSuits world.cells receiver member = subst (λ cells. FoundSuits cells receiver member) (sym same) rows in
     let next : Progress = in_world progress world in
     fits_now world code (answered_by code member sel receiver values site next) after
     (answered_onward (touched world.cells receiver) code member sel receiver values site next (0, omega arith, refl) (1, omega arith, refl)).world.later
     (answered_lawful code member sel receiver values site next after live' fits' suits')
-    (answered_fits code member sel receiver values site next after live' fits' suits' runs'))
+    (answered_fits code member sel receiver values site next after live' fits' suits' runs' rows'))

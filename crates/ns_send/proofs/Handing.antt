@@ -35,6 +35,8 @@ use Rattle.ns_send.proofs.LawfulSends.{super_fits, body_declared}
 use Rattle.ns_send.proofs.Suiting.{found_suits, private_suits}
 use Rattle.ns_send.proofs.Places.{places_fit}
 use Rattle.ns_send.proofs.Running.{RunsBody, found_runs, outer_private, super_runs}
+use Rattle.ns_send.proofs.RowsSuit.{value_suits, above_suits, own_suits}
+use Rattle.ns_send.proofs.WaitsFit.{method_hands_on}
 use Rattle.ns_send.proofs.PartsFit.{super_part_fits}
 use Rattle.ns_send.proofs.Fitting.{FitsLater, opened_fits, runs_last, fits_now, stepped_fits}
 
@@ -44,13 +46,13 @@ plain_fits : (code : CodeProgram) (receiver : Value) (sel : Sel) (values : List 
     → FitsNext code (sent_plain code receiver sel values place progress)
 plain_fits code receiver sel values place progress lawful live fits =
     stepped_fits code (found_from progress.world.cells code (start_of progress.world.cells receiver) sel.0 Plain) sel receiver values (site_at progress.world.cells place receiver sel) progress lawful live fits
-    (found_suits progress.world code receiver sel.0 Plain lawful) (found_runs progress.world code receiver sel.0 Plain lawful live)
+    (found_suits progress.world code receiver sel.0 Plain lawful) (found_runs progress.world code receiver sel.0 Plain lawful live) (value_suits progress.world.cells code receiver sel.0 Plain)
 
 sent_fits : (code : CodeProgram) (activation : Activation) (target : Target) (sel : Sel) (values : List Value) (place : Option SourcePlace) (progress : Progress) → LawfulRun code progress → FitsTarget progress.world.cells code activation target → FitsSelector progress.world.cells code sel values
     → FitsNext code (sent code activation target sel values place progress)
 sent_fits code activation (To receiver kind) sel values place progress lawful live fits =
     stepped_fits code (found_from progress.world.cells code (start_of progress.world.cells receiver) sel.0 kind) sel receiver values (site_at progress.world.cells place receiver sel) progress lawful live fits
-    (found_suits progress.world code receiver sel.0 kind lawful) (found_runs progress.world code receiver sel.0 kind lawful live)
+    (found_suits progress.world code receiver sel.0 kind lawful) (found_runs progress.world code receiver sel.0 kind lawful live) (value_suits progress.world.cells code receiver sel.0 kind)
 sent_fits code activation (ToPrivate level) sel values place progress lawful (here, there) fits = declared (declaration_at code activation.body level) refl there
   where
     declared : (o : Option ℕ) → declaration_at code activation.body level ≡ o → IsSome o → FitsNext code (sent code activation (ToPrivate level) sel values place progress)
@@ -59,6 +61,7 @@ sent_fits code activation (ToPrivate level) sel values place progress lawful (he
         let o = enclosing progress.world.cells activation level in
         stepped_fits code (found_private progress.world.cells code o.holder (side_at code activation level) sel.0) sel o.object values (site_at progress.world.cells place o.object sel) progress lawful p.live fits
         (private_suits progress.world.cells code o.object o.holder (side_at code activation level) sel.0 p.has p.holder_is) (outer_private progress.world code activation level decl sel.0 lawful here e)
+        (own_suits progress.world.cells code o.object o.holder (side_at code activation level) sel.0)
     declared None e some = absurd (cc)
 sent_fits code activation ToSuper sel values place progress lawful here fits = declared (declaration_at code activation.body 0) refl (body_declared code activation.body here.there)
   where
@@ -68,6 +71,7 @@ sent_fits code activation ToSuper sel values place progress lawful here fits = d
         stepped_fits code (found_from progress.world.cells code (super_start progress.world.cells activation.holder (side_of_body code activation.body)) sel.0 Inner) sel activation.self values
         (site_at progress.world.cells place activation.self sel) progress lawful here.live fits
         (super_fits progress.world code activation (side_of_body code activation.body) sel.0 lawful p.has) (super_runs progress.world code activation sel.0 lawful here)
+        (above_suits progress.world.cells code activation.self activation.holder (side_of_body code activation.body) sel.0)
     declared None e some = absurd (cc)
 
 -- ---- evaluations
@@ -131,7 +135,7 @@ action_hands_on code (Performs receiver sel array site) progress lawful asks = p
 action_hands_on code (Evaluates block arguments site) progress lawful asks =
     fits_now progress.world code (evaluated code block arguments site progress) lawful (evaluated_onward [] code block arguments site progress).world.later
     (evaluated_lawful code block arguments site progress lawful asks) (evaluated_later code block arguments site progress lawful)
-action_hands_on code (Continues method state site) progress lawful asks = tt
+action_hands_on code (Continues method state site) progress lawful asks = method_hands_on method state site progress asks
 action_hands_on code (BeginsPart activation arguments) progress lawful asks = super_part_fits code activation arguments progress lawful asks.0 asks.1
 action_hands_on code EndsPart progress lawful asks = tt
 action_hands_on code (EndsBody exit activation value) progress lawful asks = tt

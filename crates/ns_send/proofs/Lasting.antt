@@ -27,6 +27,7 @@ use Rattle.ns_kcode.specs.declared.state.KMethod.TheVariants as method
 use Rattle.ns_kcode.specs.declared.state.KState.{KState}
 use Rattle.ns_send.specs.Control.{Activation, Exit, FromMethod, FromBody, FromClause}
 use Rattle.ns_send.specs.Blocks.{is_block, is_block_shape, is_integer, are_blocks, has_arguments}
+use Rattle.ns_send.specs.Fitting.{belongs_to, FitsMethod}
 use Rattle.ns_send.specs.Sends.{Target, To, ToPrivate, ToSuper}
 use Rattle.ns_send.proofs.Suiting.{object_holders}
 use Rattle.ns_send.specs.Lawful.{LiveActivation, LiveState, HasClass, FitsExit, FitsSelector, FitsActivation, FitsSlot, FitsTarget}
@@ -139,6 +140,26 @@ arguments_last method.WhileTrue first second code old new run t = block_lasts fi
 arguments_last method.WhileFalse first second code old new run t = block_lasts first code old new run t
 arguments_last method.TimesRepeat first second code old new run t = block_lasts first code old new run t
 arguments_last method.Do first second code old new run t = block_lasts first code old new run t
+
+-- a receiver stays of the kind to which a method belongs
+pub belonging_lasts : (named : KMethod) (receiver : Value) (code : CodeProgram) (old new : World) → RunsOn code old new → belongs_to old.cells receiver named ≡ true → belongs_to new.cells receiver named ≡ true
+belonging_lasts method.WhileTrue receiver code old new run t = block_lasts receiver code old new run t
+belonging_lasts method.WhileFalse receiver code old new run t = block_lasts receiver code old new run t
+belonging_lasts method.Do receiver code old new run t = array_lasts receiver code old new run t
+belonging_lasts method.ToDo receiver code old new run t = t
+belonging_lasts method.TimesRepeat receiver code old new run t = t
+belonging_lasts method.And receiver code old new run t = t
+belonging_lasts method.Or receiver code old new run t = t
+belonging_lasts method.IfTrue receiver code old new run t = t
+belonging_lasts method.IfFalse receiver code old new run t = t
+belonging_lasts method.IfTrueIfFalse receiver code old new run t = t
+belonging_lasts method.IfFalseIfTrue receiver code old new run t = t
+
+pub method_lasts : (named : KMethod) (state : KState) (code : CodeProgram) (old new : World) → RunsOn code old new → FitsMethod old.cells named state → FitsMethod new.cells named state
+method_lasts named state code old new run fits = record {
+  arguments = arguments_last named state.first state.second code old new run fits.arguments;
+  receiver = belonging_lasts named state.receiver code old new run fits.receiver;
+}
 
 -- an array has as many elements as it had
 size_told : (o : Option Cell) → length (array_items o) ≡ array_size_in (option_map_or shape_of o (new.Mirror Nil))

@@ -23,3 +23,5 @@ pub mod Running
 pub mod Fitting
 pub mod Handing
 pub mod PartsFit
+pub mod RowsSuit
+pub mod WaitsFit

@@ -1,23 +1,54 @@
 -- What an action hands on is what the next one asks for.
-use Rattle.std.specs.Prelude.{IsTrue, All}
+use Rattle.std.specs.Prelude.{IsTrue, All, Bool, true, false}
 use Rattle.ns_code.specs.declared.program.CodeProgram.{CodeProgram}
-use Rattle.ns_world.specs.declared.value.Value.TheVariants.{Ref}
+use Rattle.ns_world.specs.declared.value.Value.{Value}
+use Rattle.ns_world.specs.declared.value.Value.TheVariants.{True, False, Ref}
+use Rattle.ns_world.specs.Heap.{Heap}
 use Rattle.ns_world.specs.Lawful.{IsLiveValue, HasHolder}
-use Rattle.ns_kdata.specs.Arguments.{items_of}
-use Rattle.ns_send.specs.Control.{Progress, Control, Now, Enter, Evaluate, Begin, Perform, Part, Skip, Stop, EnterPart}
+use Rattle.ns_kdata.specs.Arguments.{items_of, is_array}
+use Rattle.ns_kcode.specs.declared.state.KMethod.{KMethod}
+use Rattle.ns_kcode.specs.declared.state.KMethod.TheVariants as method
+use Rattle.ns_kcode.specs.declared.state.KState.{KState}
+use Rattle.ns_send.specs.Control.{Progress, Control, Now, Enter, Evaluate, Begin, Perform, Part, Skip, Stop, EnterPart, Waiting, Waits, Finishes}
 use Rattle.ns_send.specs.Classes.{super_part}
-use Rattle.ns_send.specs.Blocks.{has_arguments, evaluated}
+use Rattle.ns_send.specs.Blocks.{is_block, is_integer, has_arguments, evaluated, method_next}
 use Rattle.ns_send.specs.Sends.{sent, sent_plain, performed}
 use Rattle.ns_send.specs.Lawful.{FitsActivation, FitsExit, FitsSelector, FitsTarget}
-use Rattle.ns_send.specs.Actions.{Action, Sends, SendsPlain, Performs, Evaluates, BeginsPart}
+use Rattle.ns_send.specs.Actions.{Action, Sends, SendsPlain, Performs, Evaluates, Continues, BeginsPart}
 
--- A body that is entered fits its self and its holder, and its end can be met; a method of the kernel has the
--- arguments that it asks for; and a send that waits has a selector and as many live arguments as it takes.
+-- whether a value is a boolean
+abbrev pub is_boolean : Value → Bool
+is_boolean True = true
+is_boolean False = true
+is_boolean value = false
+
+-- whether a receiver is of the kind to which a method of the kernel belongs
+abbrev pub belongs_to : Heap → Value → KMethod → Bool
+belongs_to heap receiver method.WhileTrue = is_block heap receiver
+belongs_to heap receiver method.WhileFalse = is_block heap receiver
+belongs_to heap receiver method.ToDo = is_integer receiver
+belongs_to heap receiver method.TimesRepeat = is_integer receiver
+belongs_to heap receiver method.Do = is_array heap receiver
+belongs_to heap receiver method.And = is_boolean receiver
+belongs_to heap receiver method.Or = is_boolean receiver
+belongs_to heap receiver method.IfTrue = is_boolean receiver
+belongs_to heap receiver method.IfFalse = is_boolean receiver
+belongs_to heap receiver method.IfTrueIfFalse = is_boolean receiver
+belongs_to heap receiver method.IfFalseIfTrue = is_boolean receiver
+
+-- A method of the kernel has a receiver and arguments of its kinds.
+pub record FitsMethod (heap : Heap) (method : KMethod) (state : KState) : Type 0 where
+  pub arguments : IsTrue (has_arguments heap method state.first state.second)
+  pub receiver : IsTrue (belongs_to heap state.receiver method)
+
+-- A body that is entered fits its self and its holder, and its end can be met; what is evaluated is a block; a
+-- method of the kernel has a receiver and arguments of the kinds that it asks for; and a send that waits has a
+-- selector and as many live arguments as it takes.
 abbrev pub FitsNext : CodeProgram → Control → Type 0
 FitsNext code (Now after) = Unit {0}
 FitsNext code (Enter exit activation locals progress) = FitsActivation progress.world.cells code activation × FitsExit progress.world.cells code exit
-FitsNext code (Evaluate block arguments site progress) = Unit {0}
-FitsNext code (Begin method state site progress) = IsTrue (has_arguments progress.world.cells method state.first state.second)
+FitsNext code (Evaluate block arguments site progress) = IsTrue (is_block progress.world.cells block)
+FitsNext code (Begin method state site progress) = FitsMethod progress.world.cells method state
 FitsNext code (Perform receiver sel array site progress) = FitsSelector progress.world.cells code sel (items_of progress.world.cells (Ref array))
 
 -- So does the initialiser of a superclass that is entered.
@@ -26,8 +57,14 @@ FitsNextPart code (Skip progress) = Unit {0}
 FitsNextPart code (Stop ending progress) = Unit {0}
 FitsNextPart code (EnterPart activation locals progress) = FitsActivation progress.world.cells code activation
 
+-- A method of the kernel that waits for a block evaluates one, and keeps its receiver and its arguments.
+abbrev pub FitsNextWaiting : KMethod → Waiting → Type 0
+FitsNextWaiting method (Waits block arguments state progress) = IsTrue (is_block progress.world.cells block) × FitsMethod progress.world.cells method state
+FitsNextWaiting method (Finishes after) = Unit {0}
+
 -- What the actions that go on elsewhere ask for: a send one that can be made, with arguments that fit its
--- selector, an evaluation live arguments, and a superclass part a self with the holder in its chain as well.
+-- selector, an evaluation live arguments, a superclass part a self with the holder in its chain as well, and a
+-- method of the kernel a receiver and arguments of its kinds.
 abbrev pub Asks : CodeProgram → Action → Progress → Type 0
 Asks code (Sends activation target sel values place) progress =
     FitsTarget progress.world.cells code activation target × FitsSelector progress.world.cells code sel values
@@ -37,6 +74,7 @@ Asks code (Performs receiver sel array site) progress =
 Asks code (Evaluates block arguments site) progress = All (IsLiveValue progress.world.cells code) arguments
 Asks code (BeginsPart activation arguments) progress =
     HasHolder progress.world.cells activation.self activation.holder × All (IsLiveValue progress.world.cells code) arguments
+Asks code (Continues method state site) progress = FitsMethod progress.world.cells method state
 Asks code other progress = Unit {0}
 
 -- What they hand on fits.
@@ -46,4 +84,5 @@ HandsOn code (SendsPlain receiver sel values place) progress = FitsNext code (se
 HandsOn code (Performs receiver sel array site) progress = FitsNext code (performed code receiver sel array site progress)
 HandsOn code (Evaluates block arguments site) progress = FitsNext code (evaluated code block arguments site progress)
 HandsOn code (BeginsPart activation arguments) progress = FitsNextPart code (super_part code activation arguments progress)
+HandsOn code (Continues method state site) progress = FitsNextWaiting method (method_next method state site progress)
 HandsOn code other progress = Unit {0}

@@ -16,12 +16,12 @@ ghost use Rattle.ns_send.specs.declared.site.Site.{Site};
 ghost use Rattle.ns_send.specs.Control.{Progress, Activation, Exit};
 ghost use Rattle.ns_send.specs.Classes.{super_part, body_ended, slot_filled, kept_by};
 ghost use Rattle.ns_send.specs.Bodies.{environment_at, local_stored};
-ghost use Rattle.ns_send.specs.Blocks.{new_cell, new_block, new_text, new_array, evaluated, method_next, is_block, has_arguments};
+ghost use Rattle.ns_send.specs.Blocks.{new_cell, new_block, new_text, new_array, evaluated, method_next, is_block};
 ghost use Rattle.ns_send.specs.Sends.{Target, receiver_of, sent, sent_plain, performed};
 ghost use Rattle.ns_send.specs.Lawful.{LawfulRun, LawfulAfter, LawfulControl, LawfulPart, LawfulWaiting, LiveState, LiveActivation, FitsActivation, FitsTarget, FitsSelector, FitsExit, FitsSlot, FitsLocal};
 ghost use Rattle.ns_send.specs.Actions.{Action, progress_after};
 ghost use Rattle.ns_send.specs.Spending.{Spends};
-ghost use Rattle.ns_send.specs.Fitting.{Asks, HandsOn};
+ghost use Rattle.ns_send.specs.Fitting.{FitsMethod, Asks, HandsOn};
 ghost use Rattle.ns_send.specs.Onward.{Onward, touched, reached, after_reached, part_reached, waiting_reached};
 
 /// No send changes a limit, lowers a counter but depth, takes back what was printed, or changes a
@@ -73,7 +73,7 @@ pub fn frames_last()
 pub fn what_waits_lasts()
     ensures selectors { (sel : Sel) (values : List Value) → Lasts (λ heap code. FitsSelector heap code sel values) }
     ensures states { (state : KState) → Lasts (λ heap code. LiveState heap code state) }
-    ensures arguments { (method : KMethod) (first second : Value) → Lasts (λ heap code. IsTrue (has_arguments heap method first second)) }
+    ensures methods { (method : KMethod) (state : KState) → Lasts (λ heap code. FitsMethod heap method state) }
     ensures blocks { (block : Value) → Lasts (λ heap code. IsTrue (is_block heap block)) }
     ensures arrays { (array : Value) → Lasts (λ heap code. IsTrue (is_array heap array)) }
     ensures sizes { (array : Value) → Unchanged (λ heap code. IsLiveValue heap code array) (λ heap code. length (items_of heap array)) }
@@ -111,9 +111,11 @@ pub fn values_keep_lawful()
     ensures local { (code : CodeProgram) (activation : Activation) (hops place : ℕ) (value : Value) (progress : Progress) → LawfulRun code progress → FitsLocal progress.world.cells code activation hops → IsLiveValue progress.world.cells code value → LawfulRun code (local_stored code activation hops place value progress) }
 {}
 
-/// In a lawful run a send, an evaluation and a superclass part hand on what the next action asks
-/// for: a body that fits its self and its holder, with an end that can be met; a method of the kernel
-/// with its arguments; or a send that waits with a selector and as many live arguments as it takes.
+/// In a lawful run a send, an evaluation, a superclass part and a method of the kernel that waits
+/// hand on what the next action asks for: a body that fits its self and its holder, with an end
+/// that can be met; a block that is to be evaluated; a method of the kernel with a receiver and
+/// arguments of its kinds; or a send that waits, with a selector and as many live arguments as it
+/// takes.
 pub fn what_is_handed_on_fits()
     ensures { (code : CodeProgram) (action : Action) (progress : Progress) → LawfulRun code progress → Asks code action progress → HandsOn code action progress }
 {}

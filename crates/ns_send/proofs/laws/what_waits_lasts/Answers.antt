@@ -1,4 +1,4 @@
-use Rattle.ns_send.proofs.Lasting.{selector_lasts, state_lasts, arguments_last, block_lasts, array_lasts, size_lasts}
+use Rattle.ns_send.proofs.Lasting.{selector_lasts, state_lasts, method_lasts, block_lasts, array_lasts, size_lasts}
 use Rattle.ns_send.proofs.laws.what_waits_lasts.Goals as goal
 
 pub returns-clause-selectors : goal.returns-clause-selectors
@@ -7,8 +7,8 @@ returns-clause-selectors c = selector_lasts
 pub returns-clause-states : goal.returns-clause-states
 returns-clause-states c = state_lasts
 
-pub returns-clause-arguments : goal.returns-clause-arguments
-returns-clause-arguments c = arguments_last
+pub returns-clause-methods : goal.returns-clause-methods
+returns-clause-methods c = method_lasts
 
 pub returns-clause-blocks : goal.returns-clause-blocks
 returns-clause-blocks c = block_lasts
