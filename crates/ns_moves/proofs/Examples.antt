@@ -12,7 +12,7 @@ use Rattle.ns_world.specs.declared.ending.Ending.TheVariants.{Done, Limit}
 use Rattle.ns_world.specs.declared.ending.LimitKind.TheVariants.{Steps, Cells}
 use Rattle.ns_world.specs.declared.ending.Kind.TheVariants.{MustBeBoolean, DeadReturn}
 use Rattle.ns_facets.specs.declared.row.Grants.{Grants}
-use Rattle.ns_find.specs.Worked.{sel, method_of, class_of}
+use Rattle.ns_send.specs.Worked.{sel, method_of, class_of}
 use Rattle.ns_send.specs.Site.{error}
 use Rattle.ns_send.specs.Control.{FromMethod, FromBody}
 use Rattle.ns_send.specs.Worked.{small_progress, small_site, in_m}
