@@ -96,8 +96,12 @@ module _ (primary : Reader p.Primary) where
   abbrev pub method_member : Reader p.What
   method_member = read_mapped p.method_member method
 
+  -- an equals sign and a superclass clause, if there is one
+  abbrev pub equals_clause : Reader (Option p.SuperClause)
+  equals_clause = read_after (skip m.Equals) (read_maybe starts_base clause)
+
   unfoldable pub head : Reader ClassHead
-  head = read_after (skip m.ClassWord) (read_both (name s.Ident) (read_both factory (read_after (skip m.Equals) (read_maybe starts_base clause))))
+  head = read_after (skip m.ClassWord) (read_both (name s.Ident) (read_both factory equals_clause))
 
   -- what stands before the sides of a class
   abbrev pub class_opening : Reader (ClassHead × (p.Bars × p.Statements))

@@ -124,6 +124,19 @@ fn maybe_clause(
     }
 }
 
+/// Reads an equals sign and a superclass clause, if there is one.
+fn equals_clause(
+    alloc: Global,
+    tokens: &mut Tokens<'_>,
+    depth: usize,
+) -> Result<Option<SuperClause>, ParseFault>
+    ensures { Reads (option_map clause_of) (spec.equals_clause (exprs.primary depth)) result tokens.old tokens.new }
+{
+    skip(tokens, Mark::Equals)?;
+    let clause = maybe_clause(alloc, tokens, depth)?;
+    Ok(clause)
+}
+
 /// Reads slots and statements in parentheses.
 #[tactic(auto, unfolding(crate::specs::Classes::body))]
 fn body(
@@ -177,9 +190,13 @@ fn head(
     skip(tokens, Mark::ClassWord)?;
     let name = name(alloc, tokens, Sort::Ident)?;
     let factory = factory(alloc, tokens)?;
-    skip(tokens, Mark::Equals)?;
-    let clause = maybe_clause(alloc, tokens, depth)?;
-    Ok((name, factory, clause))
+    match equals_clause(alloc, tokens, depth) {
+        Ok(clause) => Ok((name, factory, clause)),
+        Err(fault) => {
+            drop(factory);
+            Err(fault)
+        }
+    }
 }
 
 /// What stands before the sides of a class: its name, factory and superclass clause, and its
@@ -359,13 +376,20 @@ fn members(
     let mut categories = strings(alloc, tokens)?;
     'items: while sees_member(tokens, side) {
         let (access, what) = member(alloc, tokens, depth, nesting, side)?;
-        let more = strings(alloc, tokens)?;
-        items.push(Member {
-            categories,
-            access,
-            what,
-        })?;
-        categories = more;
+        match strings(alloc, tokens) {
+            Ok(more) => {
+                items.push(Member {
+                    categories,
+                    access,
+                    what,
+                })?;
+                categories = more;
+            }
+            Err(fault) => {
+                drop(what);
+                return Err(fault);
+            }
+        }
     }
     Ok(make::side(items, categories))
 }

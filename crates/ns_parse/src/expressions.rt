@@ -5,18 +5,17 @@
 ghost use Rattle.std.specs.Prelude.{◌≡◌};
 ghost use Rattle.ns_tree.specs.PlainOf.{expr_of, message_of, key_expr_of, bin_of, un_of, primary_of, block_of, slot_of, init_of, statements_of, statement_of, opers_of, keys_of, cascade_of, slots_of, bars_of};
 ghost use Rattle.ns_parse.specs.Expressions as spec;
-ghost use Rattle.ns_parse.specs.Leaf as leaves;
-ghost use Rattle.ns_parse.specs.Reads.{Gives, Reads, next_is};
+ghost use Rattle.ns_parse.specs.Reads.{Gives, Reads};
 ghost use Rattle.ns_parse.specs.Views.{oper_view, key_view, cascaded_view};
 
 use crate::fault::ParseFault;
-use crate::leaf::{access, is_access, leaf, starts_bracketed, starts_leaf};
+use crate::fronts::{sees_expr, sees_leaf, sees_slot, sees_statement, sees_un};
+use crate::leaf::{access, leaf};
 use crate::mark::{Mark, place, place_if, sees, skip, skip_if};
-use crate::name::{Operators, Sort, is_name, name, names, sees_name};
+use crate::name::{Operators, Sort, name, names, sees_name};
 use crate::pattern::params;
 use crate::tokens::Tokens;
 use ns_tree::make;
-use ns_tree::token::Kind;
 use ns_tree::tree::{
     Access, BinExpr, Block, Expr, KeyExpr, Message, Named, Primary, Slot, SlotInit, Statement,
     Statements, UnExpr,
@@ -30,78 +29,6 @@ pub enum Holder {
     Object,
     /// A method or a block.
     Code,
-}
-
-fn starts_un(kind: &Kind) -> bool
-    ensures { result ≡ spec.starts_un kind.now }
-{
-    starts_leaf(kind) || starts_bracketed(kind)
-}
-
-fn starts_expr(kind: &Kind) -> bool
-    ensures { result ≡ spec.starts_expr kind.now }
-{
-    is_name(Sort::SetKey, kind) || is_name(Sort::Key, kind) || starts_un(kind)
-}
-
-fn starts_statement(kind: &Kind) -> bool
-    ensures { result ≡ spec.starts_statement kind.now }
-{
-    matches!(kind, Kind::Caret) || starts_expr(kind)
-}
-
-fn starts_slot(holder: Holder, kind: &Kind) -> bool
-    ensures { result ≡ spec.starts_slot holder kind.now }
-{
-    match holder {
-        Holder::Object => is_access(kind) || is_name(Sort::Ident, kind),
-        Holder::Code => is_name(Sort::Ident, kind),
-    }
-}
-
-fn sees_leaf(tokens: &Tokens<'_>) -> bool
-    ensures { result ≡ next_is leaves.starts_leaf tokens.now }
-{
-    match tokens.rest {
-        [first, ..] => starts_leaf(&first.kind),
-        [] => false,
-    }
-}
-
-fn sees_un(tokens: &Tokens<'_>) -> bool
-    ensures { result ≡ next_is spec.starts_un tokens.now }
-{
-    match tokens.rest {
-        [first, ..] => starts_un(&first.kind),
-        [] => false,
-    }
-}
-
-fn sees_expr(tokens: &Tokens<'_>) -> bool
-    ensures { result ≡ next_is spec.starts_expr tokens.now }
-{
-    match tokens.rest {
-        [first, ..] => starts_expr(&first.kind),
-        [] => false,
-    }
-}
-
-fn sees_statement(tokens: &Tokens<'_>) -> bool
-    ensures { result ≡ next_is spec.starts_statement tokens.now }
-{
-    match tokens.rest {
-        [first, ..] => starts_statement(&first.kind),
-        [] => false,
-    }
-}
-
-fn sees_slot(tokens: &Tokens<'_>, holder: Holder) -> bool
-    ensures { result ≡ next_is (spec.starts_slot holder) tokens.now }
-{
-    match tokens.rest {
-        [first, ..] => starts_slot(holder, &first.kind),
-        [] => false,
-    }
 }
 
 /// Reads the access word of a slot, if it may have one and has it.

@@ -4,6 +4,7 @@
 pub mod classes;
 pub mod expressions;
 pub mod fault;
+pub mod fronts;
 pub mod laws;
 pub mod leaf;
 pub mod mark;

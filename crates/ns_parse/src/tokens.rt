@@ -38,11 +38,4 @@ impl<'a> Tokens<'a> {
             at: 0,
         }
     }
-
-    /// The number of the next token.
-    pub fn at(&self) -> usize
-        ensures { result ≡ self.now.at }
-    {
-        self.at
-    }
 }

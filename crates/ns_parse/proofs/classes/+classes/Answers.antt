@@ -14,16 +14,16 @@ use Rattle.ns_parse.proofs.classes.+classes.Goals as goal
 pub members-items-preserved : goal.members-items-preserved
 members-items-preserved t c =
     labels_on strings (x.starts_member c.args.side) (x.member (primary c.args.depth) (x.what (primary c.args.depth) c.args.nesting) c.args.side) (map member_pair c.items.items.items) (map member_pair c.push.new.self.items)
-    c.items.categories.items c.items.tokens _ _ (member_view (c.in_ok-access.access, c.in_ok-access.what)) c.member.new.tokens c.in_ok-more.more.items c.strings-in-items.new.tokens takes_strings (takes_member c.args.depth c.args.nesting c.args.side)
-    c.items.invariant (sym c.sees_member.ensures ∙ c.items-test.true) c.in_ok-access.ensures c.in_ok-more.ensures
-    (ap (map member_pair) c.in_ok-push.ensures.items ∙ map-append member_pair c.items.items.items (record { categories = c.items.categories; access = c.in_ok-access.access; what = c.in_ok-access.what } ∷ []))
+    c.items.categories.items c.items.tokens _ _ (member_view (c.in_ok-access.access, c.in_ok-access.what)) c.member.new.tokens c.in-Ok.more.items c.strings-in-items.new.tokens takes_strings (takes_member c.args.depth c.args.nesting c.args.side)
+    c.items.invariant (sym c.sees_member.ensures ∙ c.items-test.true) c.in_ok-access.ensures c.in-Ok.ensures
+    (ap (map member_pair) c.in_ok-push-in-Ok.ensures.items ∙ map-append member_pair c.items.items.items (record { categories = c.items.categories; access = c.in_ok-access.access; what = c.in_ok-access.what } ∷ []))
 
 pub members-items-smaller : goal.members-items-smaller
 members-items-smaller t c =
     omega (
       arith,
       fewer (x.member (primary c.args.depth) (x.what (primary c.args.depth) c.args.nesting) c.args.side) c.items.tokens c.member.new.tokens (member_view (c.in_ok-access.access, c.in_ok-access.what)) (takes_member c.args.depth c.args.nesting c.args.side) c.in_ok-access.ensures,
-      left_by 0 strings c.member.new.tokens.at c.member.new.tokens.kinds c.in_ok-more.more.items c.strings-in-items.new.tokens.at c.strings-in-items.new.tokens.kinds takes_strings c.in_ok-more.ensures,
+      left_by 0 strings c.member.new.tokens.at c.member.new.tokens.kinds c.in-Ok.more.items c.strings-in-items.new.tokens.at c.strings-in-items.new.tokens.kinds takes_strings c.in-Ok.ensures,
     )
 
 pub members-returns : goal.members-returns
