@@ -137,6 +137,5 @@ fn texts(alloc: Global, input: &mut Input<'_>) -> Result<Items<Text>, Fault>
     ensures { Reads (spec.texts input.old.rest.now) result input.new.rest.now }
 {
     let count = input.word()?;
-    let texts = times(alloc, input, &Literal, count)?;
-    Ok(texts)
+    times(alloc, input, &Literal, count)
 }

@@ -77,8 +77,7 @@ fn counted<F: Format>(
     ensures { Reads (spec.counted_half (F.reader format.now) input.old.rest.now) result input.new.rest.now }
 {
     let count = input.half()?;
-    let items = times(alloc, input, format, u32::from(count))?;
-    Ok(items)
+    times(alloc, input, format, u32::from(count))
 }
 
 /// A class record.

@@ -48,6 +48,5 @@ pub fn up_to<F: Format>(
     ensures { Reads (up_to most (F.reader format.now) input.old.rest.now) result input.new.rest.now }
 {
     let count = input.word_up_to(most)?;
-    let items = times(alloc, input, format, count)?;
-    Ok(items)
+    times(alloc, input, format, count)
 }

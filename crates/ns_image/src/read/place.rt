@@ -102,8 +102,7 @@ pub fn places(
     ensures { Reads (spec.places files instrs.now input.old.rest.now) result input.new.rest.now }
 {
     let count = input.word()?;
-    let places = places_of(alloc, input, files, instrs, count)?;
-    Ok(places)
+    places_of(alloc, input, files, instrs, count)
 }
 
 fn places_of(

@@ -93,8 +93,7 @@ pub fn names(alloc: Global, input: &mut Input<'_>) -> Result<Items<Text>, Fault>
 {
     let count = input.word_up_to(MOST_NAMES as u32)?;
     let mut earlier = Names::new(alloc);
-    let names = names_of(alloc, input, &mut earlier, count)?;
-    Ok(names)
+    names_of(alloc, input, &mut earlier, count)
 }
 
 /// So many names behind earlier ones.
