@@ -6,8 +6,6 @@ pub mod limits;
 pub mod mem_shelf;
 pub mod mem_sink;
 pub mod names;
-#[cfg(test)]
-mod names_tests;
 pub mod no_memory;
 pub mod place;
 pub mod selector;
@@ -17,6 +15,4 @@ pub mod status;
 pub mod stored;
 pub mod sure_shelf;
 pub mod sure_sink;
-#[cfg(test)]
-mod tests;
 pub mod text;

@@ -2,5 +2,3 @@
 #![tactic(auto)]
 
 pub mod collections;
-#[cfg(test)]
-mod tests;

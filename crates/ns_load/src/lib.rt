@@ -9,7 +9,3 @@ pub mod names;
 mod parts;
 pub mod place;
 pub mod read;
-#[cfg(test)]
-mod scope_tests;
-#[cfg(test)]
-mod tests;

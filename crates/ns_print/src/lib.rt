@@ -4,6 +4,4 @@
 mod declarations;
 mod expressions;
 pub mod print;
-#[cfg(test)]
-mod tests;
 mod tokens;

@@ -4,7 +4,5 @@
 pub mod deep;
 pub mod laws;
 pub mod make;
-#[cfg(test)]
-mod tests;
 pub mod token;
 pub mod tree;

@@ -3,16 +3,10 @@
 #![tactic(auto)]
 
 mod arguments;
-#[cfg(test)]
-mod check_tests;
-#[cfg(test)]
-mod fault_tests;
 mod files;
-#[cfg(test)]
-mod limit_tests;
 mod stream;
 #[cfg(test)]
-mod tests;
+mod stream_tests;
 
 use crate::arguments::arguments;
 use crate::files::Disk;

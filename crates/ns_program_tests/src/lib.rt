@@ -1,0 +1,14 @@
+//! Whole commands of the program, tried by tables over files and streams in memory: what they write to both streams, and
+//! their exit statuses.
+#![tactic(auto)]
+
+#[cfg(test)]
+mod command;
+#[cfg(test)]
+mod command_tests;
+#[cfg(test)]
+mod limit_tests;
+#[cfg(test)]
+mod stream_tests;
+#[cfg(test)]
+mod text_tests;
