@@ -1,5 +1,5 @@
 -- The blocks of a part are as many as are counted, wherever it stands.
-use Rattle.std.proofs.Common.{◌≡◌, ℕ, ◌+◌, suc, List, ◌++◌, length, refl, ap, ◌∙◌, length-append, arith}
+use Rattle.std.proofs.Common.{◌≡◌, ℕ, ◌+◌, List, ◌++◌, length, refl, ap, ◌∙◌, length-append, arith}
 use Rattle.ns_tree.specs.Plain as p
 use Rattle.ns_scope.specs.declared.scope.Scope.{Scope}
 use Rattle.ns_scope.specs.Scopes.{block_scope}

@@ -120,3 +120,12 @@ value_is (e.to_value node) before = refl
 value_is e.to_self before = refl
 value_is e.to_super before = refl
 value_is (e.to_outer class) before = refl
+
+-- a binary message, with its argument written in between
+pub binary_put : (scope : Scope) (receiver : Receiver) (sent : m.Sent) (argument : m.Node) (way : Way) (before : Written) →
+    way ≡ begin_way scope receiver sent.selector →
+    with_line (with_name (with_node argument (with_lines (begin_lines scope receiver sent.selector []) before)) sent.selector) (sends way sent 1)
+    ≡ with_message scope receiver sent (e.one argument) before
+binary_put scope receiver sent argument way before p =
+    ap (λ w. with_line (with_name w sent.selector) (sends way sent 1)) (sym (with_one argument (with_lines (begin_lines scope receiver sent.selector []) before)))
+    ∙ message_put scope receiver sent (e.one argument) way 1 before p refl

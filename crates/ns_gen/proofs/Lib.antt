@@ -17,3 +17,6 @@ pub mod Saying
 pub mod Counted
 pub mod BlockCounts
 pub mod Setting
+pub mod Walking
+pub mod Cascades
+pub mod Firsts

@@ -1,16 +1,21 @@
 -- Messages in turn are the ones that an expression has said.
-use Rattle.std.proofs.Common.{◌≡◌, ℕ, ◌+◌, List, [], ◌∷◌, length, refl, ap, sym, ◌∙◌}
+use Rattle.std.proofs.Common.{◌≡◌, ℕ, ◌+◌, List, [], ◌∷◌, ◌++◌, length, refl, ap, sym, ◌∙◌, arith}
 use Rattle.ns_tree.specs.declared.tree.Named.{Named}
+use Rattle.ns_tree.specs.declared.tree.Expr.{Expr}
+use Rattle.ns_tree.specs.PlainOf.{expr_of, exprs_of}
 use Rattle.ns_tree.specs.Plain as p
+use Rattle.ns_scope.specs.Resolve.{resolve}
+use Rattle.ns_code.specs.declared.instruction.Instr.TheVariants as i
 use Rattle.ns_scope.specs.Bodies as b
 use Rattle.ns_meant.specs.Program as m
 use Rattle.ns_meant.specs.Expressions as e
-use Rattle.ns_gen.specs.Drafts.{Written}
-use Rattle.ns_gen.specs.Code.{how_many}
-use Rattle.ns_gen.specs.Sending.{with_node, kept, with_receiver, with_message, with_names, left, with_opers, opers_left, with_keywords, keys_count, keys_left}
+use Rattle.ns_gen.specs.Drafts.{Written, with_line, with_name}
+use Rattle.ns_gen.specs.Code.{Way, does, sends, object_lines, way_of, how_many, nodes_lines}
+use Rattle.ns_gen.specs.Sending.{with_lines, with_node, with_nodes, begin_lines, begin_way, kept, with_receiver, with_message}
+use Rattle.ns_gen.specs.Sending.{with_names, left, with_opers, opers_left, with_keywords, keys_count, keys_left}
 use Rattle.ns_gen.specs.declared.receiver.Receiver.{Receiver}
 use Rattle.ns_gen.specs.declared.receiver.Receiver.TheVariants as v
-use Rattle.ns_gen.proofs.Composing.{message_is}
+use Rattle.ns_gen.proofs.Composing.{written_is, behind_nodes, message_put, object_sent, message_is}
 
 -- ---- unary messages
 
@@ -90,3 +95,36 @@ pub keywords_kept : (here : e.Standing) (next : ℕ) (last : e.Said) (keys : p.K
     keys_left (kept (e.as_receiver here last)) keys ≡ kept (e.as_receiver here (e.keys_said here last keys (e.keys_nodes here next keys)))
 keywords_kept here next last p.no_keys = refl
 keywords_kept here next last (p.more_keys name argument rest) = refl
+
+-- a keyword message, with its arguments written in between
+pub keywords_put : (here : e.Standing) (next : ℕ) (receiver : Receiver) (keys : p.Keys) (way : Way) (count : ℕ) (before : Written) →
+    way ≡ begin_way here.scope receiver (e.joined keys) → count ≡ keys_count keys →
+    with_line (with_name (with_nodes (e.keys_nodes here next keys) (with_lines (begin_lines here.scope receiver (e.joined keys) []) before)) (e.joined keys))
+    (sends way (e.keys_sent here keys) count)
+    ≡ with_message here.scope receiver (e.keys_sent here keys) (e.keys_nodes here next keys) before
+keywords_put here next receiver keys way count before p q =
+    message_put here.scope receiver (e.keys_sent here keys) (e.keys_nodes here next keys) way count before p (q ∙ sym (keys_many here next keys))
+
+pub implicit_put : (here : e.Standing) (next : ℕ) (reach : m.Reach) (keys : p.Keys) (way : Way) (count : ℕ) (before : Written) →
+    reach ≡ e.reach_of (resolve here.scope (e.joined keys)) → way ≡ way_of reach → count ≡ keys_count keys →
+    with_line (with_name (with_nodes (e.keys_nodes here next keys) (with_lines (object_lines reach []) before)) (e.joined keys)) (sends way (e.keys_sent here keys) count)
+    ≡ with_node (e.implicit_send here (e.keys_sent here keys) (e.keys_nodes here next keys)) before
+implicit_put here next reach keys way count before r p q =
+    object_sent reach (e.keys_sent here keys) (e.keys_nodes here next keys) way count before p (q ∙ sym (keys_many here next keys))
+    ∙ ap (λ x. with_node (m.send_to x (e.keys_sent here keys) (e.keys_nodes here next keys)) before) r
+
+-- ---- tuples
+
+items_many : (here : e.Standing) (next : ℕ) (items : List Expr) → how_many (e.items_nodes here next (exprs_of items)) ≡ length items
+items_many here next [] = refl
+items_many here next (item ∷ items) =
+    ap (λ n. n + 1) (items_many here (next + length (b.expr_blocks here.scope (expr_of item))) items) ∙ omega arith
+
+pub array_put : (here : e.Standing) (next : ℕ) (items : List Expr) (count : ℕ) (before : Written) → count ≡ length items →
+    with_line (with_nodes (e.items_nodes here next (exprs_of items)) before) (does (i.MakeArray count))
+    ≡ with_node (m.array (e.items_nodes here next (exprs_of items))) before
+array_put here next items count before same =
+    let nodes = e.items_nodes here next (exprs_of items) in
+    written_is _ _ _ _ _ _ refl refl
+    (ap (λ n. (before.lines ++ nodes_lines (length before.texts) nodes []) ++ does (i.MakeArray n) ∷ []) (same ∙ sym (items_many here next items))
+    ∙ behind_nodes nodes (length before.texts) before.lines (does (i.MakeArray (how_many nodes)) ∷ []))

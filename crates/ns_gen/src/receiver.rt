@@ -5,6 +5,7 @@ ghost use Rattle.ns_meant.specs.Program.{no_nodes};
 ghost use Rattle.ns_meant.specs.Expressions.{name_sent};
 ghost use Rattle.ns_gen.specs.Code.{object_lines, way_of as meant_way};
 ghost use Rattle.ns_gen.specs.Drafts.{way_of};
+ghost use Rattle.ns_gen.specs.Cascading.{with_copy, with_copies, is_repeated};
 ghost use Rattle.ns_gen.specs.Sending.{standing, meant_reach, with_lines, begin_lines, begin_way, with_message, with_names, with_value, left};
 
 use crate::draft::SendWay;
@@ -118,4 +119,36 @@ pub fn put_names(
         receiver = Receiver::Value;
     }
     Ok(receiver)
+}
+
+/// A copy of a receiver that is a value, for a message behind which there is another.
+pub fn put_copy(writer: &mut Writer, receiver: &Receiver) -> Result<(), GenFault>
+    ensures { OnOk result (writer.new ≡ with_copy receiver.now writer.old) }
+{
+    match receiver {
+        Receiver::Value => writer.does(Instr::Pick(0)),
+        _ => Ok(()),
+    }
+}
+
+/// The same, where so many messages are left.
+#[tactic(auto, using(crate::proofs::Cascades::copies_some))]
+pub fn put_copies(writer: &mut Writer, receiver: &Receiver, left: usize) -> Result<(), GenFault>
+    ensures { OnOk result (writer.new ≡ with_copies left receiver.now writer.old) }
+{
+    if left == 0 {
+        Ok(())
+    } else {
+        put_copy(writer, receiver)
+    }
+}
+
+/// Whether several messages go to such a receiver.
+pub fn is_repeated(receiver: &Receiver) -> bool
+    ensures { result ≡ is_repeated receiver.now }
+{
+    match receiver {
+        Receiver::Value | Receiver::Own => true,
+        Receiver::Super | Receiver::Outer(_) => false,
+    }
 }

@@ -17,14 +17,16 @@ ghost use Rattle.ns_meant.specs.Tables.{put_all, used_names, names_of};
 #[tactic(auto, using(crate::proofs::Numbering::expr_counted, crate::proofs::Counting::units_counted))]
 pub fn bodies_are_numbered_as_scopes()
     ensures blocks { (here : Standing) (next : ℕ) (expr : Expr) → length (expr_bodies here next expr) ≡ length (scopes.expr_blocks here.scope expr) }
-    ensures bodies { (files : List (List ℕ)) (units : List SourceUnit) (marks : List (List Place)) → length units ≡ length marks → length (meant_of files units marks).bodies ≡ length (scopes.bodies_of units) }
+    ensures bodies { (files : List (List ℕ)) (units : List SourceUnit) (marks : List (List Place)) →
+        length units ≡ length marks → length (meant_of files units marks).bodies ≡ length (scopes.bodies_of units) }
 {}
 
 /// A class and those in it are as many declarations as are counted, and so are those of a program.
 #[tactic(auto, using(crate::proofs::Counting::class_listed, crate::proofs::Counting::units_listed))]
 pub fn classes_are_numbered_in_order()
     ensures class { (class : Class) (around : Around) (number next : ℕ) → length (class_declared around number next class) ≡ class_count class }
-    ensures classes { (files : List (List ℕ)) (units : List SourceUnit) (marks : List (List Place)) → length units ≡ length marks → length (meant_of files units marks).classes ≡ units_count units }
+    ensures classes { (files : List (List ℕ)) (units : List SourceUnit) (marks : List (List Place)) →
+        length units ≡ length marks → length (meant_of files units marks).classes ≡ units_count units }
 {}
 
 /// The number of a name in a table is its place, at which the name stands. It stays where the table
@@ -40,6 +42,7 @@ pub fn numbers_are_places()
 /// name stands there twice.
 #[tactic(auto, using(crate::proofs::Places::names_placed, crate::proofs::Places::program_no_repeats))]
 pub fn used_names_have_numbers()
-    ensures placed { (meant : Meant) (before : List (List ℕ)) (name : List ℕ) (after : List (List ℕ)) → used_names meant ≡ before ++ name ∷ after → slice_get (names_of meant) (place_of (names_of meant) name) ≡ Some name }
+    ensures placed { (meant : Meant) (before : List (List ℕ)) (name : List ℕ) (after : List (List ℕ)) →
+        used_names meant ≡ before ++ name ∷ after → slice_get (names_of meant) (place_of (names_of meant) name) ≡ Some name }
     ensures once { (meant : Meant) → NoRepeats (names_of meant) }
 {}

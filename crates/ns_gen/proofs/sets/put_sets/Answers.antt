@@ -1,4 +1,4 @@
-use Rattle.std.proofs.Common.{◌≡◌, ap, ◌∙◌, arith}
+use Rattle.std.proofs.Common.{ap, ◌∙◌, arith}
 use Rattle.ns_scope.specs.Resolve.{resolve}
 use Rattle.ns_gen.specs.Sending.{standing}
 use Rattle.ns_gen.specs.Setting.{with_set}
