@@ -79,6 +79,7 @@ fine_at code number class s e =
 -- What a class without a fault says of its bodies and of its selectors.
 record Names (code : CodeProgram) (number : ℕ) (class : ClassCode) : Type 0 where
   init : is_body_of code class.init initialiser_kind instance_side number (λ params. eqb params class.params) ≡ true
+  clause : option_map_or (λ clause. is_body_of code clause clause_kind instance_side (unwrap_or class.outer number) (λ params. eqb params 0)) class.clause true ≡ true
   methods : have_bodies code instance_side number class.methods ≡ true
   side_methods : have_bodies code class_side number class.side_methods ≡ true
   params : has_params_of code class.factory class.params ≡ true
@@ -106,6 +107,7 @@ names_of code number class fine =
     let five = neither (any class.methods) (any class.side_methods) four.1 in
     record {
       init = (both_of inits clauses two.0).0;
+      clause = (both_of inits clauses two.0).1;
       methods = sides.0;
       side_methods = sides.1;
       params = counts.1;
@@ -176,6 +178,18 @@ named_factory heap code class sel s has =
       body = body_there code has.declared.init initialiser_kind instance_side (declaration_of heap class) (selector_arity code sel) (λ params. eqb params has.declared.params)
           (λ count h. eqb-true count has.declared.params h ∙ arity) names.init;
     }
+
+-- the initialiser of a class, and its clause
+pub initialiser_there : (code : CodeProgram) (number : ℕ) (class : ClassCode) → has_sound_classes code ≡ true → slice_get code.classes number ≡ Some class → IsBody code class.init initialiser_kind instance_side number class.params
+initialiser_there code number class s e =
+    body_there code class.init initialiser_kind instance_side number class.params (λ params. eqb params class.params) (λ count h. eqb-true count class.params h) (names_of code number class (fine_at code number class s e)).init
+
+pub clause_there : (code : CodeProgram) (number clause : ℕ) (class : ClassCode) → has_sound_classes code ≡ true → slice_get code.classes number ≡ Some class → class.clause ≡ Some clause → IsBody code clause clause_kind instance_side (unwrap_or class.outer number) 0
+clause_there code number clause class s e c =
+    let here : is_body_of code clause clause_kind instance_side (unwrap_or class.outer number) (λ params. eqb params 0) ≡ true =
+    ap (λ o. option_map_or (λ clause. is_body_of code clause clause_kind instance_side (unwrap_or class.outer number) (λ params. eqb params 0)) o true) (sym c)
+    ∙ (names_of code number class (fine_at code number class s e)).clause in
+    body_there code clause clause_kind instance_side (unwrap_or class.outer number) 0 (λ params. eqb params 0) (λ count h. eqb-true count 0 h) here
 
 -- so what is found by a selector takes as many arguments as it
 takes_of : (heap : Heap) (code : CodeProgram) (side : Side) (sel : ℕ) (found : Found) → has_sound_classes code ≡ true → IsNamedBy heap code side sel found → TakesArguments heap code side sel found

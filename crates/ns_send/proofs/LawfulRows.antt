@@ -162,7 +162,7 @@ data_lawful code values.ArrayPut receiver arguments site progress lawful live = 
 data_lawful code values.MessageSelector receiver arguments site progress lawful live = data_row_lawful code values.MessageSelector receiver arguments site progress lawful live
 data_lawful code values.MessageArguments receiver arguments site progress lawful live = data_row_lawful code values.MessageArguments receiver arguments site progress lawful live
 
-mirrored_live : (world : World) (code : CodeProgram) (number : ℕ) → IsLawful world code → IsLiveValue world.cells code (mirrored world.cells number)
+pub mirrored_live : (world : World) (code : CodeProgram) (number : ℕ) → IsLawful world code → IsLiveValue world.cells code (mirrored world.cells number)
 mirrored_live world code number lawful = found (find_cell world.cells number) refl
   where
     found : (o : Option Cell) → find_cell world.cells number ≡ o → IsLiveValue world.cells code (mirrored_in (option_map_or shape_of o (new.Mirror value.Nil)))

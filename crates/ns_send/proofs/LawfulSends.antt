@@ -169,7 +169,7 @@ absent_lawful code (found.Kernel number) sel receiver values site progress lawfu
 absent_lawful code found.NotPublic sel receiver values site progress lawful live fits suits = lawful
 absent_lawful code found.Absent sel receiver values site progress lawful live fits suits = lawful
 
-answered_lawful : (code : CodeProgram) (member : Found) (sel : Sel) (receiver : Value) (values : List Value) (site : Site) (progress : Progress) → LawfulRun code progress → IsLiveValue progress.world.cells code receiver → FitsSelector progress.world.cells code sel values → Suits progress.world.cells code receiver member
+pub answered_lawful : (code : CodeProgram) (member : Found) (sel : Sel) (receiver : Value) (values : List Value) (site : Site) (progress : Progress) → LawfulRun code progress → IsLiveValue progress.world.cells code receiver → FitsSelector progress.world.cells code sel values → Suits progress.world.cells code receiver member
     → LawfulControl code (answered_by code member sel receiver values site progress)
 answered_lawful code found.Absent sel receiver values site progress lawful live fits suits =
     absent_lawful code (found_from progress.world.cells code (start_of progress.world.cells receiver) (own_number code DoesNotUnderstand) Inner) sel receiver values site progress lawful live fits
@@ -207,7 +207,7 @@ pub performed_lawful : (code : CodeProgram) (receiver : Value) (sel : Sel) (arra
 performed_lawful code receiver sel array site progress lawful live fits = plain_lawful code receiver sel (items_of progress.world.cells (value.Ref array)) site.place progress lawful live fits
 
 -- a send to super, by the side of the code
-super_fits : (world : World) (code : CodeProgram) (activation : Activation) (side : Side) (sel : ℕ) → IsLawful world code → (side ≡ InstanceSide → HasHolder world.cells activation.self activation.holder)
+pub super_fits : (world : World) (code : CodeProgram) (activation : Activation) (side : Side) (sel : ℕ) → IsLawful world code → (side ≡ InstanceSide → HasHolder world.cells activation.self activation.holder)
     → Suits world.cells code activation.self (found_from world.cells code (super_start world.cells activation.holder side) sel Inner)
 super_fits world code activation ClassSide sel lawful has = super_side_suits world.cells code activation.self (superclass_of world.cells activation.holder) sel
 super_fits world code activation InstanceSide sel lawful has = object activation.self refl (has refl)
@@ -224,7 +224,7 @@ super_fits world code activation InstanceSide sel lawful has = object activation
     object (value.Sym name) e h = absurd (subst (λ v. HasHolder world.cells v activation.holder) e h)
     object (value.Kernel class) e h = absurd (subst (λ v. HasHolder world.cells v activation.holder) e h)
 
-body_declared : (code : CodeProgram) (body : ℕ) → IsSome (slice_get code.bodies body) → IsSome (declaration_of_body code body)
+pub body_declared : (code : CodeProgram) (body : ℕ) → IsSome (slice_get code.bodies body) → IsSome (declaration_of_body code body)
 body_declared code body some = found (slice_get code.bodies body) some
   where
     found : (o : Option BodyCode) → IsSome o → IsSome (option_map (λ (b : BodyCode). b.class) o)

@@ -18,3 +18,8 @@ pub mod LawfulValues
 pub mod LeadingOn
 pub mod Counting
 pub mod Spending
+pub mod Lasting
+pub mod Running
+pub mod Fitting
+pub mod Handing
+pub mod PartsFit

@@ -31,7 +31,7 @@ pub record FitsPlace (heap : Heap) (code : CodeProgram) (side : Side) (place : P
   pub holder_is : is_class (find_cell heap place.holder) ≡ true
   pub declaration_is : declaration_of heap place.holder ≡ decl
 
-holder_live : (heap : Heap) (code : CodeProgram) (value : Value) (holder : ℕ) → HasHolder heap value holder → IsLiveValue heap code value
+pub holder_live : (heap : Heap) (code : CodeProgram) (value : Value) (holder : ℕ) → HasHolder heap value holder → IsLiveValue heap code value
 holder_live heap code (Ref at) holder has = object_live heap code at has.1
 holder_live heap code Nil holder has = absurd has
 holder_live heap code True holder has = absurd has
@@ -73,7 +73,7 @@ outwards world code number decl decl' (Some (MirrorCell shown)) lawful e t is ou
 outwards world code number decl decl' (Some (MessageCell sel args)) lawful e t is outer = absurd (cc)
 
 -- the side of a body is that of instances where it isn't the class side
-instance_body : (code : CodeProgram) (number : ℕ) (body : BodyCode) → slice_get code.bodies number ≡ Some body → body.side ≤ 1 → side_of_body code number ≡ InstanceSide → body.side ≡ 0
+pub instance_body : (code : CodeProgram) (number : ℕ) (body : BodyCode) → slice_get code.bodies number ≡ Some body → body.side ≤ 1 → side_of_body code number ≡ InstanceSide → body.side ≡ 0
 instance_body code number body e few s = sided body.side refl few
   where
     is : side_of_body code number ≡ side_of (eqb body.side class_side)

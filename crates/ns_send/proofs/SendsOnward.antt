@@ -193,7 +193,7 @@ absent_onward named code (found.Kernel number) sel receiver values site progress
 absent_onward named code found.NotPublic sel receiver values site progress has = onward_not named progress
 absent_onward named code found.Absent sel receiver values site progress has = onward_not named progress
 
-answered_onward : (named : List Value) (code : CodeProgram) (member : Found) (sel : Sel) (receiver : Value) (values : List Value) (site : Site) (progress : Progress) → Contains named receiver → Contains named (mirrored progress.world.cells (cell_number receiver))
+pub answered_onward : (named : List Value) (code : CodeProgram) (member : Found) (sel : Sel) (receiver : Value) (values : List Value) (site : Site) (progress : Progress) → Contains named receiver → Contains named (mirrored progress.world.cells (cell_number receiver))
     → Going named progress (reached (answered_by code member sel receiver values site progress))
 answered_onward named code found.Absent sel receiver values site progress has seen =
     absent_onward named code (found_from progress.world.cells code (start_of progress.world.cells receiver) (own_number code DoesNotUnderstand) Inner) sel receiver values site progress has

@@ -35,7 +35,7 @@ Suits heap code receiver (found.Nested class holder) = HasHolder heap receiver h
 Suits heap code receiver (found.Factory class) = is_class (find_cell heap class) ≡ true
 Suits heap code receiver other = Unit {0}
 
-no_holder : (holder : ℕ) → Contains [] holder → ⊥
+pub no_holder : (holder : ℕ) → Contains [] holder → ⊥
 no_holder holder (k, inside, is) = omega (arith, inside)
 
 -- on the instance side each holder in the chain is one of the receiver's
@@ -72,7 +72,7 @@ object_holders world code at class lawful e s holder (k, inside, is) = (
   class_in_chain world.cells k class holder (lawful_order world code lawful) s inside is,
 )
 
-one_class : (heap : Heap) (class at : ℕ) → is_class (find_cell heap at) ≡ true → Contains (at ∷ []) class → is_class (find_cell heap class) ≡ true
+pub one_class : (heap : Heap) (class at : ℕ) → is_class (find_cell heap at) ≡ true → Contains (at ∷ []) class → is_class (find_cell heap class) ≡ true
 one_class heap class at t (zero, inside, is) = ap (λ n. is_class (find_cell heap n)) (sym is) ∙ t
 one_class heap class at t (suc k, inside, is) = absurd (omega (arith, inside))
 
@@ -107,7 +107,7 @@ found_suits world code (value.Sym name) sel kind lawful = row_suits world.cells 
 found_suits world code (value.Kernel class) sel kind lawful = row_suits world.cells code (value.Kernel class) (kernel_class_row class) sel kind
 
 -- the holders above one in a chain are in the chain too
-above_too : (heap : Heap) (class holder other k : ℕ) → IsInOrder heap → is_chain_start heap class ≡ true → k < length (chain_of heap class) → get_or (chain_of heap class) k holder ≡ holder → Contains (chain_of heap (superclass_of heap holder)) other → Contains (chain_of heap class) other
+pub above_too : (heap : Heap) (class holder other k : ℕ) → IsInOrder heap → is_chain_start heap class ≡ true → k < length (chain_of heap class) → get_or (chain_of heap class) k holder ≡ holder → Contains (chain_of heap (superclass_of heap holder)) other → Contains (chain_of heap class) other
 above_too heap class holder other zero order s inside is (j, below, at) =
     let g = (started heap class 0 order s inside).0 in
     let same : class ≡ holder = sym (ap (λ ms. get_or ms 0 holder) g.chain) ∙ is in
@@ -148,7 +148,7 @@ pub super_side_suits : (heap : Heap) (code : CodeProgram) (receiver : Value) (cl
 super_side_suits heap code receiver class sel =
     side_suits heap code receiver (chain_of heap class) [] (found_from heap code (start.ClassSide class false) sel Inner) (λ other c. absurd (no_holder other c)) (class_belongs heap code class false sel Inner)
 
-one_holder : (heap : Heap) (receiver : Value) (place other : ℕ) → HasHolder heap receiver place → is_class (find_cell heap place) ≡ true → Contains (place ∷ []) other → HasHolder heap receiver other × (is_class (find_cell heap other) ≡ true)
+pub one_holder : (heap : Heap) (receiver : Value) (place other : ℕ) → HasHolder heap receiver place → is_class (find_cell heap place) ≡ true → Contains (place ∷ []) other → HasHolder heap receiver other × (is_class (find_cell heap other) ≡ true)
 one_holder heap receiver place other has t (zero, inside, is) = (subst (HasHolder heap receiver) is has, ap (λ n. is_class (find_cell heap n)) (sym is) ∙ t)
 one_holder heap receiver place other has t (suc k, inside, is) = absurd (omega (arith, inside))
 

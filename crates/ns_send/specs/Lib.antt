@@ -11,5 +11,6 @@ pub mod Start
 pub mod Onward
 pub mod Actions
 pub mod Spending
+pub mod Fitting
 pub mod Worked
 pub mod Lawful

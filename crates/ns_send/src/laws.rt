@@ -1,26 +1,27 @@
 //! What holds of every action. Each function does nothing, and its contract is the law.
 
-ghost use Rattle.std.specs.Prelude.{ℕ, [], ◌∷◌, List, Option, All};
+ghost use Rattle.std.specs.Prelude.{ℕ, [], ◌∷◌, List, length, Option, All, IsTrue};
 ghost use Rattle.ns_base.specs.declared.place.Place.{Place};
 ghost use Rattle.ns_base.specs.declared.selector.Sel.{Sel};
 ghost use Rattle.ns_code.specs.declared.program.CodeProgram.{CodeProgram};
 ghost use Rattle.ns_world.specs.declared.value.Value.{Value};
 ghost use Rattle.ns_world.specs.declared.value.Value.TheVariants.{Ref};
 ghost use Rattle.ns_world.specs.Cell.{Cell};
-ghost use Rattle.ns_world.specs.Later.{IsLater};
+ghost use Rattle.ns_world.specs.Later.{IsLater, Lasts, Unchanged};
 ghost use Rattle.ns_world.specs.Lawful.{IsLiveValue, BlockIsLawful};
-ghost use Rattle.ns_kdata.specs.Arguments.{items_of};
+ghost use Rattle.ns_kdata.specs.Arguments.{items_of, is_array};
 ghost use Rattle.ns_kcode.specs.declared.state.KMethod.{KMethod};
 ghost use Rattle.ns_kcode.specs.declared.state.KState.{KState};
 ghost use Rattle.ns_send.specs.declared.site.Site.{Site};
 ghost use Rattle.ns_send.specs.Control.{Progress, Activation, Exit};
 ghost use Rattle.ns_send.specs.Classes.{super_part, body_ended, slot_filled, kept_by};
 ghost use Rattle.ns_send.specs.Bodies.{environment_at, local_stored};
-ghost use Rattle.ns_send.specs.Blocks.{new_cell, new_block, new_text, new_array, evaluated, method_next};
+ghost use Rattle.ns_send.specs.Blocks.{new_cell, new_block, new_text, new_array, evaluated, method_next, is_block, has_arguments};
 ghost use Rattle.ns_send.specs.Sends.{Target, receiver_of, sent, sent_plain, performed};
-ghost use Rattle.ns_send.specs.Lawful.{LawfulRun, LawfulAfter, LawfulControl, LawfulPart, LawfulWaiting, LiveState, FitsTarget, FitsSelector, FitsExit, FitsSlot, FitsLocal};
+ghost use Rattle.ns_send.specs.Lawful.{LawfulRun, LawfulAfter, LawfulControl, LawfulPart, LawfulWaiting, LiveState, LiveActivation, FitsActivation, FitsTarget, FitsSelector, FitsExit, FitsSlot, FitsLocal};
 ghost use Rattle.ns_send.specs.Actions.{Action, progress_after};
 ghost use Rattle.ns_send.specs.Spending.{Spends};
+ghost use Rattle.ns_send.specs.Fitting.{Asks, HandsOn};
 ghost use Rattle.ns_send.specs.Onward.{Onward, touched, reached, after_reached, part_reached, waiting_reached};
 
 /// No send changes a limit, lowers a counter but depth, takes back what was printed, or changes a
@@ -57,6 +58,27 @@ pub fn actions_spend_exactly()
     ensures { (code : CodeProgram) (action : Action) (progress : Progress) → Spends code action progress }
 {}
 
+/// What frames ask of their values lasts while the run goes on: running code fits its self and its
+/// holder, its values are live, its end can be met, and its sends and its slots are there.
+pub fn frames_last()
+    ensures fits { (activation : Activation) → Lasts (λ heap code. FitsActivation heap code activation) }
+    ensures live { (activation : Activation) (beside : List Value) → Lasts (λ heap code. LiveActivation heap code activation beside) }
+    ensures exits { (exit : Exit) → Lasts (λ heap code. FitsExit heap code exit) }
+    ensures targets { (activation : Activation) (target : Target) → Lasts (λ heap code. FitsTarget heap code activation target) }
+    ensures slots { (activation : Activation) (slot : ℕ) → Lasts (λ heap code. FitsSlot heap code activation slot) }
+{}
+
+/// So does what is asked where a send, a block or a method of the kernel waits; a block stays one, and
+/// an array stays one of as many elements.
+pub fn what_waits_lasts()
+    ensures selectors { (sel : Sel) (values : List Value) → Lasts (λ heap code. FitsSelector heap code sel values) }
+    ensures states { (state : KState) → Lasts (λ heap code. LiveState heap code state) }
+    ensures arguments { (method : KMethod) (first second : Value) → Lasts (λ heap code. IsTrue (has_arguments heap method first second)) }
+    ensures blocks { (block : Value) → Lasts (λ heap code. IsTrue (is_block heap block)) }
+    ensures arrays { (array : Value) → Lasts (λ heap code. IsTrue (is_array heap array)) }
+    ensures sizes { (array : Value) → Unchanged (λ heap code. IsLiveValue heap code array) (λ heap code. length (items_of heap array)) }
+{}
+
 /// In a lawful run a send leaves a lawful world, and what it goes on with is live: the answer, a
 /// new activation's self, environment and locals, a block and its arguments, a method of the
 /// kernel's, or the receiver and the array of a send that waits. What is asked is that the receiver
@@ -87,4 +109,11 @@ pub fn values_keep_lawful()
     ensures block { (code : CodeProgram) (activation : Activation) (body : ℕ) (progress : Progress) → LawfulRun code progress → BlockIsLawful progress.world.cells code body activation.env activation.self activation.holder → LawfulAfter code (new_block activation body progress) }
     ensures slot { (code : CodeProgram) (activation : Activation) (slot : ℕ) (value : Value) (progress : Progress) → LawfulRun code progress → FitsSlot progress.world.cells code activation slot → IsLiveValue progress.world.cells code value → LawfulRun code (slot_filled code activation slot value progress) }
     ensures local { (code : CodeProgram) (activation : Activation) (hops place : ℕ) (value : Value) (progress : Progress) → LawfulRun code progress → FitsLocal progress.world.cells code activation hops → IsLiveValue progress.world.cells code value → LawfulRun code (local_stored code activation hops place value progress) }
+{}
+
+/// In a lawful run a send, an evaluation and a superclass part hand on what the next action asks
+/// for: a body that fits its self and its holder, with an end that can be met; a method of the kernel
+/// with its arguments; or a send that waits with a selector and as many live arguments as it takes.
+pub fn what_is_handed_on_fits()
+    ensures { (code : CodeProgram) (action : Action) (progress : Progress) → LawfulRun code progress → Asks code action progress → HandsOn code action progress }
 {}

@@ -1,0 +1,166 @@
+-- The initialiser of a superclass part fits its self and the superclass.
+use Rattle.std.proofs.Common.{◌≡◌, ℕ, List, [], ◌∷◌, length, get_or, refl, ap, sym, ◌∙◌, subst, arith, All, Option, Some, None, Bool, true, false, cond, eqb, slice_get}
+use Rattle.std.specs.Prelude.{Contains, IsSome, codes}
+use Rattle.std.specs.Option.{option_map_or, ForSome}
+use Rattle.std.specs.Str.{bytes_eq}
+use Rattle.ns_code.specs.declared.program.CodeProgram.{CodeProgram}
+use Rattle.ns_code.specs.declared.class.ClassCode.{ClassCode}
+use Rattle.ns_code.specs.Selector.{selector_text}
+use Rattle.ns_code.specs.Soundness.{initialiser_kind, instance_side}
+use Rattle.ns_world.specs.declared.value.Value.{Value}
+use Rattle.ns_world.specs.declared.value.Value.TheVariants.{Nil, True, False, Int, Sym, Kernel, Ref}
+use Rattle.ns_world.specs.declared.ending.Kind.TheVariants.{InitMismatch}
+use Rattle.ns_world.specs.declared.ending.LimitKind.TheVariants.{Depth, Cells}
+use Rattle.ns_world.specs.Cell.{Cell, ObjectCell, ClassCell, BlockCell, EnvironmentCell, ArrayCell, TextCell, FacetCell, MirrorCell, MessageCell}
+use Rattle.ns_world.specs.Heap.{heap_size, find_cell, is_class, chain_of, superclass_in, superclass_of, is_superclass, declared_class}
+use Rattle.ns_world.specs.World.{World, made, entered}
+use Rattle.ns_world.specs.Layout.{declaration_of}
+use Rattle.ns_world.specs.Lawful.{IsLawful, IsLiveValue, HasHolder, class_of_object}
+use Rattle.ns_world.specs.Later.{IsLater, RunsOn}
+use Rattle.ns_world.proofs.Above.{goes_on}
+use Rattle.ns_world.proofs.Chains.{linked}
+use Rattle.ns_world.proofs.Classes.{lawful_order, lawful_small}
+use Rattle.ns_find.proofs.SoundBodies.{initialiser_there}
+use Rattle.ns_send.specs.Site.{error}
+use Rattle.ns_send.specs.Control.{Progress, in_world, Activation, Part, Skip, Stop, EnterPart, charged}
+use Rattle.ns_send.specs.Bodies.{has_environment, first_locals, initialiser_of, no_home, opened}
+use Rattle.ns_send.specs.Classes.{super_selector, factory_selector, declared_part, object_part, part_of, super_part}
+use Rattle.ns_send.specs.Lawful.{LawfulRun, LawfulPart, FitsActivation}
+use Rattle.ns_send.specs.Onward.{part_reached}
+use Rattle.ns_send.specs.Fitting.{FitsNextPart}
+use Rattle.ns_send.proofs.Onward.{charged_all}
+use Rattle.ns_send.proofs.ClassesOnward.{super_onward}
+use Rattle.ns_send.proofs.LawfulParts.{super_lawful}
+use Rattle.ns_send.proofs.Suiting.{object_holders, above_too}
+use Rattle.ns_send.proofs.Places.{holder_live}
+use Rattle.ns_send.proofs.Running.{RunsBody, body_runs, instance_fits}
+use Rattle.ns_send.proofs.Fitting.{runs_last, class_there}
+
+-- What is to be shown of a part, where the run goes on lawfully.
+abbrev PartLater : World → CodeProgram → Part → Type 0
+PartLater old code (Skip progress) = Unit {0}
+PartLater old code (Stop ending progress) = Unit {0}
+PartLater old code (EnterPart activation locals progress) = RunsOn code old progress.world → FitsActivation progress.world.cells code activation
+
+opened_part : (old : World) (code : CodeProgram) (activation : Activation) (arguments : List Value) (progress : Progress) → RunsBody old.cells code activation.self activation.holder activation.body
+    → PartLater old code (opened code Stop EnterPart activation arguments progress)
+opened_part old code activation arguments progress runs = tested (has_environment code activation.body)
+  where
+    locals : List Value
+    locals = first_locals code activation.body arguments
+
+    inner : Activation
+    inner = record activation { env = Ref (heap_size progress.world.cells) }
+
+    tested : (b : Bool) → PartLater old code (cond b (charged Stop Cells (made progress.world (EnvironmentCell activation.env locals)) progress (EnterPart inner [])) (EnterPart activation locals progress))
+    tested true = charged_all (PartLater old code) Stop Cells (made progress.world (EnvironmentCell activation.env locals)) progress (EnterPart inner []) tt (λ world e. λ run. runs_last code old world inner runs run)
+    tested false = λ run. runs_last code old progress.world activation runs run
+
+-- a declared superclass of a holder is in the chain too
+above_has : (world : World) (code : CodeProgram) (self : Value) (holder over : ℕ) → IsLawful world code → HasHolder world.cells self holder → superclass_of world.cells holder ≡ over → is_class (find_cell world.cells over) ≡ true → HasHolder world.cells self over
+above_has world code (Ref at) holder over lawful has super is = object (find_cell world.cells at) refl has
+  where
+    own : Contains (chain_of world.cells (superclass_of world.cells holder)) over
+    own =
+        let chain : chain_of world.cells over ≡ over ∷ chain_of world.cells (superclass_of world.cells over) = (goes_on world.cells over lawful.ordered (omega (arith, lawful_small world code lawful)) is).chain in
+        subst (λ n. Contains (chain_of world.cells n) over) (sym super) (0, omega (arith, ap length chain), ap (λ ms. get_or ms 0 over) chain)
+
+    object : (o : Option Cell) → find_cell world.cells at ≡ o → ForSome (class_of_object o) (λ class. Contains (chain_of world.cells class) holder) × IsSome (class_of_object o) → HasHolder world.cells (Ref at) over
+    object (Some (ObjectCell class entries)) e h =
+        let fine = (lawful.cells at (ObjectCell class entries) e).0 in
+        let (k, inside, same) = h.0 class refl in
+        (object_holders world code at class lawful (ap class_of_object e) fine.class_is over (above_too world.cells class holder over k (lawful_order world code lawful) fine.class_is inside same own)).0
+    object None e h = let none = h.1 in absurd (cc)
+    object (Some (ClassCell decl encl holder' over')) e h = let none = h.1 in absurd (cc)
+    object (Some (BlockCell body env home receiver holder')) e h = let none = h.1 in absurd (cc)
+    object (Some (EnvironmentCell parent locals)) e h = let none = h.1 in absurd (cc)
+    object (Some (ArrayCell items)) e h = let none = h.1 in absurd (cc)
+    object (Some (TextCell bytes)) e h = let none = h.1 in absurd (cc)
+    object (Some (FacetCell kind)) e h = let none = h.1 in absurd (cc)
+    object (Some (MirrorCell shown)) e h = let none = h.1 in absurd (cc)
+    object (Some (MessageCell name args)) e h = let none = h.1 in absurd (cc)
+above_has world code Nil holder over lawful has super is = absurd has
+above_has world code True holder over lawful has super is = absurd has
+above_has world code False holder over lawful has super is = absurd has
+above_has world code (Int number) holder over lawful has super is = absurd has
+above_has world code (Sym name) holder over lawful has super is = absurd has
+above_has world code (Kernel class) holder over lawful has super is = absurd has
+
+-- so its initialiser runs with self
+initialiser_runs : (world : World) (code : CodeProgram) (self : Value) (over : ℕ) → IsLawful world code → HasHolder world.cells self over → is_class (find_cell world.cells over) ≡ true → RunsBody world.cells code self over (initialiser_of code (declaration_of world.cells over))
+initialiser_runs world code (Ref at) over lawful has is = declared (slice_get code.classes (declaration_of world.cells over)) refl
+  where
+    declared : (o : Option ClassCode) → slice_get code.classes (declaration_of world.cells over) ≡ o → RunsBody world.cells code (Ref at) over (option_map_or (λ (c : ClassCode). c.init) o 0)
+    declared (Some c) e =
+        let body = initialiser_there code (declaration_of world.cells over) c lawful.classes e in
+        body_runs world.cells code (Ref at) over c.init initialiser_kind instance_side (declaration_of world.cells over) c.params body (holder_live world.cells code (Ref at) over has)
+        (instance_fits world.cells code at over body.body is body.class_is body.side_is has)
+    declared None e = let l = class_there world code over lawful is in absurd (cc)
+initialiser_runs world code Nil over lawful has is = absurd has
+initialiser_runs world code True over lawful has is = absurd has
+initialiser_runs world code False over lawful has is = absurd has
+initialiser_runs world code (Int number) over lawful has is = absurd has
+initialiser_runs world code (Sym name) over lawful has is = absurd has
+initialiser_runs world code (Kernel class) over lawful has is = absurd has
+
+declared_fits : (code : CodeProgram) (activation : Activation) (over sel : ℕ) (arguments : List Value) (progress : Progress) → RunsBody progress.world.cells code activation.self over (initialiser_of code (declaration_of progress.world.cells over))
+    → PartLater progress.world code (declared_part code activation over sel arguments progress)
+declared_fits code activation over sel arguments progress runs = tested (eqb sel (factory_selector code (declaration_of progress.world.cells over)))
+  where
+    inner : Activation
+    inner = record { self = activation.self; holder = over; body = initialiser_of code (declaration_of progress.world.cells over); home = no_home; env = Nil; site = activation.site }
+
+    tested : (b : Bool) → PartLater progress.world code (cond b (charged Stop Depth (entered progress.world) progress (opened code Stop EnterPart inner arguments)) (Stop (error InitMismatch activation.site) progress))
+    tested true = charged_all (PartLater progress.world code) Stop Depth (entered progress.world) progress (opened code Stop EnterPart inner arguments) tt (λ world e. opened_part progress.world code inner arguments (in_world progress world) runs)
+    tested false = tt
+
+object_fits : (old : World) (code : CodeProgram) (activation : Activation) (sel : ℕ) (progress : Progress) → PartLater old code (object_part code activation sel progress)
+object_fits old code activation sel progress = tested (bytes_eq (selector_text code sel) (codes "new"))
+  where
+    tested : (b : Bool) → PartLater old code (cond b (Skip progress) (Stop (error InitMismatch activation.site) progress))
+    tested true = tt
+    tested false = tt
+
+part_fits : (code : CodeProgram) (activation : Activation) (over : Value) (sel : ℕ) (arguments : List Value) (progress : Progress)
+    → ((class : ℕ) → over ≡ Ref class → RunsBody progress.world.cells code activation.self class (initialiser_of code (declaration_of progress.world.cells class))) → PartLater progress.world code (part_of code activation over sel arguments progress)
+part_fits code activation (Ref over) sel arguments progress runs = declared_fits code activation over sel arguments progress (runs over refl)
+part_fits code activation Nil sel arguments progress runs = object_fits progress.world code activation sel progress
+part_fits code activation True sel arguments progress runs = object_fits progress.world code activation sel progress
+part_fits code activation False sel arguments progress runs = object_fits progress.world code activation sel progress
+part_fits code activation (Int number) sel arguments progress runs = object_fits progress.world code activation sel progress
+part_fits code activation (Sym name) sel arguments progress runs = object_fits progress.world code activation sel progress
+part_fits code activation (Kernel class) sel arguments progress runs = object_fits progress.world code activation sel progress
+
+-- the superclass of a holder runs its initialiser
+super_initialises : (world : World) (code : CodeProgram) (self : Value) (holder : ℕ) → IsLawful world code → HasHolder world.cells self holder → (class : ℕ) → superclass_in (find_cell world.cells holder) ≡ Ref class
+    → RunsBody world.cells code self class (initialiser_of code (declaration_of world.cells class))
+super_initialises world code self holder lawful has class super = found (find_cell world.cells holder) refl super
+  where
+    found : (o : Option Cell) → find_cell world.cells holder ≡ o → superclass_in o ≡ Ref class → RunsBody world.cells code self class (initialiser_of code (declaration_of world.cells class))
+    found (Some (ClassCell decl encl holder' over)) e s =
+        let l = linked world.cells holder decl encl holder' over lawful.ordered e in
+        let is : is_class (find_cell world.cells class) ≡ true = ap (λ v. is_superclass world.cells v) (sym s) ∙ l.superclass in
+        let at : superclass_of world.cells holder ≡ class = ap (λ v. declared_class v) super in
+        initialiser_runs world code self class lawful (above_has world code self holder class lawful has at is) is
+    found None e s = absurd (cc)
+    found (Some (ObjectCell class' entries)) e s = absurd (cc)
+    found (Some (BlockCell body env home receiver holder')) e s = absurd (cc)
+    found (Some (EnvironmentCell parent locals)) e s = absurd (cc)
+    found (Some (ArrayCell items)) e s = absurd (cc)
+    found (Some (TextCell bytes)) e s = absurd (cc)
+    found (Some (FacetCell kind)) e s = absurd (cc)
+    found (Some (MirrorCell shown)) e s = absurd (cc)
+    found (Some (MessageCell name args)) e s = absurd (cc)
+
+part_now : (old : World) (code : CodeProgram) (part : Part) → IsLawful old code → IsLater old (part_reached part).world → LawfulPart code part → PartLater old code part → FitsNextPart code part
+part_now old code (Skip progress) before later lawful fits = tt
+part_now old code (Stop ending progress) before later lawful fits = tt
+part_now old code (EnterPart activation locals progress) before later lawful fits = fits (record { before = before; after = lawful.0; later = later })
+
+pub super_part_fits : (code : CodeProgram) (activation : Activation) (arguments : List Value) (progress : Progress) → LawfulRun code progress → HasHolder progress.world.cells activation.self activation.holder → All (IsLiveValue progress.world.cells code) arguments
+    → FitsNextPart code (super_part code activation arguments progress)
+super_part_fits code activation arguments progress lawful has all =
+    part_now progress.world code (super_part code activation arguments progress) lawful (super_onward [] code activation arguments progress).world.later
+    (super_lawful code activation arguments progress lawful (holder_live progress.world.cells code activation.self activation.holder has) all)
+    (part_fits code activation (superclass_in (find_cell progress.world.cells activation.holder)) (super_selector code (declaration_of progress.world.cells activation.holder)) arguments progress
+    (super_initialises progress.world code activation.self activation.holder lawful has))

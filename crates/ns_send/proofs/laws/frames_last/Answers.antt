@@ -1,0 +1,17 @@
+use Rattle.ns_send.proofs.Lasting.{activation_lasts, locals_last, exit_lasts, target_lasts, slot_lasts}
+use Rattle.ns_send.proofs.laws.frames_last.Goals as goal
+
+pub returns-clause-fits : goal.returns-clause-fits
+returns-clause-fits c = activation_lasts
+
+pub returns-clause-live : goal.returns-clause-live
+returns-clause-live c = locals_last
+
+pub returns-clause-exits : goal.returns-clause-exits
+returns-clause-exits c = exit_lasts
+
+pub returns-clause-targets : goal.returns-clause-targets
+returns-clause-targets c = target_lasts
+
+pub returns-clause-slots : goal.returns-clause-slots
+returns-clause-slots c = slot_lasts
