@@ -5,3 +5,6 @@ pub mod Falling
 pub mod Back
 pub mod Taking
 pub mod Examples
+pub mod TakingNone
+pub mod TakingSteps
+pub mod Told

@@ -16,4 +16,5 @@ pub mod Fitting
 pub mod Homes
 pub mod Left
 pub mod Told
+pub mod Charges
 pub mod Laws

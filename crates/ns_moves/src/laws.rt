@@ -6,6 +6,7 @@ ghost use Rattle.ns_world.specs.declared.value.Value.{Value};
 ghost use Rattle.ns_send.specs.Control.{Progress};
 ghost use Rattle.ns_moves.specs.State.{Phase, State};
 ghost use Rattle.ns_moves.specs.Steps.{Step};
+ghost use Rattle.ns_moves.specs.Charges.{TakesAsTold, ChargesAsTold};
 ghost use Rattle.ns_moves.specs.Laws.{MovesAdd, ChargesAdd, StaysStill, TurnsAdd, TurnsLeaveOne, SendsOn, PerformsOn};
 ghost use Rattle.ns_moves.specs.Laws.{ReturnsLand, HomesAreBelow, AreTaken, GoesBackTo, IsPushed, StaysBelow};
 
@@ -66,4 +67,11 @@ pub fn jumps_go_back()
 pub fn values_show()
     ensures pushed { (values : List Value) (value : Value) → IsPushed values value }
     ensures below { (values : List Value) (value : Value) → StaysBelow values value }
+{}
+
+/// A move takes one step where that is told before it, or finds none left, with which the run has
+/// ended and nothing else has changed; and else it takes none. So a machine tests before it moves.
+pub fn moves_charge_as_told()
+    ensures steps { (code : CodeProgram) → TakesAsTold code }
+    ensures test { (code : CodeProgram) → ChargesAsTold code }
 {}
