@@ -8,3 +8,5 @@ pub mod Examples
 pub mod TakingNone
 pub mod TakingSteps
 pub mod Told
+pub mod Walking
+pub mod Onward

@@ -1,5 +1,5 @@
 -- Actions that charge a step, or find none left.
-use Rattle.std.proofs.Common.{◌≡◌, inl, inr, List, [], ◌∷◌, length, refl, ap, ◌∙◌, arith, eqb, Option, Some, None, Bool, true, false, cond}
+use Rattle.std.proofs.Common.{◌≡◌, inl, inr, List, ◌∷◌, length, refl, ap, ◌∙◌, arith, eqb, Option, Some, None, Bool, true, false, cond}
 use Rattle.ns_base.specs.declared.selector.Sel.{Sel}
 use Rattle.ns_code.specs.declared.program.CodeProgram.{CodeProgram}
 use Rattle.ns_world.specs.declared.value.Value.{Value}
@@ -26,14 +26,14 @@ use Rattle.ns_send.specs.Spending.{ControlSpends, Stopped}
 use Rattle.ns_send.proofs.Onward.{charged_all}
 use Rattle.ns_send.proofs.Counting.{step_charged, frame_charged, nothing_charged, opened_counts}
 use Rattle.ns_send.proofs.Spending.{answered_spends}
-use Rattle.ns_moves.specs.State.{Leaving, Frame, Running, Looping, Phase, Start, First, Second, Hosted, State, Going, Ended, progress_of, world_of}
+use Rattle.ns_moves.specs.State.{Leaving, Frame, Running, Phase, State, Going, Ended, progress_of, world_of}
 use Rattle.ns_moves.specs.Turn.{ends_with_steps}
 use Rattle.ns_moves.specs.Steps.{Step}
-use Rattle.ns_moves.specs.Returns.{concluded, delivered}
 use Rattle.ns_moves.specs.Arrivals.{arrived, acted_on}
 use Rattle.ns_moves.specs.Jumps.{goes_back, jumped}
 use Rattle.ns_moves.specs.Charging.{action_charges}
 use Rattle.ns_moves.specs.Charges.{TookStep, TookNone, Took}
+use Rattle.ns_moves.proofs.Walking.{arrived_at}
 use Rattle.ns_moves.proofs.TakingNone.{settled_none}
 
 -- ---- a charge
@@ -50,26 +50,6 @@ charge_took to stop go old ended same goes = tested (stepped old.world) refl
     tested None e = inr (record { none = e; ended = ended; same = same })
 
 -- ---- where control goes
-
-concluded_at : (code : CodeProgram) (phase : Phase) (answer : Value) (p : Progress) → progress_of (concluded code phase answer p) ≡ p
-concluded_at code Start answer p = refl
-concluded_at code (First arguments) answer p = refl
-concluded_at code Second answer p = refl
-concluded_at code Hosted answer p = refl
-
-delivered_at : (code : CodeProgram) (phase : Phase) (answer : Value) (frames : List Frame) (p : Progress)
-    → progress_of (delivered code phase answer frames p) ≡ p
-delivered_at code phase answer [] p = concluded_at code phase answer p
-delivered_at code phase answer (Running leaving a ls rest stack ∷ frames) p = refl
-delivered_at code phase answer (Looping method state site ∷ frames) p = refl
-
-arrived_at : (code : CodeProgram) (phase : Phase) (c : Control) (frames : List Frame) → progress_of (arrived code phase c frames) ≡ reached c
-arrived_at code phase (Now (Gives answer p)) frames = delivered_at code phase answer frames p
-arrived_at code phase (Now (Halts ending p)) frames = refl
-arrived_at code phase (Enter exit a ls p) frames = refl
-arrived_at code phase (Evaluate block arguments site p) frames = refl
-arrived_at code phase (Begin method state site p) frames = refl
-arrived_at code phase (Perform receiver sel array site p) frames = refl
 
 abbrev SameSteps : Progress → Control → Type 0
 SameSteps old c = (reached c).world.steps ≡ old.world.steps

@@ -1,5 +1,5 @@
 -- A move takes a step exactly where that is told before it.
-use Rattle.std.proofs.Common.{◌≡◌, inl, inr, ℕ, zero, suc, ◌+◌, List, [], ◌∷◌, refl, ap, ◌∙◌, arith, Option, Bool, true, false}
+use Rattle.std.proofs.Common.{◌≡◌, inl, inr, ℕ, ◌+◌, List, [], ◌∷◌, refl, ap, ◌∙◌, arith, Option, Bool, true, false}
 use Rattle.std.specs.Prelude.{nat_lt, ◌||◌}
 use Rattle.ns_base.specs.declared.place.Place.{Place as SourcePlace}
 use Rattle.ns_base.specs.declared.selector.Sel.{Sel}
@@ -22,7 +22,7 @@ use Rattle.ns_send.proofs.Spending.{action_spends}
 use Rattle.ns_moves.specs.State.{Leaving, Frame, Running, Looping, Sending, Performing, Evaluating, Phase, State, Unbegun, Going, Pends, Ended, Stuck}
 use Rattle.ns_moves.specs.State.{progress_of, world_of}
 use Rattle.ns_moves.specs.Steps.{Step, steps_from, literal}
-use Rattle.ns_moves.specs.Operands.{on_top, taken_off, picked}
+use Rattle.ns_moves.specs.Operands.{on_top}
 use Rattle.ns_moves.specs.Jumps.{jumped_on}
 use Rattle.ns_moves.specs.Instructions.{executed}
 use Rattle.ns_moves.specs.Arrivals.{arrived}
@@ -30,27 +30,11 @@ use Rattle.ns_moves.specs.Move.{sent_on, move}
 use Rattle.ns_moves.specs.Turn.{ends_with_steps, was_charged}
 use Rattle.ns_moves.specs.Charging.{jump_charges, instr_charges, will_charge}
 use Rattle.ns_moves.specs.Charges.{is_stuck, TookStep, TookNone, Took, TakesAsTold, ChargesAsTold}
+use Rattle.ns_moves.proofs.Walking.{on_top_all, taken_all, picked_all}
 use Rattle.ns_moves.proofs.TakingNone.{settled_none, cell_none, returned_none, home_none, part_none}
 use Rattle.ns_moves.proofs.TakingSteps.{send_took, evaluation_took, action_took, jump_took}
 
 -- ---- operands
-
-on_top_all : (P : State → Type 0) (missing : State) (stack : List Value) (go : Value → List Value → State) → P missing
-    → ((v : Value) (below : List Value) → P (go v below)) → P (on_top missing stack go)
-on_top_all P missing [] go m g = m
-on_top_all P missing (v ∷ below) go m g = g v below
-
-taken_all : (P : State → Type 0) (missing : State) (count : ℕ) (values stack : List Value) (go : List Value → List Value → State) → P missing
-    → ((vs below : List Value) → P (go vs below)) → P (taken_off missing count values stack go)
-taken_all P missing zero values stack go m g = g values stack
-taken_all P missing (suc count) values [] go m g = m
-taken_all P missing (suc count) values (v ∷ stack) go m g = taken_all P missing count (v ∷ values) stack go m g
-
-picked_all : (P : State → Type 0) (missing : State) (place : ℕ) (stack : List Value) (go : Value → State) → P missing → ((v : Value) → P (go v))
-    → P (picked missing place stack go)
-picked_all P missing place [] go m g = m
-picked_all P missing zero (v ∷ stack) go m g = g v
-picked_all P missing (suc place) (v ∷ stack) go m g = picked_all P missing place stack go m g
 
 stuck_none : (p : Progress) → TookNone p (Stuck p)
 stuck_none p = record { steps = refl; going = refl }

@@ -17,4 +17,5 @@ pub mod Homes
 pub mod Left
 pub mod Told
 pub mod Charges
+pub mod Onward
 pub mod Laws
