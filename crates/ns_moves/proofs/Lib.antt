@@ -5,3 +5,8 @@ pub mod Falling
 pub mod Back
 pub mod Taking
 pub mod Examples
+pub mod TakingNone
+pub mod TakingSteps
+pub mod Told
+pub mod Walking
+pub mod Onward

@@ -13,7 +13,7 @@ use Rattle.ns_moves.specs.Steps.{Step}
 use Rattle.ns_moves.specs.State.{Frame, Phase, State}
 use Rattle.ns_moves.specs.Operands.{taken_off}
 use Rattle.ns_moves.specs.Returns.{has_home, unwound}
-use Rattle.ns_moves.specs.Homes.{Landed}
+use Rattle.ns_moves.specs.Homes.{Landed, LandedBelow}
 use Rattle.ns_moves.specs.Jumps.{goes_back}
 use Rattle.ns_moves.specs.Move.{moves, sent_on}
 use Rattle.ns_moves.specs.Turn.{is_still, charged_in, Turns}
@@ -67,6 +67,12 @@ ReturnsLand code phase =
 -- Where the homes of methods fall from below a number on, each home that is there is below it.
 abbrev pub HomesAreBelow : ℕ → Type 0
 HomesAreBelow bound = (home : ℕ) (frames : List Frame) → homes_fall bound frames ≡ true → has_home home frames ≡ true → home < bound
+
+-- There a return leaves no frame of that home or a later one.
+abbrev pub ReturnsLandBelow : CodeProgram → Phase → Type 0
+ReturnsLandBelow code phase =
+    (bound home : ℕ) (value : Value) (frames : List Frame) (progress : Progress) → homes_fall bound frames ≡ true → has_home home frames ≡ true
+    → LandedBelow code phase home value (unwound code phase home value frames progress)
 
 -- Where there are as many operands, they are taken, the deepest first.
 abbrev pub AreTaken : State → Type 0

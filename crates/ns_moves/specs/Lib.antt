@@ -16,4 +16,6 @@ pub mod Fitting
 pub mod Homes
 pub mod Left
 pub mod Told
+pub mod Charges
+pub mod Onward
 pub mod Laws

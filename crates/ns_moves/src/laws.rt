@@ -6,8 +6,10 @@ ghost use Rattle.ns_world.specs.declared.value.Value.{Value};
 ghost use Rattle.ns_send.specs.Control.{Progress};
 ghost use Rattle.ns_moves.specs.State.{Phase, State};
 ghost use Rattle.ns_moves.specs.Steps.{Step};
+ghost use Rattle.ns_moves.specs.Onward.{MovesGoOnward};
+ghost use Rattle.ns_moves.specs.Charges.{TakesAsTold, ChargesAsTold};
 ghost use Rattle.ns_moves.specs.Laws.{MovesAdd, ChargesAdd, StaysStill, TurnsAdd, TurnsLeaveOne, SendsOn, PerformsOn};
-ghost use Rattle.ns_moves.specs.Laws.{ReturnsLand, HomesAreBelow, AreTaken, GoesBackTo, IsPushed, StaysBelow};
+ghost use Rattle.ns_moves.specs.Laws.{ReturnsLand, ReturnsLandBelow, HomesAreBelow, AreTaken, GoesBackTo, IsPushed, StaysBelow};
 
 /// So many moves and then so many are all these moves, and charge as many steps.
 #[tactic(auto, using(crate::proofs::Turns::moves_add, crate::proofs::Turns::charges_add))]
@@ -36,10 +38,11 @@ pub fn waiting_sends_are_sends()
     ensures performed { (code : CodeProgram) (progress : Progress) → PerformsOn code progress }
 {}
 
-/// A return from a home that is there is delivered to what stands below it.
-#[tactic(auto, using(crate::proofs::Homes::return_lands))]
+/// A return from a home that is there is delivered to what stands below it; where homes fall, no
+/// frame of that home or a later one is left.
 pub fn returns_land()
-    ensures { (code : CodeProgram) (phase : Phase) → ReturnsLand code phase }
+    ensures lands { (code : CodeProgram) (phase : Phase) → ReturnsLand code phase }
+    ensures below { (code : CodeProgram) (phase : Phase) → ReturnsLandBelow code phase }
 {}
 
 /// Where the homes of methods fall from below a number on, each home that is there is below it.
@@ -66,4 +69,17 @@ pub fn jumps_go_back()
 pub fn values_show()
     ensures pushed { (values : List Value) (value : Value) → IsPushed values value }
     ensures below { (values : List Value) (value : Value) → StaysBelow values value }
+{}
+
+/// A move takes one step where that is told before it, or finds none left, with which the run has
+/// ended and nothing else has changed; and else it takes none. So a machine tests before it moves.
+pub fn moves_charge_as_told()
+    ensures steps { (code : CodeProgram) → TakesAsTold code }
+    ensures test { (code : CodeProgram) → ChargesAsTold code }
+{}
+
+/// Each move goes onward: to a later world, in which no limit has changed, no counter but depth has
+/// fallen, what was printed stands and no cell is gone, and with no method less begun.
+pub fn moves_go_onward()
+    ensures { (code : CodeProgram) → MovesGoOnward code }
 {}

@@ -208,7 +208,7 @@ answered_onward named code found.NotPublic sel receiver values site progress has
 -- ---- sends
 
 -- a send to a receiver, whatever it finds
-stepped_onward : (code : CodeProgram) (member : Heap → Found) (sel : Sel) (receiver : Heap → Value) (values : List Value) (site : Heap → Site) (progress : Progress)
+pub stepped_onward : (code : CodeProgram) (member : Heap → Found) (sel : Sel) (receiver : Heap → Value) (values : List Value) (site : Heap → Site) (progress : Progress)
     → Going (touched progress.world.cells (receiver progress.world.cells)) progress (reached (charged halts Steps (stepped progress.world) progress
     (answered_by code (member progress.world.cells) sel (receiver progress.world.cells) values (site progress.world.cells))))
 stepped_onward code member sel receiver values site progress =

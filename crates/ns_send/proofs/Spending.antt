@@ -300,7 +300,7 @@ absent_spends steps old code (found.Kernel number) sel receiver values site prog
 absent_spends steps old code found.NotPublic sel receiver values site progress was = stopped_here steps old progress was
 absent_spends steps old code found.Absent sel receiver values site progress was = stopped_here steps old progress was
 
-answered_spends : (steps : ℕ) (old : Progress) (code : CodeProgram) (member : Found) (sel : Sel) (receiver : Value) (values : List Value) (site : Site) (progress : Progress) → Charged steps 0 0 old progress → ControlSpends steps old (answered_by code member sel receiver values site progress)
+pub answered_spends : (steps : ℕ) (old : Progress) (code : CodeProgram) (member : Found) (sel : Sel) (receiver : Value) (values : List Value) (site : Site) (progress : Progress) → Charged steps 0 0 old progress → ControlSpends steps old (answered_by code member sel receiver values site progress)
 answered_spends steps old code found.Absent sel receiver values site progress was =
     absent_spends steps old code (found_from progress.world.cells code (start_of progress.world.cells receiver) (own_number code DoesNotUnderstand) Inner) sel receiver values site progress was
 answered_spends steps old code (found.Method body holder) sel receiver values site progress was = listed_spends steps old code (found.Method body holder) sel receiver values site progress was
