@@ -2,7 +2,7 @@
 
 ghost use Rattle.std.specs.Prelude.{◌≡◌, ℕ, ◌+◌, ◌^◌, ◌<◌, ◌≤◌, List, [], ◌∷◌, length, true, false, ◌&&◌, is_none, Some, slice_get, slice_index, slice_set, IsTrue, IsSome, OnOk, OnErr, if◌then◌else◌};
 ghost use Rattle.std.specs.List.{slice_index_or};
-ghost use Rattle.ns_world.specs.Cell.{cell_size, fresh};
+ghost use Rattle.ns_world.specs.Cell.{cell_size, fresh, filled_environment, ArrayCell};
 ghost use Rattle.ns_world.specs.Heap.{heap_size, has_superclass, words_at, word_at, open_words_at, write_word, bytes_at, byte_at, write_byte, find_cell, shape_at, next_number, is_class, chain_of, superclass_of, is_chain_start, declared_class};
 ghost use Rattle.ns_world.specs.Head.{head_at};
 ghost use Rattle.ns_world.specs.Words.{shape_in, head_in, words_behind};
@@ -12,7 +12,7 @@ ghost use Rattle.ns_world.specs.declared.word.Word.TheVariants.{Bytes, Nil};
 use crate::cell::NewCell;
 use crate::head::Head;
 use crate::kernel::NO_CLASS;
-use crate::lay::{lay, text_words};
+use crate::lay::{lay, lay_items, lay_locals, text_words};
 use crate::seek::{Sought, is_sought_at};
 use crate::value::Value;
 use crate::word::{Word, beside_in, value_in, word_of};
@@ -90,6 +90,31 @@ impl Heap {
         let first = self.may_be_first(cell);
         self.firsts_end = bound_with(first, self.words.len(), self.firsts_end);
         lay(&mut self.words, cell);
+        number
+    }
+
+    /// Makes an array that holds these values, and gives its number.
+    pub fn make_array(&mut self, items: &[Value]) -> u32
+        requires room { heap_size self.old.cells + cell_size (ArrayCell items.now) ≤ self.old.room }
+        requires small { heap_size self.old.cells + cell_size (ArrayCell items.now) ≤ 64000000 }
+        ensures number { result ≡ heap_size self.old.cells }
+        ensures cells { self.new ≡ record self.old { cells = ArrayCell items.now ∷ self.old.cells } }
+    {
+        let number = self.words.len() as u32;
+        lay_items(&mut self.words, items);
+        number
+    }
+
+    /// Makes an environment whose first locals hold these values, and so many others nil, and
+    /// gives its number.
+    pub fn make_environment(&mut self, parent: Value, first: &[Value], others: u32) -> u32
+        requires room { heap_size self.old.cells + cell_size (filled_environment parent first.now others) ≤ self.old.room }
+        requires small { heap_size self.old.cells + cell_size (filled_environment parent first.now others) ≤ 64000000 }
+        ensures number { result ≡ heap_size self.old.cells }
+        ensures cells { self.new ≡ record self.old { cells = filled_environment parent first.now others ∷ self.old.cells } }
+    {
+        let number = self.words.len() as u32;
+        lay_locals(&mut self.words, parent, first, others);
         number
     }
 

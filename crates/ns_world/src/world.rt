@@ -3,7 +3,7 @@
 ghost use Rattle.std.specs.Prelude.{◌≡◌, ◌-◌, ◌<◌, ◌≤◌, [], ◌∷◌, length, true, false, Some, slice_get, IsTrue, IsSome, OnOk, OnErr};
 ghost use Rattle.ns_base.specs.Limits.{InRange};
 ghost use Rattle.ns_world.specs.declared.ending.LimitKind.TheVariants.{Steps, Depth, Out};
-ghost use Rattle.ns_world.specs.Cell.{fresh};
+ghost use Rattle.ns_world.specs.Cell.{fresh, filled_environment, ArrayCell};
 ghost use Rattle.ns_world.specs.Heap.{has_superclass, words_at, word_at, open_words_at, bytes_at, byte_at, find_cell, shape_at, next_number, is_class, is_chain_start, chain_of, superclass_of};
 ghost use Rattle.ns_world.specs.Seek.{first_such, is_facet, is_top};
 ghost use Rattle.ns_world.specs.Head.{head_at};
@@ -97,6 +97,39 @@ impl World {
             return Err(CellLimit);
         }
         Ok(self.heap.make(cell))
+    }
+
+    /// Makes an array that holds these values, charged as any cell.
+    pub fn make_array(&mut self, items: &[Value]) -> Result<u32, CellLimit>
+        requires room { self.old.world.limits.cells ≤ self.old.cell_room }
+        ensures makes { MakesCell self.old (ArrayCell items.now) result self.new }
+        ensures limits { self.new.world.limits ≡ self.old.world.limits }
+        ensures room { SameRoom self.old self.new }
+    {
+        if self.limits.cells - self.heap.size() <= items.len() as u64 {
+            return Err(CellLimit);
+        }
+        Ok(self.heap.make_array(items))
+    }
+
+    /// Makes an environment whose first locals hold these values, and so many others nil, charged
+    /// as any cell.
+    pub fn make_environment(
+        &mut self,
+        parent: Value,
+        first: &[Value],
+        others: u32,
+    ) -> Result<u32, CellLimit>
+        requires room { self.old.world.limits.cells ≤ self.old.cell_room }
+        ensures makes { MakesCell self.old (filled_environment parent first.now others) result self.new }
+        ensures limits { self.new.world.limits ≡ self.old.world.limits }
+        ensures room { SameRoom self.old self.new }
+    {
+        let left = self.limits.cells - self.heap.size();
+        if left <= u64::from(others) || left - u64::from(others) <= first.len() as u64 {
+            return Err(CellLimit);
+        }
+        Ok(self.heap.make_environment(parent, first, others))
     }
 
     /// A value behind the head of a live cell: an entry of an object, the enclosing object, the
