@@ -1,8 +1,8 @@
 //! The heap: one vector of words, reserved once, in which a cell's number is its place.
 
-ghost use Rattle.std.specs.Prelude.{◌≡◌, ℕ, ◌+◌, ◌^◌, ◌<◌, ◌≤◌, List, [], ◌∷◌, length, true, false, ◌&&◌, is_none, Some, slice_get, slice_index, slice_set, IsTrue, IsSome, OnOk, OnErr, if◌then◌else◌};
+ghost use Rattle.std.specs.Prelude.{◌≡◌, ℕ, ◌+◌, ◌^◌, ◌<◌, ◌≤◌, List, [], ◌∷◌, ◌++◌, length, true, false, ◌&&◌, is_none, Some, slice_get, slice_index, slice_set, IsTrue, IsSome, OnOk, OnErr, if◌then◌else◌};
 ghost use Rattle.std.specs.List.{slice_index_or};
-ghost use Rattle.ns_world.specs.Cell.{cell_size, fresh, filled_environment, ArrayCell};
+ghost use Rattle.ns_world.specs.Cell.{cell_size, fresh, filled_environment, ArrayCell, TextCell};
 ghost use Rattle.ns_world.specs.Heap.{heap_size, has_superclass, words_at, word_at, open_words_at, write_word, bytes_at, byte_at, write_byte, find_cell, shape_at, next_number, is_class, chain_of, superclass_of, is_chain_start, declared_class};
 ghost use Rattle.ns_world.specs.Head.{head_at};
 ghost use Rattle.ns_world.specs.Words.{shape_in, head_in, words_behind};
@@ -12,7 +12,7 @@ ghost use Rattle.ns_world.specs.declared.word.Word.TheVariants.{Bytes, Nil};
 use crate::cell::NewCell;
 use crate::head::Head;
 use crate::kernel::NO_CLASS;
-use crate::lay::{lay, lay_items, lay_locals, text_words};
+use crate::lay::{lay, lay_bytes, lay_items, lay_locals, text_words};
 use crate::seek::{Sought, is_sought_at};
 use crate::value::Value;
 use crate::word::{Word, beside_in, value_in, word_of};
@@ -115,6 +115,18 @@ impl Heap {
     {
         let number = self.words.len() as u32;
         lay_locals(&mut self.words, parent, first, others);
+        number
+    }
+
+    /// Makes a text of a row of bytes and another behind it, and gives its number.
+    pub fn make_text(&mut self, first: &[u8], second: &[u8]) -> u32
+        requires room { heap_size self.old.cells + cell_size (TextCell (first.now ++ second.now)) ≤ self.old.room }
+        requires small { heap_size self.old.cells + cell_size (TextCell (first.now ++ second.now)) ≤ 64000000 }
+        ensures number { result ≡ heap_size self.old.cells }
+        ensures cells { self.new ≡ record self.old { cells = TextCell (first.now ++ second.now) ∷ self.old.cells } }
+    {
+        let number = self.words.len() as u32;
+        lay_bytes(&mut self.words, first, second);
         number
     }
 

@@ -2,11 +2,12 @@
 
 ghost use Rattle.std.specs.Prelude.{◌≡◌, ◌+◌, ◌^◌, ◌<◌, ◌≤◌, ◌∷◌, ◌++◌, map, replicate, length, vec_len};
 ghost use Rattle.std.specs.Vec.{vec_capacity};
-ghost use Rattle.ns_world.specs.Cell.{cell_size, fresh, text_words, filled_environment, ClassCell, BlockCell, ArrayCell};
+ghost use Rattle.ns_world.specs.Cell.{cell_size, fresh, text_words, filled_environment, ClassCell, BlockCell, ArrayCell, TextCell};
 ghost use Rattle.ns_world.specs.declared.cell.NewCell.TheVariants.{Object, Environment, Array, Text};
-ghost use Rattle.ns_world.specs.Words.{word_of, words_of};
+ghost use Rattle.ns_world.specs.Words.{word_of, words_of, packed};
 
 use crate::cell::NewCell;
+use crate::pack::cut_word;
 use crate::value::Value;
 use crate::word::{Word, word_beside, word_of};
 
@@ -206,4 +207,32 @@ pub fn lay_locals(words: &mut Vec<Word>, parent: Value, first: &[Value], others:
     words.push_reserved(word_beside(parent, first.len() as u32 + others));
     put_values(words, first);
     repeat(words, u64::from(others), NIL);
+}
+
+/// Puts the words of a text of a row of bytes, and another behind it, behind the others.
+pub fn lay_bytes(words: &mut Vec<Word>, first: &[u8], second: &[u8])
+    requires room { vec_len words.old + (1 + text_words (length (first.now ++ second.now))) ≤ vec_capacity words.old }
+    requires small { length (first.now ++ second.now) < 2 ^ 32 }
+    ensures items { words.new.items ≡ words.old.items ++ words_of (TextCell (first.now ++ second.now)) }
+    ensures capacity { vec_capacity words.old ≤ vec_capacity words.new }
+{
+    let bytes = first.len() as u32 + second.len() as u32;
+    words.push_reserved(Word::Text { bytes });
+    pack(words, text_words(bytes), first, second);
+}
+
+/// Puts a row of bytes, and another behind it, in so many words behind the others.
+fn pack(words: &mut Vec<Word>, count: u64, first: &[u8], second: &[u8])
+    requires { vec_len words.old + count ≤ vec_capacity words.old }
+    ensures items { words.new.items ≡ words.old.items ++ packed count (first.now ++ second.now) }
+    ensures capacity { vec_capacity words.old ≤ vec_capacity words.new }
+{
+    let mut left = first;
+    let mut others = second;
+    'words: for _ in 0..count {
+        let (word, rest, others_left) = cut_word(left, others);
+        words.push_reserved(Word::Bytes(word));
+        left = rest;
+        others = others_left;
+    }
 }

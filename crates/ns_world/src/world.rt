@@ -1,9 +1,9 @@
 //! The world of a run: its cells, its output, and the charges.
 
-ghost use Rattle.std.specs.Prelude.{◌≡◌, ◌-◌, ◌<◌, ◌≤◌, [], ◌∷◌, length, true, false, Some, slice_get, IsTrue, IsSome, OnOk, OnErr};
+ghost use Rattle.std.specs.Prelude.{◌≡◌, ◌-◌, ◌<◌, ◌≤◌, [], ◌∷◌, ◌++◌, length, true, false, Some, slice_get, IsTrue, IsSome, OnOk, OnErr};
 ghost use Rattle.ns_base.specs.Limits.{InRange};
 ghost use Rattle.ns_world.specs.declared.ending.LimitKind.TheVariants.{Steps, Depth, Out};
-ghost use Rattle.ns_world.specs.Cell.{fresh, filled_environment, ArrayCell};
+ghost use Rattle.ns_world.specs.Cell.{fresh, filled_environment, ArrayCell, TextCell};
 ghost use Rattle.ns_world.specs.Heap.{has_superclass, words_at, word_at, open_words_at, bytes_at, byte_at, find_cell, shape_at, next_number, is_class, is_chain_start, chain_of, superclass_of};
 ghost use Rattle.ns_world.specs.Seek.{first_such, is_facet, is_top};
 ghost use Rattle.ns_world.specs.Head.{head_at};
@@ -17,7 +17,7 @@ use crate::ending::{Counters, LimitKind};
 use crate::head::{Head, declared_at_head, is_class_head, kernel_class_row, start_at_head};
 use crate::heap::Heap;
 use crate::kernel::{ClassName, KernelRow, NO_CLASS, Start};
-use crate::lay::size_of_cell;
+use crate::lay::{size_of_cell, text_words};
 use crate::seek::Sought;
 use crate::value::Value;
 use ns_base::limits::Limits;
@@ -130,6 +130,21 @@ impl World {
             return Err(CellLimit);
         }
         Ok(self.heap.make_environment(parent, first, others))
+    }
+
+    /// Makes a text of a row of bytes and another behind it, charged as any cell.
+    pub fn make_text(&mut self, first: &[u8], second: &[u8]) -> Result<u32, CellLimit>
+        requires room { self.old.world.limits.cells ≤ self.old.cell_room }
+        ensures makes { MakesCell self.old (TextCell (first.now ++ second.now)) result self.new }
+        ensures limits { self.new.world.limits ≡ self.old.world.limits }
+        ensures room { SameRoom self.old self.new }
+    {
+        let bytes = first.len() as u64 + second.len() as u64;
+        let left = self.limits.cells - self.heap.size();
+        if 4_294_967_295 < bytes || left <= text_words(bytes as u32) {
+            return Err(CellLimit);
+        }
+        Ok(self.heap.make_text(first, second))
     }
 
     /// A value behind the head of a live cell: an entry of an object, the enclosing object, the
