@@ -3,3 +3,4 @@ pub mod Spelling
 pub mod Selector
 pub mod Fits
 pub mod Soundness
+pub mod Table

@@ -7,5 +7,6 @@ pub mod instruction;
 pub mod own;
 pub mod program;
 pub mod selector;
+pub mod table;
 #[cfg(test)]
 mod tests;
