@@ -1,9 +1,9 @@
 //! The heap: one vector of words, reserved once, in which a cell's number is its place.
 
-ghost use Rattle.std.specs.Prelude.{◌≡◌, ℕ, ◌+◌, ◌^◌, ◌<◌, ◌≤◌, List, [], ◌∷◌, ◌++◌, length, true, false, ◌&&◌, is_none, Some, slice_get, slice_index, slice_set, IsTrue, IsSome, OnOk, OnErr, if◌then◌else◌};
+ghost use Rattle.std.specs.Prelude.{◌≡◌, ℕ, ◌+◌, ◌*◌, ◌^◌, ◌<◌, ◌≤◌, List, [], ◌∷◌, ◌++◌, length, true, false, ◌&&◌, is_none, Some, slice_get, slice_index, slice_set, IsTrue, IsSome, OnOk, OnErr, if◌then◌else◌};
 ghost use Rattle.std.specs.List.{slice_index_or};
 ghost use Rattle.ns_world.specs.Cell.{cell_size, fresh, filled_environment, ArrayCell, TextCell};
-ghost use Rattle.ns_world.specs.Heap.{heap_size, has_superclass, words_at, word_at, open_words_at, write_word, bytes_at, byte_at, write_byte, find_cell, shape_at, next_number, is_class, chain_of, superclass_of, is_chain_start, declared_class};
+ghost use Rattle.ns_world.specs.Heap.{heap_size, has_superclass, words_at, word_at, open_words_at, write_word, bytes_at, byte_at, row_at, write_byte, find_cell, shape_at, next_number, is_class, chain_of, superclass_of, is_chain_start, declared_class};
 ghost use Rattle.ns_world.specs.Head.{head_at};
 ghost use Rattle.ns_world.specs.Words.{shape_in, head_in, words_behind};
 ghost use Rattle.ns_world.specs.Seek.{first_such, is_sought, is_nil, is_top, may_be_first};
@@ -174,6 +174,14 @@ impl Heap {
     {
         let word = at as usize + 1 + (place / 8) as usize;
         byte_in(self.words[word], (place % 8) as usize)
+    }
+
+    /// Eight bytes of a text, the row of that number.
+    pub fn row(&self, at: u32, row: u32) -> [u8; 8]
+        requires { 8 * row + 8 ≤ length (bytes_at self.now.cells at) }
+        ensures { result ≡ row_at self.now.cells at row }
+    {
+        row_in(self.words[at as usize + 1 + row as usize])
     }
 
     /// Writes a byte of a text.
@@ -378,6 +386,16 @@ fn declared_class(over: Value) -> u32
     match over {
         Value::Ref(class) => class,
         _ => NO_CLASS,
+    }
+}
+
+/// The eight bytes of a word.
+fn row_in(word: Word) -> [u8; 8]
+    ensures { (row : List ℕ) → word ≡ Bytes row → result ≡ row }
+{
+    match word {
+        Word::Bytes(row) => row,
+        _ => [0; 8],
     }
 }
 

@@ -1,10 +1,10 @@
 //! The world of a run: its cells, its output, and the charges.
 
-ghost use Rattle.std.specs.Prelude.{◌≡◌, ◌-◌, ◌<◌, ◌≤◌, [], ◌∷◌, ◌++◌, length, true, false, Some, slice_get, IsTrue, IsSome, OnOk, OnErr};
+ghost use Rattle.std.specs.Prelude.{◌≡◌, ◌+◌, ◌-◌, ◌*◌, ◌<◌, ◌≤◌, [], ◌∷◌, ◌++◌, length, true, false, Some, slice_get, IsTrue, IsSome, OnOk, OnErr};
 ghost use Rattle.ns_base.specs.Limits.{InRange};
 ghost use Rattle.ns_world.specs.declared.ending.LimitKind.TheVariants.{Steps, Depth, Out};
 ghost use Rattle.ns_world.specs.Cell.{fresh, filled_environment, ArrayCell, TextCell};
-ghost use Rattle.ns_world.specs.Heap.{has_superclass, words_at, word_at, open_words_at, bytes_at, byte_at, find_cell, shape_at, next_number, is_class, is_chain_start, chain_of, superclass_of};
+ghost use Rattle.ns_world.specs.Heap.{has_superclass, words_at, word_at, open_words_at, bytes_at, byte_at, row_at, find_cell, shape_at, next_number, is_class, is_chain_start, chain_of, superclass_of};
 ghost use Rattle.ns_world.specs.Seek.{first_such, is_facet, is_top};
 ghost use Rattle.ns_world.specs.Head.{head_at};
 ghost use Rattle.ns_world.specs.Starts.{has_class, class_name_at, is_receiver, start_of};
@@ -171,6 +171,14 @@ impl World {
         ensures { result ≡ byte_at self.now.world.cells at place }
     {
         self.heap.byte(at, place)
+    }
+
+    /// Eight bytes of a text, the row of that number.
+    pub fn row(&self, at: u32, row: u32) -> [u8; 8]
+        requires { 8 * row + 8 ≤ length (bytes_at self.now.world.cells at) }
+        ensures { result ≡ row_at self.now.world.cells at row }
+    {
+        self.heap.row(at, row)
     }
 
     /// Writes a byte of a text.
