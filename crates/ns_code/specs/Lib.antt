@@ -4,3 +4,4 @@ pub mod Spelling
 pub mod Selector
 pub mod Fits
 pub mod Soundness
+pub mod Selectors

@@ -7,3 +7,4 @@ pub mod instruction;
 pub mod own;
 pub mod program;
 pub mod selector;
+pub mod selectors;

@@ -30,7 +30,8 @@ impl CodeProgram {
     }
 }
 
-fn own_text_at(place: usize) -> &'static [u8]
+/// The text of the own selector of that place, empty past the last.
+pub fn own_text_at(place: usize) -> &'static [u8]
     ensures { result.now ≡ own_text_at place }
 {
     match place {

@@ -1,9 +1,10 @@
 -- Comparing bytes one after another.
-use Rattle.std.proofs.Common.{◌≡◌, ◌≢◌, ℕ, ◌+◌, ◌<◌, ◌≤◌, min, List, [], ◌∷◌, length, drop, get_or, refl, ap, arith, Bool, true, false, eqb, length-drop}
-use Rattle.std.specs.Prelude.{nat_lt}
+use Rattle.std.proofs.Common.{◌≡◌, ◌≢◌, ℕ, zero, suc, ◌+◌, ◌*◌, ◌<◌, ◌≤◌, min, List, [], ◌∷◌, ◌++◌, length, take, drop, get_or, refl, ap, sym, ◌∙◌, arith, Bool, true, false, eqb, length-drop}
+use Rattle.std.specs.Prelude.{nat_lt, not}
 use Rattle.std.specs.Str.{bytes_eq}
 use Rattle.std.proofs.lemmas.Bool.{eq-eqb, eqb-true, leb-true, leb-false}
 use Rattle.std.proofs.lemmas.List.{drop_more, drop_all}
+use Rattle.std.proofs.Math.Seq.{take-add}
 use Rattle.std.proofs.lemmas.Slice.Eq.{bytes_eq-Decides}
 use Rattle.ns_kdata.specs.Texts.{is_before}
 
@@ -69,3 +70,38 @@ before_end one other i e = tested (nat_lt (length one) (length other)) refl
     tested false t =
         let more : length other ≤ length one = grind (arith, leb-false _ _ t) in
         rw (drop_all i other (omega (arith, e)), t) refl
+
+-- bytes that don't differ are the same
+pub same_rows : (one other : List ℕ) → not (bytes_eq one other) ≡ false → one ≡ other
+same_rows one other h = tested (bytes_eq one other) refl h
+  where
+    tested : (b : Bool) → bytes_eq one other ≡ b → not b ≡ false → one ≡ other
+    tested true e h = (bytes_eq-Decides one other).0 e
+    tested false e h = absurd (cc)
+
+-- where so many rows of eight are the same, and the next is, so are the bytes of one row more
+pub front_on : (one other : List ℕ) (row : ℕ) → take (8 * row) one ≡ take (8 * row) other → take 8 (drop (8 * row) one) ≡ take 8 (drop (8 * row) other) → take (8 * (row + 1)) one ≡ take (8 * (row + 1)) other
+front_on one other row e next =
+    let more : 8 * (row + 1) ≡ 8 * row + 8 = omega arith in
+    let split : (bytes : List ℕ) → take (8 * (row + 1)) bytes ≡ take (8 * row) bytes ++ take 8 (drop (8 * row) bytes) =
+    λ bytes. ap (λ n. take n bytes) more ∙ take-add (8 * row) 8 bytes in
+    split one ∙ (ap (λ front. front ++ take 8 (drop (8 * row) one)) e ∙ (ap (λ rest. take (8 * row) other ++ rest) next ∙ sym (split other)))
+
+-- behind fronts that are the same the rest decides
+pub equal_behind : (n : ℕ) (one other : List ℕ) → n ≤ length one → n ≤ length other → take n one ≡ take n other → bytes_eq (drop n one) (drop n other) ≡ bytes_eq one other
+equal_behind zero one other h k e = refl
+equal_behind (suc n) [] other h k e = absurd (omega (arith, h))
+equal_behind (suc n) (a ∷ one) [] h k e = absurd (omega (arith, k))
+equal_behind (suc n) (a ∷ one) (b ∷ other) h k e =
+    let first : a ≡ b = cc in
+    let rest : take n one ≡ take n other = cc in
+    equal_behind n one other (omega (arith, h)) (omega (arith, k)) rest ∙ sym (same_heads a b one other first)
+
+pub before_behind : (n : ℕ) (one other : List ℕ) → n ≤ length one → n ≤ length other → take n one ≡ take n other → is_before (drop n one) (drop n other) ≡ is_before one other
+before_behind zero one other h k e = refl
+before_behind (suc n) [] other h k e = absurd (omega (arith, h))
+before_behind (suc n) (a ∷ one) [] h k e = absurd (omega (arith, k))
+before_behind (suc n) (a ∷ one) (b ∷ other) h k e =
+    let first : a ≡ b = cc in
+    let rest : take n one ≡ take n other = cc in
+    before_behind n one other (omega (arith, h)) (omega (arith, k)) rest ∙ sym (same_next a b one other first)

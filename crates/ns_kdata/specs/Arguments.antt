@@ -1,5 +1,5 @@
 -- What a row reads from its receiver and its arguments.
-use Rattle.std.specs.Prelude.{ℕ, ◌-◌, ℤ, pos, ◌-ℤ◌, unsigned_abs, int_lt, ◌||◌, List, [], Option, Some, Result, Ok, Err, Bool, true, false, IsSome, if◌then◌else◌}
+use Rattle.std.specs.Prelude.{ℕ, ◌-◌, ◌*◌, take, drop, ℤ, pos, ◌-ℤ◌, unsigned_abs, int_lt, ◌||◌, List, [], Option, Some, Result, Ok, Err, Bool, true, false, IsSome, if◌then◌else◌}
 use Rattle.std.specs.List.{slice_index_or}
 use Rattle.ns_code.specs.declared.program.CodeProgram.{CodeProgram}
 use Rattle.ns_code.specs.Selector.{selector_text}
@@ -68,6 +68,10 @@ is_message heap value = is_message_shape (shape_of_value heap value)
 abbrev pub bytes_of : Heap → Value → List ℕ
 bytes_of heap (Ref at) = bytes_at heap at
 bytes_of heap value = []
+
+-- eight bytes of a String, the row of that number
+abbrev pub row_of : Heap → Value → ℕ → List ℕ
+row_of heap value row = take 8 (drop (8 * row) (bytes_of heap value))
 
 -- the elements of an array, none where the cell is another
 abbrev pub array_items : Option Cell → List Value

@@ -1,6 +1,6 @@
 //! What a row reads from its receiver and its arguments.
 
-ghost use Rattle.std.specs.Prelude.{◌≡◌, ◌+◌, ◌<◌, ◌≤◌, length, IfOk};
+ghost use Rattle.std.specs.Prelude.{◌≡◌, ◌+◌, ◌*◌, ◌<◌, ◌≤◌, length, IfOk};
 ghost use Rattle.std.specs.List.{slice_index, slice_index_or};
 ghost use Rattle.ns_world.specs.declared.value.Value.TheVariants as value_is;
 ghost use Rattle.ns_kdata.specs.Arguments as spec;
@@ -122,6 +122,17 @@ pub fn text_byte(world: &World, text: Value, place: u32) -> u8
     match text {
         Value::Ref(at) => world.byte(at, place),
         _ => 0,
+    }
+}
+
+/// Eight bytes of a String, the row of that number.
+pub fn text_row(world: &World, text: Value, row: u32) -> [u8; 8]
+    requires { 8 * row + 8 ≤ length (bytes_of world.now.world.cells text) }
+    ensures { result ≡ spec.row_of world.now.world.cells text row }
+{
+    match text {
+        Value::Ref(at) => world.row(at, row),
+        _ => [0; 8],
     }
 }
 

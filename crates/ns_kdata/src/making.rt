@@ -51,10 +51,10 @@ pub fn make_text(world: &mut World, first: &[u8], second: &[u8]) -> Result<Value
     requires within { IsWithin world.old.world }
     ensures { Gives (making world.old.world (TextCell (first.now ++ second.now))) world.old result world.new }
 {
-    let to = new_text(world, first.len() as u64 + second.len() as u64)?;
-    put_bytes(world, to, 0, first);
-    put_bytes(world, to, first.len() as u32, second);
-    Ok(Value::Ref(to))
+    match world.make_text(first, second) {
+        Ok(number) => Ok(Value::Ref(number)),
+        Err(_) => Err(Fault::Limit(LimitKind::Cells)),
+    }
 }
 
 /// A new text of a part of a String.
@@ -130,19 +130,6 @@ fn doubled_size(byte: u8) -> u64
     ensures small { result ≤ 2 }
 {
     if byte == b'\'' { 2 } else { 1 }
-}
-
-/// Writes bytes into a text, from a place on.
-fn put_bytes(world: &mut World, to: u32, at: u32, bytes: &[u8])
-    requires inside { at + length bytes.now ≤ length (bytes_at world.old.world.cells to) }
-    requires small { at + length bytes.now < 2 ^ 32 }
-    ensures { world.new ≡ filled world.old to at bytes.now }
-{
-    let mut place = at;
-    'bytes: for byte in bytes {
-        world.set_byte(to, place, *byte);
-        place += 1;
-    }
 }
 
 /// Writes a part of a String into another text, from a place on.

@@ -1,6 +1,6 @@
 //! The rows of String.
 
-ghost use Rattle.std.specs.Prelude.{◌≡◌, ◌≤◌, length};
+ghost use Rattle.std.specs.Prelude.{◌≡◌, ◌≤◌, length, take};
 ghost use Rattle.std.specs.Str.{bytes_eq};
 ghost use Rattle.ns_world.specs.World.{IsWithin};
 ghost use Rattle.ns_kdata.specs.Arguments.{IsThere, bytes_of};
@@ -8,7 +8,7 @@ ghost use Rattle.ns_kdata.specs.Outcome.{Gives};
 ghost use Rattle.ns_kdata.specs.Texts as spec;
 
 use crate::arguments::{
-    is_text, part_in, place_in, text_byte, text_size as bytes_in, truth, wrong_kind,
+    is_text, part_in, place_in, text_byte, text_row, text_size as bytes_in, truth, wrong_kind,
 };
 use crate::making::{copy_text, join_texts};
 use ns_world::ending::Fault;
@@ -80,7 +80,8 @@ fn are_equal(world: &World, text: Value, other: Value) -> bool
     if size != bytes_in(world, other) {
         return false;
     }
-    'bytes: for place in 0..size {
+    let start = same_front(world, text, other, size);
+    'bytes: for place in start..size {
         if text_byte(world, text, place) != text_byte(world, other, place) {
             return false;
         }
@@ -108,7 +109,9 @@ fn comes_before(world: &World, text: Value, other: Value) -> bool
 {
     let size = bytes_in(world, text);
     let others = bytes_in(world, other);
-    'bytes: for place in 0..size.min(others) {
+    let least = size.min(others);
+    let start = same_front(world, text, other, least);
+    'bytes: for place in start..least {
         let byte = text_byte(world, text, place);
         let against = text_byte(world, other, place);
         if byte != against {
@@ -116,4 +119,21 @@ fn comes_before(world: &World, text: Value, other: Value) -> bool
         }
     }
     size < others
+}
+
+/// A number of bytes at the front of two Strings that are the same, at most so many: those of the
+/// rows of eight before the first that differs.
+fn same_front(world: &World, text: Value, other: Value, least: u32) -> u32
+    requires text { least ≤ length (bytes_of world.now.world.cells text) }
+    requires other { least ≤ length (bytes_of world.now.world.cells other) }
+    ensures within { result ≤ least }
+    ensures same { take result (bytes_of world.now.world.cells text) ≡ take result (bytes_of world.now.world.cells other) }
+{
+    let rows = least / 8;
+    'rows: for row in 0..rows {
+        if text_row(world, text, row) != text_row(world, other, row) {
+            return 8 * row;
+        }
+    }
+    8 * rows
 }

@@ -31,7 +31,7 @@ class_no_first heap decl encl holder over (sought.Top other) e = tested (is_top 
         first_behind (is_top other) heap (ClassCell decl encl holder over) (ap (λ d. is_some (first_such (is_top d) heap)) is ∙ some (first_such (is_top decl) heap) there)
 
 -- a cell that is no facet and no class is never sought
-no_first_cell : (heap : Heap) (cell : Cell) (s : Sought) → ((kind : FacetKind) → is_facet kind cell ≡ false) → ((decl : ℕ) → is_top decl cell ≡ false) → first_such (is_sought s) (cell ∷ heap) ≡ first_such (is_sought s) heap
+pub no_first_cell : (heap : Heap) (cell : Cell) (s : Sought) → ((kind : FacetKind) → is_facet kind cell ≡ false) → ((decl : ℕ) → is_top decl cell ≡ false) → first_such (is_sought s) (cell ∷ heap) ≡ first_such (is_sought s) heap
 no_first_cell heap cell (sought.Facet kind) f t = first_without (is_facet kind) heap cell (f kind)
 no_first_cell heap cell (sought.Top decl) f t = first_without (is_top decl) heap cell (t decl)
 

@@ -1,11 +1,11 @@
 -- Reading and writing one byte of a text.
-use Rattle.std.proofs.Common.{◌≡◌, ℕ, zero, suc, ◌+◌, ◌*◌, ◌/◌, ◌%◌, ◌<◌, List, ◌∷◌, ◌++◌, length, take, drop, replicate, get_or, set, refl, ap, sym, ◌∙◌, arith, length-set, length-drop, Option, Some, None}
-use Rattle.std.proofs.lemmas.List.{get_or-take, get_or-drop, get_or_append_left, set-append_left, take-set-le, drop-set-lt, drop-set-add}
+use Rattle.std.proofs.Common.{◌≡◌, ℕ, zero, suc, ◌+◌, ◌*◌, ◌/◌, ◌%◌, ◌<◌, ◌≤◌, List, ◌∷◌, ◌++◌, length, take, drop, replicate, get_or, set, refl, ap, sym, ◌∙◌, arith, length-set, length-drop, Option, Some, None}
+use Rattle.std.proofs.lemmas.List.{drop-drop, take-append-le, get_or-take, get_or-drop, get_or_append_left, set-append_left, take-set-le, drop-set-lt, drop-set-add}
 use Rattle.std.proofs.Math.Seq.{take-set-lt}
 use Rattle.ns_world.specs.declared.word.Word.{Word}
 use Rattle.ns_world.specs.declared.word.Word.TheVariants.{Bytes as BytesWord, Text as TextWord}
 use Rattle.ns_world.specs.Cell.{Cell, ObjectCell, ClassCell, BlockCell, EnvironmentCell, ArrayCell, TextCell, FacetCell, MirrorCell, MessageCell, cell_size, text_words}
-use Rattle.ns_world.specs.Heap.{Heap, find_cell, set_cell, bytes_at, byte_at, write_byte}
+use Rattle.ns_world.specs.Heap.{Heap, find_cell, set_cell, bytes_at, byte_at, row_at, write_byte}
 use Rattle.ns_world.specs.Words.{eight, packed, words_of, laid_out}
 use Rattle.ns_world.proofs.LaidOut.{length-laid_out}
 use Rattle.ns_world.proofs.Standing.{stands-within, word_of_cell, set_word_of_cell}
@@ -111,3 +111,50 @@ reads_byte heap words n p laid h = found (find_cell heap n) refl
     found (Some (FacetCell kind)) e = absurd (omega (arith, let here : p < length (bytes_at heap n) = h in rw e at here))
     found (Some (MirrorCell mirrored)) e = absurd (omega (arith, let here : p < length (bytes_at heap n) = h in rw e at here))
     found (Some (MessageCell sel args)) e = absurd (omega (arith, let here : p < length (bytes_at heap n) = h in rw e at here))
+
+-- the bytes of a word are eight behind those of the words before it
+word_bytes_is : (q : ℕ) (bytes : List ℕ) → word_bytes q bytes ≡ eight (drop (8 * q) bytes)
+word_bytes_is zero bytes =
+    let none : 0 ≡ 8 * 0 = omega arith in
+    ap (λ n. eight (drop n bytes)) none
+word_bytes_is (suc q) bytes =
+    let e : drop (8 * q) (drop 8 bytes) ≡ drop (8 * suc q) bytes = drop-drop (8 * q) 8 bytes ∙ ap (λ n. drop n bytes) (omega arith) in
+    word_bytes_is q (drop 8 bytes) ∙ ap eight e
+
+-- What is known of eight bytes inside a live text: where their word stands, and what it holds.
+pub record ReadsRow (heap : Heap) (words : List Word) (n q : ℕ) : Type 0 where
+  pub inside : n + 1 + q < length words
+  pub word : (d : Word) → get_or words (n + 1 + q) d ≡ BytesWord (row_at heap n q)
+
+pub reads_row : (heap : Heap) (words : List Word) (n q : ℕ) → laid_out heap ≡ words → 8 * q + 8 ≤ length (bytes_at heap n) → ReadsRow heap words n q
+reads_row heap words n q laid h = found (find_cell heap n) refl
+  where
+    in_text : (bytes : List ℕ) → find_cell heap n ≡ Some (TextCell bytes) → ReadsRow heap words n q
+    in_text bytes e =
+        let cell : Cell = TextCell bytes in
+        let is : bytes_at heap n ≡ bytes = rw e refl in
+        let whole : 8 * q + 8 ≤ length bytes = omega (arith, h, ap length is) in
+        let here : q < text_words (length bytes) = omega (arith, whole) in
+        let fits : suc q < cell_size cell = omega (arith, here) in
+        let full : eight (drop (8 * q) bytes) ≡ take 8 (drop (8 * q) bytes) = take-append-le 8 (drop (8 * q) bytes) (replicate 8 0) (omega (arith, whole, length-drop (8 * q) bytes)) in
+        record {
+          inside = omega (arith, stands-within heap n cell e, fits, length-laid_out heap, ap length laid);
+          word = λ d.
+              ap (λ i. get_or words i d) (omega arith)
+              ∙ (ap (λ ws. get_or ws (n + suc q) d) (sym laid)
+              ∙ (word_of_cell heap n cell (suc q) d e fits
+              ∙ (word_of_packed (text_words (length bytes)) q bytes d here
+              ∙ ap BytesWord (word_bytes_is q bytes ∙ (full ∙ ap (λ bs. take 8 (drop (8 * q) bs)) (sym is))))));
+        }
+
+    found : (o : Option Cell) → find_cell heap n ≡ o → ReadsRow heap words n q
+    found None e = absurd (omega (arith, let here : 8 * q + 8 ≤ length (bytes_at heap n) = h in rw e at here))
+    found (Some (TextCell bytes)) e = in_text bytes e
+    found (Some (ObjectCell class entries)) e = absurd (omega (arith, let here : 8 * q + 8 ≤ length (bytes_at heap n) = h in rw e at here))
+    found (Some (ClassCell decl encl holder over)) e = absurd (omega (arith, let here : 8 * q + 8 ≤ length (bytes_at heap n) = h in rw e at here))
+    found (Some (BlockCell body env home receiver holder)) e = absurd (omega (arith, let here : 8 * q + 8 ≤ length (bytes_at heap n) = h in rw e at here))
+    found (Some (EnvironmentCell parent locals)) e = absurd (omega (arith, let here : 8 * q + 8 ≤ length (bytes_at heap n) = h in rw e at here))
+    found (Some (ArrayCell items)) e = absurd (omega (arith, let here : 8 * q + 8 ≤ length (bytes_at heap n) = h in rw e at here))
+    found (Some (FacetCell kind)) e = absurd (omega (arith, let here : 8 * q + 8 ≤ length (bytes_at heap n) = h in rw e at here))
+    found (Some (MirrorCell mirrored)) e = absurd (omega (arith, let here : 8 * q + 8 ≤ length (bytes_at heap n) = h in rw e at here))
+    found (Some (MessageCell sel args)) e = absurd (omega (arith, let here : 8 * q + 8 ≤ length (bytes_at heap n) = h in rw e at here))

@@ -8,7 +8,7 @@ use Rattle.ns_world.specs.declared.word.Word.TheVariants.{Nil as NilWord, Bytes,
 use Rattle.ns_world.specs.Cell.{fresh, text_words}
 use Rattle.ns_world.specs.Words.{word_of, word_beside, eight, packed, words_of}
 
-nil_words : (n : ℕ) → map word_of (replicate n Nil) ≡ replicate n NilWord
+pub nil_words : (n : ℕ) → map word_of (replicate n Nil) ≡ replicate n NilWord
 nil_words zero = refl
 nil_words (suc n) = ap (λ ws. NilWord ∷ ws) (nil_words n)
 

@@ -25,3 +25,4 @@ pub mod Lasting
 pub mod Making
 pub mod Writing
 pub mod Charging
+pub mod Whole

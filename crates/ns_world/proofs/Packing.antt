@@ -1,9 +1,10 @@
 -- The bytes of texts in words of eight.
-use Rattle.std.proofs.Common.{◌≡◌, ℕ, zero, suc, ◌+◌, ◌*◌, ◌<◌, ◌≤◌, List, [], ◌∷◌, ◌++◌, length, take, drop, replicate, refl, ap, ◌∙◌, arith, take-append-drop, length-take, length-drop, length-append, take-take, take_at, ◌⊎◌, inl, inr}
+use Rattle.std.proofs.Common.{◌≡◌, ℕ, zero, suc, ◌+◌, ◌-◌, ◌*◌, ◌<◌, ◌≤◌, List, [], ◌∷◌, ◌++◌, length, take, drop, replicate, refl, ap, ◌∙◌, arith, take-append-drop, length-take, length-drop, length-append, append_assoc, take-take, take_at, ◌⊎◌, inl, inr}
 use Rattle.std.proofs.lemmas.List.{take-append-le}
 use Rattle.std.proofs.lemmas.Bool.{cases_lt}
 use Rattle.std.proofs.Math.Seq.{take-append-add}
 use Rattle.ns_world.specs.declared.word.Word.{Word}
+use Rattle.ns_world.specs.declared.word.Word.TheVariants.{Bytes}
 use Rattle.ns_world.specs.Words.{eight, packed, unpacked}
 use Rattle.ns_world.specs.Cell.{text_words}
 
@@ -39,3 +40,9 @@ unpacked-packed (suc words) bytes rest h = unpacked_next words bytes rest (cases
     unpacked_next words bytes rest (inl few) e = eight-few bytes (unpacked (packed words (drop 8 bytes) ++ rest)) (omega arith)
     unpacked_next words bytes rest (inr many) e =
         eight-many bytes (unpacked (packed words (drop 8 bytes) ++ rest)) many ∙ (ap (λ tail. take 8 bytes ++ tail) e ∙ take-append-drop 8 bytes)
+
+-- one word of those that are left to pack
+pub packed_step : (words : List Word) (count done : ℕ) (bytes : List ℕ) → done < count → (words ++ Bytes (eight bytes) ∷ []) ++ packed (count - (done + 1)) (drop 8 bytes) ≡ words ++ packed (count - done) bytes
+packed_step words count done bytes h =
+    let more : suc (count - (done + 1)) ≡ count - done = omega (arith, h) in
+    append_assoc words (Bytes (eight bytes) ∷ []) (packed (count - (done + 1)) (drop 8 bytes)) ∙ ap (λ n. words ++ packed n bytes) more

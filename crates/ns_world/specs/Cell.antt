@@ -1,5 +1,5 @@
 -- The cells that values refer to.
-use Rattle.std.specs.Prelude.{ℕ, ◌+◌, ◌/◌, List, [], ◌∷◌, length, replicate, slice_set}
+use Rattle.std.specs.Prelude.{ℕ, ◌+◌, ◌/◌, List, [], ◌∷◌, ◌++◌, length, replicate, slice_set}
 use Rattle.ns_base.specs.declared.selector.Sel.{Sel}
 use Rattle.ns_world.specs.declared.value.Value.{Value}
 use Rattle.ns_world.specs.declared.value.Value.TheVariants.{Nil}
@@ -46,6 +46,10 @@ fresh (Text bytes) = TextCell (replicate bytes 0)
 fresh (Facet kind) = FacetCell kind
 fresh (Mirror mirrored) = MirrorCell mirrored
 fresh (Message sel args) = MessageCell sel args
+
+-- an environment whose first locals hold values, and so many others nil
+abbrev pub filled_environment : Value → List Value → ℕ → Cell
+filled_environment parent first others = EnvironmentCell parent (first ++ replicate others Nil)
 
 -- the kind, the sizes and the fixed parts with which a cell was made
 abbrev pub shape_of : Cell → NewCell

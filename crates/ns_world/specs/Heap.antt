@@ -1,5 +1,5 @@
 -- The cells of a world, the newest first. The number of a cell is the sum of the sizes of those made before it.
-use Rattle.std.specs.Prelude.{ℕ, ◌+◌, List, [], ◌∷◌, Option, Some, None, Bool, true, false, ◌==◌, ◌&&◌, ◌||◌, if◌then◌else◌}
+use Rattle.std.specs.Prelude.{ℕ, ◌+◌, ◌*◌, take, drop, List, [], ◌∷◌, Option, Some, None, Bool, true, false, ◌==◌, ◌&&◌, ◌||◌, if◌then◌else◌}
 use Rattle.ns_world.specs.declared.value.Value.{Value}
 use Rattle.ns_world.specs.declared.value.Value.TheVariants.{Nil, Kernel, Ref}
 use Rattle.ns_world.specs.declared.value.KClass.TheVariants.{Object}
@@ -89,6 +89,10 @@ bytes_at heap number = option_map_or cell_bytes (find_cell heap number) []
 -- one of them
 abbrev pub byte_at : Heap → ℕ → ℕ → ℕ
 byte_at heap number place = slice_index_or (bytes_at heap number) place 0
+
+-- eight of them, the row of that number among all rows of eight
+abbrev pub row_at : Heap → ℕ → ℕ → List ℕ
+row_at heap number row = take 8 (drop (8 * row) (bytes_at heap number))
 
 -- the cells with one of them changed
 abbrev pub change_cell : Heap → ℕ → (Cell → Cell) → Heap

@@ -1,9 +1,9 @@
 //! The heap: one vector of words, reserved once, in which a cell's number is its place.
 
-ghost use Rattle.std.specs.Prelude.{◌≡◌, ℕ, ◌+◌, ◌^◌, ◌<◌, ◌≤◌, List, [], ◌∷◌, length, true, false, ◌&&◌, is_none, Some, slice_get, slice_index, slice_set, IsTrue, IsSome, OnOk, OnErr, if◌then◌else◌};
+ghost use Rattle.std.specs.Prelude.{◌≡◌, ℕ, ◌+◌, ◌*◌, ◌^◌, ◌<◌, ◌≤◌, List, [], ◌∷◌, ◌++◌, length, true, false, ◌&&◌, is_none, Some, slice_get, slice_index, slice_set, IsTrue, IsSome, OnOk, OnErr, if◌then◌else◌};
 ghost use Rattle.std.specs.List.{slice_index_or};
-ghost use Rattle.ns_world.specs.Cell.{cell_size, fresh};
-ghost use Rattle.ns_world.specs.Heap.{heap_size, has_superclass, words_at, word_at, open_words_at, write_word, bytes_at, byte_at, write_byte, find_cell, shape_at, next_number, is_class, chain_of, superclass_of, is_chain_start, declared_class};
+ghost use Rattle.ns_world.specs.Cell.{cell_size, fresh, filled_environment, ArrayCell, TextCell};
+ghost use Rattle.ns_world.specs.Heap.{heap_size, has_superclass, words_at, word_at, open_words_at, write_word, bytes_at, byte_at, row_at, write_byte, find_cell, shape_at, next_number, is_class, chain_of, superclass_of, is_chain_start, declared_class};
 ghost use Rattle.ns_world.specs.Head.{head_at};
 ghost use Rattle.ns_world.specs.Words.{shape_in, head_in, words_behind};
 ghost use Rattle.ns_world.specs.Seek.{first_such, is_sought, is_nil, is_top, may_be_first};
@@ -12,7 +12,7 @@ ghost use Rattle.ns_world.specs.declared.word.Word.TheVariants.{Bytes, Nil};
 use crate::cell::NewCell;
 use crate::head::Head;
 use crate::kernel::NO_CLASS;
-use crate::lay::{lay, text_words};
+use crate::lay::{lay, lay_bytes, lay_items, lay_locals, text_words};
 use crate::seek::{Sought, is_sought_at};
 use crate::value::Value;
 use crate::word::{Word, beside_in, value_in, word_of};
@@ -93,6 +93,43 @@ impl Heap {
         number
     }
 
+    /// Makes an array that holds these values, and gives its number.
+    pub fn make_array(&mut self, items: &[Value]) -> u32
+        requires room { heap_size self.old.cells + cell_size (ArrayCell items.now) ≤ self.old.room }
+        requires small { heap_size self.old.cells + cell_size (ArrayCell items.now) ≤ 64000000 }
+        ensures number { result ≡ heap_size self.old.cells }
+        ensures cells { self.new ≡ record self.old { cells = ArrayCell items.now ∷ self.old.cells } }
+    {
+        let number = self.words.len() as u32;
+        lay_items(&mut self.words, items);
+        number
+    }
+
+    /// Makes an environment whose first locals hold these values, and so many others nil, and
+    /// gives its number.
+    pub fn make_environment(&mut self, parent: Value, first: &[Value], others: u32) -> u32
+        requires room { heap_size self.old.cells + cell_size (filled_environment parent first.now others) ≤ self.old.room }
+        requires small { heap_size self.old.cells + cell_size (filled_environment parent first.now others) ≤ 64000000 }
+        ensures number { result ≡ heap_size self.old.cells }
+        ensures cells { self.new ≡ record self.old { cells = filled_environment parent first.now others ∷ self.old.cells } }
+    {
+        let number = self.words.len() as u32;
+        lay_locals(&mut self.words, parent, first, others);
+        number
+    }
+
+    /// Makes a text of a row of bytes and another behind it, and gives its number.
+    pub fn make_text(&mut self, first: &[u8], second: &[u8]) -> u32
+        requires room { heap_size self.old.cells + cell_size (TextCell (first.now ++ second.now)) ≤ self.old.room }
+        requires small { heap_size self.old.cells + cell_size (TextCell (first.now ++ second.now)) ≤ 64000000 }
+        ensures number { result ≡ heap_size self.old.cells }
+        ensures cells { self.new ≡ record self.old { cells = TextCell (first.now ++ second.now) ∷ self.old.cells } }
+    {
+        let number = self.words.len() as u32;
+        lay_bytes(&mut self.words, first, second);
+        number
+    }
+
     /// Whether a cell to be made can be the first of what is sought.
     fn may_be_first(&self, cell: NewCell) -> bool
         ensures { result ≡ may_be_first self.now.cells cell }
@@ -137,6 +174,14 @@ impl Heap {
     {
         let word = at as usize + 1 + (place / 8) as usize;
         byte_in(self.words[word], (place % 8) as usize)
+    }
+
+    /// Eight bytes of a text, the row of that number.
+    pub fn row(&self, at: u32, row: u32) -> [u8; 8]
+        requires { 8 * row + 8 ≤ length (bytes_at self.now.cells at) }
+        ensures { result ≡ row_at self.now.cells at row }
+    {
+        row_in(self.words[at as usize + 1 + row as usize])
     }
 
     /// Writes a byte of a text.
@@ -341,6 +386,16 @@ fn declared_class(over: Value) -> u32
     match over {
         Value::Ref(class) => class,
         _ => NO_CLASS,
+    }
+}
+
+/// The eight bytes of a word.
+fn row_in(word: Word) -> [u8; 8]
+    ensures { (row : List ℕ) → word ≡ Bytes row → result ≡ row }
+{
+    match word {
+        Word::Bytes(row) => row,
+        _ => [0; 8],
     }
 }
 

@@ -1,12 +1,13 @@
 //! Laying cells out in words.
 
-ghost use Rattle.std.specs.Prelude.{◌≡◌, ◌+◌, ◌≤◌, ◌∷◌, ◌++◌, replicate, length, vec_len};
+ghost use Rattle.std.specs.Prelude.{◌≡◌, ◌+◌, ◌^◌, ◌<◌, ◌≤◌, ◌∷◌, ◌++◌, map, replicate, length, vec_len};
 ghost use Rattle.std.specs.Vec.{vec_capacity};
-ghost use Rattle.ns_world.specs.Cell.{cell_size, fresh, text_words, ClassCell, BlockCell};
+ghost use Rattle.ns_world.specs.Cell.{cell_size, fresh, text_words, filled_environment, ClassCell, BlockCell, ArrayCell, TextCell};
 ghost use Rattle.ns_world.specs.declared.cell.NewCell.TheVariants.{Object, Environment, Array, Text};
-ghost use Rattle.ns_world.specs.Words.{words_of};
+ghost use Rattle.ns_world.specs.Words.{word_of, words_of, packed};
 
 use crate::cell::NewCell;
+use crate::pack::cut_word;
 use crate::value::Value;
 use crate::word::{Word, word_beside, word_of};
 
@@ -157,7 +158,81 @@ fn fill(words: &mut Vec<Word>, head: Word, count: u64, word: Word)
     ensures capacity { vec_capacity words.old ≤ vec_capacity words.new }
 {
     words.push_reserved(head);
+    repeat(words, count, word);
+}
+
+/// Puts so many equal words behind the others.
+fn repeat(words: &mut Vec<Word>, count: u64, word: Word)
+    requires { vec_len words.old + count ≤ vec_capacity words.old }
+    ensures items { words.new.items ≡ words.old.items ++ replicate count word }
+    ensures capacity { vec_capacity words.old ≤ vec_capacity words.new }
+{
     'filling: for _ in 0..count {
         words.push_reserved(word);
+    }
+}
+
+/// Puts the words of values behind the others.
+fn put_values(words: &mut Vec<Word>, values: &[Value])
+    requires { vec_len words.old + length values.now ≤ vec_capacity words.old }
+    ensures items { words.new.items ≡ words.old.items ++ map word_of values.now }
+    ensures capacity { vec_capacity words.old ≤ vec_capacity words.new }
+{
+    'values: for value in values {
+        words.push_reserved(word_of(*value));
+    }
+}
+
+/// Puts the words of an array that holds these values behind the others.
+pub fn lay_items(words: &mut Vec<Word>, items: &[Value])
+    requires room { vec_len words.old + (1 + length items.now) ≤ vec_capacity words.old }
+    requires small { length items.now < 2 ^ 32 }
+    ensures items { words.new.items ≡ words.old.items ++ words_of (ArrayCell items.now) }
+    ensures capacity { vec_capacity words.old ≤ vec_capacity words.new }
+{
+    words.push_reserved(Word::Array {
+        size: items.len() as u32,
+    });
+    put_values(words, items);
+}
+
+/// Puts the words of an environment behind the others whose first locals hold these values, and
+/// so many others nil.
+pub fn lay_locals(words: &mut Vec<Word>, parent: Value, first: &[Value], others: u32)
+    requires room { vec_len words.old + (1 + (length first.now + others)) ≤ vec_capacity words.old }
+    requires small { length first.now + others < 2 ^ 32 }
+    ensures items { words.new.items ≡ words.old.items ++ words_of (filled_environment parent first.now others) }
+    ensures capacity { vec_capacity words.old ≤ vec_capacity words.new }
+{
+    words.push_reserved(word_beside(parent, first.len() as u32 + others));
+    put_values(words, first);
+    repeat(words, u64::from(others), NIL);
+}
+
+/// Puts the words of a text of a row of bytes, and another behind it, behind the others.
+pub fn lay_bytes(words: &mut Vec<Word>, first: &[u8], second: &[u8])
+    requires room { vec_len words.old + (1 + text_words (length (first.now ++ second.now))) ≤ vec_capacity words.old }
+    requires small { length (first.now ++ second.now) < 2 ^ 32 }
+    ensures items { words.new.items ≡ words.old.items ++ words_of (TextCell (first.now ++ second.now)) }
+    ensures capacity { vec_capacity words.old ≤ vec_capacity words.new }
+{
+    let bytes = first.len() as u32 + second.len() as u32;
+    words.push_reserved(Word::Text { bytes });
+    pack(words, text_words(bytes), first, second);
+}
+
+/// Puts a row of bytes, and another behind it, in so many words behind the others.
+fn pack(words: &mut Vec<Word>, count: u64, first: &[u8], second: &[u8])
+    requires { vec_len words.old + count ≤ vec_capacity words.old }
+    ensures items { words.new.items ≡ words.old.items ++ packed count (first.now ++ second.now) }
+    ensures capacity { vec_capacity words.old ≤ vec_capacity words.new }
+{
+    let mut left = first;
+    let mut others = second;
+    'words: for _ in 0..count {
+        let (word, rest, others_left) = cut_word(left, others);
+        words.push_reserved(Word::Bytes(word));
+        left = rest;
+        others = others_left;
     }
 }

@@ -10,6 +10,7 @@ pub mod later;
 pub mod lawful;
 pub mod laws;
 mod lay;
+mod pack;
 mod seek;
 pub mod value;
 mod word;

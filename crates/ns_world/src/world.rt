@@ -1,10 +1,10 @@
 //! The world of a run: its cells, its output, and the charges.
 
-ghost use Rattle.std.specs.Prelude.{◌≡◌, ◌-◌, ◌<◌, ◌≤◌, [], ◌∷◌, length, true, false, Some, slice_get, IsTrue, IsSome, OnOk, OnErr};
+ghost use Rattle.std.specs.Prelude.{◌≡◌, ◌+◌, ◌-◌, ◌*◌, ◌<◌, ◌≤◌, [], ◌∷◌, ◌++◌, length, true, false, Some, slice_get, IsTrue, IsSome, OnOk, OnErr};
 ghost use Rattle.ns_base.specs.Limits.{InRange};
 ghost use Rattle.ns_world.specs.declared.ending.LimitKind.TheVariants.{Steps, Depth, Out};
-ghost use Rattle.ns_world.specs.Cell.{fresh};
-ghost use Rattle.ns_world.specs.Heap.{has_superclass, words_at, word_at, open_words_at, bytes_at, byte_at, find_cell, shape_at, next_number, is_class, is_chain_start, chain_of, superclass_of};
+ghost use Rattle.ns_world.specs.Cell.{fresh, filled_environment, ArrayCell, TextCell};
+ghost use Rattle.ns_world.specs.Heap.{has_superclass, words_at, word_at, open_words_at, bytes_at, byte_at, row_at, find_cell, shape_at, next_number, is_class, is_chain_start, chain_of, superclass_of};
 ghost use Rattle.ns_world.specs.Seek.{first_such, is_facet, is_top};
 ghost use Rattle.ns_world.specs.Head.{head_at};
 ghost use Rattle.ns_world.specs.Starts.{has_class, class_name_at, is_receiver, start_of};
@@ -17,7 +17,7 @@ use crate::ending::{Counters, LimitKind};
 use crate::head::{Head, declared_at_head, is_class_head, kernel_class_row, start_at_head};
 use crate::heap::Heap;
 use crate::kernel::{ClassName, KernelRow, NO_CLASS, Start};
-use crate::lay::size_of_cell;
+use crate::lay::{size_of_cell, text_words};
 use crate::seek::Sought;
 use crate::value::Value;
 use ns_base::limits::Limits;
@@ -99,6 +99,54 @@ impl World {
         Ok(self.heap.make(cell))
     }
 
+    /// Makes an array that holds these values, charged as any cell.
+    pub fn make_array(&mut self, items: &[Value]) -> Result<u32, CellLimit>
+        requires room { self.old.world.limits.cells ≤ self.old.cell_room }
+        ensures makes { MakesCell self.old (ArrayCell items.now) result self.new }
+        ensures limits { self.new.world.limits ≡ self.old.world.limits }
+        ensures room { SameRoom self.old self.new }
+    {
+        if self.limits.cells - self.heap.size() <= items.len() as u64 {
+            return Err(CellLimit);
+        }
+        Ok(self.heap.make_array(items))
+    }
+
+    /// Makes an environment whose first locals hold these values, and so many others nil, charged
+    /// as any cell.
+    pub fn make_environment(
+        &mut self,
+        parent: Value,
+        first: &[Value],
+        others: u32,
+    ) -> Result<u32, CellLimit>
+        requires room { self.old.world.limits.cells ≤ self.old.cell_room }
+        ensures makes { MakesCell self.old (filled_environment parent first.now others) result self.new }
+        ensures limits { self.new.world.limits ≡ self.old.world.limits }
+        ensures room { SameRoom self.old self.new }
+    {
+        let left = self.limits.cells - self.heap.size();
+        if left <= u64::from(others) || left - u64::from(others) <= first.len() as u64 {
+            return Err(CellLimit);
+        }
+        Ok(self.heap.make_environment(parent, first, others))
+    }
+
+    /// Makes a text of a row of bytes and another behind it, charged as any cell.
+    pub fn make_text(&mut self, first: &[u8], second: &[u8]) -> Result<u32, CellLimit>
+        requires room { self.old.world.limits.cells ≤ self.old.cell_room }
+        ensures makes { MakesCell self.old (TextCell (first.now ++ second.now)) result self.new }
+        ensures limits { self.new.world.limits ≡ self.old.world.limits }
+        ensures room { SameRoom self.old self.new }
+    {
+        let bytes = first.len() as u64 + second.len() as u64;
+        let left = self.limits.cells - self.heap.size();
+        if 4_294_967_295 < bytes || left <= text_words(bytes as u32) {
+            return Err(CellLimit);
+        }
+        Ok(self.heap.make_text(first, second))
+    }
+
     /// A value behind the head of a live cell: an entry of an object, the enclosing object, the
     /// enclosing holder and the superclass of a class, self and the environment of a block, a local
     /// of an environment, an element of an array, what a mirror mirrors, the arguments of a message.
@@ -123,6 +171,14 @@ impl World {
         ensures { result ≡ byte_at self.now.world.cells at place }
     {
         self.heap.byte(at, place)
+    }
+
+    /// Eight bytes of a text, the row of that number.
+    pub fn row(&self, at: u32, row: u32) -> [u8; 8]
+        requires { 8 * row + 8 ≤ length (bytes_at self.now.world.cells at) }
+        ensures { result ≡ row_at self.now.world.cells at row }
+    {
+        self.heap.row(at, row)
     }
 
     /// Writes a byte of a text.

@@ -1,6 +1,6 @@
 use Rattle.std.proofs.Common.{◌≡◌, ◌+◌, ◌++◌, replicate, vec_len}
 use Rattle.std.specs.Vec.{vec_capacity}
-use Rattle.ns_world.proofs.lay.fill.Given as goal
+use Rattle.ns_world.proofs.lay.repeat.Given as goal
 
 abbrev pub invariant-filling : goal.invariant-filling
 invariant-filling l =
