@@ -10,8 +10,10 @@ use Rattle.ns_code.specs.declared.instruction.Instr.TheVariants as i
 use Rattle.ns_world.specs.declared.value.Value.{Value}
 use Rattle.ns_world.specs.declared.value.Value.TheVariants as value
 use Rattle.ns_world.specs.declared.ending.Kind.TheVariants.{DeadReturn, MustBeBoolean}
-use Rattle.ns_world.specs.declared.ending.LimitKind.TheVariants.{Steps}
-use Rattle.ns_world.specs.World.{stepped}
+use Rattle.ns_world.specs.declared.ending.LimitKind.TheVariants.{Steps, Cells}
+use Rattle.ns_world.specs.Cell.{Cell}
+use Rattle.ns_world.specs.Heap.{heap_size}
+use Rattle.ns_world.specs.World.{made, stepped}
 use Rattle.ns_world.specs.Starts.{start_of}
 use Rattle.ns_find.specs.declared.found.Found.{Found}
 use Rattle.ns_find.specs.declared.found.Sending.TheVariants.{Plain, Inner}
@@ -25,11 +27,12 @@ use Rattle.ns_send.specs.Control.{Progress, in_world, Activation, FromMethod, Fr
 use Rattle.ns_send.specs.Control.{Evaluate, Begin, Perform, Part, Skip, Stop, EnterPart, Waiting, Waits, Finishes, charged, halts}
 use Rattle.ns_send.specs.Blocks.{evaluated, method_next, new_text, new_block, new_array}
 use Rattle.ns_send.specs.Classes.{super_part, body_ended, part_ended}
+use Rattle.ns_send.specs.Start.{start_cells, nothing_done, all_made, start_made}
 use Rattle.ns_send.specs.Sends.{Target, To, ToPrivate, ToSuper, to_value, answered_by, sent}
 use Rattle.ns_send.specs.Actions.{Sends, Evaluates, Continues, BeginsPart, EndsBody, MakesBlock, MakesText, MakesArray, FillsSlot, StoresLocal}
 use Rattle.ns_send.specs.Spending.{ControlSpends, PartSpends, WaitingSpends, CellSpends, EndSpends, action_steps}
 use Rattle.ns_send.proofs.Onward.{charged_all}
-use Rattle.ns_send.proofs.Counting.{step_charged}
+use Rattle.ns_send.proofs.Counting.{made_counts, step_charged}
 use Rattle.ns_send.proofs.Spending.{answered_spends, action_spends}
 use Rattle.ns_moves.specs.State.{Leaving, Loud, Silent, Frame, Running, Looping, Sending, Performing, Evaluating, Phase, Start, First, Second, Hosted}
 use Rattle.ns_moves.specs.State.{State, Unbegun, Going, Pends, Ended, Stuck}
@@ -40,7 +43,8 @@ use Rattle.ns_moves.specs.Jumps.{goes_back, jumped, takes_jump, is_boolean, jump
 use Rattle.ns_moves.specs.Instructions.{executed}
 use Rattle.ns_moves.specs.Move.{move}
 use Rattle.ns_moves.specs.ValidFrames.{homes_fall}
-use Rattle.ns_moves.specs.Counted.{AreCounted, FramesAreCounted, MovesKeepCount}
+use Rattle.ns_moves.specs.Starts.{unbegun}
+use Rattle.ns_moves.specs.Counted.{NewIsCounted, StartKeepsCount, AreCounted, FramesAreCounted, MovesKeepCount}
 use Rattle.ns_moves.proofs.Walking.{on_top_all, taken_all, picked_all}
 
 -- ---- homes
@@ -149,11 +153,9 @@ unwound_counted code phase home v (frame ∷ frames) p c =
 
 -- ---- where control goes
 
-one_more : (frames : List Frame) (p q : Progress) → q.world.depth ≡ p.world.depth + 1 → AreCounted frames p → q.world.depth ≡ length frames + 1
-one_more frames p q d c = omega (arith, d, c.depth)
-
-deeper : (frame : Frame) (frames : List Frame) (depth : ℕ) → depth ≡ length frames + 1 → depth ≡ length (frame ∷ frames)
-deeper frame frames depth e = omega (arith, e)
+entered : (frame : Frame) (frames : List Frame) (p q : Progress) → q.world.depth ≡ p.world.depth + 1 → homes_fall q.begun (frame ∷ frames) ≡ true
+    → AreCounted frames p → AreCounted (frame ∷ frames) q
+entered frame frames p q d homes c = record { depth = omega (arith, d, c.depth); homes = homes }
 
 same_homes : (frames : List Frame) (p q : Progress) → q.begun ≡ p.begun + 0 → AreCounted frames p → homes_fall q.begun frames ≡ true
 same_homes frames p q b c = let e : q.begun ≡ p.begun = omega (arith, b) in ap (λ bound. homes_fall bound frames) e ∙ c.homes
@@ -173,17 +175,17 @@ arrived_counted code phase steps (Now (Gives v q)) frames p s c =
     delivered_counted code phase v frames q (still_counted frames p q d b c)
 arrived_counted code phase steps (Now (Halts ending q)) frames p s c = tt
 arrived_counted code phase steps (Enter FromMethod a ls q) frames p s c =
-    record { depth = deeper (Running (Loud FromMethod) a ls (steps_of code a.body) []) frames q.world.depth (one_more frames p q s.0.depth c); homes = next_home a.home p.begun q.begun frames s.0.begun s.1 c.homes }
+    entered (Running (Loud FromMethod) a ls (steps_of code a.body) []) frames p q s.0.depth (next_home a.home p.begun q.begun frames s.0.begun s.1 c.homes) c
 arrived_counted code phase steps (Enter FromBody a ls q) frames p s c =
-    record { depth = deeper (Running (Loud FromBody) a ls (steps_of code a.body) []) frames q.world.depth (one_more frames p q s.depth c); homes = same_homes frames p q s.begun c }
+    entered (Running (Loud FromBody) a ls (steps_of code a.body) []) frames p q s.depth (same_homes frames p q s.begun c) c
 arrived_counted code phase steps (Enter (FromClause object holder class) a ls q) frames p s c =
-    record { depth = deeper (Running (Loud (FromClause object holder class)) a ls (steps_of code a.body) []) frames q.world.depth (one_more frames p q s.depth c); homes = same_homes frames p q s.begun c }
+    entered (Running (Loud (FromClause object holder class)) a ls (steps_of code a.body) []) frames p q s.depth (same_homes frames p q s.begun c) c
 arrived_counted code phase steps (Evaluate block arguments site q) frames p s c =
     let d : q.world.depth ≡ p.world.depth = omega (arith, s.depth) in
     let b : q.begun ≡ p.begun = omega (arith, s.begun) in
     still_counted frames p q d b c
 arrived_counted code phase steps (Begin method state site q) frames p s c =
-    record { depth = deeper (Looping method state site) frames q.world.depth (one_more frames p q s.depth c); homes = same_homes frames p q s.begun c }
+    entered (Looping method state site) frames p q s.depth (same_homes frames p q s.begun c) c
 arrived_counted code phase steps (Perform receiver sel array site q) frames p s c =
     let d : q.world.depth ≡ p.world.depth = omega (arith, s.depth) in
     let b : q.begun ≡ p.begun = omega (arith, s.begun) in
@@ -197,17 +199,16 @@ part_counted code phase (Skip q) frames p s c =
     still_counted frames p q d b c
 part_counted code phase (Stop ending q) frames p s c = tt
 part_counted code phase (EnterPart a ls q) frames p s c =
-    record { depth = deeper (Running Silent a ls (steps_of code a.body) []) frames q.world.depth (one_more frames p q s.depth c); homes = same_homes frames p q s.begun c }
+    entered (Running Silent a ls (steps_of code a.body) []) frames p q s.depth (same_homes frames p q s.begun c) c
 
 waiting_counted : (code : CodeProgram) (phase : Phase) (method : KMethod) (site : Site) (steps : ℕ) (w : Waiting) (frame : Frame) (frames : List Frame)
     (p : Progress)
     → homes_fall p.begun (frame ∷ frames) ≡ homes_fall p.begun frames → WaitingSpends steps p w → AreCounted (frame ∷ frames) p
     → FramesAreCounted (acted_on code phase method site w frames)
 waiting_counted code phase method site steps (Waits block arguments state q) frame frames p same s c =
-    let one : length (frame ∷ frames) ≡ length frames + 1 = omega arith in
-    let d : q.world.depth ≡ length frames + 1 = omega (arith, s.depth, c.depth, one) in
+    let d : q.world.depth ≡ p.world.depth = omega (arith, s.depth) in
     let b : q.begun ≡ p.begun = omega (arith, s.begun) in
-    record { depth = deeper (Looping method state site) frames q.world.depth d; homes = ap (λ bound. homes_fall bound frames) b ∙ (sym same ∙ c.homes) }
+    record { depth = d ∙ c.depth; homes = ap (λ bound. homes_fall bound frames) b ∙ (sym same ∙ c.homes) }
 waiting_counted code phase method site steps (Finishes (Gives v q)) frame frames p same s c =
     delivered_counted code phase v frames q (less frame frames p q s.depth s.begun c)
 waiting_counted code phase method site steps (Finishes (Halts ending q)) frame frames p same s c = tt
@@ -355,3 +356,31 @@ move_counted code (Pends phase (Evaluating block arguments site) frames p) c =
 pub moves_counted : (code : CodeProgram) → MovesKeepCount code
 moves_counted code zero s c = c
 moves_counted code (suc count) s c = moves_counted code count (move code s) (move_counted code s c)
+
+-- ---- the start
+
+-- nothing is running after a start
+abbrev IsEmpty : After → Type 0
+IsEmpty (Gives v p) = p.world.depth ≡ 0
+IsEmpty (Halts ending p) = Unit {0}
+
+made_empty : (cells : List Cell) (last : Value) (p : Progress) → p.world.depth ≡ 0 → IsEmpty (all_made cells last p)
+made_empty [] last p e = e
+made_empty (cell ∷ cells) last p e =
+    charged_all IsEmpty Halts Cells (made p.world cell) p (all_made cells (value.Ref (heap_size p.world.cells))) tt
+    (λ world f. made_empty cells (value.Ref (heap_size p.world.cells)) (in_world p world) ((made_counts p.world world cell f).depth ∙ e))
+
+unbegun_counted : (after : After) → IsEmpty after → FramesAreCounted (unbegun after)
+unbegun_counted (Gives v p) e = e
+unbegun_counted (Halts ending p) e = tt
+
+pub new_counted : (code : CodeProgram) → NewIsCounted code
+new_counted code limits grants arguments =
+    unbegun_counted (start_made code grants arguments limits) (made_empty (start_cells code grants arguments) value.Nil (nothing_done limits) refl)
+
+pub started_counted : (code : CodeProgram) → StartKeepsCount code
+started_counted code (Unbegun arguments p) c = record { depth = c; homes = refl }
+started_counted code (Going phase frames p) c = c
+started_counted code (Pends phase pending frames p) c = c
+started_counted code (Ended ending phase p) c = c
+started_counted code (Stuck p) c = c
