@@ -30,5 +30,6 @@ MovesKeepCount code = (count : ℕ) (state : State) → FramesAreCounted state �
 abbrev pub NewIsCounted : CodeProgram → Type 0
 NewIsCounted code = (limits : Limits) (grants : Grants) (arguments : List (List ℕ)) → FramesAreCounted (new_machine code limits grants arguments)
 
+-- the first opening send stands on no frame
 abbrev pub StartKeepsCount : CodeProgram → Type 0
 StartKeepsCount code = (state : State) → FramesAreCounted state → FramesAreCounted (started code state)
