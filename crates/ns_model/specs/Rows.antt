@@ -34,6 +34,7 @@ module _ (code : CodeProgram) (call : Call) (live : List ℕ) (site : Site) wher
   counted turns (Int start) (Int last) block progress = to_do_row host turns start start last block progress
   counted turns receiver last block progress = Yields receiver [] (frame_left progress)
 
+  -- the turns of `timesRepeat:`, as many as its receiver says
   abbrev pub repeated : ℕ → Value → Value → Progress → Outcome Value
   repeated turns (Int (pos times)) block progress = times_row host turns times (Int (pos times)) block progress
   repeated turns receiver block progress = times_row host turns 0 receiver block progress

@@ -91,6 +91,7 @@ pub record RunReport : Type 0 where
   pub status : Status
   pub counters : Counters
 
+-- what is reported of an end, with the text of its line
 abbrev pub report_of : CodeProgram → RunEnd → RunReport
 report_of code ended =
     record {

@@ -10,3 +10,4 @@ pub mod TakingSteps
 pub mod Told
 pub mod Walking
 pub mod Onward
+pub mod Counting

@@ -85,7 +85,8 @@ ended_none code FromBody a answer p = refl
 ended_none code (FromClause object holder class) a answer p =
     let down : Progress = in_world p (left p.world) in
     kept_none (kept_class down.world.cells code object holder class) (newly_kept code object holder class answer a.site down) p down refl
-    (class_none code object holder class (ClassCell class (value.Ref object) (value.Ref holder) answer) (class_fault down.world.cells answer) a.site p down refl)
+    (class_none code object holder class (ClassCell class (value.Ref object) (value.Ref holder) answer) (class_fault down.world.cells answer) a.site
+    p down refl)
 
 pub returned_none : (code : CodeProgram) (phase : Phase) (leaving : Leaving) (a : Activation) (answer : Value) (frames : List Frame) (p : Progress)
     → TookNone p (returned code phase leaving a answer frames p)

@@ -40,6 +40,7 @@ abbrev pub FitsEnding : CodeProgram → Ending → Type 0
 FitsEnding code (Error error) = FitsSite code (record { place = error.place; class = error.class; sel = error.sel })
 FitsEnding code ending = Unit {0}
 
+-- What is given is live in a lawful world, and an end fits.
 abbrev pub FitsAfter : CodeProgram → Progress → After → Type 0
 FitsAfter code old (Gives value progress) = LawfulRun code progress × IsLiveValue progress.world.cells code value × (progress.begun ≡ old.begun)
 FitsAfter code old (Halts ending progress) = LawfulRun code progress × FitsEnding code ending
@@ -59,6 +60,7 @@ pub record FitsMethod (code : CodeProgram) (method : KMethod) (state : KState) (
   pub counts : IsTrue (counts_fit progress.world.cells state method)
   pub named : FitsSite code site
 
+-- Where control goes fits what goes on there.
 abbrev pub FitsControl : CodeProgram → Progress → Control → Type 0
 FitsControl code old (Now after) = FitsAfter code old after
 FitsControl code old (Enter exit activation locals progress) = FitsEntered code (Loud exit) activation locals progress × BeginsAs exit activation old progress
@@ -68,11 +70,13 @@ FitsControl code old (Perform receiver sel array site progress) =
     LawfulRun code progress × IsLiveValue progress.world.cells code receiver × IsTrue (is_array progress.world.cells (Ref array))
     × FitsSelector progress.world.cells code sel (items_of progress.world.cells (Ref array)) × FitsSite code site × (progress.begun ≡ old.begun)
 
+-- Where a superclass part goes fits so.
 abbrev pub FitsPart : CodeProgram → Progress → Part → Type 0
 FitsPart code old (Skip progress) = LawfulRun code progress × (progress.begun ≡ old.begun)
 FitsPart code old (Stop ending progress) = LawfulRun code progress × FitsEnding code ending
 FitsPart code old (EnterPart activation locals progress) = FitsEntered code Silent activation locals progress × (progress.begun ≡ old.begun)
 
+-- What a method of the kernel does next fits: what waits, or what is given.
 abbrev pub FitsWaiting : CodeProgram → Progress → KMethod → Site → Waiting → Type 0
 FitsWaiting code old method site (Waits block arguments state progress) =
     FitsEvaluation code block arguments site progress × FitsMethod code method state site progress × (progress.begun ≡ old.begun)

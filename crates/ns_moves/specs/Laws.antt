@@ -25,6 +25,7 @@ use Rattle.ns_moves.specs.ValidFrames.{homes_fall}
 abbrev pub MovesAdd : CodeProgram → State → Type 0
 MovesAdd code state = (first second : ℕ) → moves code (first + second) state ≡ moves code second (moves code first state)
 
+-- All these moves charge what the first ones and what the others charge.
 abbrev pub ChargesAdd : CodeProgram → State → Type 0
 ChargesAdd code state =
     (first second : ℕ) → charged_in code (first + second) state ≡ charged_in code first state + charged_in code second (moves code first state)

@@ -18,4 +18,5 @@ pub mod Left
 pub mod Told
 pub mod Charges
 pub mod Onward
+pub mod Counted
 pub mod Laws

@@ -76,6 +76,7 @@ pub record PendingSend (code : CodeProgram) (heap : Heap) (receiver : Value) (ar
   pub live : IsLiveValue heap code receiver
   pub few : length arguments ≤ 255
 
+-- No frame stands below a send that opens a run or that a host made.
 abbrev pub PendingIsValid : CodeProgram → Heap → Pending → List Frame → Type 0
 PendingIsValid code heap (Sending receiver sel arguments site) frames =
     (frames ≡ []) × PendingSend code heap receiver arguments × FitsSelector heap code sel arguments × FitsSite code site
@@ -117,6 +118,7 @@ pub record GoesOn (code : CodeProgram) (grants : Grants) (phase : Phase) (frames
   pub depth : progress.world.depth ≡ length frames
   pub homes : IsTrue (homes_fall progress.begun frames)
 
+-- the invariant, by where the run stands
 abbrev pub Valid : CodeProgram → Grants → State → Type 0
 Valid code grants (Unbegun arguments progress) =
     WorldIsValid code (standing_cells code grants) progress × HasArguments code grants arguments progress.world.cells × (progress.world.depth ≡ 0)

@@ -80,6 +80,7 @@ is_send (instr.SendPrivate level sel argc) = true
 is_send (instr.SendSuper sel argc) = true
 is_send other = false
 
+-- whether an instruction waits for the end of a superclass part
 abbrev pub is_super_part : Instr → Bool
 is_super_part (instr.InitSuper argc) = true
 is_super_part other = false
@@ -99,12 +100,14 @@ height_of body number = slice_index_or (heights body) number 0
 abbrev pub StandsBefore : BodyCode → ℕ → ℕ → Type 0
 StandsBefore body number count = (number < length body.instrs) × (count ≡ height_of body number)
 
+-- the frame stands behind an instruction that waits
 abbrev pub WaitsBehind : BodyCode → ℕ → ℕ → (Instr → Bool) → Type 0
 WaitsBehind body zero count waits = ⊥
 WaitsBehind body (suc number) count waits =
     IsSome (slice_get body.instrs number)
     × ForSome (slice_get body.instrs number) (λ (before : Instr). IsTrue (waits before) × (count ≡ height_of body number - takes before))
 
+-- where a frame stands, by what it waits for
 abbrev pub Stands : BodyCode → Awaited → ℕ → ℕ → Type 0
 Stands body Nothing number count = StandsBefore body number count
 Stands body SendValue number count = WaitsBehind body number count is_send
@@ -207,6 +210,7 @@ pub record LoopingIsValid (heap : Heap) (code : CodeProgram) (awaited : Awaited)
 
 -- ---- all frames
 
+-- a frame of either kind, by what it waits for
 abbrev pub FrameIsValid : CodeProgram → Progress → Awaited → Frame → Type 0
 FrameIsValid code progress awaited (Running leaving activation locals rest stack) = RunningIsValid code progress awaited leaving activation locals rest stack
 FrameIsValid code progress awaited (Looping method state site) = LoopingIsValid progress.world.cells code awaited method state site

@@ -52,9 +52,11 @@ pub record Kept : Type 0 where
   pub phase : Phase
   pub ending : Option Ending
 
+-- the site that a kept one stands for
 abbrev pub site_shown : List SourcePlace → KeptSite → Site
 site_shown places site = record { place = slice_get places site.place; class = site.class; sel = site.sel }
 
+-- the end that a kept one stands for, in a frame of this self and holder
 abbrev pub leaving_shown : KeptLeaving → Value → ℕ → Leaving
 leaving_shown OfMethod self holder = Loud FromMethod
 leaving_shown OfBody self holder = Loud FromBody
@@ -87,10 +89,12 @@ standing code kept (KeptPerforming receiver sel array site floor) progress =
 standing code kept (KeptEvaluating block site floor first) progress =
     Pends kept.phase (Evaluating block (drop first kept.values) (site_shown kept.places site)) (frames_below code kept floor) progress
 
+-- the state, where an ending is kept and where none is
 abbrev pub shown_at : CodeProgram → Kept → Option Ending → Progress → State
 shown_at code kept (Some ending) progress = Ended ending kept.phase progress
 shown_at code kept None progress = standing code kept kept.pending progress
 
+-- the state that a machine shows
 abbrev pub shown : CodeProgram → Kept → Progress → State
 shown code kept progress = shown_at code kept kept.ending progress
 

@@ -6,6 +6,7 @@ ghost use Rattle.ns_world.specs.declared.value.Value.{Value};
 ghost use Rattle.ns_send.specs.Control.{Progress};
 ghost use Rattle.ns_moves.specs.State.{Phase, State};
 ghost use Rattle.ns_moves.specs.Steps.{Step};
+ghost use Rattle.ns_moves.specs.Counted.{NewIsCounted, StartKeepsCount, MovesKeepCount};
 ghost use Rattle.ns_moves.specs.Onward.{MovesGoOnward};
 ghost use Rattle.ns_moves.specs.Charges.{TakesAsTold, ChargesAsTold};
 ghost use Rattle.ns_moves.specs.Laws.{MovesAdd, ChargesAdd, StaysStill, TurnsAdd, TurnsLeaveOne, SendsOn, PerformsOn};
@@ -82,4 +83,13 @@ pub fn moves_charge_as_told()
 /// fallen, what was printed stands and no cell is gone, and with no method less begun.
 pub fn moves_go_onward()
     ensures { (code : CodeProgram) → MovesGoOnward code }
+{}
+
+/// As much depth is charged as there are frames, and the homes of methods fall from the count of
+/// begun methods on: so it is in a new machine, and its start and each move keep it, up to the end
+/// of the run.
+pub fn moves_keep_count()
+    ensures new { (code : CodeProgram) → NewIsCounted code }
+    ensures start { (code : CodeProgram) → StartKeepsCount code }
+    ensures moves { (code : CodeProgram) → MovesKeepCount code }
 {}

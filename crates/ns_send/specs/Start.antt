@@ -85,10 +85,11 @@ all_made (cell ∷ cells) last progress =
 abbrev pub start_made : CodeProgram → Grants → List (List ℕ) → Limits → After
 start_made code grants arguments limits = all_made (start_cells code grants arguments) Nil (nothing_done limits)
 
--- the facets that each run has are the first two cells
+-- the Manifest, which the first opening send gets: the facets that each run has are the first two cells
 abbrev pub manifest : Value
 manifest = Ref 0
 
+-- the Platform, which the second opening send gets
 abbrev pub platform : Value
 platform = Ref 1
 
