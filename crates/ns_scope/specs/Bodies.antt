@@ -136,15 +136,15 @@ class_side_bodies classes (p.class_side_with other) = side_bodies classes side.C
 -- the initialiser and the methods of a class, which stand in these declarations, the innermost of which is the class
 abbrev pub own_bodies : List ClassScope → p.Class → List Scope
 own_bodies classes (p.class_with name factory clause bars body members others) =
-    initialiser_bodies classes (p.class_with name factory clause bars body members others) ++ (side_bodies classes side.Instance members ++ class_side_bodies classes others)
+    let class = p.class_with name factory clause bars body members others in
+    initialiser_bodies classes class ++ (side_bodies classes side.Instance members ++ class_side_bodies classes others)
 
 abbrev mutual
   -- the bodies of a class and of those in it
   pub class_bodies : List ClassScope → p.Class → List Scope
   class_bodies outer (p.class_with name factory clause bars body side others) =
-      clause_bodies outer clause
-      ++ (own_bodies (class_scope (p.class_with name factory clause bars body side others) ∷ outer) (p.class_with name factory clause bars body side others)
-      ++ nested_bodies (class_scope (p.class_with name factory clause bars body side others) ∷ outer) side)
+      let class = p.class_with name factory clause bars body side others in
+      clause_bodies outer clause ++ (own_bodies (class_scope class ∷ outer) class ++ nested_bodies (class_scope class ∷ outer) side)
 
   pub nested_bodies : List ClassScope → p.Side → List Scope
   nested_bodies classes (p.side_with members tail) = members_bodies classes members
@@ -163,7 +163,8 @@ abbrev mutual
 -- the bodies that stand in a class
 abbrev pub class_inside : List ClassScope → p.Class → List Scope
 class_inside classes (p.class_with name factory clause bars body side others) =
-    own_bodies classes (p.class_with name factory clause bars body side others) ++ nested_bodies classes side
+    let class = p.class_with name factory clause bars body side others in
+    own_bodies classes class ++ nested_bodies classes side
 
 abbrev pub unit_bodies : p.SourceUnit → List Scope
 unit_bodies (p.unit_with marker category class) = class_bodies [] class

@@ -190,15 +190,17 @@ class_members_found (p.class_with name factory clause bars body members others) 
 -- what is wrong with the members of a class and the head of its clause
 abbrev pub class_found : List ClassScope → p.Class → List Found
 class_found outer (p.class_with name factory clause bars body members others) =
-    class_members_found (p.class_with name factory clause bars body members others) ++ head_faults outer clause
+    let class = p.class_with name factory clause bars body members others in
+    class_members_found class ++ head_faults outer clause
 
 abbrev mutual
   pub class_faults : List ClassScope → p.Class → List Found
   class_faults outer (p.class_with name factory clause bars body members others) =
-      class_found outer (p.class_with name factory clause bars body members others)
-      ++ (initialiser_faults (class_scope (p.class_with name factory clause bars body members others) ∷ outer) factory clause bars body
-      ++ (side_faults (class_scope (p.class_with name factory clause bars body members others) ∷ outer) side.Instance members
-      ++ class_side_faults (class_scope (p.class_with name factory clause bars body members others) ∷ outer) others))
+      let class = p.class_with name factory clause bars body members others in
+      let classes = class_scope class ∷ outer in
+      class_found outer class
+      ++ (initialiser_faults classes factory clause bars body
+      ++ (side_faults classes side.Instance members ++ class_side_faults classes others))
 
   pub class_side_faults : List ClassScope → p.ClassSide → List Found
   class_side_faults classes p.no_class_side = []
