@@ -1,3 +1,4 @@
 pub mod Living
 pub mod Lawful
 pub mod Leading
+mod Rows

@@ -9,7 +9,7 @@ ghost use Rattle.ns_facets.specs.Console.{appended, fits};
 ghost use Rattle.std.specs.Prelude.{IsTrue};
 
 use ns_code::program::CodeProgram;
-use ns_kdata::arguments::{is_text, text_byte, text_size, wrong_kind};
+use ns_kdata::arguments::{is_text, text_byte, text_row, text_size, wrong_kind};
 use ns_kdata::decimal::decimal_text;
 use ns_world::ending::{Fault, LimitKind};
 use ns_world::value::Value;
@@ -88,14 +88,20 @@ fn append(world: &mut World, bytes: &[u8])
     let _printed = world.print(bytes);
 }
 
-/// Prints a String that fits.
+/// Prints a String that fits, by eight bytes while there are so many.
 fn append_text(world: &mut World, text: Value)
     requires room { world.old.world.limits.out ≤ world.old.out_room }
     requires there { IsThere world.old.world.cells text }
     requires fits { length world.old.world.output + length (bytes_of world.old.world.cells text) ≤ world.old.world.limits.out }
     ensures { world.new ≡ appended world.old (bytes_of world.old.world.cells text) }
 {
-    'bytes: for place in 0..text_size(world, text) {
+    let size = text_size(world, text);
+    let rows = size / 8;
+    'rows: for row in 0..rows {
+        let bytes = text_row(world, text, row);
+        append(world, &bytes);
+    }
+    'bytes: for place in 8 * rows..size {
         let byte = text_byte(world, text, place);
         append(world, &[byte]);
     }

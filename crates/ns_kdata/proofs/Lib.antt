@@ -16,3 +16,4 @@ pub mod Leaving
 pub mod Storing
 pub mod Lawful
 pub mod Leading
+pub mod Heads

@@ -8,6 +8,8 @@ use Rattle.ns_world.specs.declared.value.Value.TheVariants.{Nil, True, False, In
 use Rattle.ns_world.specs.declared.ending.Fault.{Fault}
 use Rattle.ns_world.specs.declared.cell.NewCell.{NewCell}
 use Rattle.ns_world.specs.declared.cell.NewCell.TheVariants as new
+use Rattle.ns_world.specs.declared.head.Head.{Head}
+use Rattle.ns_world.specs.declared.head.Head.TheVariants as head
 use Rattle.ns_world.specs.Cell.{Cell, ArrayCell}
 use Rattle.ns_world.specs.Heap.{Heap, find_cell, shape_at, bytes_at}
 use Rattle.ns_kdata.specs.declared.arguments.Part.{Part}
@@ -53,6 +55,27 @@ text_size_in cell = 0
 abbrev pub array_size_in : NewCell → ℕ
 array_size_in (new.Array size) = size
 array_size_in cell = 0
+
+-- the same by a cell's head
+abbrev pub is_text_head : Head → Bool
+is_text_head (head.Text bytes) = true
+is_text_head cell = false
+
+abbrev pub is_array_head : Head → Bool
+is_array_head (head.Array size) = true
+is_array_head cell = false
+
+abbrev pub is_message_head : Head → Bool
+is_message_head (head.Message sel) = true
+is_message_head cell = false
+
+abbrev pub text_size_at : Head → ℕ
+text_size_at (head.Text bytes) = bytes
+text_size_at cell = 0
+
+abbrev pub array_size_at : Head → ℕ
+array_size_at (head.Array size) = size
+array_size_at cell = 0
 
 -- whether a value is a String, an Array, a Message
 abbrev pub is_text : Heap → Value → Bool

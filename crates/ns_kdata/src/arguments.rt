@@ -3,6 +3,7 @@
 ghost use Rattle.std.specs.Prelude.{◌≡◌, ◌+◌, ◌*◌, ◌<◌, ◌≤◌, length, IfOk};
 ghost use Rattle.std.specs.List.{slice_index, slice_index_or};
 ghost use Rattle.ns_world.specs.declared.value.Value.TheVariants as value_is;
+ghost use Rattle.ns_world.specs.Head.{head_of_shape};
 ghost use Rattle.ns_kdata.specs.Arguments as spec;
 ghost use Rattle.ns_kdata.specs.Arguments.{IsThere, bytes_of, items_of};
 ghost use Rattle.ns_kdata.specs.Outcome as outcome;
@@ -10,6 +11,7 @@ ghost use Rattle.ns_kdata.specs.Outcome as outcome;
 use ns_code::program::CodeProgram;
 use ns_world::cell::NewCell;
 use ns_world::ending::{Fault, Kind};
+use ns_world::head::Head;
 use ns_world::value::Value;
 use ns_world::world::World;
 
@@ -63,53 +65,86 @@ pub fn shape_of_value(world: &World, value: Value) -> NewCell
     }
 }
 
+/// The kind and the size of the cell that a value refers to; those of a mirror where it refers to
+/// none.
+fn head_of_value(world: &World, value: Value) -> Head
+    requires { IsThere world.now.world.cells value }
+    ensures { result ≡ head_of_shape (spec.shape_of_value world.now.world.cells value) }
+{
+    match value {
+        Value::Ref(at) => world.head(at),
+        _ => Head::Mirror,
+    }
+}
+
 /// Whether a value is a String.
+#[tactic(auto, using(crate::proofs::Heads::text_head))]
 pub fn is_text(world: &World, value: Value) -> bool
     requires { IsThere world.now.world.cells value }
     ensures { result ≡ spec.is_text world.now.world.cells value }
 {
-    match shape_of_value(world, value) {
-        NewCell::Text { .. } => true,
+    is_text_head(head_of_value(world, value))
+}
+
+fn is_text_head(head: Head) -> bool
+    ensures { result ≡ spec.is_text_head head }
+{
+    match head {
+        Head::Text { .. } => true,
         _ => false,
     }
 }
 
 /// Whether a value is an Array.
+#[tactic(auto, using(crate::proofs::Heads::array_head))]
 pub fn is_array(world: &World, value: Value) -> bool
     requires { IsThere world.now.world.cells value }
     ensures { result ≡ spec.is_array world.now.world.cells value }
 {
-    match shape_of_value(world, value) {
-        NewCell::Array { .. } => true,
+    is_array_head(head_of_value(world, value))
+}
+
+fn is_array_head(head: Head) -> bool
+    ensures { result ≡ spec.is_array_head head }
+{
+    match head {
+        Head::Array { .. } => true,
         _ => false,
     }
 }
 
 /// Whether a value is a Message.
+#[tactic(auto, using(crate::proofs::Heads::message_head))]
 pub fn is_message(world: &World, value: Value) -> bool
     requires { IsThere world.now.world.cells value }
     ensures { result ≡ spec.is_message world.now.world.cells value }
 {
-    match shape_of_value(world, value) {
-        NewCell::Message { .. } => true,
+    is_message_head(head_of_value(world, value))
+}
+
+fn is_message_head(head: Head) -> bool
+    ensures { result ≡ spec.is_message_head head }
+{
+    match head {
+        Head::Message(_) => true,
         _ => false,
     }
 }
 
 /// How many bytes a String has.
-#[tactic(auto, using(crate::proofs::Shapes::text_size_told))]
+#[tactic(auto, using(crate::proofs::Shapes::text_size_told, crate::proofs::Heads::text_size_head))]
 pub fn text_size(world: &World, text: Value) -> u32
     requires { IsThere world.now.world.cells text }
     ensures { result ≡ length (bytes_of world.now.world.cells text) }
 {
-    text_size_in(shape_of_value(world, text))
+    text_size_at(head_of_value(world, text))
 }
 
-fn text_size_in(cell: NewCell) -> u32
-    ensures { result ≡ spec.text_size_in cell }
+fn text_size_at(head: Head) -> u32
+    ensures { result ≡ spec.text_size_at head }
 {
-    match cell {
-        NewCell::Text { bytes } => bytes,
+    match head {
+        Head::Text { bytes } => bytes,
         _ => 0,
     }
 }
@@ -137,19 +172,19 @@ pub fn text_row(world: &World, text: Value, row: u32) -> [u8; 8]
 }
 
 /// How many elements an Array has.
-#[tactic(auto, using(crate::proofs::Shapes::array_size_told))]
+#[tactic(auto, using(crate::proofs::Shapes::array_size_told, crate::proofs::Heads::array_size_head))]
 pub fn array_size(world: &World, array: Value) -> u32
     requires { IsThere world.now.world.cells array }
     ensures { result ≡ length (items_of world.now.world.cells array) }
 {
-    array_size_in(shape_of_value(world, array))
+    array_size_at(head_of_value(world, array))
 }
 
-fn array_size_in(cell: NewCell) -> u32
-    ensures { result ≡ spec.array_size_in cell }
+fn array_size_at(head: Head) -> u32
+    ensures { result ≡ spec.array_size_at head }
 {
-    match cell {
-        NewCell::Array { size } => size,
+    match head {
+        Head::Array { size } => size,
         _ => 0,
     }
 }
