@@ -20,6 +20,7 @@ pub mod Counting
 pub mod Spending
 pub mod Lasting
 pub mod Running
+pub mod OwnSelector
 pub mod Fitting
 pub mod Handing
 pub mod PartsFit

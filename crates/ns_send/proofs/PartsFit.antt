@@ -23,28 +23,28 @@ use Rattle.ns_world.proofs.Classes.{lawful_order, lawful_small}
 use Rattle.ns_find.proofs.SoundBodies.{initialiser_there}
 use Rattle.ns_send.specs.Site.{error}
 use Rattle.ns_send.specs.Control.{Progress, in_world, Activation, Part, Skip, Stop, EnterPart, charged}
-use Rattle.ns_send.specs.Bodies.{has_environment, first_locals, initialiser_of, no_home, opened}
+use Rattle.ns_send.specs.Bodies.{has_environment, first_locals, parameters_of, initialiser_of, no_home, opened}
 use Rattle.ns_send.specs.Classes.{super_selector, factory_selector, declared_part, object_part, part_of, super_part}
 use Rattle.ns_send.specs.Lawful.{LawfulRun, LawfulPart, FitsActivation}
 use Rattle.ns_send.specs.Onward.{part_reached}
-use Rattle.ns_send.specs.Fitting.{FitsNextPart}
+use Rattle.ns_send.specs.Fitting.{kind_of, FitsNextPart}
 use Rattle.ns_send.proofs.Onward.{charged_all}
 use Rattle.ns_send.proofs.ClassesOnward.{super_onward}
 use Rattle.ns_send.proofs.LawfulParts.{super_lawful}
 use Rattle.ns_send.proofs.Suiting.{object_holders, above_too}
 use Rattle.ns_send.proofs.Places.{holder_live}
-use Rattle.ns_send.proofs.Running.{RunsBody, body_runs, instance_fits}
+use Rattle.ns_send.proofs.Running.{RunsBody, own_params, body_runs, instance_fits}
 use Rattle.ns_send.proofs.Fitting.{runs_last, class_there}
 
 -- What is to be shown of a part, where the run goes on lawfully.
 abbrev PartLater : World → CodeProgram → Part → Type 0
 PartLater old code (Skip progress) = Unit {0}
 PartLater old code (Stop ending progress) = Unit {0}
-PartLater old code (EnterPart activation locals progress) = RunsOn code old progress.world → FitsActivation progress.world.cells code activation
+PartLater old code (EnterPart activation locals progress) = RunsOn code old progress.world → FitsActivation progress.world.cells code activation × (kind_of code activation.body ≡ initialiser_kind)
 
-opened_part : (old : World) (code : CodeProgram) (activation : Activation) (arguments : List Value) (progress : Progress) → RunsBody old.cells code activation.self activation.holder activation.body
+opened_part : (old : World) (code : CodeProgram) (activation : Activation) (arguments : List Value) (progress : Progress) (params : ℕ) → RunsBody old.cells code activation.self activation.holder activation.body initialiser_kind params
     → PartLater old code (opened code Stop EnterPart activation arguments progress)
-opened_part old code activation arguments progress runs = tested (has_environment code activation.body)
+opened_part old code activation arguments progress params runs = tested (has_environment code activation.body)
   where
     locals : List Value
     locals = first_locals code activation.body arguments
@@ -53,8 +53,8 @@ opened_part old code activation arguments progress runs = tested (has_environmen
     inner = record activation { env = Ref (heap_size progress.world.cells) }
 
     tested : (b : Bool) → PartLater old code (cond b (charged Stop Cells (made progress.world (EnvironmentCell activation.env locals)) progress (EnterPart inner [])) (EnterPart activation locals progress))
-    tested true = charged_all (PartLater old code) Stop Cells (made progress.world (EnvironmentCell activation.env locals)) progress (EnterPart inner []) tt (λ world e. λ run. runs_last code old world inner runs run)
-    tested false = λ run. runs_last code old progress.world activation runs run
+    tested true = charged_all (PartLater old code) Stop Cells (made progress.world (EnvironmentCell activation.env locals)) progress (EnterPart inner []) tt (λ world e. λ run. (runs_last code old world inner initialiser_kind params runs run, runs.kind_is))
+    tested false = λ run. (runs_last code old progress.world activation initialiser_kind params runs run, runs.kind_is)
 
 -- a declared superclass of a holder is in the chain too
 above_has : (world : World) (code : CodeProgram) (self : Value) (holder over : ℕ) → IsLawful world code → HasHolder world.cells self holder → superclass_of world.cells holder ≡ over → is_class (find_cell world.cells over) ≡ true → HasHolder world.cells self over
@@ -86,15 +86,22 @@ above_has world code (Int number) holder over lawful has super is = absurd has
 above_has world code (Sym name) holder over lawful has super is = absurd has
 above_has world code (Kernel class) holder over lawful has super is = absurd has
 
+-- The initialiser of a class runs with a self.
+abbrev Initialises : World → CodeProgram → Value → ℕ → Type 0
+Initialises world code self over =
+    RunsBody world.cells code self over (initialiser_of code (declaration_of world.cells over)) initialiser_kind (parameters_of code (initialiser_of code (declaration_of world.cells over)))
+
 -- so its initialiser runs with self
-initialiser_runs : (world : World) (code : CodeProgram) (self : Value) (over : ℕ) → IsLawful world code → HasHolder world.cells self over → is_class (find_cell world.cells over) ≡ true → RunsBody world.cells code self over (initialiser_of code (declaration_of world.cells over))
+initialiser_runs : (world : World) (code : CodeProgram) (self : Value) (over : ℕ) → IsLawful world code → HasHolder world.cells self over → is_class (find_cell world.cells over) ≡ true → Initialises world code self over
 initialiser_runs world code (Ref at) over lawful has is = declared (slice_get code.classes (declaration_of world.cells over)) refl
   where
-    declared : (o : Option ClassCode) → slice_get code.classes (declaration_of world.cells over) ≡ o → RunsBody world.cells code (Ref at) over (option_map_or (λ (c : ClassCode). c.init) o 0)
+    declared : (o : Option ClassCode) → slice_get code.classes (declaration_of world.cells over) ≡ o
+        → RunsBody world.cells code (Ref at) over (option_map_or (λ (c : ClassCode). c.init) o 0) initialiser_kind (parameters_of code (option_map_or (λ (c : ClassCode). c.init) o 0))
     declared (Some c) e =
         let body = initialiser_there code (declaration_of world.cells over) c lawful.classes e in
-        body_runs world.cells code (Ref at) over c.init initialiser_kind instance_side (declaration_of world.cells over) c.params body (holder_live world.cells code (Ref at) over has)
-        (instance_fits world.cells code at over body.body is body.class_is body.side_is has)
+        own_params world.cells code (Ref at) over c.init initialiser_kind c.params
+        (body_runs world.cells code (Ref at) over c.init initialiser_kind instance_side (declaration_of world.cells over) c.params body (holder_live world.cells code (Ref at) over has)
+        (instance_fits world.cells code at over body.body is body.class_is body.side_is has))
     declared None e = let l = class_there world code over lawful is in absurd (cc)
 initialiser_runs world code Nil over lawful has is = absurd has
 initialiser_runs world code True over lawful has is = absurd has
@@ -103,7 +110,7 @@ initialiser_runs world code (Int number) over lawful has is = absurd has
 initialiser_runs world code (Sym name) over lawful has is = absurd has
 initialiser_runs world code (Kernel class) over lawful has is = absurd has
 
-declared_fits : (code : CodeProgram) (activation : Activation) (over sel : ℕ) (arguments : List Value) (progress : Progress) → RunsBody progress.world.cells code activation.self over (initialiser_of code (declaration_of progress.world.cells over))
+declared_fits : (code : CodeProgram) (activation : Activation) (over sel : ℕ) (arguments : List Value) (progress : Progress) → Initialises progress.world code activation.self over
     → PartLater progress.world code (declared_part code activation over sel arguments progress)
 declared_fits code activation over sel arguments progress runs = tested (eqb sel (factory_selector code (declaration_of progress.world.cells over)))
   where
@@ -111,7 +118,7 @@ declared_fits code activation over sel arguments progress runs = tested (eqb sel
     inner = record { self = activation.self; holder = over; body = initialiser_of code (declaration_of progress.world.cells over); home = no_home; env = Nil; site = activation.site }
 
     tested : (b : Bool) → PartLater progress.world code (cond b (charged Stop Depth (entered progress.world) progress (opened code Stop EnterPart inner arguments)) (Stop (error InitMismatch activation.site) progress))
-    tested true = charged_all (PartLater progress.world code) Stop Depth (entered progress.world) progress (opened code Stop EnterPart inner arguments) tt (λ world e. opened_part progress.world code inner arguments (in_world progress world) runs)
+    tested true = charged_all (PartLater progress.world code) Stop Depth (entered progress.world) progress (opened code Stop EnterPart inner arguments) tt (λ world e. opened_part progress.world code inner arguments (in_world progress world) (parameters_of code inner.body) runs)
     tested false = tt
 
 object_fits : (old : World) (code : CodeProgram) (activation : Activation) (sel : ℕ) (progress : Progress) → PartLater old code (object_part code activation sel progress)
@@ -122,7 +129,7 @@ object_fits old code activation sel progress = tested (bytes_eq (selector_text c
     tested false = tt
 
 part_fits : (code : CodeProgram) (activation : Activation) (over : Value) (sel : ℕ) (arguments : List Value) (progress : Progress)
-    → ((class : ℕ) → over ≡ Ref class → RunsBody progress.world.cells code activation.self class (initialiser_of code (declaration_of progress.world.cells class))) → PartLater progress.world code (part_of code activation over sel arguments progress)
+    → ((class : ℕ) → over ≡ Ref class → Initialises progress.world code activation.self class) → PartLater progress.world code (part_of code activation over sel arguments progress)
 part_fits code activation (Ref over) sel arguments progress runs = declared_fits code activation over sel arguments progress (runs over refl)
 part_fits code activation Nil sel arguments progress runs = object_fits progress.world code activation sel progress
 part_fits code activation True sel arguments progress runs = object_fits progress.world code activation sel progress
@@ -133,10 +140,10 @@ part_fits code activation (Kernel class) sel arguments progress runs = object_fi
 
 -- the superclass of a holder runs its initialiser
 super_initialises : (world : World) (code : CodeProgram) (self : Value) (holder : ℕ) → IsLawful world code → HasHolder world.cells self holder → (class : ℕ) → superclass_in (find_cell world.cells holder) ≡ Ref class
-    → RunsBody world.cells code self class (initialiser_of code (declaration_of world.cells class))
+    → Initialises world code self class
 super_initialises world code self holder lawful has class super = found (find_cell world.cells holder) refl super
   where
-    found : (o : Option Cell) → find_cell world.cells holder ≡ o → superclass_in o ≡ Ref class → RunsBody world.cells code self class (initialiser_of code (declaration_of world.cells class))
+    found : (o : Option Cell) → find_cell world.cells holder ≡ o → superclass_in o ≡ Ref class → Initialises world code self class
     found (Some (ClassCell decl encl holder' over)) e s =
         let l = linked world.cells holder decl encl holder' over lawful.ordered e in
         let is : is_class (find_cell world.cells class) ≡ true = ap (λ v. is_superclass world.cells v) (sym s) ∙ l.superclass in

@@ -1,6 +1,9 @@
 -- What an action hands on is what the next one asks for.
-use Rattle.std.specs.Prelude.{IsTrue, All, Bool, true, false}
+use Rattle.std.specs.Prelude.{◌≡◌, ℕ, ◌≤◌, List, length, slice_get, Some, IsTrue, All, Bool, true, false, ◌==◌, ◌||◌, if◌then◌else◌}
+use Rattle.std.specs.Option.{option_map_or}
 use Rattle.ns_code.specs.declared.program.CodeProgram.{CodeProgram}
+use Rattle.ns_code.specs.declared.body.BodyCode.{BodyCode}
+use Rattle.ns_code.specs.Soundness.{method_kind, block_kind, initialiser_kind, clause_kind}
 use Rattle.ns_world.specs.declared.value.Value.{Value}
 use Rattle.ns_world.specs.declared.value.Value.TheVariants.{True, False, Ref}
 use Rattle.ns_world.specs.Heap.{Heap}
@@ -9,7 +12,8 @@ use Rattle.ns_kdata.specs.Arguments.{items_of, is_array}
 use Rattle.ns_kcode.specs.declared.state.KMethod.{KMethod}
 use Rattle.ns_kcode.specs.declared.state.KMethod.TheVariants as method
 use Rattle.ns_kcode.specs.declared.state.KState.{KState}
-use Rattle.ns_send.specs.Control.{Progress, Control, Now, Enter, Evaluate, Begin, Perform, Part, Skip, Stop, EnterPart, Waiting, Waits, Finishes}
+use Rattle.ns_send.specs.Control.{Progress, Activation, Exit, FromMethod, FromBody, FromClause, Control, Now, Enter, Evaluate, Begin, Perform, Part, Skip, Stop, EnterPart, Waiting, Waits, Finishes}
+use Rattle.ns_send.specs.Bodies.{parameters_of, locals_of, has_environment, clause_of}
 use Rattle.ns_send.specs.Classes.{super_part}
 use Rattle.ns_send.specs.Blocks.{is_block, is_integer, has_arguments, evaluated, method_next}
 use Rattle.ns_send.specs.Sends.{sent, sent_plain, performed}
@@ -41,12 +45,48 @@ pub record FitsMethod (heap : Heap) (method : KMethod) (state : KState) : Type 0
   pub arguments : IsTrue (has_arguments heap method state.first state.second)
   pub receiver : IsTrue (belongs_to heap state.receiver method)
 
--- A body that is entered fits its self and its holder, and its end can be met; what is evaluated is a block; a
+-- the kind of a body
+abbrev pub kind_of : CodeProgram → ℕ → ℕ
+kind_of code body = option_map_or (λ (b : BodyCode). b.kind) (slice_get code.bodies body) clause_kind
+
+-- whether an end is that of a body of a kind
+abbrev pub ends_kind : Exit → ℕ → Bool
+ends_kind FromMethod kind = kind == method_kind
+ends_kind FromBody kind = kind == block_kind || kind == initialiser_kind
+ends_kind (FromClause object holder class) kind = kind == clause_kind
+
+-- The end of a clause names the self and the holder that run it, and the class whose clause it is.
+abbrev pub EndsOwn : CodeProgram → Exit → Activation → Type 0
+EndsOwn code (FromClause object holder class) activation =
+    (activation.self ≡ Ref object) × (activation.holder ≡ holder) × (clause_of code class ≡ Some activation.body)
+EndsOwn code exit activation = Unit {0}
+
+-- The end of a body that is entered can be met, and is that of a body of its kind.
+pub record FitsEnd (heap : Heap) (code : CodeProgram) (exit : Exit) (activation : Activation) : Type 0 where
+  pub met : FitsExit heap code exit
+  pub kind : IsTrue (ends_kind exit (kind_of code activation.body))
+  pub own : EndsOwn code exit activation
+
+-- how many locals stand beside an activation
+abbrev pub locals_beside : CodeProgram → ℕ → ℕ
+locals_beside code body = if has_environment code body then 0 else locals_of code body
+
+-- The parameters of a body are among its locals, as in all code that was verified.
+pub record HasRoom (code : CodeProgram) (body : ℕ) : Type 0 where
+  pub parameters : parameters_of code body ≤ locals_of code body
+
+-- A body that is entered fits its self and its holder, and has all of its locals.
+pub record FitsEntered (heap : Heap) (code : CodeProgram) (activation : Activation) (locals : List Value) : Type 0 where
+  pub fits : FitsActivation heap code activation
+  pub beside : HasRoom code activation.body → length locals ≡ locals_beside code activation.body
+
+-- A body that is entered fits, and so does its end; what is evaluated is a block; a
 -- method of the kernel has a receiver and arguments of the kinds that it asks for; and a send that waits has a
 -- selector and as many live arguments as it takes.
 abbrev pub FitsNext : CodeProgram → Control → Type 0
 FitsNext code (Now after) = Unit {0}
-FitsNext code (Enter exit activation locals progress) = FitsActivation progress.world.cells code activation × FitsExit progress.world.cells code exit
+FitsNext code (Enter exit activation locals progress) =
+    FitsEntered progress.world.cells code activation locals × FitsEnd progress.world.cells code exit activation
 FitsNext code (Evaluate block arguments site progress) = IsTrue (is_block progress.world.cells block)
 FitsNext code (Begin method state site progress) = FitsMethod progress.world.cells method state
 FitsNext code (Perform receiver sel array site progress) = FitsSelector progress.world.cells code sel (items_of progress.world.cells (Ref array))
@@ -55,7 +95,8 @@ FitsNext code (Perform receiver sel array site progress) = FitsSelector progress
 abbrev pub FitsNextPart : CodeProgram → Part → Type 0
 FitsNextPart code (Skip progress) = Unit {0}
 FitsNextPart code (Stop ending progress) = Unit {0}
-FitsNextPart code (EnterPart activation locals progress) = FitsActivation progress.world.cells code activation
+FitsNextPart code (EnterPart activation locals progress) =
+    FitsActivation progress.world.cells code activation × (kind_of code activation.body ≡ initialiser_kind)
 
 -- A method of the kernel that waits for a block evaluates one, and keeps its receiver and its arguments.
 abbrev pub FitsNextWaiting : KMethod → Waiting → Type 0
