@@ -1,11 +1,10 @@
 -- What a send hands on fits.
-use Rattle.std.proofs.Common.{◌≡◌, ℕ, List, [], ◌∷◌, length, get_or, replicate, refl, ap, sym, ◌∙◌, subst, arith, All, Option, Some, None, Bool, true, false, cond, unwrap_or, slice_get}
-use Rattle.std.proofs.lemmas.List.{length-append, length-replicate}
-use Rattle.std.specs.Prelude.{◌-◌, Contains, IsSome, Result, Ok, Err, pos, nat_lt}
+use Rattle.std.proofs.Common.{◌≡◌, ℕ, suc, ◌+◌, List, [], ◌∷◌, length, get_or, replicate, refl, ap, sym, ◌∙◌, subst, arith, All, Option, Some, None, Bool, true, false, cond, unwrap_or, slice_get}
+use Rattle.std.specs.Prelude.{Contains, IsSome, Result, Ok, Err, pos, nat_lt}
 use Rattle.std.specs.Option.{option_map_or}
 use Rattle.ns_code.specs.declared.class.ClassCode.{ClassCode}
 use Rattle.ns_code.specs.Soundness.{method_kind, initialiser_kind, clause_kind, instance_side}
-use Rattle.ns_world.specs.Lawful.{IsLawful, IsLiveValue, HasHolder, class_of_object}
+use Rattle.ns_world.specs.Lawful.{IsLawful, IsLiveValue, HasHolder, FitsEnvironment, class_of_object}
 use Rattle.ns_world.specs.Later.{IsLater, RunsOn}
 use Rattle.ns_world.proofs.Above.{goes_on}
 use Rattle.ns_world.proofs.Charging.{step_keeps}
@@ -21,7 +20,7 @@ use Rattle.ns_mirror.specs.Living.{ReflectsLive}
 use Rattle.ns_mirror.proofs.Living.{rows_live as mirrors_live}
 use Rattle.ns_send.specs.Onward.{reached, touched}
 use Rattle.ns_send.specs.Lawful.{LawfulRun, LawfulControl, HasClass, FitsExit, FitsSelector, FitsActivation}
-use Rattle.ns_send.specs.Fitting.{FitsNext, FitsEntered, FitsEnd, EndsOwn, HasRoom, locals_beside, ends_kind}
+use Rattle.ns_send.specs.Fitting.{FitsNext, FitsEntered, FitsEnd, EndsOwn, StandsWell, environment_body, ends_kind}
 use Rattle.ns_send.proofs.Growing.{step_cells}
 use Rattle.ns_send.proofs.Onward.{charged_all, may_come}
 use Rattle.ns_send.proofs.SendsOnward.{answered_onward}
@@ -73,7 +72,7 @@ use Rattle.ns_send.specs.declared.row.Row.{Row}
 use Rattle.ns_send.specs.declared.row.Row.TheVariants as row
 use Rattle.ns_send.specs.declared.site.Site.{Site}
 use Rattle.ns_send.specs.Control.{Perform as WaitsToPerform, Progress, in_world, Activation, Exit, FromMethod, FromBody, FromClause, Control, Now, Enter, Evaluate, Begin, halts, fails, charged}
-use Rattle.ns_send.specs.Bodies.{has_environment, first_locals, parameters_of, locals_of, initialiser_of, clause_of, no_home, opened}
+use Rattle.ns_send.specs.Bodies.{has_environment, first_locals, parameters_of, initialiser_of, clause_of, no_home, opened}
 use Rattle.ns_send.specs.Classes.{head, nested, instance}
 use Rattle.ns_send.specs.Blocks.{value_with_arguments, has_arguments, turns_of, method_begun}
 use Rattle.ns_send.specs.Rows.{row_at}
@@ -81,6 +80,7 @@ use Rattle.ns_send.specs.Kernel.{outcome_reached, answer_reached, reflected_reac
 use Rattle.ns_send.specs.Sends.{Arguments, Listed, Wrapped, given, one_more, method_entered, factory_entered, set, nested_in, done_with, not_found, answered_by}
 use Rattle.ns_code.specs.Selector.{own_number, selector_arity}
 use Rattle.ns_send.proofs.OwnSelector.{one_message}
+use Rattle.ns_send.proofs.Opening.{Around, IsOpened, nothing_around, opened_bare, opened_over}
 
 -- What is to be shown of where control goes from a world, where it goes on lawfully.
 abbrev pub FitsLater : World → CodeProgram → Control → Type 0
@@ -187,13 +187,9 @@ row_fits code row.NumArgs sel receiver arguments site progress lawful all suits 
 
 -- ---- bodies
 
--- all locals of a body stand beside it where it has no environment, and none where it has one
-abbrev pub AllBeside : CodeProgram → ℕ → List Value → List Value → Type 0
-AllBeside code body arguments locals = length arguments ≡ parameters_of code body → HasRoom code body → length locals ≡ locals_beside code body
-
 -- a body that begins keeps self, holder and body, and has all of its locals
 pub opened_fits : (old : World) (code : CodeProgram) (go : Activation → List Value → Progress → Control) (activation : Activation) (arguments : List Value) (progress : Progress) → IsLater old progress.world
-    → ((env : Value) (locals : List Value) (world : World) → IsLater progress.world world → AllBeside code activation.body arguments locals → FitsLater old code (go (record activation { env = env }) locals (in_world progress world)))
+    → ((env : Value) (locals : List Value) (world : World) → IsLater progress.world world → IsOpened world.cells code activation.body activation.env arguments env locals → FitsLater old code (go (record activation { env = env }) locals (in_world progress world)))
     → FitsLater old code (opened code halts go activation arguments progress)
 opened_fits old code go activation arguments progress later goes = tested (has_environment code activation.body) refl
   where
@@ -206,41 +202,38 @@ opened_fits old code go activation arguments progress later goes = tested (has_e
     cell : Cell
     cell = EnvironmentCell activation.env locals
 
-    none : has_environment code activation.body ≡ true → AllBeside code activation.body arguments []
-    none b = λ count room. rw b refl
-
-    all : has_environment code activation.body ≡ false → AllBeside code activation.body arguments locals
-    all b = λ count room.
-        let more = locals_of code activation.body - parameters_of code activation.body in
-        let whole : length locals ≡ locals_of code activation.body =
-        omega (arith, length-append arguments (replicate more value.Nil), length-replicate more value.Nil, count, room.parameters) in
-        rw b whole
-
     tested : (b : Bool) → has_environment code activation.body ≡ b → FitsLater old code (cond b (charged halts Cells (made progress.world cell) progress (go inner [])) (go activation locals progress))
     tested true b = charged_all (FitsLater old code) halts Cells (made progress.world cell) progress (go inner []) tt
-        (λ world e. goes (value.Ref (heap_size progress.world.cells)) [] world (later_made progress.world world cell (may_come progress.world.cells cell refl refl) e) (none b))
-    tested false b = goes activation.env locals progress.world (later_same progress.world) (all b)
+        (λ world e. goes (value.Ref (heap_size progress.world.cells)) [] world (later_made progress.world world cell (may_come progress.world.cells cell refl refl) e)
+        (opened_over code progress.world world activation.body activation.env arguments b e))
+    tested false b = goes activation.env locals progress.world (later_same progress.world) (opened_bare progress.world.cells code activation.body activation.env arguments b)
 
 -- a body that runs lasts
 pub runs_last : (code : CodeProgram) (old new : World) (activation : Activation) (kind params : ℕ) → RunsBody old.cells code activation.self activation.holder activation.body kind params → RunsOn code old new → FitsActivation new.cells code activation
 runs_last code old new activation kind params runs run = activation_lasts activation code old new run (record { live = runs.live; there = runs.there; fits = runs.fits })
 
 -- so it fits where it is entered
-entered_here : (code : CodeProgram) (world : World) (exit : Exit) (activation : Activation) (arguments locals : List Value) (kind params : ℕ) → RunsBody world.cells code activation.self activation.holder activation.body kind params
-    → length arguments ≡ params → AllBeside code activation.body arguments locals → FitsExit world.cells code exit → ends_kind exit kind ≡ true → EndsOwn code exit activation
-    → FitsEntered world.cells code activation locals × FitsEnd world.cells code exit activation
-entered_here code world exit activation arguments locals kind params runs count all met ends own = (
-  record { fits = record { live = runs.live; there = runs.there; fits = runs.fits }; beside = λ room. all (count ∙ sym runs.params_are) room },
-  record { met = met; kind = ap (ends_kind exit) runs.kind_is ∙ ends; own = own },
-)
+pub entered_here : (code : CodeProgram) (world : World) (exit : Exit) (activation : Activation) (around : Value) (arguments locals : List Value) (kind params : ℕ) → RunsBody world.cells code activation.self activation.holder activation.body kind params
+    → length arguments ≡ params → IsOpened world.cells code activation.body around arguments activation.env locals → (StandsWell code activation.body → Around world.cells code activation.body around)
+    → FitsExit world.cells code exit → ends_kind exit kind ≡ true → EndsOwn code exit activation → FitsEntered world.cells code activation locals × FitsEnd world.cells code exit activation
+entered_here code world exit activation around arguments locals kind params runs count opens outer met ends own =
+    let many : length arguments ≡ parameters_of code activation.body = count ∙ sym runs.params_are in
+    let next : suc activation.body ≡ activation.body + 1 = omega arith in
+    let env = environment_body code activation.body in (
+      record {
+        fits = record { live = runs.live; there = runs.there; fits = runs.fits };
+        beside = λ stands. opens.beside many stands;
+        environment = λ stands. subst (λ depth. FitsEnvironment depth world.cells code env activation.env) next (opens.environment many stands (outer stands));
+      },
+      record { met = met; kind = ap (ends_kind exit) runs.kind_is ∙ ends; own = own },
+    )
 
-pub entered_fits : (code : CodeProgram) (old new : World) (exit : Exit) (activation : Activation) (arguments locals : List Value) (kind params : ℕ) → RunsBody old.cells code activation.self activation.holder activation.body kind params
-    → RunsOn code old new → length arguments ≡ params → AllBeside code activation.body arguments locals → FitsExit new.cells code exit → ends_kind exit kind ≡ true → EndsOwn code exit activation
-    → FitsEntered new.cells code activation locals × FitsEnd new.cells code exit activation
-entered_fits code old new exit activation arguments locals kind params runs run count all met ends own =
+-- a body that runs lasts
+pub body_lasts : (code : CodeProgram) (old new : World) (activation : Activation) (kind params : ℕ) → RunsBody old.cells code activation.self activation.holder activation.body kind params → RunsOn code old new
+    → RunsBody new.cells code activation.self activation.holder activation.body kind params
+body_lasts code old new activation kind params runs run =
     let fits = runs_last code old new activation kind params runs run in
-    entered_here code new exit activation arguments locals kind params
-    (record { live = fits.live; there = fits.there; fits = fits.fits; kind_is = runs.kind_is; params_are = runs.params_are }) count all met ends own
+    record { live = fits.live; there = fits.there; fits = fits.fits; kind_is = runs.kind_is; params_are = runs.params_are }
 
 -- how many arguments are given
 abbrev pub count_of : Arguments → ℕ
@@ -268,7 +261,9 @@ method_fits code body holder params receiver arguments site progress runs count 
     (later_on progress.world world next (later_entered progress.world world e) same)
     (λ env locals last more all. λ run.
     let running : Activation = record { self = receiver; holder = holder; body = body; home = progress.begun; env = env; site = site } in
-    entered_fits code progress.world last FromMethod running values locals method_kind params runs run (many ∙ count) all tt refl tt)))
+    let here = body_lasts code progress.world last running method_kind params runs run in
+    entered_here code last FromMethod running value.Nil values locals method_kind params here (many ∙ count) all
+    (nothing_around last.cells code body method_kind runs.kind_is (λ e. let q : 0 ≡ 1 = e in omega (arith, q))) tt refl tt)))
 
 -- the declaration of a class is one of the code
 pub class_there : (world : World) (code : CodeProgram) (class : ℕ) → IsLawful world code → is_class (find_cell world.cells class) ≡ true → IsSome (slice_get code.classes (declaration_of world.cells class))
@@ -321,7 +316,8 @@ instance_enters code old class params arguments site progress begins count is la
     let same = sym (declaration_stays old.cells progress.world.cells class (class_same old.cells progress.world.cells class later.cells is)) in
     let here' : RunsBody last.cells code (value.Ref fresh) class (initialiser_of code (declaration_of progress.world.cells class)) initialiser_kind params =
     subst (λ n. RunsBody last.cells code (value.Ref fresh) class (initialiser_of code n) initialiser_kind params) same here in
-    entered_here code last FromBody (record inner { env = env }) arguments locals initialiser_kind params here' count all tt refl tt))
+    entered_here code last FromBody (record inner { env = env }) value.Nil arguments locals initialiser_kind params here' count all
+    (nothing_around last.cells code inner.body initialiser_kind here'.kind_is (λ e. let q : 2 ≡ 1 = e in omega (arith, q))) tt refl tt))
   where
     object : Cell
     object = ObjectCell class (replicate (layout_of progress.world.cells code class) value.Nil)
@@ -357,8 +353,11 @@ head_fits code object holder class (Some clause) site progress lawful has c =
     charged_all (FitsLater progress.world code) halts Depth (entered progress.world) progress (opened code halts (Enter (FromClause object holder class)) inner []) tt
     (λ world e. opened_fits progress.world code (Enter (FromClause object holder class)) inner [] (in_world progress world) (later_entered progress.world world e)
     (λ env locals last more all. λ run.
-    entered_fits code progress.world last (FromClause object holder class) (record inner { env = env }) [] locals clause_kind 0
-    (clause_runs progress.world code object holder class clause lawful has c) run refl all (exit_lasts (FromClause object holder class) code progress.world last run has) refl (refl, refl, c)))
+    let runs = clause_runs progress.world code object holder class clause lawful has c in
+    let here = body_lasts code progress.world last (record inner { env = env }) clause_kind 0 runs run in
+    entered_here code last (FromClause object holder class) (record inner { env = env }) value.Nil [] locals clause_kind 0 here refl all
+    (nothing_around last.cells code clause clause_kind runs.kind_is (λ e. let q : 3 ≡ 1 = e in omega (arith, q)))
+    (exit_lasts (FromClause object holder class) code progress.world last run has) refl (refl, refl, c)))
   where
     inner : Activation
     inner = record { self = value.Ref object; holder = holder; body = clause; home = no_home; env = value.Nil; site = site }

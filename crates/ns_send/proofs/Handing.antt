@@ -1,5 +1,5 @@
 -- What each action hands on fits.
-use Rattle.std.proofs.Common.{◌≡◌, ℕ, List, [], length, refl, ap, ◌∙◌, Option, Some, None, Bool, true, false, cond, eqb, slice_get}
+use Rattle.std.proofs.Common.{◌≡◌, ℕ, ◌+◌, List, [], length, refl, ap, ◌∙◌, Option, Some, None, Bool, true, false, cond, eqb, slice_get}
 use Rattle.std.specs.Prelude.{IsSome}
 use Rattle.std.specs.Option.{option_map_or}
 use Rattle.ns_base.specs.declared.place.Place.{Place as SourcePlace}
@@ -18,6 +18,9 @@ use Rattle.ns_world.specs.Heap.{find_cell}
 use Rattle.ns_world.specs.World.{World, stepped, entered}
 use Rattle.ns_world.specs.Starts.{start_of}
 use Rattle.ns_world.specs.Lawful.{IsLawful, IsLiveValue, BlockIsLawful}
+use Rattle.ns_world.specs.Later.{RunsOn}
+use Rattle.ns_world.proofs.Lawfully.{fits_stays}
+use Rattle.ns_world.proofs.Lasting.{keeps_of}
 use Rattle.ns_world.proofs.Leading.{later_on, later_stepped, later_entered}
 use Rattle.ns_find.specs.declared.found.Sending.TheVariants.{Plain, Inner}
 use Rattle.ns_find.specs.Find.{found_from, found_private, super_start}
@@ -39,8 +42,9 @@ use Rattle.ns_send.proofs.Places.{places_fit}
 use Rattle.ns_send.proofs.Running.{RunsBody, found_runs, outer_private, super_runs}
 use Rattle.ns_send.proofs.RowsSuit.{value_suits, above_suits, own_suits}
 use Rattle.ns_send.proofs.WaitsFit.{method_hands_on}
+use Rattle.ns_send.proofs.Opening.{Around, block_around}
 use Rattle.ns_send.proofs.PartsFit.{super_part_fits}
-use Rattle.ns_send.proofs.Fitting.{FitsLater, opened_fits, entered_fits, fits_now, stepped_fits}
+use Rattle.ns_send.proofs.Fitting.{FitsLater, opened_fits, entered_here, body_lasts, fits_now, stepped_fits}
 
 -- ---- sends
 
@@ -92,6 +96,15 @@ block_runs world code number env receiver holder lawful block = there (slice_get
     }
     there None e some = absurd (cc)
 
+-- what the block keeps still stands around its body
+kept_around : (old new : World) (code : CodeProgram) (number : ℕ) (env receiver : Value) (holder : ℕ) → RunsOn code old new → BlockIsLawful old.cells code number env receiver holder → Around new.cells code number env
+kept_around old later code number env receiver holder run block = there (slice_get code.bodies number) refl block.declared
+  where
+    there : (o : Option BodyCode) → slice_get code.bodies number ≡ o → IsSome o → Around later.cells code number env
+    there (Some body) e some = block_around later.cells code number body env run.after.parents e
+        (fits_stays (number + 1) old.cells later.cells code body.parent env (keeps_of code old later run) (block.environment body e))
+    there None e some = absurd (cc)
+
 block_later : (code : CodeProgram) (o : Option Cell) (number : ℕ) (arguments : List Value) (site : Site) (progress : Progress) → LawfulRun code progress → find_cell progress.world.cells number ≡ o
     → FitsLater progress.world code (block_entered code (option_map_or shape_of o (new.Mirror Nil)) arguments site progress)
 block_later code (Some (BlockCell body env home receiver holder)) number arguments site progress lawful e = tested (eqb (length arguments) (parameters_of code body)) refl
@@ -114,7 +127,9 @@ block_later code (Some (BlockCell body env home receiver holder)) number argumen
         (λ next d.
         opened_fits progress.world code (Enter FromBody) activation arguments (in_world progress next) (later_on progress.world world next (later_stepped progress.world world s) (later_entered world next d))
         (λ env' locals last more all. λ run.
-        entered_fits code progress.world last FromBody (record activation { env = env' }) arguments locals block_kind (parameters_of code body) runs run count all tt refl tt))
+        let here = body_lasts code progress.world last (record activation { env = env' }) block_kind (parameters_of code body) runs run in
+        entered_here code last FromBody (record activation { env = env' }) env arguments locals block_kind (parameters_of code body) here count all
+        (λ stands. kept_around progress.world last code body env receiver holder run (lawful.cells number (BlockCell body env home receiver holder) e)) tt refl tt))
 
     tested : (b : Bool) → eqb (length arguments) (parameters_of code body) ≡ b → FitsLater progress.world code (cond b (charged halts Steps (stepped progress.world) progress framed) (fails WrongArity site progress))
     tested true t = charged_all (FitsLater progress.world code) halts Steps (stepped progress.world) progress framed tt (λ world s. within (eqb-true (length arguments) (parameters_of code body) t) world s)

@@ -21,6 +21,7 @@ pub mod Spending
 pub mod Lasting
 pub mod Running
 pub mod OwnSelector
+pub mod Opening
 pub mod Fitting
 pub mod Handing
 pub mod PartsFit

@@ -1,5 +1,5 @@
 -- What an action hands on is what the next one asks for.
-use Rattle.std.specs.Prelude.{◌≡◌, ℕ, ◌≤◌, List, length, slice_get, Some, IsTrue, All, Bool, true, false, ◌==◌, ◌||◌, if◌then◌else◌}
+use Rattle.std.specs.Prelude.{◌≡◌, ◌≢◌, ℕ, ◌+◌, ◌≤◌, List, length, slice_get, Option, Some, None, IsTrue, All, Bool, true, false, ◌==◌, ◌||◌, if◌then◌else◌}
 use Rattle.std.specs.Option.{option_map_or}
 use Rattle.ns_code.specs.declared.program.CodeProgram.{CodeProgram}
 use Rattle.ns_code.specs.declared.body.BodyCode.{BodyCode}
@@ -7,7 +7,7 @@ use Rattle.ns_code.specs.Soundness.{method_kind, block_kind, initialiser_kind, c
 use Rattle.ns_world.specs.declared.value.Value.{Value}
 use Rattle.ns_world.specs.declared.value.Value.TheVariants.{True, False, Ref}
 use Rattle.ns_world.specs.Heap.{Heap}
-use Rattle.ns_world.specs.Lawful.{IsLiveValue, HasHolder}
+use Rattle.ns_world.specs.Lawful.{IsLiveValue, HasHolder, FitsEnvironment, parent_of}
 use Rattle.ns_kdata.specs.Arguments.{items_of, is_array}
 use Rattle.ns_kcode.specs.declared.state.KMethod.{KMethod}
 use Rattle.ns_kcode.specs.declared.state.KMethod.TheVariants as method
@@ -71,14 +71,22 @@ pub record FitsEnd (heap : Heap) (code : CodeProgram) (exit : Exit) (activation 
 abbrev pub locals_beside : CodeProgram → ℕ → ℕ
 locals_beside code body = if has_environment code body then 0 else locals_of code body
 
--- The parameters of a body are among its locals, as in all code that was verified.
-pub record HasRoom (code : CodeProgram) (body : ℕ) : Type 0 where
-  pub parameters : parameters_of code body ≤ locals_of code body
+-- the body whose locals the environment of an activation has: its own, or the one around it
+abbrev pub environment_body : CodeProgram → ℕ → Option ℕ
+environment_body code body = if has_environment code body then Some body else parent_of code body
 
--- A body that is entered fits its self and its holder, and has all of its locals.
+-- What holds of all code that was verified: the parameters of a body are among its locals, and one that is no
+-- block stands in no other.
+pub record StandsWell (code : CodeProgram) (body : ℕ) : Type 0 where
+  pub parameters : parameters_of code body ≤ locals_of code body
+  pub alone : kind_of code body ≢ block_kind → parent_of code body ≡ None
+
+-- A body that is entered fits its self, its holder and its environment, and has all of its locals.
 pub record FitsEntered (heap : Heap) (code : CodeProgram) (activation : Activation) (locals : List Value) : Type 0 where
   pub fits : FitsActivation heap code activation
-  pub beside : HasRoom code activation.body → length locals ≡ locals_beside code activation.body
+  pub beside : StandsWell code activation.body → length locals ≡ locals_beside code activation.body
+  pub environment : StandsWell code activation.body
+      → FitsEnvironment (activation.body + 1) heap code (environment_body code activation.body) activation.env
 
 -- A body that is entered fits, and so does its end; what is evaluated is a block; a
 -- method of the kernel has a receiver and arguments of the kinds that it asks for; and a send that waits has a

@@ -112,10 +112,10 @@ pub fn values_keep_lawful()
 {}
 
 /// In a lawful run a send, an evaluation, a superclass part and a method of the kernel that waits
-/// hand on what the next action asks for: a body that fits its self and its holder and has all of
-/// its locals, with an end of its kind that can be met; a block that is to be evaluated; a method of the kernel with a receiver and
-/// arguments of its kinds; or a send that waits, with a selector and as many live arguments as it
-/// takes.
+/// hand on what the next action asks for: a body that fits its self, its holder and its
+/// environment and has all of its locals, with an end of its kind that can be met; a block that is
+/// to be evaluated; a method of the kernel with a receiver and arguments of its kinds; or a send
+/// that waits, with a selector and as many live arguments as it takes.
 pub fn what_is_handed_on_fits()
     ensures { (code : CodeProgram) (action : Action) (progress : Progress) → LawfulRun code progress → Asks code action progress → HandsOn code action progress }
 {}
