@@ -3,10 +3,12 @@ use Rattle.std.specs.Prelude.{◌≡◌, ◌≢◌, ℕ, ◌+◌, ◌≤◌, Lis
 use Rattle.std.specs.Option.{option_map_or}
 use Rattle.ns_code.specs.declared.program.CodeProgram.{CodeProgram}
 use Rattle.ns_code.specs.declared.body.BodyCode.{BodyCode}
+use Rattle.ns_code.specs.Selector.{selector_arity}
 use Rattle.ns_code.specs.Soundness.{method_kind, block_kind, initialiser_kind, clause_kind}
 use Rattle.ns_world.specs.declared.value.Value.{Value}
 use Rattle.ns_world.specs.declared.value.Value.TheVariants.{True, False, Ref}
 use Rattle.ns_world.specs.Heap.{Heap}
+use Rattle.ns_world.specs.Layout.{declaration_of}
 use Rattle.ns_world.specs.Lawful.{IsLiveValue, HasHolder, FitsEnvironment, parent_of}
 use Rattle.ns_kdata.specs.Arguments.{items_of, is_array}
 use Rattle.ns_kcode.specs.declared.state.KMethod.{KMethod}
@@ -14,7 +16,7 @@ use Rattle.ns_kcode.specs.declared.state.KMethod.TheVariants as method
 use Rattle.ns_kcode.specs.declared.state.KState.{KState}
 use Rattle.ns_send.specs.Control.{Progress, Activation, Exit, FromMethod, FromBody, FromClause, Control, Now, Enter, Evaluate, Begin, Perform, Part, Skip, Stop, EnterPart, Waiting, Waits, Finishes}
 use Rattle.ns_send.specs.Bodies.{parameters_of, locals_of, has_environment, clause_of}
-use Rattle.ns_send.specs.Classes.{super_part}
+use Rattle.ns_send.specs.Classes.{super_selector, super_part}
 use Rattle.ns_send.specs.Blocks.{is_block, is_integer, has_arguments, evaluated, method_next}
 use Rattle.ns_send.specs.Sends.{sent, sent_plain, performed}
 use Rattle.ns_send.specs.Lawful.{FitsActivation, FitsExit, FitsSelector, FitsTarget}
@@ -106,6 +108,15 @@ FitsNextPart code (Stop ending progress) = Unit {0}
 FitsNextPart code (EnterPart activation locals progress) =
     FitsActivation progress.world.cells code activation × (kind_of code activation.body ≡ initialiser_kind)
 
+-- It has all of its locals and fits its environment as well.
+abbrev pub EntersPart : CodeProgram → Part → Type 0
+EntersPart code (EnterPart activation locals progress) = FitsEntered progress.world.cells code activation locals
+EntersPart code other = Unit {0}
+
+-- So it is where a superclass message has as many arguments as it takes, which holds of all code that was verified.
+pub record FitsMessage (heap : Heap) (code : CodeProgram) (activation : Activation) (arguments : List Value) : Type 0 where
+  pub arity : length arguments ≡ selector_arity code (super_selector code (declaration_of heap activation.holder))
+
 -- A method of the kernel that waits for a block evaluates one, and keeps its receiver and its arguments.
 abbrev pub FitsNextWaiting : KMethod → Waiting → Type 0
 FitsNextWaiting method (Waits block arguments state progress) = IsTrue (is_block progress.world.cells block) × FitsMethod progress.world.cells method state
@@ -132,6 +143,8 @@ HandsOn code (Sends activation target sel values place) progress = FitsNext code
 HandsOn code (SendsPlain receiver sel values place) progress = FitsNext code (sent_plain code receiver sel values place progress)
 HandsOn code (Performs receiver sel array site) progress = FitsNext code (performed code receiver sel array site progress)
 HandsOn code (Evaluates block arguments site) progress = FitsNext code (evaluated code block arguments site progress)
-HandsOn code (BeginsPart activation arguments) progress = FitsNextPart code (super_part code activation arguments progress)
+HandsOn code (BeginsPart activation arguments) progress =
+    FitsNextPart code (super_part code activation arguments progress)
+    × (FitsMessage progress.world.cells code activation arguments → EntersPart code (super_part code activation arguments progress))
 HandsOn code (Continues method state site) progress = FitsNextWaiting method (method_next method state site progress)
 HandsOn code other progress = Unit {0}
