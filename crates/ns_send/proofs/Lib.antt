@@ -27,3 +27,4 @@ pub mod Handing
 pub mod PartsFit
 pub mod RowsSuit
 pub mod WaitsFit
+pub mod Sites

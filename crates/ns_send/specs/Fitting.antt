@@ -1,12 +1,15 @@
 -- What an action hands on is what the next one asks for.
-use Rattle.std.specs.Prelude.{◌≡◌, ◌≢◌, ℕ, ◌+◌, ◌≤◌, List, length, slice_get, Option, Some, None, IsTrue, All, Bool, true, false, ◌==◌, ◌||◌, if◌then◌else◌}
-use Rattle.std.specs.Option.{option_map_or}
+use Rattle.std.specs.Prelude.{◌≡◌, ◌≢◌, ℕ, ◌+◌, ◌<◌, ◌≤◌, nat_lt, List, length, slice_get, Option, Some, None, IsTrue, All, Bool, true, false, ◌==◌, ◌||◌, if◌then◌else◌}
+use Rattle.std.specs.Option.{option_map_or, ForSome}
+use Rattle.ns_base.specs.declared.place.Place.{Place as SourcePlace}
 use Rattle.ns_code.specs.declared.program.CodeProgram.{CodeProgram}
 use Rattle.ns_code.specs.declared.body.BodyCode.{BodyCode}
-use Rattle.ns_code.specs.Selector.{selector_arity}
+use Rattle.ns_code.specs.Selector.{is_selector_number, selector_arity}
 use Rattle.ns_code.specs.Soundness.{method_kind, block_kind, initialiser_kind, clause_kind}
 use Rattle.ns_world.specs.declared.value.Value.{Value}
 use Rattle.ns_world.specs.declared.value.Value.TheVariants.{True, False, Ref}
+use Rattle.ns_world.specs.declared.kernel.ClassName.{ClassName}
+use Rattle.ns_world.specs.declared.kernel.ClassName.TheVariants as name
 use Rattle.ns_world.specs.Heap.{Heap}
 use Rattle.ns_world.specs.Layout.{declaration_of}
 use Rattle.ns_world.specs.Lawful.{IsLiveValue, HasHolder, FitsEnvironment, parent_of}
@@ -14,6 +17,7 @@ use Rattle.ns_kdata.specs.Arguments.{items_of, is_array}
 use Rattle.ns_kcode.specs.declared.state.KMethod.{KMethod}
 use Rattle.ns_kcode.specs.declared.state.KMethod.TheVariants as method
 use Rattle.ns_kcode.specs.declared.state.KState.{KState}
+use Rattle.ns_send.specs.declared.site.Site.{Site}
 use Rattle.ns_send.specs.Control.{Progress, Activation, Exit, FromMethod, FromBody, FromClause, Control, Now, Enter, Evaluate, Begin, Perform, Part, Skip, Stop, EnterPart, Waiting, Waits, Finishes}
 use Rattle.ns_send.specs.Bodies.{parameters_of, locals_of, has_environment, clause_of}
 use Rattle.ns_send.specs.Classes.{super_selector, super_part}
@@ -121,6 +125,18 @@ pub record FitsMessage (heap : Heap) (code : CodeProgram) (activation : Activati
 abbrev pub FitsNextWaiting : KMethod → Waiting → Type 0
 FitsNextWaiting method (Waits block arguments state progress) = IsTrue (is_block progress.world.cells block) × FitsMethod progress.world.cells method state
 FitsNextWaiting method (Finishes after) = Unit {0}
+
+-- whether a class name names a declaration of the code, or a class of the kernel
+abbrev pub names_class : CodeProgram → ClassName → Bool
+names_class code (name.Declared decl) = nat_lt decl (length code.classes)
+names_class code (name.ClassOf decl) = nat_lt decl (length code.classes)
+names_class code (name.Kernel row) = true
+
+-- A site names a file of the code, where it has a place, a class and a selector.
+pub record FitsSite (code : CodeProgram) (site : Site) : Type 0 where
+  pub place : ForSome site.place (λ (place : SourcePlace). place.file < length code.files)
+  pub class : IsTrue (names_class code site.class)
+  pub sel : IsTrue (is_selector_number code site.sel.0)
 
 -- What the actions that go on elsewhere ask for: a send one that can be made, with arguments that fit its
 -- selector, an evaluation live arguments, a superclass part a self with the holder in its chain as well, and a

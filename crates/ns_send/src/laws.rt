@@ -1,9 +1,11 @@
 //! What holds of every action. Each function does nothing, and its contract is the law.
 
-ghost use Rattle.std.specs.Prelude.{ℕ, [], ◌∷◌, List, length, Option, All, IsTrue};
+ghost use Rattle.std.specs.Prelude.{ℕ, ◌<◌, [], ◌∷◌, List, length, Option, All, IsTrue};
+ghost use Rattle.std.specs.Option.{ForSome};
 ghost use Rattle.ns_base.specs.declared.place.Place.{Place};
 ghost use Rattle.ns_base.specs.declared.selector.Sel.{Sel};
 ghost use Rattle.ns_code.specs.declared.program.CodeProgram.{CodeProgram};
+ghost use Rattle.ns_code.specs.Selector.{is_selector_number};
 ghost use Rattle.ns_world.specs.declared.value.Value.{Value};
 ghost use Rattle.ns_world.specs.declared.value.Value.TheVariants.{Ref};
 ghost use Rattle.ns_world.specs.Cell.{Cell};
@@ -17,11 +19,11 @@ ghost use Rattle.ns_send.specs.Control.{Progress, Activation, Exit};
 ghost use Rattle.ns_send.specs.Classes.{super_part, body_ended, slot_filled, kept_by};
 ghost use Rattle.ns_send.specs.Bodies.{environment_at, local_stored};
 ghost use Rattle.ns_send.specs.Blocks.{new_cell, new_block, new_text, new_array, evaluated, method_next, is_block};
-ghost use Rattle.ns_send.specs.Sends.{Target, receiver_of, sent, sent_plain, performed};
+ghost use Rattle.ns_send.specs.Sends.{Target, receiver_of, site_at, sent, sent_plain, performed};
 ghost use Rattle.ns_send.specs.Lawful.{LawfulRun, LawfulAfter, LawfulControl, LawfulPart, LawfulWaiting, LiveState, LiveActivation, FitsActivation, FitsTarget, FitsSelector, FitsExit, FitsSlot, FitsLocal};
 ghost use Rattle.ns_send.specs.Actions.{Action, progress_after};
 ghost use Rattle.ns_send.specs.Spending.{Spends};
-ghost use Rattle.ns_send.specs.Fitting.{FitsMethod, Asks, HandsOn};
+ghost use Rattle.ns_send.specs.Fitting.{FitsMethod, FitsSite, Asks, HandsOn};
 ghost use Rattle.ns_send.specs.Onward.{Onward, touched, reached, after_reached, part_reached, waiting_reached};
 
 /// No send changes a limit, lowers a counter but depth, takes back what was printed, or changes a
@@ -118,4 +120,10 @@ pub fn values_keep_lawful()
 /// that waits, with a selector and as many live arguments as it takes.
 pub fn what_is_handed_on_fits()
     ensures { (code : CodeProgram) (action : Action) (progress : Progress) → LawfulRun code progress → Asks code action progress → HandsOn code action progress }
+{}
+
+/// In a lawful run the site of a send names a class of the code and its selector, and a file of the
+/// code where its place is in one.
+pub fn sites_fit()
+    ensures { (code : CodeProgram) (receiver : Value) (sel : Sel) (place : Option Place) (progress : Progress) → LawfulRun code progress → IsTrue (is_selector_number code sel.0) → ForSome place (λ (place : Place). place.file < length code.files) → FitsSite code (site_at progress.world.cells place receiver sel) }
 {}
