@@ -19,6 +19,7 @@ pub mod LeadingOn
 pub mod Counting
 pub mod Spending
 pub mod Lasting
+pub mod LocalsLast
 pub mod Running
 pub mod OwnSelector
 pub mod Opening

@@ -10,7 +10,7 @@ ghost use Rattle.ns_world.specs.declared.value.Value.{Value};
 ghost use Rattle.ns_world.specs.declared.value.Value.TheVariants.{Ref};
 ghost use Rattle.ns_world.specs.Cell.{Cell};
 ghost use Rattle.ns_world.specs.Later.{IsLater, Lasts, Unchanged};
-ghost use Rattle.ns_world.specs.Lawful.{IsLiveValue, BlockIsLawful};
+ghost use Rattle.ns_world.specs.Lawful.{IsLiveValue, IsEnvironmentOrNil, BlockIsLawful};
 ghost use Rattle.ns_kdata.specs.Arguments.{items_of, is_array};
 ghost use Rattle.ns_kcode.specs.declared.state.KMethod.{KMethod};
 ghost use Rattle.ns_kcode.specs.declared.state.KState.{KState};
@@ -61,13 +61,15 @@ pub fn actions_spend_exactly()
 {}
 
 /// What frames ask of their values lasts while the run goes on: running code fits its self and its
-/// holder, its values are live, its end can be met, and its sends and its slots are there.
+/// holder, its values are live, its end can be met, and its sends, its slots and its locals are
+/// there.
 pub fn frames_last()
     ensures fits { (activation : Activation) → Lasts (λ heap code. FitsActivation heap code activation) }
     ensures live { (activation : Activation) (beside : List Value) → Lasts (λ heap code. LiveActivation heap code activation beside) }
     ensures exits { (exit : Exit) → Lasts (λ heap code. FitsExit heap code exit) }
     ensures targets { (activation : Activation) (target : Target) → Lasts (λ heap code. FitsTarget heap code activation target) }
     ensures slots { (activation : Activation) (slot : ℕ) → Lasts (λ heap code. FitsSlot heap code activation slot) }
+    ensures locals { (activation : Activation) (hops : ℕ) → Lasts (λ heap code. IsEnvironmentOrNil heap activation.env × FitsLocal heap code activation hops) }
 {}
 
 /// So does what is asked where a send, a block or a method of the kernel waits; a block stays one, and
