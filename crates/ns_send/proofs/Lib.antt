@@ -29,3 +29,4 @@ pub mod PartsFit
 pub mod RowsSuit
 pub mod WaitsFit
 pub mod Sites
+pub mod SitesStay

@@ -138,6 +138,14 @@ pub record FitsSite (code : CodeProgram) (site : Site) : Type 0 where
   pub class : IsTrue (names_class code site.class)
   pub sel : IsTrue (is_selector_number code site.sel.0)
 
+-- What goes on has this site, and a block is evaluated with at most 255 arguments where that is asked.
+abbrev pub GoesOnAt : Type 0 → Site → Control → Type 0
+GoesOnAt Few site (Now after) = Unit {0}
+GoesOnAt Few site (Enter exit activation locals progress) = activation.site ≡ site
+GoesOnAt Few site (Evaluate block arguments at progress) = (at ≡ site) × (Few → length arguments ≤ 255)
+GoesOnAt Few site (Begin method state at progress) = at ≡ site
+GoesOnAt Few site (Perform receiver sel array at progress) = at ≡ site
+
 -- What the actions that go on elsewhere ask for: a send one that can be made, with arguments that fit its
 -- selector, an evaluation live arguments, a superclass part a self with the holder in its chain as well, and a
 -- method of the kernel a receiver and arguments of its kinds.

@@ -1,6 +1,6 @@
 //! What holds of every action. Each function does nothing, and its contract is the law.
 
-ghost use Rattle.std.specs.Prelude.{ℕ, ◌<◌, [], ◌∷◌, List, length, Option, All, IsTrue};
+ghost use Rattle.std.specs.Prelude.{ℕ, ◌<◌, ◌≤◌, [], ◌∷◌, List, length, Option, All, IsTrue};
 ghost use Rattle.std.specs.Option.{ForSome};
 ghost use Rattle.ns_base.specs.declared.place.Place.{Place};
 ghost use Rattle.ns_base.specs.declared.selector.Sel.{Sel};
@@ -23,7 +23,7 @@ ghost use Rattle.ns_send.specs.Sends.{Target, receiver_of, site_at, sent, sent_p
 ghost use Rattle.ns_send.specs.Lawful.{LawfulRun, LawfulAfter, LawfulControl, LawfulPart, LawfulWaiting, LiveState, LiveActivation, FitsActivation, FitsTarget, FitsSelector, FitsExit, FitsSlot, FitsLocal};
 ghost use Rattle.ns_send.specs.Actions.{Action, progress_after};
 ghost use Rattle.ns_send.specs.Spending.{Spends};
-ghost use Rattle.ns_send.specs.Fitting.{FitsMethod, FitsSite, Asks, HandsOn};
+ghost use Rattle.ns_send.specs.Fitting.{FitsMethod, FitsSite, GoesOnAt, Asks, HandsOn};
 ghost use Rattle.ns_send.specs.Onward.{Onward, touched, reached, after_reached, part_reached, waiting_reached};
 
 /// No send changes a limit, lowers a counter but depth, takes back what was printed, or changes a
@@ -128,4 +128,12 @@ pub fn what_is_handed_on_fits()
 /// code where its place is in one.
 pub fn sites_fit()
     ensures { (code : CodeProgram) (receiver : Value) (sel : Sel) (place : Option Place) (progress : Progress) → LawfulRun code progress → IsTrue (is_selector_number code sel.0) → ForSome place (λ (place : Place). place.file < length code.files) → FitsSite code (site_at progress.world.cells place receiver sel) }
+{}
+
+/// What a send or an evaluation goes on with keeps its site, and a block is evaluated with at most
+/// 255 arguments where there are no more.
+pub fn sites_stay()
+    ensures sent { (code : CodeProgram) (activation : Activation) (target : Target) (sel : Sel) (values : List Value) (place : Option Place) (progress : Progress) → GoesOnAt (length values ≤ 255) (site_at progress.world.cells place (receiver_of progress.world.cells activation target) sel) (sent code activation target sel values place progress) }
+    ensures plain { (code : CodeProgram) (receiver : Value) (sel : Sel) (values : List Value) (place : Option Place) (progress : Progress) → GoesOnAt (length values ≤ 255) (site_at progress.world.cells place receiver sel) (sent_plain code receiver sel values place progress) }
+    ensures evaluated { (code : CodeProgram) (block : Value) (arguments : List Value) (site : Site) (progress : Progress) → GoesOnAt (length arguments ≤ 255) site (evaluated code block arguments site progress) }
 {}
