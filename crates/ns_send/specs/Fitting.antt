@@ -1,5 +1,5 @@
 -- What an action hands on is what the next one asks for.
-use Rattle.std.specs.Prelude.{◌≡◌, ◌≢◌, ℕ, ◌+◌, ◌<◌, ◌≤◌, nat_lt, List, length, slice_get, Option, Some, None, IsTrue, All, Bool, true, false, ◌==◌, ◌||◌, if◌then◌else◌}
+use Rattle.std.specs.Prelude.{◌≡◌, ◌≢◌, ℕ, suc, ◌+◌, ◌<◌, ◌≤◌, nat_lt, List, length, slice_get, Option, Some, None, IsTrue, All, Bool, true, false, ◌==◌, ◌||◌, if◌then◌else◌}
 use Rattle.std.specs.Option.{option_map_or, ForSome}
 use Rattle.ns_base.specs.declared.place.Place.{Place as SourcePlace}
 use Rattle.ns_code.specs.declared.program.CodeProgram.{CodeProgram}
@@ -8,6 +8,8 @@ use Rattle.ns_code.specs.Selector.{is_selector_number, selector_arity}
 use Rattle.ns_code.specs.Soundness.{method_kind, block_kind, initialiser_kind, clause_kind}
 use Rattle.ns_world.specs.declared.value.Value.{Value}
 use Rattle.ns_world.specs.declared.value.Value.TheVariants.{True, False, Ref}
+use Rattle.ns_world.specs.declared.cell.NewCell.{NewCell}
+use Rattle.ns_world.specs.declared.cell.NewCell.TheVariants as new
 use Rattle.ns_world.specs.declared.kernel.ClassName.{ClassName}
 use Rattle.ns_world.specs.declared.kernel.ClassName.TheVariants as name
 use Rattle.ns_world.specs.Heap.{Heap}
@@ -19,7 +21,7 @@ use Rattle.ns_kcode.specs.declared.state.KMethod.TheVariants as method
 use Rattle.ns_kcode.specs.declared.state.KState.{KState}
 use Rattle.ns_send.specs.declared.site.Site.{Site}
 use Rattle.ns_send.specs.Control.{Progress, Activation, Exit, FromMethod, FromBody, FromClause, Control, Now, Enter, Evaluate, Begin, Perform, Part, Skip, Stop, EnterPart, Waiting, Waits, Finishes}
-use Rattle.ns_send.specs.Bodies.{parameters_of, locals_of, has_environment, clause_of}
+use Rattle.ns_send.specs.Bodies.{parameters_of, locals_of, has_environment, clause_of, no_home}
 use Rattle.ns_send.specs.Classes.{super_selector, super_part}
 use Rattle.ns_send.specs.Blocks.{is_block, is_integer, has_arguments, evaluated, method_next}
 use Rattle.ns_send.specs.Sends.{sent, sent_plain, performed}
@@ -138,13 +140,24 @@ pub record FitsSite (code : CodeProgram) (site : Site) : Type 0 where
   pub class : IsTrue (names_class code site.class)
   pub sel : IsTrue (is_selector_number code site.sel.0)
 
--- What goes on has this site, and a block is evaluated with at most 255 arguments where that is asked.
-abbrev pub GoesOnAt : Type 0 → Site → Control → Type 0
-GoesOnAt Few site (Now after) = Unit {0}
-GoesOnAt Few site (Enter exit activation locals progress) = activation.site ≡ site
-GoesOnAt Few site (Evaluate block arguments at progress) = (at ≡ site) × (Few → length arguments ≤ 255)
-GoesOnAt Few site (Begin method state at progress) = at ≡ site
-GoesOnAt Few site (Perform receiver sel array at progress) = at ≡ site
+-- the home of a block
+abbrev pub home_in : NewCell → ℕ
+home_in (new.Block body env home receiver holder) = home
+home_in cell = no_home
+
+-- The home of a method is its own activation, which has just begun; a block's is given, and all else has none.
+abbrev pub HasHome : ℕ → Exit → Activation → Progress → Type 0
+HasHome home FromMethod activation progress = suc activation.home ≡ progress.begun
+HasHome home FromBody activation progress = activation.home ≡ home
+HasHome home exit activation progress = activation.home ≡ no_home
+
+-- What goes on has this site and its home, and a block is evaluated with at most 255 arguments where that is asked.
+abbrev pub GoesOnAt : Type 0 → Site → ℕ → Control → Type 0
+GoesOnAt Few site home (Now after) = Unit {0}
+GoesOnAt Few site home (Enter exit activation locals progress) = (activation.site ≡ site) × HasHome home exit activation progress
+GoesOnAt Few site home (Evaluate block arguments at progress) = (at ≡ site) × (Few → length arguments ≤ 255)
+GoesOnAt Few site home (Begin method state at progress) = at ≡ site
+GoesOnAt Few site home (Perform receiver sel array at progress) = at ≡ site
 
 -- What the actions that go on elsewhere ask for: a send one that can be made, with arguments that fit its
 -- selector, an evaluation live arguments, a superclass part a self with the holder in its chain as well, and a

@@ -11,19 +11,19 @@ ghost use Rattle.ns_world.specs.declared.value.Value.TheVariants.{Ref};
 ghost use Rattle.ns_world.specs.Cell.{Cell};
 ghost use Rattle.ns_world.specs.Later.{IsLater, Lasts, Unchanged};
 ghost use Rattle.ns_world.specs.Lawful.{IsLiveValue, IsEnvironmentOrNil, BlockIsLawful};
-ghost use Rattle.ns_kdata.specs.Arguments.{items_of, is_array};
+ghost use Rattle.ns_kdata.specs.Arguments.{shape_of_value, items_of, is_array};
 ghost use Rattle.ns_kcode.specs.declared.state.KMethod.{KMethod};
 ghost use Rattle.ns_kcode.specs.declared.state.KState.{KState};
 ghost use Rattle.ns_send.specs.declared.site.Site.{Site};
 ghost use Rattle.ns_send.specs.Control.{Progress, Activation, Exit};
 ghost use Rattle.ns_send.specs.Classes.{super_part, body_ended, slot_filled, kept_by};
-ghost use Rattle.ns_send.specs.Bodies.{environment_at, local_stored};
+ghost use Rattle.ns_send.specs.Bodies.{no_home, environment_at, local_stored};
 ghost use Rattle.ns_send.specs.Blocks.{new_cell, new_block, new_text, new_array, evaluated, method_next, is_block};
 ghost use Rattle.ns_send.specs.Sends.{Target, receiver_of, site_at, sent, sent_plain, performed};
 ghost use Rattle.ns_send.specs.Lawful.{LawfulRun, LawfulAfter, LawfulControl, LawfulPart, LawfulWaiting, LiveState, LiveActivation, FitsActivation, FitsTarget, FitsSelector, FitsExit, FitsSlot, FitsLocal};
 ghost use Rattle.ns_send.specs.Actions.{Action, progress_after};
 ghost use Rattle.ns_send.specs.Spending.{Spends};
-ghost use Rattle.ns_send.specs.Fitting.{FitsMethod, FitsSite, GoesOnAt, Asks, HandsOn};
+ghost use Rattle.ns_send.specs.Fitting.{FitsMethod, FitsSite, GoesOnAt, home_in, Asks, HandsOn};
 ghost use Rattle.ns_send.specs.Onward.{Onward, touched, reached, after_reached, part_reached, waiting_reached};
 
 /// No send changes a limit, lowers a counter but depth, takes back what was printed, or changes a
@@ -130,10 +130,11 @@ pub fn sites_fit()
     ensures { (code : CodeProgram) (receiver : Value) (sel : Sel) (place : Option Place) (progress : Progress) → LawfulRun code progress → IsTrue (is_selector_number code sel.0) → ForSome place (λ (place : Place). place.file < length code.files) → FitsSite code (site_at progress.world.cells place receiver sel) }
 {}
 
-/// What a send or an evaluation goes on with keeps its site, and a block is evaluated with at most
-/// 255 arguments where there are no more.
+/// What a send or an evaluation goes on with keeps its site; a method's home is its own activation,
+/// that of a block's body is the block's, and a clause and an initialiser have none; and a block is
+/// evaluated with at most 255 arguments where there are no more.
 pub fn sites_stay()
-    ensures sent { (code : CodeProgram) (activation : Activation) (target : Target) (sel : Sel) (values : List Value) (place : Option Place) (progress : Progress) → GoesOnAt (length values ≤ 255) (site_at progress.world.cells place (receiver_of progress.world.cells activation target) sel) (sent code activation target sel values place progress) }
-    ensures plain { (code : CodeProgram) (receiver : Value) (sel : Sel) (values : List Value) (place : Option Place) (progress : Progress) → GoesOnAt (length values ≤ 255) (site_at progress.world.cells place receiver sel) (sent_plain code receiver sel values place progress) }
-    ensures evaluated { (code : CodeProgram) (block : Value) (arguments : List Value) (site : Site) (progress : Progress) → GoesOnAt (length arguments ≤ 255) site (evaluated code block arguments site progress) }
+    ensures sent { (code : CodeProgram) (activation : Activation) (target : Target) (sel : Sel) (values : List Value) (place : Option Place) (progress : Progress) → GoesOnAt (length values ≤ 255) (site_at progress.world.cells place (receiver_of progress.world.cells activation target) sel) no_home (sent code activation target sel values place progress) }
+    ensures plain { (code : CodeProgram) (receiver : Value) (sel : Sel) (values : List Value) (place : Option Place) (progress : Progress) → GoesOnAt (length values ≤ 255) (site_at progress.world.cells place receiver sel) no_home (sent_plain code receiver sel values place progress) }
+    ensures evaluated { (code : CodeProgram) (block : Value) (arguments : List Value) (site : Site) (progress : Progress) → GoesOnAt (length arguments ≤ 255) site (home_in (shape_of_value progress.world.cells block)) (evaluated code block arguments site progress) }
 {}
