@@ -1,10 +1,10 @@
 -- What a send hands on fits.
-use Rattle.std.proofs.Common.{◌≡◌, ℕ, List, [], ◌∷◌, length, get_or, replicate, refl, ap, sym, ◌∙◌, subst, arith, All, Option, Some, None, Bool, true, false, cond, unwrap_or, slice_get}
+use Rattle.std.proofs.Common.{◌≡◌, ℕ, suc, ◌+◌, List, [], ◌∷◌, length, get_or, replicate, refl, ap, sym, ◌∙◌, subst, arith, All, Option, Some, None, Bool, true, false, cond, unwrap_or, slice_get}
 use Rattle.std.specs.Prelude.{Contains, IsSome, Result, Ok, Err, pos, nat_lt}
 use Rattle.std.specs.Option.{option_map_or}
 use Rattle.ns_code.specs.declared.class.ClassCode.{ClassCode}
-use Rattle.ns_code.specs.Soundness.{initialiser_kind, clause_kind, instance_side}
-use Rattle.ns_world.specs.Lawful.{IsLawful, IsLiveValue, HasHolder, class_of_object}
+use Rattle.ns_code.specs.Soundness.{method_kind, initialiser_kind, clause_kind, instance_side}
+use Rattle.ns_world.specs.Lawful.{IsLawful, IsLiveValue, HasHolder, FitsEnvironment, class_of_object}
 use Rattle.ns_world.specs.Later.{IsLater, RunsOn}
 use Rattle.ns_world.proofs.Above.{goes_on}
 use Rattle.ns_world.proofs.Charging.{step_keeps}
@@ -13,13 +13,14 @@ use Rattle.ns_world.proofs.Leading.{later_same, later_on, later_made, later_ente
 use Rattle.ns_world.proofs.Lasting.{declaration_lasts}
 use Rattle.ns_world.proofs.Twins.{twins_of_shape}
 use Rattle.ns_find.specs.Belonging.{HasNested}
-use Rattle.ns_find.proofs.SoundBodies.{initialiser_there, clause_there}
+use Rattle.ns_find.specs.Named.{HasInitialiser}
+use Rattle.ns_find.proofs.SoundBodies.{clause_there}
 use Rattle.ns_kdata.proofs.LivingItems.{get_live, cell_items_live}
 use Rattle.ns_mirror.specs.Living.{ReflectsLive}
 use Rattle.ns_mirror.proofs.Living.{rows_live as mirrors_live}
 use Rattle.ns_send.specs.Onward.{reached, touched}
 use Rattle.ns_send.specs.Lawful.{LawfulRun, LawfulControl, HasClass, FitsExit, FitsSelector, FitsActivation}
-use Rattle.ns_send.specs.Fitting.{FitsNext}
+use Rattle.ns_send.specs.Fitting.{FitsNext, FitsEntered, FitsEnd, EndsOwn, StandsWell, environment_body, ends_kind}
 use Rattle.ns_send.proofs.Growing.{step_cells}
 use Rattle.ns_send.proofs.Onward.{charged_all, may_come}
 use Rattle.ns_send.proofs.SendsOnward.{answered_onward}
@@ -70,19 +71,21 @@ use Rattle.ns_kcode.specs.Rows.{beginning}
 use Rattle.ns_send.specs.declared.row.Row.{Row}
 use Rattle.ns_send.specs.declared.row.Row.TheVariants as row
 use Rattle.ns_send.specs.declared.site.Site.{Site}
-use Rattle.ns_send.specs.Control.{Perform as WaitsToPerform, Progress, in_world, Activation, FromMethod, FromBody, FromClause, Control, Now, Enter, Evaluate, Begin, halts, fails, charged}
-use Rattle.ns_send.specs.Bodies.{has_environment, first_locals, initialiser_of, clause_of, no_home, opened}
+use Rattle.ns_send.specs.Control.{Perform as WaitsToPerform, Progress, in_world, Activation, Exit, FromMethod, FromBody, FromClause, Control, Now, Enter, Evaluate, Begin, halts, fails, charged}
+use Rattle.ns_send.specs.Bodies.{has_environment, first_locals, parameters_of, initialiser_of, clause_of, no_home, opened}
 use Rattle.ns_send.specs.Classes.{head, nested, instance}
 use Rattle.ns_send.specs.Blocks.{value_with_arguments, has_arguments, turns_of, method_begun}
 use Rattle.ns_send.specs.Rows.{row_at}
 use Rattle.ns_send.specs.Kernel.{outcome_reached, answer_reached, reflected_reached, facet_reached, message_refused, data_reached, row_reached}
 use Rattle.ns_send.specs.Sends.{Arguments, Listed, Wrapped, given, one_more, method_entered, factory_entered, set, nested_in, done_with, not_found, answered_by}
-use Rattle.ns_code.specs.Selector.{own_number}
+use Rattle.ns_code.specs.Selector.{own_number, selector_arity}
+use Rattle.ns_send.proofs.OwnSelector.{one_message}
+use Rattle.ns_send.proofs.Opening.{Around, IsOpened, nothing_around, opened_bare, opened_over}
 
 -- What is to be shown of where control goes from a world, where it goes on lawfully.
 abbrev pub FitsLater : World → CodeProgram → Control → Type 0
 FitsLater old code (Now after) = Unit {0}
-FitsLater old code (Enter exit activation locals progress) = RunsOn code old progress.world → FitsActivation progress.world.cells code activation × FitsExit progress.world.cells code exit
+FitsLater old code (Enter exit activation locals progress) = RunsOn code old progress.world → FitsEntered progress.world.cells code activation locals × FitsEnd progress.world.cells code exit activation
 FitsLater old code (Evaluate block arguments site progress) = RunsOn code old progress.world → is_block progress.world.cells block ≡ true
 FitsLater old code (Begin method state site progress) = RunsOn code old progress.world → FitsMethod progress.world.cells method state
 FitsLater old code (WaitsToPerform receiver sel array site progress) = RunsOn code old progress.world → FitsSelector progress.world.cells code sel (items_of progress.world.cells (value.Ref array))
@@ -184,11 +187,11 @@ row_fits code row.NumArgs sel receiver arguments site progress lawful all suits 
 
 -- ---- bodies
 
--- a body that begins keeps self, holder and body
+-- a body that begins keeps self, holder and body, and has all of its locals
 pub opened_fits : (old : World) (code : CodeProgram) (go : Activation → List Value → Progress → Control) (activation : Activation) (arguments : List Value) (progress : Progress) → IsLater old progress.world
-    → ((env : Value) (locals : List Value) (world : World) → IsLater progress.world world → FitsLater old code (go (record activation { env = env }) locals (in_world progress world)))
+    → ((env : Value) (locals : List Value) (world : World) → IsLater progress.world world → IsOpened world.cells code activation.body activation.env arguments env locals → FitsLater old code (go (record activation { env = env }) locals (in_world progress world)))
     → FitsLater old code (opened code halts go activation arguments progress)
-opened_fits old code go activation arguments progress later goes = tested (has_environment code activation.body)
+opened_fits old code go activation arguments progress later goes = tested (has_environment code activation.body) refl
   where
     locals : List Value
     locals = first_locals code activation.body arguments
@@ -199,35 +202,68 @@ opened_fits old code go activation arguments progress later goes = tested (has_e
     cell : Cell
     cell = EnvironmentCell activation.env locals
 
-    tested : (b : Bool) → FitsLater old code (cond b (charged halts Cells (made progress.world cell) progress (go inner [])) (go activation locals progress))
-    tested true = charged_all (FitsLater old code) halts Cells (made progress.world cell) progress (go inner []) tt
-        (λ world e. goes (value.Ref (heap_size progress.world.cells)) [] world (later_made progress.world world cell (may_come progress.world.cells cell refl refl) e))
-    tested false = goes activation.env locals progress.world (later_same progress.world)
+    tested : (b : Bool) → has_environment code activation.body ≡ b → FitsLater old code (cond b (charged halts Cells (made progress.world cell) progress (go inner [])) (go activation locals progress))
+    tested true b = charged_all (FitsLater old code) halts Cells (made progress.world cell) progress (go inner []) tt
+        (λ world e. goes (value.Ref (heap_size progress.world.cells)) [] world (later_made progress.world world cell (may_come progress.world.cells cell refl refl) e)
+        (opened_over code progress.world world activation.body activation.env arguments b e))
+    tested false b = goes activation.env locals progress.world (later_same progress.world) (opened_bare progress.world.cells code activation.body activation.env arguments b)
 
 -- a body that runs lasts
-pub runs_last : (code : CodeProgram) (old new : World) (activation : Activation) → RunsBody old.cells code activation.self activation.holder activation.body → RunsOn code old new → FitsActivation new.cells code activation
-runs_last code old new activation runs run = activation_lasts activation code old new run (record { live = runs.live; there = runs.there; fits = runs.fits })
+pub runs_last : (code : CodeProgram) (old new : World) (activation : Activation) (kind params : ℕ) → RunsBody old.cells code activation.self activation.holder activation.body kind params → RunsOn code old new → FitsActivation new.cells code activation
+runs_last code old new activation kind params runs run = activation_lasts activation code old new run (record { live = runs.live; there = runs.there; fits = runs.fits })
+
+-- so it fits where it is entered
+pub entered_here : (code : CodeProgram) (world : World) (exit : Exit) (activation : Activation) (around : Value) (arguments locals : List Value) (kind params : ℕ) → RunsBody world.cells code activation.self activation.holder activation.body kind params
+    → length arguments ≡ params → IsOpened world.cells code activation.body around arguments activation.env locals → (StandsWell code activation.body → Around world.cells code activation.body around)
+    → FitsExit world.cells code exit → ends_kind exit kind ≡ true → EndsOwn code exit activation → FitsEntered world.cells code activation locals × FitsEnd world.cells code exit activation
+entered_here code world exit activation around arguments locals kind params runs count opens outer met ends own =
+    let many : length arguments ≡ parameters_of code activation.body = count ∙ sym runs.params_are in
+    let next : suc activation.body ≡ activation.body + 1 = omega arith in
+    let env = environment_body code activation.body in (
+      record {
+        fits = record { live = runs.live; there = runs.there; fits = runs.fits };
+        beside = λ stands. opens.beside many stands;
+        environment = λ stands. subst (λ depth. FitsEnvironment depth world.cells code env activation.env) next (opens.environment many stands (outer stands));
+      },
+      record { met = met; kind = ap (ends_kind exit) runs.kind_is ∙ ends; own = own },
+    )
+
+-- a body that runs lasts
+pub body_lasts : (code : CodeProgram) (old new : World) (activation : Activation) (kind params : ℕ) → RunsBody old.cells code activation.self activation.holder activation.body kind params → RunsOn code old new
+    → RunsBody new.cells code activation.self activation.holder activation.body kind params
+body_lasts code old new activation kind params runs run =
+    let fits = runs_last code old new activation kind params runs run in
+    record { live = fits.live; there = fits.there; fits = fits.fits; kind_is = runs.kind_is; params_are = runs.params_are }
+
+-- how many arguments are given
+abbrev pub count_of : Arguments → ℕ
+count_of (Listed values) = length values
+count_of (Wrapped sel values) = 1
 
 given_fits : (old : World) (code : CodeProgram) (arguments : Arguments) (progress : Progress) (go : List Value → Progress → Control)
-    → ((values : List Value) (world : World) → IsLater progress.world world → FitsLater old code (go values (in_world progress world))) → FitsLater old code (given arguments progress go)
-given_fits old code (Listed values) progress go goes = goes values progress.world (later_same progress.world)
+    → ((values : List Value) (world : World) → IsLater progress.world world → length values ≡ count_of arguments → FitsLater old code (go values (in_world progress world))) → FitsLater old code (given arguments progress go)
+given_fits old code (Listed values) progress go goes = goes values progress.world (later_same progress.world) refl
 given_fits old code (Wrapped sel values) progress go goes =
     charged_all (FitsLater old code) halts Cells (made progress.world (ArrayCell values)) progress _ tt
     (λ world e. let message : Cell = MessageCell sel (value.Ref (heap_size progress.world.cells)) in
     let one = later_made progress.world world (ArrayCell values) (may_come progress.world.cells (ArrayCell values) refl refl) e in
     charged_all (FitsLater old code) halts Cells (made world message) (in_world progress world) _ tt
-    (λ next m. goes _ next (later_on progress.world world next one (later_made world next message (may_come world.cells message refl refl) m))))
+    (λ next m. goes _ next (later_on progress.world world next one (later_made world next message (may_come world.cells message refl refl) m)) refl))
 
-method_fits : (code : CodeProgram) (body holder : ℕ) (receiver : Value) (arguments : Arguments) (site : Site) (progress : Progress) → RunsBody progress.world.cells code receiver holder body
+method_fits : (code : CodeProgram) (body holder params : ℕ) (receiver : Value) (arguments : Arguments) (site : Site) (progress : Progress) → RunsBody progress.world.cells code receiver holder body method_kind params → count_of arguments ≡ params
     → FitsLater progress.world code (method_entered code body holder receiver arguments site progress)
-method_fits code body holder receiver arguments site progress runs =
+method_fits code body holder params receiver arguments site progress runs count =
     charged_all (FitsLater progress.world code) halts Depth (entered progress.world) progress _ tt
     (λ world e. given_fits progress.world code arguments (in_world progress world) _
-    (λ values next same.
+    (λ values next same many.
     opened_fits progress.world code (λ activation locals progress. Enter FromMethod activation locals (one_more progress))
     (record { self = receiver; holder = holder; body = body; home = progress.begun; env = value.Nil; site = site }) values (in_world progress next)
     (later_on progress.world world next (later_entered progress.world world e) same)
-    (λ env locals last more. λ run. (runs_last code progress.world last (record { self = receiver; holder = holder; body = body; home = progress.begun; env = env; site = site }) runs run, tt))))
+    (λ env locals last more all. λ run.
+    let running : Activation = record { self = receiver; holder = holder; body = body; home = progress.begun; env = env; site = site } in
+    let here = body_lasts code progress.world last running method_kind params runs run in
+    entered_here code last FromMethod running value.Nil values locals method_kind params here (many ∙ count) all
+    (nothing_around last.cells code body method_kind runs.kind_is (λ e. let q : 0 ≡ 1 = e in omega (arith, q))) tt refl tt)))
 
 -- the declaration of a class is one of the code
 pub class_there : (world : World) (code : CodeProgram) (class : ℕ) → IsLawful world code → is_class (find_cell world.cells class) ≡ true → IsSome (slice_get code.classes (declaration_of world.cells class))
@@ -246,9 +282,12 @@ class_there world code class lawful is = found (find_cell world.cells class) ref
     found (Some (MessageCell sel args)) e is = absurd (cc)
 
 -- an object that was just made runs the initialiser of its class
-new_runs : (code : CodeProgram) (old mid new : World) (class number : ℕ) (entries : List Value) → is_class (find_cell old.cells class) ≡ true → IsLater old mid → IsLater mid new → RunsOn code old new → find_cell mid.cells number ≡ Some (ObjectCell class entries)
-    → RunsBody new.cells code (value.Ref number) class (initialiser_of code (declaration_of old.cells class))
-new_runs code old mid new class number entries is before after run there = declared (slice_get code.classes (declaration_of old.cells class)) refl
+new_runs : (code : CodeProgram) (old mid new : World) (class number params : ℕ) (entries : List Value) → HasInitialiser old.cells code class params → is_class (find_cell old.cells class) ≡ true → IsLater old mid → IsLater mid new → RunsOn code old new → find_cell mid.cells number ≡ Some (ObjectCell class entries)
+    → RunsBody new.cells code (value.Ref number) class (initialiser_of code (declaration_of old.cells class)) initialiser_kind params
+new_runs code old mid new class number params entries begins is before after run there =
+    subst (λ n. RunsBody new.cells code (value.Ref number) class n initialiser_kind params) (sym (ap (λ o. option_map_or (λ (c : ClassCode). c.init) o 0) begins.class_is))
+    (body_runs new.cells code (value.Ref number) class begins.declared.init initialiser_kind instance_side (declaration_of old.cells class) params begins.body (object_live new.cells code number (rw object refl))
+    (instance_fits new.cells code number class begins.body.body is' (begins.body.class_is ∙ sym decl) begins.body.side_is has))
   where
     is' : is_class (find_cell new.cells class) ≡ true
     is' = ap is_class (class_same old.cells new.cells class run.later.cells is) ∙ is
@@ -264,25 +303,21 @@ new_runs code old mid new class number entries is before after run there = decla
         let chain : chain_of new.cells class ≡ class ∷ chain_of new.cells (superclass_of new.cells class) = (goes_on new.cells class run.after.ordered (omega (arith, lawful_small new code run.after)) is').chain in
         (λ other e. let both : Some class ≡ Some other = sym object ∙ e in let same : class ≡ other = cc in subst (λ c. Contains (chain_of new.cells c) class) same (0, omega (arith, ap length chain), ap (λ ms. get_or ms 0 class) chain), rw object refl)
 
-    declared : (o : Option ClassCode) → slice_get code.classes (declaration_of old.cells class) ≡ o → RunsBody new.cells code (value.Ref number) class (option_map_or (λ (c : ClassCode). c.init) o 0)
-    declared (Some c) e =
-        let body = initialiser_there code (declaration_of old.cells class) c run.after.classes e in
-        body_runs new.cells code (value.Ref number) class c.init initialiser_kind instance_side (declaration_of old.cells class) c.params body (object_live new.cells code number (rw object refl))
-        (instance_fits new.cells code number class body.body is' (body.class_is ∙ sym decl) body.side_is has)
-    declared None e = let l = class_there old code class run.before is in absurd (cc)
-
-instance_enters : (code : CodeProgram) (old : World) (class : ℕ) (arguments : List Value) (site : Site) (progress : Progress) → is_class (find_cell old.cells class) ≡ true → IsLater old progress.world → FitsLater old code (instance code class arguments site progress)
-instance_enters code old class arguments site progress is later =
+instance_enters : (code : CodeProgram) (old : World) (class params : ℕ) (arguments : List Value) (site : Site) (progress : Progress) → HasInitialiser old.cells code class params → length arguments ≡ params → is_class (find_cell old.cells class) ≡ true → IsLater old progress.world → FitsLater old code (instance code class arguments site progress)
+instance_enters code old class params arguments site progress begins count is later =
     charged_all (FitsLater old code) halts Cells (made progress.world object) progress (opened code halts (Enter FromBody) inner arguments) tt
     (λ world e.
     let one = later_made progress.world world object (may_come progress.world.cells object refl refl) e in
     let so_far = later_on old progress.world world later one in
     opened_fits old code (Enter FromBody) inner arguments (in_world progress world) so_far
-    (λ env locals last more. λ run.
-    let here = new_runs code old world last class (heap_size progress.world.cells) (replicate (layout_of progress.world.cells code class) value.Nil) is so_far more run (new_found progress.world world object e) in
-    let here' : RunsBody last.cells code (value.Ref (heap_size progress.world.cells)) class (initialiser_of code (declaration_of progress.world.cells class)) =
-    subst (λ n. RunsBody last.cells code (value.Ref (heap_size progress.world.cells)) class (initialiser_of code n)) (sym (declaration_stays old.cells progress.world.cells class (class_same old.cells progress.world.cells class later.cells is))) here in
-    (record { live = here'.live; there = here'.there; fits = here'.fits }, tt)))
+    (λ env locals last more all. λ run.
+    let fresh = heap_size progress.world.cells in
+    let here = new_runs code old world last class fresh params (replicate (layout_of progress.world.cells code class) value.Nil) begins is so_far more run (new_found progress.world world object e) in
+    let same = sym (declaration_stays old.cells progress.world.cells class (class_same old.cells progress.world.cells class later.cells is)) in
+    let here' : RunsBody last.cells code (value.Ref fresh) class (initialiser_of code (declaration_of progress.world.cells class)) initialiser_kind params =
+    subst (λ n. RunsBody last.cells code (value.Ref fresh) class (initialiser_of code n) initialiser_kind params) same here in
+    entered_here code last FromBody (record inner { env = env }) value.Nil arguments locals initialiser_kind params here' count all
+    (nothing_around last.cells code inner.body initialiser_kind here'.kind_is (λ e. let q : 2 ≡ 1 = e in omega (arith, q))) tt refl tt))
   where
     object : Cell
     object = ObjectCell class (replicate (layout_of progress.world.cells code class) value.Nil)
@@ -290,17 +325,17 @@ instance_enters code old class arguments site progress is later =
     inner : Activation
     inner = record { self = value.Ref (heap_size progress.world.cells); holder = class; body = initialiser_of code (declaration_of progress.world.cells class); home = no_home; env = value.Nil; site = site }
 
-factory_fits : (code : CodeProgram) (class : ℕ) (arguments : Arguments) (site : Site) (progress : Progress) → is_class (find_cell progress.world.cells class) ≡ true → FitsLater progress.world code (factory_entered code class arguments site progress)
-factory_fits code class arguments site progress is =
+factory_fits : (code : CodeProgram) (class params : ℕ) (arguments : Arguments) (site : Site) (progress : Progress) → HasInitialiser progress.world.cells code class params → count_of arguments ≡ params → is_class (find_cell progress.world.cells class) ≡ true → FitsLater progress.world code (factory_entered code class arguments site progress)
+factory_fits code class params arguments site progress begins count is =
     charged_all (FitsLater progress.world code) halts Depth (entered progress.world) progress _ tt
     (λ world e. given_fits progress.world code arguments (in_world progress world) (λ values progress. instance code class values site progress)
-    (λ values next same. instance_enters code progress.world class values site (in_world progress next) is (later_on progress.world world next (later_entered progress.world world e) same)))
+    (λ values next same many. instance_enters code progress.world class params values site (in_world progress next) begins (many ∙ count) is (later_on progress.world world next (later_entered progress.world world e) same)))
 
 set_fits : (code : CodeProgram) (word : ℕ) (receiver : Value) (arguments : Arguments) (progress : Progress) → FitsLater progress.world code (set word receiver arguments progress)
-set_fits code word receiver arguments progress = given_fits progress.world code arguments progress _ (λ values world same. tt)
+set_fits code word receiver arguments progress = given_fits progress.world code arguments progress _ (λ values world same many. tt)
 
 -- the clause of a nested class runs with the object that keeps it
-clause_runs : (world : World) (code : CodeProgram) (object holder class clause : ℕ) → IsLawful world code → HasClass world.cells code object holder class → clause_of code class ≡ Some clause → RunsBody world.cells code (value.Ref object) holder clause
+clause_runs : (world : World) (code : CodeProgram) (object holder class clause : ℕ) → IsLawful world code → HasClass world.cells code object holder class → clause_of code class ≡ Some clause → RunsBody world.cells code (value.Ref object) holder clause clause_kind 0
 clause_runs world code object holder class clause lawful has e =
     let n = has.nested in
     let inner = nested_inner code (declaration_of world.cells holder) n.place n.class n.nested lawful.classes n.class_is n.nested_is in
@@ -317,10 +352,12 @@ head_fits code object holder class None site progress lawful has e = tt
 head_fits code object holder class (Some clause) site progress lawful has c =
     charged_all (FitsLater progress.world code) halts Depth (entered progress.world) progress (opened code halts (Enter (FromClause object holder class)) inner []) tt
     (λ world e. opened_fits progress.world code (Enter (FromClause object holder class)) inner [] (in_world progress world) (later_entered progress.world world e)
-    (λ env locals last more. λ run. (
-      runs_last code progress.world last (record inner { env = env }) (clause_runs progress.world code object holder class clause lawful has c) run,
-      exit_lasts (FromClause object holder class) code progress.world last run has,
-    )))
+    (λ env locals last more all. λ run.
+    let runs = clause_runs progress.world code object holder class clause lawful has c in
+    let here = body_lasts code progress.world last (record inner { env = env }) clause_kind 0 runs run in
+    entered_here code last (FromClause object holder class) (record inner { env = env }) value.Nil [] locals clause_kind 0 here refl all
+    (nothing_around last.cells code clause clause_kind runs.kind_is (λ e. let q : 3 ≡ 1 = e in omega (arith, q)))
+    (exit_lasts (FromClause object holder class) code progress.world last run has) refl (refl, refl, c)))
   where
     inner : Activation
     inner = record { self = value.Ref object; holder = holder; body = clause; home = no_home; env = value.Nil; site = site }
@@ -341,40 +378,40 @@ nested_fits code (value.Kernel kernel) holder class site progress lawful has is 
 
 -- ---- members
 
-listed_fits : (code : CodeProgram) (member : Found) (sel : Sel) (receiver : Value) (values : List Value) (site : Site) (progress : Progress) → LawfulRun code progress → IsLiveValue progress.world.cells code receiver → All (IsLiveValue progress.world.cells code) values
-    → Suits progress.world.cells code receiver member → Runs progress.world.cells code receiver member → FoundSuits progress.world.cells receiver member → FitsLater progress.world code (done_with code member sel receiver (Listed values) site progress)
-listed_fits code (found.Method body holder) sel receiver values site progress lawful live all suits runs rows = method_fits code body holder receiver (Listed values) site progress runs
-listed_fits code (found.Getter holder word) sel receiver values site progress lawful live all suits runs rows = tt
-listed_fits code (found.Setter holder word) sel receiver values site progress lawful live all suits runs rows = set_fits code word receiver (Listed values) progress
-listed_fits code (found.Nested class holder) sel receiver values site progress lawful live all suits runs rows = nested_fits code receiver holder class site progress lawful suits.0 suits.1 suits.2
-listed_fits code (found.Factory class) sel receiver values site progress lawful live all suits runs rows = factory_fits code class (Listed values) site progress suits
-listed_fits code (found.Kernel number) sel receiver values site progress lawful live all suits runs rows = row_fits code (row_at number) sel receiver values site progress lawful all rows
-listed_fits code found.NotPublic sel receiver values site progress lawful live all suits runs rows = tt
-listed_fits code found.Absent sel receiver values site progress lawful live all suits runs rows = tt
+listed_fits : (code : CodeProgram) (member : Found) (sel : Sel) (receiver : Value) (values : List Value) (site : Site) (progress : Progress) → LawfulRun code progress → IsLiveValue progress.world.cells code receiver → FitsSelector progress.world.cells code sel values
+    → Suits progress.world.cells code receiver member → Runs progress.world.cells code receiver sel.0 member → FoundSuits progress.world.cells receiver member → FitsLater progress.world code (done_with code member sel receiver (Listed values) site progress)
+listed_fits code (found.Method body holder) sel receiver values site progress lawful live fits suits runs rows = method_fits code body holder (selector_arity code sel.0) receiver (Listed values) site progress runs fits.arity
+listed_fits code (found.Getter holder word) sel receiver values site progress lawful live fits suits runs rows = tt
+listed_fits code (found.Setter holder word) sel receiver values site progress lawful live fits suits runs rows = set_fits code word receiver (Listed values) progress
+listed_fits code (found.Nested class holder) sel receiver values site progress lawful live fits suits runs rows = nested_fits code receiver holder class site progress lawful suits.0 suits.1 suits.2
+listed_fits code (found.Factory class) sel receiver values site progress lawful live fits suits runs rows = factory_fits code class (selector_arity code sel.0) (Listed values) site progress runs fits.arity suits
+listed_fits code (found.Kernel number) sel receiver values site progress lawful live fits suits runs rows = row_fits code (row_at number) sel receiver values site progress lawful fits.live rows
+listed_fits code found.NotPublic sel receiver values site progress lawful live fits suits runs rows = tt
+listed_fits code found.Absent sel receiver values site progress lawful live fits suits runs rows = tt
 
-absent_fits : (code : CodeProgram) (member : Found) (sel : Sel) (receiver : Value) (values : List Value) (site : Site) (progress : Progress) → LawfulRun code progress → Suits progress.world.cells code receiver member → Runs progress.world.cells code receiver member
+absent_fits : (code : CodeProgram) (member : Found) (sel : Sel) (receiver : Value) (values : List Value) (site : Site) (progress : Progress) → LawfulRun code progress → Suits progress.world.cells code receiver member → Runs progress.world.cells code receiver (own_number code DoesNotUnderstand) member
     → FitsLater progress.world code (not_found code member sel receiver values site progress)
-absent_fits code (found.Method body holder) sel receiver values site progress lawful suits runs = method_fits code body holder receiver (Wrapped sel values) site progress runs
+absent_fits code (found.Method body holder) sel receiver values site progress lawful suits runs = method_fits code body holder (selector_arity code (own_number code DoesNotUnderstand)) receiver (Wrapped sel values) site progress runs (sym (one_message code))
 absent_fits code (found.Getter holder word) sel receiver values site progress lawful suits runs = tt
 absent_fits code (found.Setter holder word) sel receiver values site progress lawful suits runs = set_fits code word receiver (Wrapped sel values) progress
 absent_fits code (found.Nested class holder) sel receiver values site progress lawful suits runs = nested_fits code receiver holder class site progress lawful suits.0 suits.1 suits.2
-absent_fits code (found.Factory class) sel receiver values site progress lawful suits runs = factory_fits code class (Wrapped sel values) site progress suits
+absent_fits code (found.Factory class) sel receiver values site progress lawful suits runs = factory_fits code class (selector_arity code (own_number code DoesNotUnderstand)) (Wrapped sel values) site progress runs (sym (one_message code)) suits
 absent_fits code (found.Kernel number) sel receiver values site progress lawful suits runs = tt
 absent_fits code found.NotPublic sel receiver values site progress lawful suits runs = tt
 absent_fits code found.Absent sel receiver values site progress lawful suits runs = tt
 
 answered_fits : (code : CodeProgram) (member : Found) (sel : Sel) (receiver : Value) (values : List Value) (site : Site) (progress : Progress) → LawfulRun code progress → IsLiveValue progress.world.cells code receiver → FitsSelector progress.world.cells code sel values
-    → Suits progress.world.cells code receiver member → Runs progress.world.cells code receiver member → FoundSuits progress.world.cells receiver member → FitsLater progress.world code (answered_by code member sel receiver values site progress)
+    → Suits progress.world.cells code receiver member → Runs progress.world.cells code receiver sel.0 member → FoundSuits progress.world.cells receiver member → FitsLater progress.world code (answered_by code member sel receiver values site progress)
 answered_fits code found.Absent sel receiver values site progress lawful live fits suits runs rows =
     absent_fits code (found_from progress.world.cells code (start_of progress.world.cells receiver) (own_number code DoesNotUnderstand) Inner) sel receiver values site progress lawful
     (found_suits progress.world code receiver (own_number code DoesNotUnderstand) Inner lawful) (found_runs progress.world code receiver (own_number code DoesNotUnderstand) Inner lawful live)
-answered_fits code (found.Method body holder) sel receiver values site progress lawful live fits suits runs rows = listed_fits code (found.Method body holder) sel receiver values site progress lawful live fits.live suits runs rows
-answered_fits code (found.Getter holder word) sel receiver values site progress lawful live fits suits runs rows = listed_fits code (found.Getter holder word) sel receiver values site progress lawful live fits.live suits runs rows
-answered_fits code (found.Setter holder word) sel receiver values site progress lawful live fits suits runs rows = listed_fits code (found.Setter holder word) sel receiver values site progress lawful live fits.live suits runs rows
-answered_fits code (found.Nested class holder) sel receiver values site progress lawful live fits suits runs rows = listed_fits code (found.Nested class holder) sel receiver values site progress lawful live fits.live suits runs rows
-answered_fits code (found.Factory class) sel receiver values site progress lawful live fits suits runs rows = listed_fits code (found.Factory class) sel receiver values site progress lawful live fits.live suits runs rows
-answered_fits code (found.Kernel number) sel receiver values site progress lawful live fits suits runs rows = listed_fits code (found.Kernel number) sel receiver values site progress lawful live fits.live suits runs rows
-answered_fits code found.NotPublic sel receiver values site progress lawful live fits suits runs rows = listed_fits code found.NotPublic sel receiver values site progress lawful live fits.live suits runs rows
+answered_fits code (found.Method body holder) sel receiver values site progress lawful live fits suits runs rows = listed_fits code (found.Method body holder) sel receiver values site progress lawful live fits suits runs rows
+answered_fits code (found.Getter holder word) sel receiver values site progress lawful live fits suits runs rows = listed_fits code (found.Getter holder word) sel receiver values site progress lawful live fits suits runs rows
+answered_fits code (found.Setter holder word) sel receiver values site progress lawful live fits suits runs rows = listed_fits code (found.Setter holder word) sel receiver values site progress lawful live fits suits runs rows
+answered_fits code (found.Nested class holder) sel receiver values site progress lawful live fits suits runs rows = listed_fits code (found.Nested class holder) sel receiver values site progress lawful live fits suits runs rows
+answered_fits code (found.Factory class) sel receiver values site progress lawful live fits suits runs rows = listed_fits code (found.Factory class) sel receiver values site progress lawful live fits suits runs rows
+answered_fits code (found.Kernel number) sel receiver values site progress lawful live fits suits runs rows = listed_fits code (found.Kernel number) sel receiver values site progress lawful live fits suits runs rows
+answered_fits code found.NotPublic sel receiver values site progress lawful live fits suits runs rows = listed_fits code found.NotPublic sel receiver values site progress lawful live fits suits runs rows
 
 -- ---- plain sends
 
@@ -387,7 +424,7 @@ fits_now old code (Begin method state site progress) before later lawful fits = 
 fits_now old code (WaitsToPerform receiver sel array site progress) before later lawful fits = fits (record { before = before; after = lawful.0; later = later })
 
 pub stepped_fits : (code : CodeProgram) (member : Found) (sel : Sel) (receiver : Value) (values : List Value) (site : Site) (progress : Progress) → LawfulRun code progress → IsLiveValue progress.world.cells code receiver → FitsSelector progress.world.cells code sel values
-    → Suits progress.world.cells code receiver member → Runs progress.world.cells code receiver member → FoundSuits progress.world.cells receiver member → FitsNext code (charged halts Steps (stepped progress.world) progress (answered_by code member sel receiver values site))
+    → Suits progress.world.cells code receiver member → Runs progress.world.cells code receiver sel.0 member → FoundSuits progress.world.cells receiver member → FitsNext code (charged halts Steps (stepped progress.world) progress (answered_by code member sel receiver values site))
 stepped_fits code member sel receiver values site progress lawful live fits suits runs rows =
     charged_all (FitsNext code) halts Steps (stepped progress.world) progress (answered_by code member sel receiver values site) tt
     (λ world e.
@@ -396,7 +433,7 @@ stepped_fits code member sel receiver values site progress lawful live fits suit
     let live' : IsLiveValue world.cells code receiver = subst (λ cells. IsLiveValue cells code receiver) (sym same) live in
     let fits' : FitsSelector world.cells code sel values = subst (λ cells. FitsSelector cells code sel values) (sym same) fits in
     let suits' : Suits world.cells code receiver member = subst (λ cells. Suits cells code receiver member) (sym same) suits in
-    let runs' : Runs world.cells code receiver member = subst (λ cells. Runs cells code receiver member) (sym same) runs in
+    let runs' : Runs world.cells code receiver sel.0 member = subst (λ cells. Runs cells code receiver sel.0 member) (sym same) runs in
     let rows' : FoundSuits world.cells receiver member = subst (λ cells. FoundSuits cells receiver member) (sym same) rows in
     let next : Progress = in_world progress world in
     fits_now world code (answered_by code member sel receiver values site next) after

@@ -1,11 +1,13 @@
 -- What each action hands on fits.
-use Rattle.std.proofs.Common.{◌≡◌, ℕ, List, [], length, refl, Option, Some, None, Bool, true, false, cond, eqb, slice_get}
+use Rattle.std.proofs.Common.{◌≡◌, ℕ, ◌+◌, List, [], length, refl, ap, ◌∙◌, Option, Some, None, Bool, true, false, cond, eqb, slice_get}
 use Rattle.std.specs.Prelude.{IsSome}
 use Rattle.std.specs.Option.{option_map_or}
 use Rattle.ns_base.specs.declared.place.Place.{Place as SourcePlace}
 use Rattle.ns_base.specs.declared.selector.Sel.{Sel}
 use Rattle.ns_code.specs.declared.program.CodeProgram.{CodeProgram}
 use Rattle.ns_code.specs.declared.body.BodyCode.{BodyCode}
+use Rattle.ns_code.specs.Soundness.{block_kind, clause_kind}
+use Rattle.std.proofs.lemmas.Bool.{eqb-true}
 use Rattle.ns_world.specs.declared.value.Value.{Value}
 use Rattle.ns_world.specs.declared.value.Value.TheVariants.{Nil, True, False, Int, Sym as SymValue, Kernel, Ref}
 use Rattle.ns_world.specs.declared.cell.NewCell.TheVariants as new
@@ -16,6 +18,9 @@ use Rattle.ns_world.specs.Heap.{find_cell}
 use Rattle.ns_world.specs.World.{World, stepped, entered}
 use Rattle.ns_world.specs.Starts.{start_of}
 use Rattle.ns_world.specs.Lawful.{IsLawful, IsLiveValue, BlockIsLawful}
+use Rattle.ns_world.specs.Later.{RunsOn}
+use Rattle.ns_world.proofs.Lawfully.{fits_stays}
+use Rattle.ns_world.proofs.Lasting.{keeps_of}
 use Rattle.ns_world.proofs.Leading.{later_on, later_stepped, later_entered}
 use Rattle.ns_find.specs.declared.found.Sending.TheVariants.{Plain, Inner}
 use Rattle.ns_find.specs.Find.{found_from, found_private, super_start}
@@ -37,8 +42,9 @@ use Rattle.ns_send.proofs.Places.{places_fit}
 use Rattle.ns_send.proofs.Running.{RunsBody, found_runs, outer_private, super_runs}
 use Rattle.ns_send.proofs.RowsSuit.{value_suits, above_suits, own_suits}
 use Rattle.ns_send.proofs.WaitsFit.{method_hands_on}
+use Rattle.ns_send.proofs.Opening.{Around, block_around}
 use Rattle.ns_send.proofs.PartsFit.{super_part_fits}
-use Rattle.ns_send.proofs.Fitting.{FitsLater, opened_fits, runs_last, fits_now, stepped_fits}
+use Rattle.ns_send.proofs.Fitting.{FitsLater, opened_fits, entered_here, body_lasts, fits_now, stepped_fits}
 
 -- ---- sends
 
@@ -77,36 +83,57 @@ sent_fits code activation ToSuper sel values place progress lawful here fits = d
 -- ---- evaluations
 
 -- a block's body runs with its self and its holder
-block_runs : (world : World) (code : CodeProgram) (number : ℕ) (env receiver : Value) (holder : ℕ) → IsLawful world code → BlockIsLawful world.cells code number env receiver holder → RunsBody world.cells code receiver holder number
+block_runs : (world : World) (code : CodeProgram) (number : ℕ) (env receiver : Value) (holder : ℕ) → IsLawful world code → BlockIsLawful world.cells code number env receiver holder → RunsBody world.cells code receiver holder number block_kind (parameters_of code number)
 block_runs world code number env receiver holder lawful block = there (slice_get code.bodies number) refl block.declared
   where
-    there : (o : Option BodyCode) → slice_get code.bodies number ≡ o → IsSome o → RunsBody world.cells code receiver holder number
-    there (Some body) e some = record { live = self_live world code number body receiver holder lawful e (block.fits body e); there = block.declared; fits = block.fits }
+    there : (o : Option BodyCode) → slice_get code.bodies number ≡ o → IsSome o → RunsBody world.cells code receiver holder number block_kind (parameters_of code number)
+    there (Some body) e some = record {
+      live = self_live world code number body receiver holder lawful e (block.fits body e);
+      there = block.declared;
+      fits = block.fits;
+      kind_is = ap (λ o. option_map_or (λ (b : BodyCode). b.kind) o clause_kind) e ∙ block.is_block body e;
+      params_are = refl;
+    }
+    there None e some = absurd (cc)
+
+-- what the block keeps still stands around its body
+kept_around : (old new : World) (code : CodeProgram) (number : ℕ) (env receiver : Value) (holder : ℕ) → RunsOn code old new → BlockIsLawful old.cells code number env receiver holder → Around new.cells code number env
+kept_around old later code number env receiver holder run block = there (slice_get code.bodies number) refl block.declared
+  where
+    there : (o : Option BodyCode) → slice_get code.bodies number ≡ o → IsSome o → Around later.cells code number env
+    there (Some body) e some = block_around later.cells code number body env run.after.parents e
+        (fits_stays (number + 1) old.cells later.cells code body.parent env (keeps_of code old later run) (block.environment body e))
     there None e some = absurd (cc)
 
 block_later : (code : CodeProgram) (o : Option Cell) (number : ℕ) (arguments : List Value) (site : Site) (progress : Progress) → LawfulRun code progress → find_cell progress.world.cells number ≡ o
     → FitsLater progress.world code (block_entered code (option_map_or shape_of o (new.Mirror Nil)) arguments site progress)
-block_later code (Some (BlockCell body env home receiver holder)) number arguments site progress lawful e = tested (eqb (length arguments) (parameters_of code body))
+block_later code (Some (BlockCell body env home receiver holder)) number arguments site progress lawful e = tested (eqb (length arguments) (parameters_of code body)) refl
   where
     activation : Activation
     activation = record { self = receiver; holder = holder; body = body; home = home; env = env; site = site }
 
-    runs : RunsBody progress.world.cells code receiver holder body
+    runs : RunsBody progress.world.cells code receiver holder body block_kind (parameters_of code body)
     runs = block_runs progress.world code body env receiver holder lawful (lawful.cells number (BlockCell body env home receiver holder) e)
+
+    Counted : Type 0
+    Counted = length arguments ≡ parameters_of code body
 
     framed : Progress → Control
     framed progress = charged halts Depth (entered progress.world) progress (opened code halts (Enter FromBody) activation arguments)
 
-    within : (world : World) → stepped progress.world ≡ Some world → FitsLater progress.world code (framed (in_world progress world))
-    within world s =
+    within : Counted → (world : World) → stepped progress.world ≡ Some world → FitsLater progress.world code (framed (in_world progress world))
+    within count world s =
         charged_all (FitsLater progress.world code) halts Depth (entered world) (in_world progress world) (opened code halts (Enter FromBody) activation arguments) tt
         (λ next d.
         opened_fits progress.world code (Enter FromBody) activation arguments (in_world progress next) (later_on progress.world world next (later_stepped progress.world world s) (later_entered world next d))
-        (λ env' locals last more. λ run. (runs_last code progress.world last (record activation { env = env' }) runs run, tt)))
+        (λ env' locals last more all. λ run.
+        let here = body_lasts code progress.world last (record activation { env = env' }) block_kind (parameters_of code body) runs run in
+        entered_here code last FromBody (record activation { env = env' }) env arguments locals block_kind (parameters_of code body) here count all
+        (λ stands. kept_around progress.world last code body env receiver holder run (lawful.cells number (BlockCell body env home receiver holder) e)) tt refl tt))
 
-    tested : (b : Bool) → FitsLater progress.world code (cond b (charged halts Steps (stepped progress.world) progress framed) (fails WrongArity site progress))
-    tested true = charged_all (FitsLater progress.world code) halts Steps (stepped progress.world) progress framed tt (λ world s. within world s)
-    tested false = tt
+    tested : (b : Bool) → eqb (length arguments) (parameters_of code body) ≡ b → FitsLater progress.world code (cond b (charged halts Steps (stepped progress.world) progress framed) (fails WrongArity site progress))
+    tested true t = charged_all (FitsLater progress.world code) halts Steps (stepped progress.world) progress framed tt (λ world s. within (eqb-true (length arguments) (parameters_of code body) t) world s)
+    tested false t = tt
 block_later code None number arguments site progress lawful e = tt
 block_later code (Some (ObjectCell class entries)) number arguments site progress lawful e = tt
 block_later code (Some (ClassCell decl encl holder over)) number arguments site progress lawful e = tt

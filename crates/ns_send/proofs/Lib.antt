@@ -19,9 +19,14 @@ pub mod LeadingOn
 pub mod Counting
 pub mod Spending
 pub mod Lasting
+pub mod LocalsLast
 pub mod Running
+pub mod OwnSelector
+pub mod Opening
 pub mod Fitting
 pub mod Handing
 pub mod PartsFit
 pub mod RowsSuit
 pub mod WaitsFit
+pub mod Sites
+pub mod SitesStay

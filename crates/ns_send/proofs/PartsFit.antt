@@ -5,14 +5,16 @@ use Rattle.std.specs.Option.{option_map_or, ForSome}
 use Rattle.std.specs.Str.{bytes_eq}
 use Rattle.ns_code.specs.declared.program.CodeProgram.{CodeProgram}
 use Rattle.ns_code.specs.declared.class.ClassCode.{ClassCode}
-use Rattle.ns_code.specs.Selector.{selector_text}
+use Rattle.ns_code.specs.declared.body.BodyCode.{BodyCode}
+use Rattle.std.proofs.lemmas.Bool.{eqb-true}
+use Rattle.ns_code.specs.Selector.{selector_text, selector_arity}
 use Rattle.ns_code.specs.Soundness.{initialiser_kind, instance_side}
 use Rattle.ns_world.specs.declared.value.Value.{Value}
 use Rattle.ns_world.specs.declared.value.Value.TheVariants.{Nil, True, False, Int, Sym, Kernel, Ref}
 use Rattle.ns_world.specs.declared.ending.Kind.TheVariants.{InitMismatch}
 use Rattle.ns_world.specs.declared.ending.LimitKind.TheVariants.{Depth, Cells}
 use Rattle.ns_world.specs.Cell.{Cell, ObjectCell, ClassCell, BlockCell, EnvironmentCell, ArrayCell, TextCell, FacetCell, MirrorCell, MessageCell}
-use Rattle.ns_world.specs.Heap.{heap_size, find_cell, is_class, chain_of, superclass_in, superclass_of, is_superclass, declared_class}
+use Rattle.ns_world.specs.Heap.{Heap, heap_size, find_cell, is_class, chain_of, superclass_in, superclass_of, is_superclass, declared_class}
 use Rattle.ns_world.specs.World.{World, made, entered}
 use Rattle.ns_world.specs.Layout.{declaration_of}
 use Rattle.ns_world.specs.Lawful.{IsLawful, IsLiveValue, HasHolder, class_of_object}
@@ -20,31 +22,33 @@ use Rattle.ns_world.specs.Later.{IsLater, RunsOn}
 use Rattle.ns_world.proofs.Above.{goes_on}
 use Rattle.ns_world.proofs.Chains.{linked}
 use Rattle.ns_world.proofs.Classes.{lawful_order, lawful_small}
-use Rattle.ns_find.proofs.SoundBodies.{initialiser_there}
+use Rattle.ns_find.proofs.SoundBodies.{initialiser_there, named_factory}
 use Rattle.ns_send.specs.Site.{error}
-use Rattle.ns_send.specs.Control.{Progress, in_world, Activation, Part, Skip, Stop, EnterPart, charged}
-use Rattle.ns_send.specs.Bodies.{has_environment, first_locals, initialiser_of, no_home, opened}
+use Rattle.ns_send.specs.Control.{Progress, in_world, Activation, FromBody, Part, Skip, Stop, EnterPart, charged}
+use Rattle.ns_send.specs.Bodies.{has_environment, first_locals, parameters_of, initialiser_of, no_home, opened}
 use Rattle.ns_send.specs.Classes.{super_selector, factory_selector, declared_part, object_part, part_of, super_part}
 use Rattle.ns_send.specs.Lawful.{LawfulRun, LawfulPart, FitsActivation}
 use Rattle.ns_send.specs.Onward.{part_reached}
-use Rattle.ns_send.specs.Fitting.{FitsNextPart}
+use Rattle.ns_send.specs.Fitting.{kind_of, StandsWell, FitsEntered, FitsNextPart, EntersPart, FitsMessage}
 use Rattle.ns_send.proofs.Onward.{charged_all}
 use Rattle.ns_send.proofs.ClassesOnward.{super_onward}
 use Rattle.ns_send.proofs.LawfulParts.{super_lawful}
 use Rattle.ns_send.proofs.Suiting.{object_holders, above_too}
 use Rattle.ns_send.proofs.Places.{holder_live}
-use Rattle.ns_send.proofs.Running.{RunsBody, body_runs, instance_fits}
-use Rattle.ns_send.proofs.Fitting.{runs_last, class_there}
+use Rattle.ns_send.proofs.Running.{RunsBody, own_params, body_runs, instance_fits}
+use Rattle.ns_send.proofs.Opening.{Around, nothing_around, opened_bare, opened_over}
+use Rattle.ns_send.proofs.Fitting.{entered_here, body_lasts, class_there}
 
--- What is to be shown of a part, where the run goes on lawfully.
-abbrev PartLater : World → CodeProgram → Part → Type 0
-PartLater old code (Skip progress) = Unit {0}
-PartLater old code (Stop ending progress) = Unit {0}
-PartLater old code (EnterPart activation locals progress) = RunsOn code old progress.world → FitsActivation progress.world.cells code activation
+-- What is to be shown of a part, where the run goes on lawfully and its arguments are counted.
+abbrev PartLater : World → CodeProgram → Type 0 → Part → Type 0
+PartLater old code Counted (Skip progress) = Unit {0}
+PartLater old code Counted (Stop ending progress) = Unit {0}
+PartLater old code Counted (EnterPart activation locals progress) =
+    RunsOn code old progress.world → (FitsActivation progress.world.cells code activation × (kind_of code activation.body ≡ initialiser_kind)) × (Counted → FitsEntered progress.world.cells code activation locals)
 
-opened_part : (old : World) (code : CodeProgram) (activation : Activation) (arguments : List Value) (progress : Progress) → RunsBody old.cells code activation.self activation.holder activation.body
-    → PartLater old code (opened code Stop EnterPart activation arguments progress)
-opened_part old code activation arguments progress runs = tested (has_environment code activation.body)
+opened_part : (old : World) (code : CodeProgram) (Counted : Type 0) (activation : Activation) (arguments : List Value) (progress : Progress) (params : ℕ) → RunsBody old.cells code activation.self activation.holder activation.body initialiser_kind params
+    → (Counted → length arguments ≡ params) → ((heap : Heap) → StandsWell code activation.body → Around heap code activation.body activation.env) → PartLater old code Counted (opened code Stop EnterPart activation arguments progress)
+opened_part old code Counted activation arguments progress params runs counts outer = tested (has_environment code activation.body) refl
   where
     locals : List Value
     locals = first_locals code activation.body arguments
@@ -52,9 +56,19 @@ opened_part old code activation arguments progress runs = tested (has_environmen
     inner : Activation
     inner = record activation { env = Ref (heap_size progress.world.cells) }
 
-    tested : (b : Bool) → PartLater old code (cond b (charged Stop Cells (made progress.world (EnvironmentCell activation.env locals)) progress (EnterPart inner [])) (EnterPart activation locals progress))
-    tested true = charged_all (PartLater old code) Stop Cells (made progress.world (EnvironmentCell activation.env locals)) progress (EnterPart inner []) tt (λ world e. λ run. runs_last code old world inner runs run)
-    tested false = λ run. runs_last code old progress.world activation runs run
+    cell : Cell
+    cell = EnvironmentCell activation.env locals
+
+    tested : (b : Bool) → has_environment code activation.body ≡ b → PartLater old code Counted (cond b (charged Stop Cells (made progress.world cell) progress (EnterPart inner [])) (EnterPart activation locals progress))
+    tested true b = charged_all (PartLater old code Counted) Stop Cells (made progress.world cell) progress (EnterPart inner []) tt
+        (λ world e. λ run.
+        let here = body_lasts code old world inner initialiser_kind params runs run in
+        let opens = opened_over code progress.world world activation.body activation.env arguments b e in
+        ((record { live = here.live; there = here.there; fits = here.fits }, here.kind_is), λ c. (entered_here code world FromBody inner activation.env arguments [] initialiser_kind params here (counts c) opens (outer world.cells) tt refl tt).0))
+    tested false b = λ run.
+        let here = body_lasts code old progress.world activation initialiser_kind params runs run in
+        let opens = opened_bare progress.world.cells code activation.body activation.env arguments b in
+        ((record { live = here.live; there = here.there; fits = here.fits }, here.kind_is), λ c. (entered_here code progress.world FromBody activation activation.env arguments locals initialiser_kind params here (counts c) opens (outer progress.world.cells) tt refl tt).0)
 
 -- a declared superclass of a holder is in the chain too
 above_has : (world : World) (code : CodeProgram) (self : Value) (holder over : ℕ) → IsLawful world code → HasHolder world.cells self holder → superclass_of world.cells holder ≡ over → is_class (find_cell world.cells over) ≡ true → HasHolder world.cells self over
@@ -86,15 +100,35 @@ above_has world code (Int number) holder over lawful has super is = absurd has
 above_has world code (Sym name) holder over lawful has super is = absurd has
 above_has world code (Kernel class) holder over lawful has super is = absurd has
 
--- so its initialiser runs with self
-initialiser_runs : (world : World) (code : CodeProgram) (self : Value) (over : ℕ) → IsLawful world code → HasHolder world.cells self over → is_class (find_cell world.cells over) ≡ true → RunsBody world.cells code self over (initialiser_of code (declaration_of world.cells over))
-initialiser_runs world code (Ref at) over lawful has is = declared (slice_get code.classes (declaration_of world.cells over)) refl
+-- The initialiser of a class runs with a self, and takes as many arguments as its factory.
+record Initialises (world : World) (code : CodeProgram) (self : Value) (over : ℕ) : Type 0 where
+  runs : (let init : ℕ = initialiser_of code (declaration_of world.cells over) in RunsBody world.cells code self over init initialiser_kind (parameters_of code init))
+  takes : selector_arity code (factory_selector code (declaration_of world.cells over)) ≡ parameters_of code (initialiser_of code (declaration_of world.cells over))
+
+factory_takes : (world : World) (code : CodeProgram) (over : ℕ) → IsLawful world code → is_class (find_cell world.cells over) ≡ true
+    → selector_arity code (factory_selector code (declaration_of world.cells over)) ≡ parameters_of code (initialiser_of code (declaration_of world.cells over))
+factory_takes world code over lawful is = declared (slice_get code.classes (declaration_of world.cells over)) refl
   where
-    declared : (o : Option ClassCode) → slice_get code.classes (declaration_of world.cells over) ≡ o → RunsBody world.cells code (Ref at) over (option_map_or (λ (c : ClassCode). c.init) o 0)
+    declared : (o : Option ClassCode) → slice_get code.classes (declaration_of world.cells over) ≡ o → selector_arity code (factory_selector code (declaration_of world.cells over)) ≡ parameters_of code (initialiser_of code (declaration_of world.cells over))
+    declared (Some c) e =
+        let begins = named_factory world.cells code over c.factory.0 lawful.classes (record { declared = c; class_is = e; sel_is = refl }) in
+        let factory : factory_selector code (declaration_of world.cells over) ≡ c.factory.0 = ap (λ o. option_map_or (λ (class : ClassCode). class.factory.0) o 0) e in
+        let init : initialiser_of code (declaration_of world.cells over) ≡ begins.declared.init = ap (λ o. option_map_or (λ (class : ClassCode). class.init) o 0) begins.class_is in
+        let params : parameters_of code begins.declared.init ≡ selector_arity code c.factory.0 = ap (λ o. option_map_or (λ (b : BodyCode). b.params) o 0) begins.body.body_is ∙ begins.body.params_are in
+        ap (selector_arity code) factory ∙ sym (ap (parameters_of code) init ∙ params)
+    declared None e = let l = class_there world code over lawful is in absurd (cc)
+
+-- so its initialiser runs with self
+initialiser_runs : (world : World) (code : CodeProgram) (self : Value) (over : ℕ) → IsLawful world code → HasHolder world.cells self over → is_class (find_cell world.cells over) ≡ true → Initialises world code self over
+initialiser_runs world code (Ref at) over lawful has is = record { runs = declared (slice_get code.classes (declaration_of world.cells over)) refl; takes = factory_takes world code over lawful is }
+  where
+    declared : (o : Option ClassCode) → slice_get code.classes (declaration_of world.cells over) ≡ o
+        → RunsBody world.cells code (Ref at) over (option_map_or (λ (c : ClassCode). c.init) o 0) initialiser_kind (parameters_of code (option_map_or (λ (c : ClassCode). c.init) o 0))
     declared (Some c) e =
         let body = initialiser_there code (declaration_of world.cells over) c lawful.classes e in
-        body_runs world.cells code (Ref at) over c.init initialiser_kind instance_side (declaration_of world.cells over) c.params body (holder_live world.cells code (Ref at) over has)
-        (instance_fits world.cells code at over body.body is body.class_is body.side_is has)
+        own_params world.cells code (Ref at) over c.init initialiser_kind c.params
+        (body_runs world.cells code (Ref at) over c.init initialiser_kind instance_side (declaration_of world.cells over) c.params body (holder_live world.cells code (Ref at) over has)
+        (instance_fits world.cells code at over body.body is body.class_is body.side_is has))
     declared None e = let l = class_there world code over lawful is in absurd (cc)
 initialiser_runs world code Nil over lawful has is = absurd has
 initialiser_runs world code True over lawful has is = absurd has
@@ -103,40 +137,47 @@ initialiser_runs world code (Int number) over lawful has is = absurd has
 initialiser_runs world code (Sym name) over lawful has is = absurd has
 initialiser_runs world code (Kernel class) over lawful has is = absurd has
 
-declared_fits : (code : CodeProgram) (activation : Activation) (over sel : ℕ) (arguments : List Value) (progress : Progress) → RunsBody progress.world.cells code activation.self over (initialiser_of code (declaration_of progress.world.cells over))
-    → PartLater progress.world code (declared_part code activation over sel arguments progress)
-declared_fits code activation over sel arguments progress runs = tested (eqb sel (factory_selector code (declaration_of progress.world.cells over)))
+declared_fits : (code : CodeProgram) (Counted : Type 0) (activation : Activation) (over sel : ℕ) (arguments : List Value) (progress : Progress) → (Counted → length arguments ≡ selector_arity code sel) → Initialises progress.world code activation.self over
+    → PartLater progress.world code Counted (declared_part code activation over sel arguments progress)
+declared_fits code Counted activation over sel arguments progress counts init = tested (eqb sel (factory_selector code (declaration_of progress.world.cells over))) refl
   where
     inner : Activation
     inner = record { self = activation.self; holder = over; body = initialiser_of code (declaration_of progress.world.cells over); home = no_home; env = Nil; site = activation.site }
 
-    tested : (b : Bool) → PartLater progress.world code (cond b (charged Stop Depth (entered progress.world) progress (opened code Stop EnterPart inner arguments)) (Stop (error InitMismatch activation.site) progress))
-    tested true = charged_all (PartLater progress.world code) Stop Depth (entered progress.world) progress (opened code Stop EnterPart inner arguments) tt (λ world e. opened_part progress.world code inner arguments (in_world progress world) runs)
-    tested false = tt
+    outer : (heap : Heap) → StandsWell code inner.body → Around heap code inner.body Nil
+    outer heap stands = nothing_around heap code inner.body initialiser_kind init.runs.kind_is (λ e. let q : 2 ≡ 1 = e in omega (arith, q)) stands
 
-object_fits : (old : World) (code : CodeProgram) (activation : Activation) (sel : ℕ) (progress : Progress) → PartLater old code (object_part code activation sel progress)
-object_fits old code activation sel progress = tested (bytes_eq (selector_text code sel) (codes "new"))
+    tested : (b : Bool) → eqb sel (factory_selector code (declaration_of progress.world.cells over)) ≡ b
+        → PartLater progress.world code Counted (cond b (charged Stop Depth (entered progress.world) progress (opened code Stop EnterPart inner arguments)) (Stop (error InitMismatch activation.site) progress))
+    tested true t =
+        let same : sel ≡ factory_selector code (declaration_of progress.world.cells over) = eqb-true sel (factory_selector code (declaration_of progress.world.cells over)) t in
+        charged_all (PartLater progress.world code Counted) Stop Depth (entered progress.world) progress (opened code Stop EnterPart inner arguments) tt
+        (λ world e. opened_part progress.world code Counted inner arguments (in_world progress world) (parameters_of code inner.body) init.runs (λ c. counts c ∙ (ap (selector_arity code) same ∙ init.takes)) outer)
+    tested false t = tt
+
+object_fits : (old : World) (code : CodeProgram) (Counted : Type 0) (activation : Activation) (sel : ℕ) (progress : Progress) → PartLater old code Counted (object_part code activation sel progress)
+object_fits old code Counted activation sel progress = tested (bytes_eq (selector_text code sel) (codes "new"))
   where
-    tested : (b : Bool) → PartLater old code (cond b (Skip progress) (Stop (error InitMismatch activation.site) progress))
+    tested : (b : Bool) → PartLater old code Counted (cond b (Skip progress) (Stop (error InitMismatch activation.site) progress))
     tested true = tt
     tested false = tt
 
-part_fits : (code : CodeProgram) (activation : Activation) (over : Value) (sel : ℕ) (arguments : List Value) (progress : Progress)
-    → ((class : ℕ) → over ≡ Ref class → RunsBody progress.world.cells code activation.self class (initialiser_of code (declaration_of progress.world.cells class))) → PartLater progress.world code (part_of code activation over sel arguments progress)
-part_fits code activation (Ref over) sel arguments progress runs = declared_fits code activation over sel arguments progress (runs over refl)
-part_fits code activation Nil sel arguments progress runs = object_fits progress.world code activation sel progress
-part_fits code activation True sel arguments progress runs = object_fits progress.world code activation sel progress
-part_fits code activation False sel arguments progress runs = object_fits progress.world code activation sel progress
-part_fits code activation (Int number) sel arguments progress runs = object_fits progress.world code activation sel progress
-part_fits code activation (Sym name) sel arguments progress runs = object_fits progress.world code activation sel progress
-part_fits code activation (Kernel class) sel arguments progress runs = object_fits progress.world code activation sel progress
+part_fits : (code : CodeProgram) (Counted : Type 0) (activation : Activation) (over : Value) (sel : ℕ) (arguments : List Value) (progress : Progress) → (Counted → length arguments ≡ selector_arity code sel)
+    → ((class : ℕ) → over ≡ Ref class → Initialises progress.world code activation.self class) → PartLater progress.world code Counted (part_of code activation over sel arguments progress)
+part_fits code Counted activation (Ref over) sel arguments progress counts runs = declared_fits code Counted activation over sel arguments progress counts (runs over refl)
+part_fits code Counted activation Nil sel arguments progress counts runs = object_fits progress.world code Counted activation sel progress
+part_fits code Counted activation True sel arguments progress counts runs = object_fits progress.world code Counted activation sel progress
+part_fits code Counted activation False sel arguments progress counts runs = object_fits progress.world code Counted activation sel progress
+part_fits code Counted activation (Int number) sel arguments progress counts runs = object_fits progress.world code Counted activation sel progress
+part_fits code Counted activation (Sym name) sel arguments progress counts runs = object_fits progress.world code Counted activation sel progress
+part_fits code Counted activation (Kernel class) sel arguments progress counts runs = object_fits progress.world code Counted activation sel progress
 
 -- the superclass of a holder runs its initialiser
 super_initialises : (world : World) (code : CodeProgram) (self : Value) (holder : ℕ) → IsLawful world code → HasHolder world.cells self holder → (class : ℕ) → superclass_in (find_cell world.cells holder) ≡ Ref class
-    → RunsBody world.cells code self class (initialiser_of code (declaration_of world.cells class))
+    → Initialises world code self class
 super_initialises world code self holder lawful has class super = found (find_cell world.cells holder) refl super
   where
-    found : (o : Option Cell) → find_cell world.cells holder ≡ o → superclass_in o ≡ Ref class → RunsBody world.cells code self class (initialiser_of code (declaration_of world.cells class))
+    found : (o : Option Cell) → find_cell world.cells holder ≡ o → superclass_in o ≡ Ref class → Initialises world code self class
     found (Some (ClassCell decl encl holder' over)) e s =
         let l = linked world.cells holder decl encl holder' over lawful.ordered e in
         let is : is_class (find_cell world.cells class) ≡ true = ap (λ v. is_superclass world.cells v) (sym s) ∙ l.superclass in
@@ -152,15 +193,16 @@ super_initialises world code self holder lawful has class super = found (find_ce
     found (Some (MirrorCell shown)) e s = absurd (cc)
     found (Some (MessageCell name args)) e s = absurd (cc)
 
-part_now : (old : World) (code : CodeProgram) (part : Part) → IsLawful old code → IsLater old (part_reached part).world → LawfulPart code part → PartLater old code part → FitsNextPart code part
-part_now old code (Skip progress) before later lawful fits = tt
-part_now old code (Stop ending progress) before later lawful fits = tt
-part_now old code (EnterPart activation locals progress) before later lawful fits = fits (record { before = before; after = lawful.0; later = later })
+part_now : (old : World) (code : CodeProgram) (Counted : Type 0) (part : Part) → IsLawful old code → IsLater old (part_reached part).world → LawfulPart code part → PartLater old code Counted part → FitsNextPart code part × (Counted → EntersPart code part)
+part_now old code Counted (Skip progress) before later lawful fits = (tt, λ c. tt)
+part_now old code Counted (Stop ending progress) before later lawful fits = (tt, λ c. tt)
+part_now old code Counted (EnterPart activation locals progress) before later lawful fits = fits (record { before = before; after = lawful.0; later = later })
 
 pub super_part_fits : (code : CodeProgram) (activation : Activation) (arguments : List Value) (progress : Progress) → LawfulRun code progress → HasHolder progress.world.cells activation.self activation.holder → All (IsLiveValue progress.world.cells code) arguments
-    → FitsNextPart code (super_part code activation arguments progress)
+    → FitsNextPart code (super_part code activation arguments progress) × (FitsMessage progress.world.cells code activation arguments → EntersPart code (super_part code activation arguments progress))
 super_part_fits code activation arguments progress lawful has all =
-    part_now progress.world code (super_part code activation arguments progress) lawful (super_onward [] code activation arguments progress).world.later
-    (super_lawful code activation arguments progress lawful (holder_live progress.world.cells code activation.self activation.holder has) all)
-    (part_fits code activation (superclass_in (find_cell progress.world.cells activation.holder)) (super_selector code (declaration_of progress.world.cells activation.holder)) arguments progress
+    let heap = progress.world.cells in
+    part_now progress.world code (FitsMessage heap code activation arguments) (super_part code activation arguments progress) lawful (super_onward [] code activation arguments progress).world.later
+    (super_lawful code activation arguments progress lawful (holder_live heap code activation.self activation.holder has) all)
+    (part_fits code (FitsMessage heap code activation arguments) activation (superclass_in (find_cell heap activation.holder)) (super_selector code (declaration_of heap activation.holder)) arguments progress (λ message. message.arity)
     (super_initialises progress.world code activation.self activation.holder lawful has))

@@ -5,7 +5,8 @@ use Rattle.std.specs.Option.{option_map_or, ForSome}
 use Rattle.std.proofs.lemmas.Bool.{eqb-true}
 use Rattle.ns_code.specs.declared.program.CodeProgram.{CodeProgram}
 use Rattle.ns_code.specs.declared.body.BodyCode.{BodyCode}
-use Rattle.ns_code.specs.Soundness.{method_kind, instance_side, class_side}
+use Rattle.ns_code.specs.Selector.{selector_arity}
+use Rattle.ns_code.specs.Soundness.{method_kind, clause_kind, instance_side, class_side}
 use Rattle.ns_world.specs.declared.value.Value.{Value}
 use Rattle.ns_world.specs.declared.value.Value.TheVariants as value
 use Rattle.ns_world.specs.declared.cell.NewCell.TheVariants as new
@@ -28,34 +29,44 @@ use Rattle.ns_find.specs.declared.members.Side.{Side}
 use Rattle.ns_find.specs.declared.members.Side.TheVariants.{Instance as InstanceSide, Class as ClassSide}
 use Rattle.ns_find.specs.Find.{found_from, found_private, super_start}
 use Rattle.ns_find.specs.Belonging.{Belongs}
-use Rattle.ns_find.specs.Named.{IsBody, TakesArguments}
+use Rattle.ns_find.specs.Named.{IsBody, HasInitialiser, TakesArguments}
 use Rattle.ns_find.proofs.Belonging.{instance_belongs, class_belongs, kernel_belongs, private_belongs}
 use Rattle.ns_find.proofs.SoundBodies.{found_by, private_by}
 use Rattle.ns_find.specs.Find.{side_of}
 use Rattle.ns_send.specs.Control.{Activation}
-use Rattle.ns_send.specs.Bodies.{enclosing, side_at, side_of_body}
+use Rattle.ns_send.specs.Bodies.{parameters_of, enclosing, side_at, side_of_body}
 use Rattle.ns_send.specs.Lawful.{FitsActivation, declaration_at}
+use Rattle.ns_send.specs.Fitting.{kind_of}
 use Rattle.ns_send.proofs.LawfulBlocks.{body_side}
 use Rattle.ns_send.proofs.Places.{instance_body, places_fit}
 use Rattle.ns_send.proofs.Suiting.{no_holder, object_holders, above_too, one_holder}
 
--- A body runs with a self and a holder.
-pub record RunsBody (heap : Heap) (code : CodeProgram) (self : Value) (holder body : ℕ) : Type 0 where
+-- A body of a kind and with so many parameters runs with a self and a holder.
+pub record RunsBody (heap : Heap) (code : CodeProgram) (self : Value) (holder body kind params : ℕ) : Type 0 where
   pub live : IsLiveValue heap code self
   pub there : IsSome (slice_get code.bodies body)
   pub fits : ForSome (slice_get code.bodies body) (λ (b : BodyCode). FitsBody heap code b self holder)
+  pub kind_is : kind_of code body ≡ kind
+  pub params_are : parameters_of code body ≡ params
 
-pub body_runs : (heap : Heap) (code : CodeProgram) (self : Value) (holder number kind side class params : ℕ) (has : IsBody code number kind side class params) → IsLiveValue heap code self → FitsBody heap code has.body self holder → RunsBody heap code self holder number
+pub body_runs : (heap : Heap) (code : CodeProgram) (self : Value) (holder number kind side class params : ℕ) (has : IsBody code number kind side class params) → IsLiveValue heap code self → FitsBody heap code has.body self holder → RunsBody heap code self holder number kind params
 body_runs heap code self holder number kind side class params has live fits = record {
   live = live;
   there = rw (has.body_is) refl;
   fits = λ b e. let both : Some has.body ≡ Some b = sym has.body_is ∙ e in let same : has.body ≡ b = cc in subst (λ x. FitsBody heap code x self holder) same fits;
+  kind_is = ap (λ o. option_map_or (λ (b : BodyCode). b.kind) o clause_kind) has.body_is ∙ has.kind_is;
+  params_are = ap (λ o. option_map_or (λ (b : BodyCode). b.params) o 0) has.body_is ∙ has.params_are;
 }
 
--- What is found can run with a receiver as its self.
-abbrev pub Runs : Heap → CodeProgram → Value → Found → Type 0
-Runs heap code self (found.Method body holder) = RunsBody heap code self holder body
-Runs heap code self other = Unit {0}
+-- so many parameters are its own
+pub own_params : (heap : Heap) (code : CodeProgram) (self : Value) (holder body kind params : ℕ) → RunsBody heap code self holder body kind params → RunsBody heap code self holder body kind (parameters_of code body)
+own_params heap code self holder body kind params runs = record { live = runs.live; there = runs.there; fits = runs.fits; kind_is = runs.kind_is; params_are = refl }
+
+-- What is found for a selector can run with a receiver as its self, and takes as many arguments.
+abbrev pub Runs : Heap → CodeProgram → Value → ℕ → Found → Type 0
+Runs heap code self sel (found.Method body holder) = RunsBody heap code self holder body method_kind (selector_arity code sel)
+Runs heap code self sel (found.Factory class) = HasInitialiser heap code class (selector_arity code sel)
+Runs heap code self sel other = Unit {0}
 
 pub instance_fits : (heap : Heap) (code : CodeProgram) (at holder : ℕ) (body : BodyCode) → is_class (find_cell heap holder) ≡ true → body.class ≡ declaration_of heap holder → body.side ≡ instance_side → HasHolder heap (value.Ref at) holder → FitsBody heap code body (value.Ref at) holder
 instance_fits heap code at holder body is class side has = (is, sym class, λ s. has, λ s. absurd (let q : 0 ≡ 1 = sym side ∙ s in omega (arith, q)))
@@ -67,52 +78,52 @@ class_fits heap code at holder body is class side self has = (is, sym class, λ 
 -- ---- by the chain in which it is found
 
 instance_runs : (heap : Heap) (code : CodeProgram) (at : ℕ) (chain : List ℕ) (sel : ℕ) (f : Found) → IsLiveValue heap code (value.Ref at) → ((holder : ℕ) → Contains chain holder → HasHolder heap (value.Ref at) holder × (is_class (find_cell heap holder) ≡ true))
-    → Belongs heap code InstanceSide chain [] f → TakesArguments heap code InstanceSide sel f → Runs heap code (value.Ref at) f
+    → Belongs heap code InstanceSide chain [] f → TakesArguments heap code InstanceSide sel f → Runs heap code (value.Ref at) sel f
 instance_runs heap code at chain sel (found.Method body holder) live among b t =
     let h = among holder b.0 in
     body_runs heap code (value.Ref at) holder body method_kind instance_side (declaration_of heap holder) _ t live (instance_fits heap code at holder t.body h.1 t.class_is t.side_is h.0)
 instance_runs heap code at chain sel (found.Getter holder word) live among b t = tt
 instance_runs heap code at chain sel (found.Setter holder word) live among b t = tt
 instance_runs heap code at chain sel (found.Nested class holder) live among b t = tt
-instance_runs heap code at chain sel (found.Factory class) live among b t = tt
+instance_runs heap code at chain sel (found.Factory class) live among b t = t
 instance_runs heap code at chain sel (found.Kernel number) live among b t = tt
 instance_runs heap code at chain sel found.NotPublic live among b t = tt
 instance_runs heap code at chain sel found.Absent live among b t = tt
 
 side_runs : (heap : Heap) (code : CodeProgram) (at : ℕ) (chain factories : List ℕ) (sel : ℕ) (f : Found) → IsLiveValue heap code (value.Ref at) → is_class (find_cell heap at) ≡ true
-    → ((holder : ℕ) → Contains chain holder → Contains (chain_of heap at) holder × (is_class (find_cell heap holder) ≡ true)) → Belongs heap code ClassSide chain factories f → TakesArguments heap code ClassSide sel f → Runs heap code (value.Ref at) f
+    → ((holder : ℕ) → Contains chain holder → Contains (chain_of heap at) holder × (is_class (find_cell heap holder) ≡ true)) → Belongs heap code ClassSide chain factories f → TakesArguments heap code ClassSide sel f → Runs heap code (value.Ref at) sel f
 side_runs heap code at chain factories sel (found.Method body holder) live self among b t =
     let h = among holder b.0 in
     body_runs heap code (value.Ref at) holder body method_kind class_side (declaration_of heap holder) _ t live (class_fits heap code at holder t.body h.1 t.class_is t.side_is self h.0)
 side_runs heap code at chain factories sel (found.Getter holder word) live self among b t = tt
 side_runs heap code at chain factories sel (found.Setter holder word) live self among b t = tt
 side_runs heap code at chain factories sel (found.Nested class holder) live self among b t = tt
-side_runs heap code at chain factories sel (found.Factory class) live self among b t = tt
+side_runs heap code at chain factories sel (found.Factory class) live self among b t = t
 side_runs heap code at chain factories sel (found.Kernel number) live self among b t = tt
 side_runs heap code at chain factories sel found.NotPublic live self among b t = tt
 side_runs heap code at chain factories sel found.Absent live self among b t = tt
 
 -- rows of the kernel are no methods
-none_runs : (heap : Heap) (code : CodeProgram) (receiver : Value) (f : Found) → Belongs heap code InstanceSide [] [] f → Runs heap code receiver f
-none_runs heap code receiver (found.Method body holder) b = absurd (no_holder holder b.0)
-none_runs heap code receiver (found.Getter holder word) b = tt
-none_runs heap code receiver (found.Setter holder word) b = tt
-none_runs heap code receiver (found.Nested class holder) b = tt
-none_runs heap code receiver (found.Factory class) b = tt
-none_runs heap code receiver (found.Kernel number) b = tt
-none_runs heap code receiver found.NotPublic b = tt
-none_runs heap code receiver found.Absent b = tt
+none_runs : (heap : Heap) (code : CodeProgram) (receiver : Value) (sel : ℕ) (f : Found) → Belongs heap code InstanceSide [] [] f → Runs heap code receiver sel f
+none_runs heap code receiver sel (found.Method body holder) b = absurd (no_holder holder b.0)
+none_runs heap code receiver sel (found.Getter holder word) b = tt
+none_runs heap code receiver sel (found.Setter holder word) b = tt
+none_runs heap code receiver sel (found.Nested class holder) b = tt
+none_runs heap code receiver sel (found.Factory class) b = absurd (no_holder class b)
+none_runs heap code receiver sel (found.Kernel number) b = tt
+none_runs heap code receiver sel found.NotPublic b = tt
+none_runs heap code receiver sel found.Absent b = tt
 
-row_runs : (heap : Heap) (code : CodeProgram) (receiver : Value) (r : KernelRow) (sel : ℕ) (kind : Sending) → Runs heap code receiver (found_from heap code (start.Kernel r) sel kind)
-row_runs heap code receiver r sel kind = none_runs heap code receiver (found_from heap code (start.Kernel r) sel kind) (kernel_belongs heap code InstanceSide r sel kind)
+row_runs : (heap : Heap) (code : CodeProgram) (receiver : Value) (r : KernelRow) (sel : ℕ) (kind : Sending) → Runs heap code receiver sel (found_from heap code (start.Kernel r) sel kind)
+row_runs heap code receiver r sel kind = none_runs heap code receiver sel (found_from heap code (start.Kernel r) sel kind) (kernel_belongs heap code InstanceSide r sel kind)
 
 -- ---- sends to a value
 
-pub found_runs : (world : World) (code : CodeProgram) (receiver : Value) (sel : ℕ) (kind : Sending) → IsLawful world code → IsLiveValue world.cells code receiver → Runs world.cells code receiver (found_from world.cells code (start_of world.cells receiver) sel kind)
+pub found_runs : (world : World) (code : CodeProgram) (receiver : Value) (sel : ℕ) (kind : Sending) → IsLawful world code → IsLiveValue world.cells code receiver → Runs world.cells code receiver sel (found_from world.cells code (start_of world.cells receiver) sel kind)
 found_runs world code (value.Ref at) sel kind lawful live = cell (find_cell world.cells at) refl
   where
     runs : Start → Type 0
-    runs from = Runs world.cells code (value.Ref at) (found_from world.cells code from sel kind)
+    runs from = Runs world.cells code (value.Ref at) sel (found_from world.cells code from sel kind)
 
     cell : (o : Option Cell) → find_cell world.cells at ≡ o → runs (start_of_cell (option_map_or shape_of o (new.Mirror value.Nil)) at)
     cell None e = row_runs world.cells code (value.Ref at) row.Mirror sel kind
@@ -160,7 +171,7 @@ one_too heap at place other has t (suc k, inside, is) = absurd (omega (arith, in
 
 -- what is found of the private members of a holder in the chain of an object
 object_private : (world : World) (code : CodeProgram) (self : Value) (holder sel : ℕ) → IsLawful world code → IsLiveValue world.cells code self → HasHolder world.cells self holder → is_class (find_cell world.cells holder) ≡ true
-    → Runs world.cells code self (found_private world.cells code holder InstanceSide sel)
+    → Runs world.cells code self sel (found_private world.cells code holder InstanceSide sel)
 object_private world code (value.Ref at) holder sel lawful live has is =
     instance_runs world.cells code at (holder ∷ []) sel (found_private world.cells code holder InstanceSide sel) live (λ other c. one_holder world.cells (value.Ref at) holder other has is c)
     (private_belongs world.cells code holder InstanceSide sel) ((private_by world.cells code holder sel InstanceSide).takes lawful.classes)
@@ -172,19 +183,19 @@ object_private world code (value.Sym name) holder sel lawful live has is = absur
 object_private world code (value.Kernel class) holder sel lawful live has is = absurd has
 
 class_private : (world : World) (code : CodeProgram) (at holder sel : ℕ) → IsLawful world code → IsLiveValue world.cells code (value.Ref at) → is_class (find_cell world.cells at) ≡ true → Contains (chain_of world.cells at) holder → is_class (find_cell world.cells holder) ≡ true
-    → Runs world.cells code (value.Ref at) (found_private world.cells code holder ClassSide sel)
+    → Runs world.cells code (value.Ref at) sel (found_private world.cells code holder ClassSide sel)
 class_private world code at holder sel lawful live self has is =
     side_runs world.cells code at (holder ∷ []) [] sel (found_private world.cells code holder ClassSide sel) live self (λ other c. one_too world.cells at holder other has is c)
     (private_belongs world.cells code holder ClassSide sel) ((private_by world.cells code holder sel ClassSide).takes lawful.classes)
 
 super_object : (world : World) (code : CodeProgram) (at holder sel : ℕ) → IsLawful world code → IsLiveValue world.cells code (value.Ref at) → HasHolder world.cells (value.Ref at) holder
-    → Runs world.cells code (value.Ref at) (found_from world.cells code (start.Instance (superclass_of world.cells holder)) sel Inner)
+    → Runs world.cells code (value.Ref at) sel (found_from world.cells code (start.Instance (superclass_of world.cells holder)) sel Inner)
 super_object world code at holder sel lawful live has = object (find_cell world.cells at) refl has
   where
     f : Found
     f = found_from world.cells code (start.Instance (superclass_of world.cells holder)) sel Inner
 
-    object : (o : Option Cell) → find_cell world.cells at ≡ o → ForSome (class_of_object o) (λ class. Contains (chain_of world.cells class) holder) × IsSome (class_of_object o) → Runs world.cells code (value.Ref at) f
+    object : (o : Option Cell) → find_cell world.cells at ≡ o → ForSome (class_of_object o) (λ class. Contains (chain_of world.cells class) holder) × IsSome (class_of_object o) → Runs world.cells code (value.Ref at) sel f
     object (Some (ObjectCell class entries)) e h =
         let fine = (lawful.cells at (ObjectCell class entries) e).0 in
         let (k, inside, is) = h.0 class refl in
@@ -202,7 +213,7 @@ super_object world code at holder sel lawful live has = object (find_cell world.
     object (Some (MessageCell name args)) e h = let none = h.1 in absurd (cc)
 
 super_class : (world : World) (code : CodeProgram) (at holder sel : ℕ) → IsLawful world code → IsLiveValue world.cells code (value.Ref at) → is_class (find_cell world.cells at) ≡ true → Contains (chain_of world.cells at) holder
-    → Runs world.cells code (value.Ref at) (found_from world.cells code (start.ClassSide (superclass_of world.cells holder) false) sel Inner)
+    → Runs world.cells code (value.Ref at) sel (found_from world.cells code (start.ClassSide (superclass_of world.cells holder) false) sel Inner)
 super_class world code at holder sel lawful live self (k, inside, is) =
     let from : is_chain_start world.cells at ≡ true = rw self refl in
     let order = lawful_order world code lawful in
@@ -213,11 +224,11 @@ super_class world code at holder sel lawful live self (k, inside, is) =
 
 -- what running code finds of its own private members
 pub own_private : (world : World) (code : CodeProgram) (activation : Activation) (sel : ℕ) → IsLawful world code → FitsActivation world.cells code activation
-    → Runs world.cells code activation.self (found_private world.cells code activation.holder (side_of_body code activation.body) sel)
+    → Runs world.cells code activation.self sel (found_private world.cells code activation.holder (side_of_body code activation.body) sel)
 own_private world code activation sel lawful fits = there (slice_get code.bodies activation.body) refl fits.there
   where
     sided : (body : BodyCode) → slice_get code.bodies activation.body ≡ Some body → (side : Side) → side_of_body code activation.body ≡ side → (self : Value) → IsLiveValue world.cells code self → FitsBody world.cells code body self activation.holder
-        → Runs world.cells code self (found_private world.cells code activation.holder side sel)
+        → Runs world.cells code self sel (found_private world.cells code activation.holder side sel)
     sided body e InstanceSide s (value.Ref at) live f = object_private world code (value.Ref at) activation.holder sel lawful live (f.2 (instance_body code activation.body body e (body_side code activation.body body lawful.fits e) s)) f.0
     sided body e ClassSide s (value.Ref at) live f = let h = f.3 (class_body code activation.body body e s) in class_private world code at activation.holder sel lawful live h.0 h.1 f.0
     sided body e InstanceSide s value.Nil live f = absurd f
@@ -233,17 +244,17 @@ own_private world code activation sel lawful fits = there (slice_get code.bodies
     sided body e ClassSide s (value.Sym name) live f = absurd f
     sided body e ClassSide s (value.Kernel class) live f = absurd f
 
-    there : (o : Option BodyCode) → slice_get code.bodies activation.body ≡ o → IsSome o → Runs world.cells code activation.self (found_private world.cells code activation.holder (side_of_body code activation.body) sel)
+    there : (o : Option BodyCode) → slice_get code.bodies activation.body ≡ o → IsSome o → Runs world.cells code activation.self sel (found_private world.cells code activation.holder (side_of_body code activation.body) sel)
     there (Some body) e some = sided body e (side_of_body code activation.body) refl activation.self fits.live (fits.fits body e)
     there None e some = absurd (cc)
 
 -- what it finds above its holder
 pub super_runs : (world : World) (code : CodeProgram) (activation : Activation) (sel : ℕ) → IsLawful world code → FitsActivation world.cells code activation
-    → Runs world.cells code activation.self (found_from world.cells code (super_start world.cells activation.holder (side_of_body code activation.body)) sel Inner)
+    → Runs world.cells code activation.self sel (found_from world.cells code (super_start world.cells activation.holder (side_of_body code activation.body)) sel Inner)
 super_runs world code activation sel lawful fits = there (slice_get code.bodies activation.body) refl fits.there
   where
     sided : (body : BodyCode) → slice_get code.bodies activation.body ≡ Some body → (side : Side) → side_of_body code activation.body ≡ side → (self : Value) → IsLiveValue world.cells code self → FitsBody world.cells code body self activation.holder
-        → Runs world.cells code self (found_from world.cells code (super_start world.cells activation.holder side) sel Inner)
+        → Runs world.cells code self sel (found_from world.cells code (super_start world.cells activation.holder side) sel Inner)
     sided body e InstanceSide s (value.Ref at) live f = super_object world code at activation.holder sel lawful live (f.2 (instance_body code activation.body body e (body_side code activation.body body lawful.fits e) s))
     sided body e ClassSide s (value.Ref at) live f = let h = f.3 (class_body code activation.body body e s) in super_class world code at activation.holder sel lawful live h.0 h.1
     sided body e InstanceSide s value.Nil live f = absurd f
@@ -259,13 +270,13 @@ super_runs world code activation sel lawful fits = there (slice_get code.bodies 
     sided body e ClassSide s (value.Sym name) live f = absurd f
     sided body e ClassSide s (value.Kernel class) live f = absurd f
 
-    there : (o : Option BodyCode) → slice_get code.bodies activation.body ≡ o → IsSome o → Runs world.cells code activation.self (found_from world.cells code (super_start world.cells activation.holder (side_of_body code activation.body)) sel Inner)
+    there : (o : Option BodyCode) → slice_get code.bodies activation.body ≡ o → IsSome o → Runs world.cells code activation.self sel (found_from world.cells code (super_start world.cells activation.holder (side_of_body code activation.body)) sel Inner)
     there (Some body) e some = sided body e (side_of_body code activation.body) refl activation.self fits.live (fits.fits body e)
     there None e some = absurd (cc)
 
 -- what is found of the private members of a declaration around it
 pub outer_private : (world : World) (code : CodeProgram) (activation : Activation) (level decl sel : ℕ) → IsLawful world code → FitsActivation world.cells code activation → declaration_at code activation.body level ≡ Some decl
-    → Runs world.cells code (enclosing world.cells activation level).object (found_private world.cells code (enclosing world.cells activation level).holder (side_at code activation level) sel)
+    → Runs world.cells code (enclosing world.cells activation level).object sel (found_private world.cells code (enclosing world.cells activation level).holder (side_at code activation level) sel)
 outer_private world code activation zero decl sel lawful fits e = own_private world code activation sel lawful fits
 outer_private world code activation (suc level) decl sel lawful fits e =
     let p = places_fit world code activation (suc level) decl lawful fits e in

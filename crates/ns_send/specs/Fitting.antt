@@ -1,16 +1,28 @@
 -- What an action hands on is what the next one asks for.
-use Rattle.std.specs.Prelude.{IsTrue, All, Bool, true, false}
+use Rattle.std.specs.Prelude.{◌≡◌, ◌≢◌, ℕ, suc, ◌+◌, ◌<◌, ◌≤◌, nat_lt, List, length, slice_get, Option, Some, None, IsTrue, All, Bool, true, false, ◌==◌, ◌||◌, if◌then◌else◌}
+use Rattle.std.specs.Option.{option_map_or, ForSome}
+use Rattle.ns_base.specs.declared.place.Place.{Place as SourcePlace}
 use Rattle.ns_code.specs.declared.program.CodeProgram.{CodeProgram}
+use Rattle.ns_code.specs.declared.body.BodyCode.{BodyCode}
+use Rattle.ns_code.specs.Selector.{is_selector_number, selector_arity}
+use Rattle.ns_code.specs.Soundness.{method_kind, block_kind, initialiser_kind, clause_kind}
 use Rattle.ns_world.specs.declared.value.Value.{Value}
 use Rattle.ns_world.specs.declared.value.Value.TheVariants.{True, False, Ref}
+use Rattle.ns_world.specs.declared.cell.NewCell.{NewCell}
+use Rattle.ns_world.specs.declared.cell.NewCell.TheVariants as new
+use Rattle.ns_world.specs.declared.kernel.ClassName.{ClassName}
+use Rattle.ns_world.specs.declared.kernel.ClassName.TheVariants as name
 use Rattle.ns_world.specs.Heap.{Heap}
-use Rattle.ns_world.specs.Lawful.{IsLiveValue, HasHolder}
+use Rattle.ns_world.specs.Layout.{declaration_of}
+use Rattle.ns_world.specs.Lawful.{IsLiveValue, HasHolder, FitsEnvironment, parent_of}
 use Rattle.ns_kdata.specs.Arguments.{items_of, is_array}
 use Rattle.ns_kcode.specs.declared.state.KMethod.{KMethod}
 use Rattle.ns_kcode.specs.declared.state.KMethod.TheVariants as method
 use Rattle.ns_kcode.specs.declared.state.KState.{KState}
-use Rattle.ns_send.specs.Control.{Progress, Control, Now, Enter, Evaluate, Begin, Perform, Part, Skip, Stop, EnterPart, Waiting, Waits, Finishes}
-use Rattle.ns_send.specs.Classes.{super_part}
+use Rattle.ns_send.specs.declared.site.Site.{Site}
+use Rattle.ns_send.specs.Control.{Progress, Activation, Exit, FromMethod, FromBody, FromClause, Control, Now, Enter, Evaluate, Begin, Perform, Part, Skip, Stop, EnterPart, Waiting, Waits, Finishes}
+use Rattle.ns_send.specs.Bodies.{parameters_of, locals_of, has_environment, clause_of, no_home}
+use Rattle.ns_send.specs.Classes.{super_selector, super_part}
 use Rattle.ns_send.specs.Blocks.{is_block, is_integer, has_arguments, evaluated, method_next}
 use Rattle.ns_send.specs.Sends.{sent, sent_plain, performed}
 use Rattle.ns_send.specs.Lawful.{FitsActivation, FitsExit, FitsSelector, FitsTarget}
@@ -41,12 +53,56 @@ pub record FitsMethod (heap : Heap) (method : KMethod) (state : KState) : Type 0
   pub arguments : IsTrue (has_arguments heap method state.first state.second)
   pub receiver : IsTrue (belongs_to heap state.receiver method)
 
--- A body that is entered fits its self and its holder, and its end can be met; what is evaluated is a block; a
+-- the kind of a body
+abbrev pub kind_of : CodeProgram → ℕ → ℕ
+kind_of code body = option_map_or (λ (b : BodyCode). b.kind) (slice_get code.bodies body) clause_kind
+
+-- whether an end is that of a body of a kind
+abbrev pub ends_kind : Exit → ℕ → Bool
+ends_kind FromMethod kind = kind == method_kind
+ends_kind FromBody kind = kind == block_kind || kind == initialiser_kind
+ends_kind (FromClause object holder class) kind = kind == clause_kind
+
+-- The end of a clause names the self and the holder that run it, and the class whose clause it is.
+abbrev pub EndsOwn : CodeProgram → Exit → Activation → Type 0
+EndsOwn code (FromClause object holder class) activation =
+    (activation.self ≡ Ref object) × (activation.holder ≡ holder) × (clause_of code class ≡ Some activation.body)
+EndsOwn code exit activation = Unit {0}
+
+-- The end of a body that is entered can be met, and is that of a body of its kind.
+pub record FitsEnd (heap : Heap) (code : CodeProgram) (exit : Exit) (activation : Activation) : Type 0 where
+  pub met : FitsExit heap code exit
+  pub kind : IsTrue (ends_kind exit (kind_of code activation.body))
+  pub own : EndsOwn code exit activation
+
+-- how many locals stand beside an activation
+abbrev pub locals_beside : CodeProgram → ℕ → ℕ
+locals_beside code body = if has_environment code body then 0 else locals_of code body
+
+-- the body whose locals the environment of an activation has: its own, or the one around it
+abbrev pub environment_body : CodeProgram → ℕ → Option ℕ
+environment_body code body = if has_environment code body then Some body else parent_of code body
+
+-- What holds of all code that was verified: the parameters of a body are among its locals, and one that is no
+-- block stands in no other.
+pub record StandsWell (code : CodeProgram) (body : ℕ) : Type 0 where
+  pub parameters : parameters_of code body ≤ locals_of code body
+  pub alone : kind_of code body ≢ block_kind → parent_of code body ≡ None
+
+-- A body that is entered fits its self, its holder and its environment, and has all of its locals.
+pub record FitsEntered (heap : Heap) (code : CodeProgram) (activation : Activation) (locals : List Value) : Type 0 where
+  pub fits : FitsActivation heap code activation
+  pub beside : StandsWell code activation.body → length locals ≡ locals_beside code activation.body
+  pub environment : StandsWell code activation.body
+      → FitsEnvironment (activation.body + 1) heap code (environment_body code activation.body) activation.env
+
+-- A body that is entered fits, and so does its end; what is evaluated is a block; a
 -- method of the kernel has a receiver and arguments of the kinds that it asks for; and a send that waits has a
 -- selector and as many live arguments as it takes.
 abbrev pub FitsNext : CodeProgram → Control → Type 0
 FitsNext code (Now after) = Unit {0}
-FitsNext code (Enter exit activation locals progress) = FitsActivation progress.world.cells code activation × FitsExit progress.world.cells code exit
+FitsNext code (Enter exit activation locals progress) =
+    FitsEntered progress.world.cells code activation locals × FitsEnd progress.world.cells code exit activation
 FitsNext code (Evaluate block arguments site progress) = IsTrue (is_block progress.world.cells block)
 FitsNext code (Begin method state site progress) = FitsMethod progress.world.cells method state
 FitsNext code (Perform receiver sel array site progress) = FitsSelector progress.world.cells code sel (items_of progress.world.cells (Ref array))
@@ -55,12 +111,53 @@ FitsNext code (Perform receiver sel array site progress) = FitsSelector progress
 abbrev pub FitsNextPart : CodeProgram → Part → Type 0
 FitsNextPart code (Skip progress) = Unit {0}
 FitsNextPart code (Stop ending progress) = Unit {0}
-FitsNextPart code (EnterPart activation locals progress) = FitsActivation progress.world.cells code activation
+FitsNextPart code (EnterPart activation locals progress) =
+    FitsActivation progress.world.cells code activation × (kind_of code activation.body ≡ initialiser_kind)
+
+-- It has all of its locals and fits its environment as well.
+abbrev pub EntersPart : CodeProgram → Part → Type 0
+EntersPart code (EnterPart activation locals progress) = FitsEntered progress.world.cells code activation locals
+EntersPart code other = Unit {0}
+
+-- So it is where a superclass message has as many arguments as it takes, which holds of all code that was verified.
+pub record FitsMessage (heap : Heap) (code : CodeProgram) (activation : Activation) (arguments : List Value) : Type 0 where
+  pub arity : length arguments ≡ selector_arity code (super_selector code (declaration_of heap activation.holder))
 
 -- A method of the kernel that waits for a block evaluates one, and keeps its receiver and its arguments.
 abbrev pub FitsNextWaiting : KMethod → Waiting → Type 0
 FitsNextWaiting method (Waits block arguments state progress) = IsTrue (is_block progress.world.cells block) × FitsMethod progress.world.cells method state
 FitsNextWaiting method (Finishes after) = Unit {0}
+
+-- whether a class name names a declaration of the code, or a class of the kernel
+abbrev pub names_class : CodeProgram → ClassName → Bool
+names_class code (name.Declared decl) = nat_lt decl (length code.classes)
+names_class code (name.ClassOf decl) = nat_lt decl (length code.classes)
+names_class code (name.Kernel row) = true
+
+-- A site names a file of the code, where it has a place, a class and a selector.
+pub record FitsSite (code : CodeProgram) (site : Site) : Type 0 where
+  pub place : ForSome site.place (λ (place : SourcePlace). place.file < length code.files)
+  pub class : IsTrue (names_class code site.class)
+  pub sel : IsTrue (is_selector_number code site.sel.0)
+
+-- the home of a block
+abbrev pub home_in : NewCell → ℕ
+home_in (new.Block body env home receiver holder) = home
+home_in cell = no_home
+
+-- The home of a method is its own activation, which has just begun; a block's is given, and all else has none.
+abbrev pub HasHome : ℕ → Exit → Activation → Progress → Type 0
+HasHome home FromMethod activation progress = suc activation.home ≡ progress.begun
+HasHome home FromBody activation progress = activation.home ≡ home
+HasHome home exit activation progress = activation.home ≡ no_home
+
+-- What goes on has this site and its home, and a block is evaluated with at most 255 arguments where that is asked.
+abbrev pub GoesOnAt : Type 0 → Site → ℕ → Control → Type 0
+GoesOnAt Few site home (Now after) = Unit {0}
+GoesOnAt Few site home (Enter exit activation locals progress) = (activation.site ≡ site) × HasHome home exit activation progress
+GoesOnAt Few site home (Evaluate block arguments at progress) = (at ≡ site) × (Few → length arguments ≤ 255)
+GoesOnAt Few site home (Begin method state at progress) = at ≡ site
+GoesOnAt Few site home (Perform receiver sel array at progress) = at ≡ site
 
 -- What the actions that go on elsewhere ask for: a send one that can be made, with arguments that fit its
 -- selector, an evaluation live arguments, a superclass part a self with the holder in its chain as well, and a
@@ -83,6 +180,8 @@ HandsOn code (Sends activation target sel values place) progress = FitsNext code
 HandsOn code (SendsPlain receiver sel values place) progress = FitsNext code (sent_plain code receiver sel values place progress)
 HandsOn code (Performs receiver sel array site) progress = FitsNext code (performed code receiver sel array site progress)
 HandsOn code (Evaluates block arguments site) progress = FitsNext code (evaluated code block arguments site progress)
-HandsOn code (BeginsPart activation arguments) progress = FitsNextPart code (super_part code activation arguments progress)
+HandsOn code (BeginsPart activation arguments) progress =
+    FitsNextPart code (super_part code activation arguments progress)
+    × (FitsMessage progress.world.cells code activation arguments → EntersPart code (super_part code activation arguments progress))
 HandsOn code (Continues method state site) progress = FitsNextWaiting method (method_next method state site progress)
 HandsOn code other progress = Unit {0}

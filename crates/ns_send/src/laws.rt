@@ -1,27 +1,29 @@
 //! What holds of every action. Each function does nothing, and its contract is the law.
 
-ghost use Rattle.std.specs.Prelude.{ℕ, [], ◌∷◌, List, length, Option, All, IsTrue};
+ghost use Rattle.std.specs.Prelude.{ℕ, ◌<◌, ◌≤◌, [], ◌∷◌, List, length, Option, All, IsTrue};
+ghost use Rattle.std.specs.Option.{ForSome};
 ghost use Rattle.ns_base.specs.declared.place.Place.{Place};
 ghost use Rattle.ns_base.specs.declared.selector.Sel.{Sel};
 ghost use Rattle.ns_code.specs.declared.program.CodeProgram.{CodeProgram};
+ghost use Rattle.ns_code.specs.Selector.{is_selector_number};
 ghost use Rattle.ns_world.specs.declared.value.Value.{Value};
 ghost use Rattle.ns_world.specs.declared.value.Value.TheVariants.{Ref};
 ghost use Rattle.ns_world.specs.Cell.{Cell};
 ghost use Rattle.ns_world.specs.Later.{IsLater, Lasts, Unchanged};
-ghost use Rattle.ns_world.specs.Lawful.{IsLiveValue, BlockIsLawful};
-ghost use Rattle.ns_kdata.specs.Arguments.{items_of, is_array};
+ghost use Rattle.ns_world.specs.Lawful.{IsLiveValue, IsEnvironmentOrNil, BlockIsLawful};
+ghost use Rattle.ns_kdata.specs.Arguments.{shape_of_value, items_of, is_array};
 ghost use Rattle.ns_kcode.specs.declared.state.KMethod.{KMethod};
 ghost use Rattle.ns_kcode.specs.declared.state.KState.{KState};
 ghost use Rattle.ns_send.specs.declared.site.Site.{Site};
 ghost use Rattle.ns_send.specs.Control.{Progress, Activation, Exit};
 ghost use Rattle.ns_send.specs.Classes.{super_part, body_ended, slot_filled, kept_by};
-ghost use Rattle.ns_send.specs.Bodies.{environment_at, local_stored};
+ghost use Rattle.ns_send.specs.Bodies.{no_home, environment_at, local_stored};
 ghost use Rattle.ns_send.specs.Blocks.{new_cell, new_block, new_text, new_array, evaluated, method_next, is_block};
-ghost use Rattle.ns_send.specs.Sends.{Target, receiver_of, sent, sent_plain, performed};
+ghost use Rattle.ns_send.specs.Sends.{Target, receiver_of, site_at, sent, sent_plain, performed};
 ghost use Rattle.ns_send.specs.Lawful.{LawfulRun, LawfulAfter, LawfulControl, LawfulPart, LawfulWaiting, LiveState, LiveActivation, FitsActivation, FitsTarget, FitsSelector, FitsExit, FitsSlot, FitsLocal};
 ghost use Rattle.ns_send.specs.Actions.{Action, progress_after};
 ghost use Rattle.ns_send.specs.Spending.{Spends};
-ghost use Rattle.ns_send.specs.Fitting.{FitsMethod, Asks, HandsOn};
+ghost use Rattle.ns_send.specs.Fitting.{FitsMethod, FitsSite, GoesOnAt, home_in, Asks, HandsOn};
 ghost use Rattle.ns_send.specs.Onward.{Onward, touched, reached, after_reached, part_reached, waiting_reached};
 
 /// No send changes a limit, lowers a counter but depth, takes back what was printed, or changes a
@@ -59,13 +61,15 @@ pub fn actions_spend_exactly()
 {}
 
 /// What frames ask of their values lasts while the run goes on: running code fits its self and its
-/// holder, its values are live, its end can be met, and its sends and its slots are there.
+/// holder, its values are live, its end can be met, and its sends, its slots and its locals are
+/// there.
 pub fn frames_last()
     ensures fits { (activation : Activation) → Lasts (λ heap code. FitsActivation heap code activation) }
     ensures live { (activation : Activation) (beside : List Value) → Lasts (λ heap code. LiveActivation heap code activation beside) }
     ensures exits { (exit : Exit) → Lasts (λ heap code. FitsExit heap code exit) }
     ensures targets { (activation : Activation) (target : Target) → Lasts (λ heap code. FitsTarget heap code activation target) }
     ensures slots { (activation : Activation) (slot : ℕ) → Lasts (λ heap code. FitsSlot heap code activation slot) }
+    ensures locals { (activation : Activation) (hops : ℕ) → Lasts (λ heap code. IsEnvironmentOrNil heap activation.env × FitsLocal heap code activation hops) }
 {}
 
 /// So does what is asked where a send, a block or a method of the kernel waits; a block stays one, and
@@ -112,10 +116,25 @@ pub fn values_keep_lawful()
 {}
 
 /// In a lawful run a send, an evaluation, a superclass part and a method of the kernel that waits
-/// hand on what the next action asks for: a body that fits its self and its holder, with an end
-/// that can be met; a block that is to be evaluated; a method of the kernel with a receiver and
-/// arguments of its kinds; or a send that waits, with a selector and as many live arguments as it
-/// takes.
+/// hand on what the next action asks for: a body that fits its self, its holder and its
+/// environment and has all of its locals, with an end of its kind that can be met; a block that is
+/// to be evaluated; a method of the kernel with a receiver and arguments of its kinds; or a send
+/// that waits, with a selector and as many live arguments as it takes.
 pub fn what_is_handed_on_fits()
     ensures { (code : CodeProgram) (action : Action) (progress : Progress) → LawfulRun code progress → Asks code action progress → HandsOn code action progress }
+{}
+
+/// In a lawful run the site of a send names a class of the code and its selector, and a file of the
+/// code where its place is in one.
+pub fn sites_fit()
+    ensures { (code : CodeProgram) (receiver : Value) (sel : Sel) (place : Option Place) (progress : Progress) → LawfulRun code progress → IsTrue (is_selector_number code sel.0) → ForSome place (λ (place : Place). place.file < length code.files) → FitsSite code (site_at progress.world.cells place receiver sel) }
+{}
+
+/// What a send or an evaluation goes on with keeps its site; a method's home is its own activation,
+/// that of a block's body is the block's, and a clause and an initialiser have none; and a block is
+/// evaluated with at most 255 arguments where there are no more.
+pub fn sites_stay()
+    ensures sent { (code : CodeProgram) (activation : Activation) (target : Target) (sel : Sel) (values : List Value) (place : Option Place) (progress : Progress) → GoesOnAt (length values ≤ 255) (site_at progress.world.cells place (receiver_of progress.world.cells activation target) sel) no_home (sent code activation target sel values place progress) }
+    ensures plain { (code : CodeProgram) (receiver : Value) (sel : Sel) (values : List Value) (place : Option Place) (progress : Progress) → GoesOnAt (length values ≤ 255) (site_at progress.world.cells place receiver sel) no_home (sent_plain code receiver sel values place progress) }
+    ensures evaluated { (code : CodeProgram) (block : Value) (arguments : List Value) (site : Site) (progress : Progress) → GoesOnAt (length arguments ≤ 255) site (home_in (shape_of_value progress.world.cells block)) (evaluated code block arguments site progress) }
 {}

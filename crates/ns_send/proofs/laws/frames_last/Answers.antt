@@ -1,4 +1,5 @@
 use Rattle.ns_send.proofs.Lasting.{activation_lasts, locals_last, exit_lasts, target_lasts, slot_lasts}
+use Rattle.ns_send.proofs.LocalsLast.{local_lasts}
 use Rattle.ns_send.proofs.laws.frames_last.Goals as goal
 
 pub returns-clause-fits : goal.returns-clause-fits
@@ -15,3 +16,6 @@ returns-clause-targets c = target_lasts
 
 pub returns-clause-slots : goal.returns-clause-slots
 returns-clause-slots c = slot_lasts
+
+pub returns-clause-locals : goal.returns-clause-locals
+returns-clause-locals c = local_lasts
