@@ -1,0 +1,13 @@
+//! The generator: the code of a program in which every name has its meaning, written in one pass.
+#![tactic(auto)]
+
+pub mod counting;
+pub mod draft;
+pub mod fault;
+pub mod here;
+pub mod keys;
+pub mod literals;
+pub mod reach;
+pub mod receiver;
+pub mod sets;
+pub mod writer;
