@@ -1,6 +1,9 @@
 -- Messages in turn to one receiver are the cascade.
 use Rattle.std.proofs.Common.{◌≡◌, ◌<◌, ℕ, ◌+◌, zero, suc, List, [], ◌∷◌, ◌++◌, length, refl, sym, ap, ◌∙◌, append_assoc, length-append, arith}
-use Rattle.std.specs.Prelude.{true, false}
+use Rattle.std.specs.Prelude.{true, false, ◌==◌}
+use Rattle.ns_tree.specs.declared.tree.Named.{Named}
+use Rattle.ns_tree.specs.declared.tree.Message.{Message}
+use Rattle.ns_tree.specs.PlainOf.{cascade_of}
 use Rattle.ns_tree.specs.Plain as p
 use Rattle.ns_scope.specs.declared.scope.Scope.{Scope}
 use Rattle.ns_scope.specs.Bodies as b
@@ -11,11 +14,12 @@ use Rattle.ns_meant.specs.Tables.{put_all, node_names, nodes_names, node_texts, 
 use Rattle.ns_gen.specs.Code.{Line, does, sends, plain, how_many, node_lines, nodes_lines, messages_lines}
 use Rattle.ns_write.specs.Drafts.{Written}
 use Rattle.ns_write.specs.Sending.{with_node, with_message}
-use Rattle.ns_write.specs.Cascading.{with_messages, with_pop, with_copy, with_copies, left_of, with_rest, with_first, said_kept, is_said, is_repeated}
+use Rattle.ns_write.specs.Cascading.{with_messages, with_pop, with_copy, with_copies, left_of, with_rest, with_first, said_kept, is_said, is_repeated, unset_node}
 use Rattle.ns_write.specs.declared.receiver.Receiver.{Receiver}
 use Rattle.ns_write.specs.declared.receiver.Receiver.TheVariants as v
 use Rattle.ns_gen.proofs.GoesOn.{nodes_go_on}
 use Rattle.ns_write.proofs.Composing.{written_is, put_more, behind_node}
+use Rattle.ns_write.proofs.Firsts.{left_counted}
 
 pub copies_some : (left : ℕ) (receiver : Receiver) (before : Written) → 0 < left → with_copies left receiver before ≡ with_copy receiver before
 copies_some zero receiver before h = absurd (omega (h, arith))
@@ -104,3 +108,21 @@ cascade_put here next (e.said e.to_self message) (p.more_messages at first rest)
 cascade_put here next (e.said e.to_super message) (p.more_messages at first rest) before said repeated some = absurd (let f : false ≡ true = repeated in cc)
 cascade_put here next (e.said (e.to_outer class) message) (p.more_messages at first rest) before said repeated some =
     absurd (let f : false ≡ true = repeated in cc)
+
+pub some_more : (count left : ℕ) → count ≡ left → false ≡ (count == 0) → 0 < left
+some_more zero left same h = absurd (let f : false ≡ true = h in cc)
+some_more (suc count) left same h = omega (same, arith)
+
+pub cascade_whole : (here : e.Standing) (next n1 : ℕ) (first : p.KeyExpr) (sets : List Named) (more : List (ℕ × Message)) (receiver : Receiver) (w0 w1 w2 : Written) →
+    w1 ≡ with_first here (e.key_expr_said here next first) w0 → receiver ≡ said_kept (e.key_expr_said here next first) →
+    is_said (e.key_expr_said here next first) ≡ true → n1 ≡ next + length (b.key_expr_blocks here.scope first) → is_repeated receiver ≡ true →
+    0 < length more → w2 ≡ with_rest here n1 receiver (cascade_of more) w1 →
+    w2 ≡ with_node (unset_node here next (p.expr_with sets first (cascade_of more))) w0
+cascade_whole here next n1 first sets more receiver w0 w1 w2 one is said number repeated some two =
+    let spoken = e.key_expr_said here next first in
+    let n = next + length (b.key_expr_blocks here.scope first) in
+    two
+    ∙ ap (λ k. with_rest here k receiver (cascade_of more) w1) number
+    ∙ ap (λ r. with_rest here n r (cascade_of more) w1) is
+    ∙ ap (with_rest here n (said_kept spoken) (cascade_of more)) one
+    ∙ cascade_put here n spoken (cascade_of more) w0 said (ap is_repeated (sym is) ∙ repeated) (omega (some, left_counted more, arith))

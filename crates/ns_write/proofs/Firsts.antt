@@ -1,11 +1,12 @@
 -- The last message of an expression, apart from what it is sent to.
-use Rattle.std.proofs.Common.{◌≡◌, ◌<◌, ℕ, ◌+◌, suc, List, [], ◌∷◌, ◌++◌, length, drop, get_or, refl, sym, ap, ◌∙◌, length-append, arith}
+use Rattle.std.proofs.Common.{◌≡◌, ◌<◌, ◌≤◌, ℕ, ◌+◌, ◌-◌, suc, List, [], ◌∷◌, ◌++◌, length, take, drop, get_or, refl, sym, ap, ◌∙◌, length-append, take_all, arith}
 use Rattle.std.specs.Prelude.{true}
-use Rattle.std.proofs.lemmas.List.{drop_more}
+use Rattle.std.proofs.lemmas.List.{drop_more, take_more}
 use Rattle.ns_tree.specs.declared.tree.Named.{Named}
 use Rattle.ns_tree.specs.declared.tree.UnExpr.{UnExpr}
+use Rattle.ns_tree.specs.declared.tree.BinExpr.{BinExpr}
 use Rattle.ns_tree.specs.declared.tree.Message.{Message}
-use Rattle.ns_tree.specs.PlainOf.{un_of, opers_of, message_of, cascade_of}
+use Rattle.ns_tree.specs.PlainOf.{un_of, opers_of, keys_of, message_of, cascade_of}
 use Rattle.ns_tree.specs.Plain as p
 use Rattle.ns_scope.specs.Bodies as b
 use Rattle.ns_meant.specs.Program as m
@@ -15,6 +16,20 @@ use Rattle.ns_write.specs.Sending.{kept, with_receiver, with_message, with_names
 use Rattle.ns_write.specs.Cascading.{with_pop, with_copy, with_copies, left_of, with_rest, with_first, said_kept, is_said}
 use Rattle.ns_write.specs.declared.receiver.Receiver.{Receiver}
 use Rattle.ns_write.proofs.Saying.{names_are, names_left, opers_are, opers_kept}
+
+-- What was said last is written, to a copy of the receiver that is left.
+abbrev pub IsFirst : e.Standing → e.Said → Receiver → Written → Written → Type 0
+IsFirst here spoken receiver before after =
+    (after ≡ with_first here spoken before) × (receiver ≡ said_kept spoken) × (is_said spoken ≡ true)
+
+-- a list in two parts, of which the second is its last item
+pub parted : {A : Type 0} (items : List A) (last : A) → 1 ≤ length items → last ≡ get_or items (length items - 1) last →
+    items ≡ take (length items - 1) items ++ last ∷ []
+parted items last h is =
+    let whole : length items ≡ length items - 1 + 1 = omega arith in
+    sym (take_all (length items) items (omega arith))
+    ∙ (ap (λ n. take n items) whole ∙ take_more items (length items - 1) last (omega arith))
+    ∙ ap (λ x. take (length items - 1) items ++ x ∷ []) (sym is)
 
 -- ---- a message that is known
 
@@ -39,8 +54,7 @@ names_split here spoken (name ∷ names) last =
 pub un_first : (here : e.Standing) (to : e.Receiver) (names front : List Named) (last : Named) (first receiver : Receiver) (w0 w1 w2 w3 w4 : Written) →
     names ≡ front ++ last ∷ [] → first ≡ kept to → w1 ≡ with_receiver to w0 → w2 ≡ with_names here first front w1 → receiver ≡ left first front →
     w3 ≡ with_copy receiver w2 → w4 ≡ with_message here.scope receiver (e.name_sent here last) m.no_nodes w3 →
-    (w4 ≡ with_first here (e.names_said here (e.nothing to) names) w0)
-    × (receiver ≡ said_kept (e.names_said here (e.nothing to) names)) × (is_said (e.names_said here (e.nothing to) names) ≡ true)
+    IsFirst here (e.names_said here (e.nothing to) names) receiver w0 w4
 un_first here to names front last first receiver w0 w1 w2 w3 w4 split is one two behind three four =
     let whole = e.as_receiver here (e.names_said here (e.nothing to) front) in
     let message = e.message_with (e.name_sent here last) m.no_nodes in
@@ -93,8 +107,7 @@ pub bin_first : (here : e.Standing) (next n1 n2 n3 : ℕ) (un : p.UnExpr) (opers
     w4 ≡ with_message here.scope receiver (e.name_sent here last.0) (e.one (e.un_node here n2 (un_of last.1))) w3 → n3 ≡ n2 + length
     (b.un_blocks here.scope (un_of last.1)) →
     let spoken = e.bin_said here next (p.bin_with un (opers_of opers)) in
-    (w4 ≡ with_first here spoken w0) × (receiver ≡ said_kept spoken) × (is_said spoken ≡ true) ×
-    (n3 ≡ next + length (b.bin_blocks here.scope (p.bin_with un (opers_of opers))))
+    IsFirst here spoken receiver w0 w4 × (n3 ≡ next + length (b.bin_blocks here.scope (p.bin_with un (opers_of opers))))
 bin_first here next n1 n2 n3 un opers front last first receiver w0 w1 w2 w3 w4 split is one e1 two behind e2 three four e3 =
     let start = e.un_said here next un in
     let n = next + length (b.un_blocks here.scope un) in
@@ -112,10 +125,33 @@ bin_first here next n1 n2 n3 un opers front last first receiver w0 w1 w2 w3 w4 s
     four ∙ ap (λ x. with_message here.scope receiver (e.name_sent here last.0) (e.one (e.un_node here x (un_of last.1))) w3) at in
     let number : length (b.opers_blocks here.scope (opers_of opers)) ≡ length (b.opers_blocks here.scope (opers_of front)) + length (b.un_blocks here.scope (un_of last.1)) =
     ap (λ x. length (b.opers_blocks here.scope (opers_of x))) split ∙ opers_number here front last in (
-      first_put here whole message (e.opers_said here n start (opers_of opers)) receiver w0 w2 w3 w4 spoken keeps has three sent,
-      keeps ∙ ap said_kept (sym spoken),
-      ap is_said spoken,
+      (
+        first_put here whole message (e.opers_said here n start (opers_of opers)) receiver w0 w2 w3 w4 spoken keeps has three sent,
+        keeps ∙ ap said_kept (sym spoken),
+        ap is_said spoken,
+      ),
       omega (e1, e2, e3, number, length-append (b.un_blocks here.scope un) (b.opers_blocks here.scope (opers_of opers)), arith),
+    )
+
+-- ---- keyword messages
+
+pub keys_first : (here : e.Standing) (next n1 n2 : ℕ) (bin : p.BinExpr) (keys : List (Named × BinExpr)) (receiver : Receiver) (w0 w1 w2 w3 : Written) →
+    0 < length keys → receiver ≡ kept (e.as_receiver here (e.bin_said here next bin)) →
+    w1 ≡ with_receiver (e.as_receiver here (e.bin_said here next bin)) w0 →
+    n1 ≡ next + length (b.bin_blocks here.scope bin) → w2 ≡ with_copy receiver w1 →
+    w3 ≡ with_message here.scope receiver (e.keys_sent here (keys_of keys)) (e.keys_nodes here n1 (keys_of keys)) w2 →
+    n2 ≡ n1 + length (b.keys_blocks here.scope (keys_of keys)) →
+    IsFirst here (e.key_expr_said here next (p.sent bin (keys_of keys))) receiver w0 w3
+    × (n2 ≡ next + length (b.key_expr_blocks here.scope (p.sent bin (keys_of keys))))
+keys_first here next n1 n2 bin [] receiver w0 w1 w2 w3 some is one e1 two three e2 = absurd (omega (some, arith))
+keys_first here next n1 n2 bin (key ∷ keys) receiver w0 w1 w2 w3 some is one e1 two three e2 =
+    let all = keys_of (key ∷ keys) in
+    let whole = e.as_receiver here (e.bin_said here next bin) in
+    let message = e.message_with (e.keys_sent here all) (e.keys_nodes here (next + length (b.bin_blocks here.scope bin)) all) in
+    let sent : w3 ≡ with_message here.scope receiver message.sent message.arguments w2 =
+    three ∙ ap (λ n. with_message here.scope receiver (e.keys_sent here all) (e.keys_nodes here n all) w2) e1 in (
+      (first_put here whole message (e.said whole message) receiver w0 w1 w2 w3 refl is one two sent, is, refl),
+      omega (e1, e2, length-append (b.bin_blocks here.scope bin) (b.keys_blocks here.scope all), arith),
     )
 
 -- ---- the messages behind

@@ -8,3 +8,4 @@ pub mod Setting
 pub mod Walking
 pub mod Cascades
 pub mod Firsts
+pub mod Alone

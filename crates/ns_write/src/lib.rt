@@ -3,10 +3,12 @@
 
 pub mod counting;
 pub mod draft;
+pub mod expressions;
 pub mod fault;
 pub mod here;
 pub mod keys;
 pub mod literals;
+pub mod primaries;
 pub mod reach;
 pub mod receiver;
 pub mod sets;
