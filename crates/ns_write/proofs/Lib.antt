@@ -9,3 +9,4 @@ pub mod Walking
 pub mod Cascades
 pub mod Firsts
 pub mod Alone
+pub mod Stepping

@@ -12,4 +12,5 @@ pub mod primaries;
 pub mod reach;
 pub mod receiver;
 pub mod sets;
+pub mod steps;
 pub mod writer;
