@@ -3,7 +3,7 @@
 ghost use Rattle.std.specs.Prelude.{◌≡◌, ◌≤◌, ◌<◌};
 ghost use Rattle.ns_code.specs.Table as spec;
 
-use ns_code::instruction::Instr;
+use crate::instruction::Instr;
 
 /// How many operands it takes or reads.
 pub fn takes(instr: Instr) -> u32
