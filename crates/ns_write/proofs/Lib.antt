@@ -10,3 +10,4 @@ pub mod Cascades
 pub mod Firsts
 pub mod Alone
 pub mod Stepping
+pub mod Highest

@@ -5,6 +5,7 @@ pub mod counting;
 pub mod draft;
 pub mod expressions;
 pub mod fault;
+pub mod finish;
 pub mod here;
 pub mod keys;
 pub mod literals;
