@@ -8,3 +8,4 @@ pub mod own;
 pub mod program;
 pub mod selector;
 pub mod selectors;
+pub mod table;

@@ -10,13 +10,3 @@ pub mod Shown
 pub mod Ending
 pub mod GoodHeights
 pub mod NamesThere
-pub mod Stand
-pub mod Numbers
-pub mod Composing
-pub mod Saying
-pub mod Counted
-pub mod BlockCounts
-pub mod Setting
-pub mod Walking
-pub mod Cascades
-pub mod Firsts

@@ -3,8 +3,8 @@ use Rattle.std.specs.Prelude.{ℕ, length, nat_lt, Bool, Option, Some, None, if�
 use Rattle.std.specs.List.{list_any}
 use Rattle.ns_code.specs.declared.program.CodeProgram.{CodeProgram}
 use Rattle.ns_code.specs.declared.body.BodyCode.{BodyCode}
-use Rattle.ns_gen.specs.declared.fault.SizeKind.{SizeKind}
-use Rattle.ns_gen.specs.declared.fault.SizeKind.TheVariants.{Names, Bodies, Code, Height}
+use Rattle.ns_gen.specs.declared.size.SizeKind.{SizeKind}
+use Rattle.ns_gen.specs.declared.size.SizeKind.TheVariants.{Names, Bodies, Code, Height}
 
 -- how many names, bodies and instructions of a body there are at most
 abbrev pub most : ℕ

@@ -1,14 +1,5 @@
-//! The generator: the code of a program in which every name has its meaning.
+//! The code of a program in which every name has its meaning: definitions, and their laws.
 #![tactic(auto)]
 
-pub mod counting;
-pub mod draft;
-pub mod fault;
-pub mod here;
-pub mod keys;
 pub mod laws;
-pub mod literals;
-pub mod reach;
-pub mod receiver;
-pub mod sets;
-pub mod writer;
+pub mod size;

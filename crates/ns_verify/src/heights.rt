@@ -3,9 +3,9 @@
 ghost use Rattle.std.specs.Prelude.{◌≡◌, ◌≤◌, IfOk, Some, slice_set};
 ghost use Rattle.ns_verify.specs.Heights as spec;
 
-use crate::table::{goes_on, height_after, starts_super, target};
 use ns_base::no_memory::NoMemory;
 use ns_code::instruction::Instr;
+use ns_code::table::{goes_on, height_after, starts_super, target};
 use std::alloc::Global;
 use std::marker::Model;
 

@@ -11,11 +11,11 @@ use crate::heights::Pass;
 use crate::kinds::{BLOCK, CLAUSE, INITIALISER, INSTANCES, METHOD};
 use crate::names::is_name;
 use crate::privates::Privates;
-use crate::table::{ends_wrongly, goes_on, takes, target};
 use ns_base::selector::Sel;
 use ns_code::body::BodyCode;
 use ns_code::instruction::Instr;
 use ns_code::program::CodeProgram;
+use ns_code::table::{ends_wrongly, goes_on, takes, target};
 
 /// The greatest height of a body that can run.
 const MOST_OPERANDS: u16 = 1_023;

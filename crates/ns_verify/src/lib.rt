@@ -12,6 +12,5 @@ pub mod laws;
 mod members;
 mod names;
 mod privates;
-mod table;
 mod texts;
 pub mod verify;

@@ -1,0 +1,13 @@
+pub mod Stand
+pub mod Numbers
+pub mod Composing
+pub mod Saying
+pub mod Counted
+pub mod BlockCounts
+pub mod Setting
+pub mod Walking
+pub mod Cascades
+pub mod Firsts
+pub mod Alone
+pub mod Stepping
+pub mod Highest

@@ -1,0 +1,7 @@
+pub mod Drafts
+pub mod Faults
+pub mod Sending
+pub mod Counting
+pub mod Setting
+pub mod Cascading
+pub mod Stepping
