@@ -11,3 +11,4 @@ pub mod Firsts
 pub mod Alone
 pub mod Stepping
 pub mod Highest
+pub mod Starting

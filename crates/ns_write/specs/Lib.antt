@@ -5,3 +5,4 @@ pub mod Counting
 pub mod Setting
 pub mod Cascading
 pub mod Stepping
+pub mod Starting

@@ -7,6 +7,7 @@ pub mod expressions;
 pub mod fault;
 pub mod finish;
 pub mod here;
+pub mod initialisers;
 pub mod keys;
 pub mod literals;
 pub mod primaries;
