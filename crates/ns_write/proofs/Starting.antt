@@ -3,6 +3,7 @@ use Rattle.std.proofs.Common.{◌≡◌, ℕ, ◌+◌, List, [], ◌∷◌, ◌+
 use Rattle.std.specs.Prelude.{Option}
 use Rattle.ns_tree.specs.declared.tree.Named.{Named}
 use Rattle.ns_tree.specs.Plain as p
+use Rattle.ns_scope.specs.declared.scope.Scope.{Scope}
 use Rattle.ns_scope.specs.Bodies as b
 use Rattle.ns_code.specs.declared.instruction.Instr.TheVariants as i
 use Rattle.ns_meant.specs.Program as m
@@ -10,12 +11,13 @@ use Rattle.ns_meant.specs.Expressions as e
 use Rattle.ns_meant.specs.Statements.{bars_values}
 use Rattle.ns_meant.specs.Classes.{super_arguments}
 use Rattle.ns_meant.specs.Tables.{put_all, node_names, nodes_names, node_texts, nodes_texts, value_of}
-use Rattle.ns_gen.specs.Code.{Line, does, starts, how_many, nodes_lines, slots_lines, expressions_lines}
-use Rattle.ns_write.specs.Drafts.{Written, with_line}
-use Rattle.ns_write.specs.Sending.{with_nodes}
+use Rattle.ns_gen.specs.Code.{Line, does, sends, plain, starts, how_many, nodes_lines, slots_lines, expressions_lines}
+use Rattle.ns_write.specs.Drafts.{Written, with_line, with_name}
+use Rattle.ns_write.specs.Sending.{with_lines, with_node, with_nodes, with_message}
 use Rattle.ns_write.specs.Stepping.{with_ended, with_body}
+use Rattle.ns_write.specs.declared.receiver.Receiver.TheVariants as v
 use Rattle.ns_write.specs.Starting.{with_start, with_slots, with_expressions, expressions_of, start_of}
-use Rattle.ns_write.proofs.Composing.{written_is, put_more, behind_node, behind_nodes}
+use Rattle.ns_write.proofs.Composing.{written_is, put_more, behind_node, behind_nodes, binary_put, message_is}
 use Rattle.ns_write.proofs.Stepping.{with_all, all_same, node_put}
 
 nodes_put : (nodes : m.Nodes) (line : Line) (names texts : List (List ℕ)) (rest : ℕ → List Line) (before : Written) →
@@ -75,3 +77,19 @@ start_done here next n1 n2 name clause bars body w0 w1 w2 w3 one e1 two e2 three
     ∙ ap (λ n. with_expressions (expressions_of here n body) w2) at_end
     ∙ ap (with_expressions start.expressions) (two ∙ ap (λ n. with_slots (bars_values here n 0 bars) w1) e1 ∙ ap (with_slots start.slots) one)
     ∙ start_whole start w0
+
+-- ---- clauses
+
+pub clause_whole : (head : m.Node) (before : Written) → with_line (with_node head before) (does i.Return) ≡ with_body (m.as_clause head) before
+clause_whole head before = written_is _ _ _ _ _ _ refl refl (behind_node head (length before.texts) before.lines (does i.Return ∷ []))
+
+-- a mixin to which the superclass is sent
+pub mixin_put : (scope : Scope) (head over : m.Node) (sent : m.Sent) (w0 w1 w2 w3 : Written) → w1 ≡ with_node head w0 → w2 ≡ with_node over w1 →
+    w3 ≡ with_line (with_name w2 sent.selector) (sends plain sent 1) → w3 ≡ with_node (m.send head sent (e.one over)) w0
+mixin_put scope head over sent w0 w1 w2 w3 one two three =
+    let nothing : with_lines [] w1 ≡ w1 = written_is _ _ _ _ _ _ refl refl (append-nil w1.lines) in
+    three
+    ∙ ap (λ w. with_line (with_name w sent.selector) (sends plain sent 1)) (two ∙ ap (with_node over) (sym nothing))
+    ∙ binary_put scope v.Value sent over plain w1 refl
+    ∙ ap (with_message scope v.Value sent (e.one over)) one
+    ∙ message_is scope (e.to_value head) sent (e.one over) w0

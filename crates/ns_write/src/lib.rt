@@ -1,6 +1,7 @@
 //! The generator: the code of a program in which every name has its meaning, written in one pass.
 #![tactic(auto)]
 
+pub mod clauses;
 pub mod counting;
 pub mod draft;
 pub mod expressions;
