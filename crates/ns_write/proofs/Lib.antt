@@ -11,4 +11,3 @@ pub mod Firsts
 pub mod Alone
 pub mod Stepping
 pub mod Highest
-pub mod Starting

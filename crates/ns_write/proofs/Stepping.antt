@@ -20,20 +20,20 @@ use Rattle.ns_write.specs.Stepping.{with_ended, with_local, with_locals, with_me
 use Rattle.ns_write.proofs.Composing.{written_is, put_more, behind_node}
 
 -- with names, literal texts, and lines that depend on the number of the first text
-abbrev pub with_all : List (List ℕ) → List (List ℕ) → (ℕ → List Line) → Written → Written
+abbrev with_all : List (List ℕ) → List (List ℕ) → (ℕ → List Line) → Written → Written
 with_all names texts rest before =
     record { names = put_all before.names names; texts = before.texts ++ texts; lines = before.lines ++ rest (length before.texts) }
 
 all_none : (before : Written) → with_all [] [] (λ k. []) before ≡ before
 all_none before = written_is _ _ _ _ _ _ refl (append-nil before.texts) (append-nil before.lines)
 
-pub all_same : (names names' texts texts' : List (List ℕ)) (rest : ℕ → List Line) (before : Written) → names ≡ names' → texts ≡ texts' →
+all_same : (names names' texts texts' : List (List ℕ)) (rest : ℕ → List Line) (before : Written) → names ≡ names' → texts ≡ texts' →
     with_all names texts rest before ≡ with_all names' texts' rest before
 all_same names names' texts texts' rest before p q =
     ap (λ n. with_all n texts rest before) p ∙ ap (λ t. with_all names' t rest before) q
 
 -- a node with instructions behind it, and then the rest
-pub node_put : (node : m.Node) (ends : List Line) (names texts : List (List ℕ)) (rest : ℕ → List Line) (before : Written) →
+node_put : (node : m.Node) (ends : List Line) (names texts : List (List ℕ)) (rest : ℕ → List Line) (before : Written) →
     with_all names texts rest (with_lines ends (with_node node before))
     ≡ with_all (node_names node ++ names) (node_texts node ++ texts) (λ k. node_lines k node (ends ++ rest (k + length (node_texts node)))) before
 node_put node ends names texts rest before =

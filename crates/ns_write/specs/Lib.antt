@@ -5,4 +5,3 @@ pub mod Counting
 pub mod Setting
 pub mod Cascading
 pub mod Stepping
-pub mod Starting

@@ -43,7 +43,7 @@ fn put_un(
 /// A primary with its unary messages, as a value.
 #[cycle(expressions)]
 #[tactic(auto, using(crate::proofs::Composing::value_is))]
-pub fn put_un_value(
+fn put_un_value(
     writer: &mut Writer,
     here: &Here<'_>,
     next: &mut u32,
@@ -132,7 +132,7 @@ fn put_bin_value(
 
 /// The arguments of keys.
 #[cycle(expressions)]
-pub fn put_keys(
+fn put_keys(
     writer: &mut Writer,
     here: &Here<'_>,
     next: &mut u32,
