@@ -5,6 +5,6 @@ pub mod find;
 pub mod found;
 mod kernel;
 pub mod laws;
-mod members;
+pub mod members;
 pub mod memo;
 mod rows;

@@ -97,7 +97,7 @@ pub fn nested(code: &CodeProgram, nested: &[NestedCode], holder: u32, asked: Ask
 }
 
 /// Whether a selector is the name of a class.
-fn is_named_as(code: &CodeProgram, sel: Sel, class: u32) -> bool
+pub fn is_named_as(code: &CodeProgram, sel: Sel, class: u32) -> bool
     ensures { result ≡ spec.is_named code.now sel.0 (NamedAs class) }
 {
     match code.classes.as_slice().get(class as usize) {
@@ -107,7 +107,7 @@ fn is_named_as(code: &CodeProgram, sel: Sel, class: u32) -> bool
 }
 
 /// Whether a selector is a name with a colon behind it.
-fn is_setter_of(code: &CodeProgram, sel: Sel, name: Sel) -> bool
+pub fn is_setter_of(code: &CodeProgram, sel: Sel, name: Sel) -> bool
     ensures { result ≡ spec.is_named code.now sel.0 (SetterOf name.0) }
 {
     is_with_colon(code.selector_text(sel), code.selector_text(name))

@@ -1,8 +1,8 @@
 //! The tree of a source.
 
 use ns_lex::scan::lex;
-use ns_parse::fault::ParseFault;
 use ns_parse::parse::parse;
+use ns_terminal::fault::ParseFault;
 use ns_tree::tree::Unit;
 use std::alloc::Global;
 

@@ -10,3 +10,13 @@ pub mod Shown
 pub mod Ending
 pub mod GoodHeights
 pub mod NamesThere
+pub mod Uses
+pub mod There
+pub mod Around
+pub mod Named
+pub mod Privates
+pub mod Causes
+pub mod Unfaulted
+pub mod Bodies
+pub mod Records
+pub mod Sound

@@ -82,15 +82,15 @@ body_used body k = does_used body.does k where
 
 -- ---- they are there
 
-all_there : (names table : List (List ℕ)) → AreThere (put_all table names) names
+pub all_there : (names table : List (List ℕ)) → AreThere (put_all table names) names
 all_there [] table = tt
 all_there (name ∷ names) table = (has_stands_all names (put_in table name) name (has_put table name), all_there names (put_in table name))
 
-right_there : (table a b : List (List ℕ)) → AreThere table (a ++ b) → AreThere table b
+pub right_there : (table a b : List (List ℕ)) → AreThere table (a ++ b) → AreThere table b
 right_there table [] b h = h
 right_there table (name ∷ a) b h = right_there table a b h.1
 
-left_there : (table a b : List (List ℕ)) → AreThere table (a ++ b) → AreThere table a
+pub left_there : (table a b : List (List ℕ)) → AreThere table (a ++ b) → AreThere table a
 left_there table [] b h = tt
 left_there table (name ∷ a) b h = (h.0, left_there table a b h.1)
 

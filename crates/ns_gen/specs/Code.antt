@@ -8,6 +8,7 @@ use Rattle.ns_code.specs.declared.instruction.Instr.TheVariants as i
 use Rattle.ns_code.specs.Table.{height_after, goes_on}
 use Rattle.ns_meant.specs.Program as m
 use Rattle.ns_meant.specs.Tables.{node_texts, nodes_texts, body_texts, sel_of, body_head, tables}
+pub use Rattle.ns_meant.specs.Uses.{how_many}
 
 -- ---- lines: instructions before their selectors have numbers
 
@@ -27,10 +28,6 @@ pub data Line : Type 0 where
   sends : Way → m.Sent → ℕ → Line
   -- a superclass part that is initialised with so many arguments
   starts : Place → ℕ → Line
-
-abbrev pub how_many : m.Nodes → ℕ
-how_many m.no_nodes = 0
-how_many (m.more_nodes node rest) = how_many rest + 1
 
 -- the object under the arguments of a send
 abbrev pub object_lines : m.Reach → List Line → List Line

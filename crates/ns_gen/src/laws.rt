@@ -1,13 +1,18 @@
 //! Laws of the code of a program. Each function does nothing, and its contract is the law.
 
-ghost use Rattle.std.specs.Prelude.{◌≡◌, ℕ, List, map, length, flat_map, option_map, slice_get, Some};
+ghost use Rattle.std.specs.Prelude.{◌≡◌, None, ℕ, List, map, length, flat_map, option_map, slice_get, Some, false};
 ghost use Rattle.ns_code.specs.declared.instruction.Instr.{Instr};
 ghost use Rattle.ns_verify.specs.Heights.{begin};
 ghost use Rattle.ns_meant.specs.Program.{Meant, Body, Does, Node};
-ghost use Rattle.ns_meant.specs.Tables.{body_names, body_texts, names_of, texts_of};
+ghost use Rattle.ns_meant.specs.Tables.{body_names, body_texts, names_of, texts_of, kind_of};
+ghost use Rattle.ns_meant.specs.There.{IsThere, IsRightBody, AreRightBodies};
 ghost use Rattle.ns_gen.specs.Code.{Line, instr_of, places_from, body_lines, greatest_height, body_code, code_of};
 ghost use Rattle.ns_gen.specs.Laws.{GoOn, NamesInOrder, TextsInOrder, OneProgram, TextsStand, AreThere, LinesFind, Within, HaveGoodHeights, Ends};
 ghost use Rattle.ns_gen.specs.Laws.{line_names, first_text, placed, shown};
+ghost use Rattle.ns_gen.specs.Uses.{LinesHave};
+ghost use Rattle.ns_gen.specs.Sizes.{size_fault};
+ghost use Rattle.ns_verify.specs.Verify.{bodies_fault, first_class_fault, IsSound};
+ghost use Rattle.ns_meant.specs.Right.{IsRight};
 
 /// The lines of an expression stand before what follows, whatever that is.
 #[tactic(auto, using(crate::proofs::GoesOn::node_goes_on))]
@@ -59,3 +64,33 @@ pub fn bodies_end()
 pub fn lines_are_shown()
     ensures { (names : List (List ℕ)) (n : ℕ) (lines : List Line) → placed (places_from n lines) n (map (instr_of names) lines) ≡ map (shown names) lines }
 {}
+
+/// What the lines of a right body use is there, and the numbers of its literal texts are numbers of
+/// texts. A superclass part begins once, and in an initialiser alone; each kind of body has its own
+/// returns.
+#[tactic(auto, using(crate::proofs::There::lines_there))]
+pub fn lines_use_what_is_there()
+    ensures { (meant : Meant) (number : ℕ) (body : Body) → slice_get meant.bodies number ≡ Some body → IsRightBody meant number body →
+        LinesHave (IsThere meant number body) (length (texts_of meant)) (kind_of body.does) false (body_lines (first_text meant.bodies number) body.does) }
+{}
+
+/// The verifier finds no fault in the bodies of a program whose bodies are right and whose sizes are
+/// within their limits: no cause holds of a body's head or at any of its instructions.
+pub fn right_bodies_have_no_fault()
+    ensures { (meant : Meant) → AreRightBodies meant → size_fault (code_of meant) ≡ None → bodies_fault (code_of meant) 0 (code_of meant).bodies ≡ None }
+{
+    ns_verify::laws::homes_are_outermost();
+}
+
+/// The verifier finds no fault in the class records of a right program.
+#[tactic(auto, using(crate::proofs::Sound::classes_unfaulted))]
+pub fn right_classes_have_no_fault()
+    ensures { (meant : Meant) → IsRight meant → first_class_fault (code_of meant) (code_of meant).classes ≡ None }
+{}
+
+/// The code of a right program whose sizes are within their limits is sound.
+pub fn right_programs_have_sound_code()
+    ensures { (meant : Meant) → IsRight meant → size_fault (code_of meant) ≡ None → IsSound (code_of meant) }
+{
+    ns_verify::laws::homes_are_outermost();
+}

@@ -65,7 +65,7 @@ head_row-old_body x =
     ∙ ap (λ (m : List ℕ). b.body_fields x ++ m) (append-nil (b.counted b.instr x.instrs))
 
 head_format : Format r.head (λ x. IsHead x × HeadGood x) b.old_body
-unfolding r.head
+unfolding r.head r.head_from_params
 head_format =
     let parts : Step IsHead r.head HeadGood head_row =
     field (λ x. x.kind) (byte_up_to_format 3 (omega arith)) (λ kind.
@@ -96,7 +96,7 @@ body_row : BodyCode → List ℕ
 body_row x = b.old_body x ++ (flat_map b.text x.local_names ++ (b.counted b.place x.places ++ []))
 
 pub body_format : (files : ℕ) → files ≤ 17 → Format (r.body files) (BodyGood files) b.body
-unfolding r.body body_row
+unfolding r.body r.with_local_names r.with_places body_row
 body_format files few =
     let parts : Step Any (r.body files) (λ x. (IsHead (head_of x) × HeadGood (head_of x)) × (((length x.local_names ≡ x.locals) × All IsLocalName x.local_names) × (ArePlaces files x.instrs x.places × Unit {0}))) body_row =
     good_field head_of head_format (λ head good.

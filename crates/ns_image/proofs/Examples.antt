@@ -10,7 +10,7 @@ use Rattle.ns_code.specs.declared.instruction.Instr.TheVariants as i
 use Rattle.ns_image.specs.declared.fault.ImageFault.TheVariants as f
 use Rattle.ns_image.specs.Bytes.{bytes_of, old_bytes_of}
 use Rattle.ns_image.specs.Read.{reference, flag, text, chained}
-use Rattle.ns_image.specs.Reading.{read_image, program, old_program, class, method, head, body, old_body, place, instr}
+use Rattle.ns_image.specs.Reading.{read_image, program, old_program, with_files, with_classes, class, class_from_clause, with_members, with_methods, method, head, head_from_params, body, with_local_names, with_places, old_body, place, instr}
 
 abbrev sel : ℕ → Sel
 sel n = record { 0 = n }
@@ -108,30 +108,30 @@ written_old : old_bytes_of code ≡ old_image
 written_old = refl
 
 is_read : read_image image ≡ Ok code
-unfolding read_image program class method head body place instr reference flag text chained
+unfolding read_image program with_files with_classes class class_from_clause with_members with_methods method head head_from_params body with_local_names with_places place instr reference flag text chained
 is_read = rw ascii refl
 
 -- The access of `main:args:` stands at byte 108.
 bad_access : read_image (take 108 image ++ 3 ∷ drop 109 image) ≡ Err (f.BadField 108)
-unfolding read_image program class method head body place instr reference flag text chained
+unfolding read_image program with_files with_classes class class_from_clause with_members with_methods method head head_from_params body with_local_names with_places place instr reference flag text chained
 bad_access = rw ascii refl
 
 -- A place at an instruction that carries none.
 bad_place : read_image (take 153 image ++ 1 ∷ drop 154 image) ≡ Err (f.BadField 150)
-unfolding read_image program class method head body place instr reference flag text chained
+unfolding read_image program with_files with_classes class class_from_clause with_members with_methods method head head_from_params body with_local_names with_places place instr reference flag text chained
 bad_place = rw ascii refl
 
 -- A name that is no selector, in version 1.
 bad_name : read_image (take 14 old_image ++ 59 ∷ drop 15 old_image) ≡ Err (f.BadField 10)
-unfolding read_image old_program class method head old_body instr reference flag text chained
+unfolding read_image old_program with_files with_classes class class_from_clause with_members with_methods method head head_from_params old_body instr reference flag text chained
 bad_name = refl
 
 cut : read_image (take 208 image) ≡ Err f.Truncated
-unfolding read_image program class method head body place instr reference flag text chained
+unfolding read_image program with_files with_classes class class_from_clause with_members with_methods method head head_from_params body with_local_names with_places place instr reference flag text chained
 cut = rw ascii refl
 
 trailing : read_image (image ++ 0 ∷ []) ≡ Err f.Trailing
-unfolding read_image program class method head body place instr reference flag text chained
+unfolding read_image program with_files with_classes class class_from_clause with_members with_methods method head head_from_params body with_local_names with_places place instr reference flag text chained
 trailing = rw ascii refl
 
 bad_version : read_image (codes "NSPK" ++ 0 ∷ 3 ∷ []) ≡ Err f.BadVersion

@@ -1,7 +1,6 @@
 pub mod Loop
 pub mod Instructions
 pub mod Numbered
-pub mod Room
 pub mod Format
 pub mod Fields
 pub mod Records

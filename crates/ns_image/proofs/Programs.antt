@@ -65,7 +65,7 @@ Parts c =
     × Unit {0}))))
 
 pub program_format : Format r.program Fits b.program
-unfolding r.program
+unfolding r.program r.with_files r.with_classes
 program_format =
     let parts : Step Any r.program Parts b.program =
     good_field (λ c. c.files) (up_to_format 17 (omega arith) file_name_format) (λ files few.
@@ -107,7 +107,7 @@ OldParts c =
     × Unit {0})))
 
 pub old_program_format : Format r.old_program (λ c. (c.files ≡ []) × OldParts c) b.old_program
-unfolding r.old_program
+unfolding r.old_program r.with_files r.with_classes
 old_program_format =
     let parts : Step NoFiles r.old_program OldParts b.old_program =
     field (λ c. c.names) names_format (λ names.

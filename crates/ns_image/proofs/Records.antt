@@ -95,7 +95,7 @@ Parts c =
     × Members c))))))
 
 pub class_format : Format r.class ClassFits b.class
-unfolding r.class
+unfolding r.class r.class_from_clause r.with_members r.with_methods
 class_format =
     let parts : Step Any r.class Parts class_row =
     field (λ c. c.name) selector_format (λ name.

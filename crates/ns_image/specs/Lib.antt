@@ -3,5 +3,3 @@ pub mod Read
 pub mod Reads
 pub mod Reading
 pub mod Fault
-pub mod Room
-pub mod Listing

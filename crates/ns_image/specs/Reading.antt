@@ -81,20 +81,35 @@ counted_half item = half >>= λ n. times n item
 abbrev pub up_to : {A : Type 0} → ℕ → Reader A → Reader (List A)
 up_to most item = word_up_to most >>= λ n. times n item
 
+-- a class record with the methods of both sides, which follow it
+unfoldable pub with_methods : ClassCode → Reader ClassCode
+with_methods class = do
+  methods ← counted_half method
+  side_methods ← counted_half method
+  given (record class { methods = methods; side_methods = side_methods })
+
+-- a class record with the members that follow it
+unfoldable pub with_members : ClassCode → Reader ClassCode
+with_members class = do
+  slots ← counted_half slot
+  nested ← counted_half nested
+  with_methods (record class { slots = slots; nested = nested })
+
+-- what follows the parameters of a class record
+unfoldable pub class_from_clause : Sel → Option ℕ → Sel → ℕ → Reader ClassCode
+class_from_clause name outer factory params = do
+  clause ← reference
+  init ← word
+  super_sel ← selector
+  with_members (record { name = name; outer = outer; factory = factory; params = params; clause = clause; init = init; super_sel = super_sel; slots = []; nested = []; methods = []; side_methods = [] })
+
 unfoldable pub class : Reader ClassCode
 class = do
   name ← selector
   outer ← reference
   factory ← selector
   params ← byte
-  clause ← reference
-  init ← word
-  super_sel ← selector
-  slots ← counted_half slot
-  nested ← counted_half nested
-  methods ← counted_half method
-  side_methods ← counted_half method
-  given (record { name = name; outer = outer; factory = factory; params = params; clause = clause; init = init; super_sel = super_sel; slots = slots; nested = nested; methods = methods; side_methods = side_methods })
+  class_from_clause name outer factory params
 
 -- ---- instructions
 
@@ -167,6 +182,16 @@ instr bytes = and_then (byte bytes) (λ code rest. behind (length bytes) (operan
 
 -- ---- bodies
 
+-- what follows the parent in what both versions have of a body
+unfoldable pub head_from_params : ℕ → ℕ → ℕ → Option ℕ → Reader BodyCode
+head_from_params kind side class parent = do
+  params ← byte
+  locals ← byte
+  environment ← flag
+  height ← half
+  instrs ← up_to 65536 instr
+  given (record { kind = kind; side = side; class = class; parent = parent; params = params; locals = locals; environment = environment; height = height; instrs = instrs; places = []; local_names = [] })
+
 -- what both versions have of a body
 unfoldable pub head : Reader BodyCode
 head = do
@@ -174,12 +199,7 @@ head = do
   side ← byte_up_to 1
   class ← word
   parent ← reference
-  params ← byte
-  locals ← byte
-  environment ← flag
-  height ← half
-  instrs ← up_to 65536 instr
-  given (record { kind = kind; side = side; class = class; parent = parent; params = params; locals = locals; environment = environment; height = height; instrs = instrs; places = []; local_names = [] })
+  head_from_params kind side class parent
 
 -- whether an instruction carries a place: a send, or the start of a superclass part
 abbrev pub carries_place : Instr → Bool
@@ -220,12 +240,16 @@ behind_place least place = place.0 + 1
 abbrev pub places : ℕ → List Instr → Reader (List (ℕ × Place))
 places files instrs = word >>= λ count. chained (place files instrs) behind_place count 0
 
+-- a body with the places that follow it
+unfoldable pub with_places : ℕ → BodyCode → Reader BodyCode
+with_places files body = places files body.instrs >>= λ places. given (record body { places = places })
+
+-- a body with the names of its locals and the places, which follow it
+unfoldable pub with_local_names : ℕ → BodyCode → Reader BodyCode
+with_local_names files body = times body.locals local_name >>= λ names. with_places files (record body { local_names = names })
+
 unfoldable pub body : ℕ → Reader BodyCode
-body files = do
-  head ← head
-  local_names ← times head.locals local_name
-  places ← places files head.instrs
-  given (record head { local_names = local_names; places = places })
+body files = head >>= with_local_names files
 
 unfoldable pub old_body : Reader BodyCode
 old_body = head >>= λ head. given (record head { local_names = numbered_names head.locals })
@@ -238,23 +262,26 @@ names = word_up_to 65536 >>= λ count. chained name_after with_name count []
 abbrev pub texts : Reader (List (List ℕ))
 texts = word >>= λ count. times count text
 
+-- a program with the classes and the bodies of a version, which follow it
+unfoldable pub with_classes : Reader BodyCode → CodeProgram → Reader CodeProgram
+with_classes body code = do
+  classes ← up_to 4096 class
+  bodies ← up_to 65536 body
+  given (record code { classes = classes; bodies = bodies })
+
+-- a program with these files and what follows them, with bodies of a version
+unfoldable pub with_files : Reader BodyCode → List (List ℕ) → Reader CodeProgram
+with_files body files = do
+  names ← names
+  texts ← texts
+  with_classes body (record { files = files; names = names; texts = texts; classes = []; bodies = [] })
+
 -- what follows a version
 unfoldable pub program : Reader CodeProgram
-program = do
-  files ← up_to 17 file_name
-  names ← names
-  texts ← texts
-  classes ← up_to 4096 class
-  bodies ← up_to 65536 (body (length files))
-  given (record { files = files; names = names; texts = texts; classes = classes; bodies = bodies })
+program = up_to 17 file_name >>= λ files. with_files (body (length files)) files
 
 unfoldable pub old_program : Reader CodeProgram
-old_program = do
-  names ← names
-  texts ← texts
-  classes ← up_to 4096 class
-  bodies ← up_to 65536 old_body
-  given (record { files = []; names = names; texts = texts; classes = classes; bodies = bodies })
+old_program = with_files old_body []
 
 -- ---- images
 

@@ -1,9 +1,7 @@
-//! The bytes of compiled code, both ways, and its listing.
+//! The bytes of compiled code, and code from them.
 #![tactic(auto)]
 
 pub mod fault;
 pub mod laws;
-pub mod list;
 pub mod read;
 pub mod spelling;
-pub mod write;

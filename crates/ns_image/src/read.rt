@@ -9,11 +9,12 @@ ghost use Rattle.ns_image.specs.Reads.{Answers, Reads};
 use crate::fault::{Fault, ImageFault};
 use crate::read::body::{Body, OldBody};
 use crate::read::class::Class;
-use crate::read::format::{times, up_to};
+use crate::read::format::{Format, times, up_to};
 use crate::read::input::Input;
 use crate::read::text::{FileName, Literal, names};
 use ns_base::items::Items;
 use ns_base::text::Text;
+use ns_code::body::BodyCode;
 use ns_code::program::CodeProgram;
 use std::alloc::Global;
 
@@ -102,35 +103,53 @@ fn program(alloc: Global, input: &mut Input<'_>) -> Result<CodeProgram, Fault>
     ensures { Reads (spec.program input.old.rest.now) result input.new.rest.now }
 {
     let files = up_to(alloc, input, &FileName, MOST_FILES)?;
-    let names = names(alloc, input)?;
-    let texts = texts(alloc, input)?;
-    let classes = up_to(alloc, input, &Class, MOST_CLASSES)?;
     let body = Body { files: files.len() };
-    let bodies = up_to(alloc, input, &body, MOST_BODIES)?;
-    Ok(CodeProgram {
-        files,
-        names,
-        texts,
-        classes,
-        bodies,
-    })
+    with_files(alloc, input, &body, files)
 }
 
 #[tactic(auto, unfolding(crate::specs::Reading::old_program))]
 fn old_program(alloc: Global, input: &mut Input<'_>) -> Result<CodeProgram, Fault>
     ensures { Reads (spec.old_program input.old.rest.now) result input.new.rest.now }
 {
-    let names = names(alloc, input)?;
-    let texts = texts(alloc, input)?;
-    let classes = up_to(alloc, input, &Class, MOST_CLASSES)?;
-    let bodies = up_to(alloc, input, &OldBody, MOST_BODIES)?;
-    Ok(CodeProgram {
-        files: Items::from_vec(Vec::new(alloc)),
-        names,
-        texts,
-        classes,
-        bodies,
-    })
+    let files = Items::from_vec(Vec::new(alloc));
+    with_files(alloc, input, &OldBody, files)
+}
+
+/// A program with these files and what follows them, with bodies of a version.
+#[tactic(auto, unfolding(crate::specs::Reading::with_files))]
+fn with_files<B: Format<Value = BodyCode>>(
+    alloc: Global,
+    input: &mut Input<'_>,
+    body: &B,
+    files: Items<Text>,
+) -> Result<CodeProgram, Fault>
+    ensures { Reads (spec.with_files (B.reader body.now) files input.old.rest.now) result input.new.rest.now }
+{
+    let mut code = CodeProgram {
+        files,
+        names: Items::from_vec(Vec::new(alloc)),
+        texts: Items::from_vec(Vec::new(alloc)),
+        classes: Items::from_vec(Vec::new(alloc)),
+        bodies: Items::from_vec(Vec::new(alloc)),
+    };
+    code.names = names(alloc, input)?;
+    code.texts = texts(alloc, input)?;
+    with_classes(alloc, input, body, code)
+}
+
+/// A program with the classes and the bodies of a version, which follow it.
+#[tactic(auto, unfolding(crate::specs::Reading::with_classes))]
+fn with_classes<B: Format<Value = BodyCode>>(
+    alloc: Global,
+    input: &mut Input<'_>,
+    body: &B,
+    mut code: CodeProgram,
+) -> Result<CodeProgram, Fault>
+    ensures { Reads (spec.with_classes (B.reader body.now) code input.old.rest.now) result input.new.rest.now }
+{
+    code.classes = up_to(alloc, input, &Class, MOST_CLASSES)?;
+    code.bodies = up_to(alloc, input, body, MOST_BODIES)?;
+    Ok(code)
 }
 
 fn texts(alloc: Global, input: &mut Input<'_>) -> Result<Items<Text>, Fault>

@@ -6,3 +6,11 @@ pub mod Coded
 pub mod Whole
 pub mod Opening
 pub mod Started
+pub mod Sources
+pub mod OverTables
+pub mod OnTheWay
+pub mod FewerRows
+pub mod FewerActions
+pub mod FewerMoves
+pub mod FewerSteps
+pub mod LongTurns

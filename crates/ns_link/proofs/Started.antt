@@ -1,6 +1,7 @@
 -- From its start the machine comes to the end of the program's run.
 use Rattle.std.specs.Prelude.{Bool, true, false}
-use Rattle.std.proofs.Common.{◌≡◌, ℕ, List, [], ◌∷◌, refl, sym, subst, Option}
+use Rattle.std.proofs.Common.{◌≡◌, ℕ, List, [], ◌∷◌, refl, sym, subst, Option, Some, None}
+use Rattle.ns_base.specs.declared.limits.Limits.{Limits}
 use Rattle.ns_base.specs.declared.place.Place.{Place as SourcePlace}
 use Rattle.ns_code.specs.declared.program.CodeProgram.{CodeProgram}
 use Rattle.ns_code.specs.declared.own.Own.TheVariants.{PackageUsing}
@@ -9,21 +10,20 @@ use Rattle.ns_world.specs.declared.value.Value.TheVariants.{Ref, Nil}
 use Rattle.ns_world.specs.declared.ending.LimitKind.TheVariants.{Cells}
 use Rattle.ns_world.specs.Cell.{Cell}
 use Rattle.ns_world.specs.Heap.{heap_size}
-use Rattle.ns_world.specs.World.{made}
+use Rattle.ns_world.specs.World.{World, made}
+use Rattle.ns_facets.specs.declared.row.Grants.{Grants}
 use Rattle.ns_mirror.specs.Mirror.{cell_number}
-use Rattle.ns_send.specs.Control.{Progress, in_world, After, Gives, Halts}
+use Rattle.ns_send.specs.Control.{Progress, in_world, After, Gives, Halts, charged}
 use Rattle.ns_send.specs.Sends.{site_at}
 use Rattle.ns_send.specs.Start.{start_cells, nothing_done, all_made, start_made, manifest, first_class}
-use Rattle.ns_send.proofs.Onward.{charged_all}
 use Rattle.ns_meant.specs.Program.{Meant}
-use Rattle.ns_model.specs.Laws.{EndsByItself}
-use Rattle.ns_model.specs.Whole.{opened_after, opening_place, own_sel}
-use Rattle.ns_model.proofs.Enough.{run_ends}
+use Rattle.ns_model.specs.Laws.{EndsByItself, ReturnsGoHome, RunsEnd}
+use Rattle.ns_model.specs.Whole.{opened_after, opening_place, own_sel, ran}
 use Rattle.ns_gen.specs.Code.{code_of}
 use Rattle.ns_moves.specs.Steps as steps
 use Rattle.ns_moves.specs.State.{Sending, Start, First, State, Pends}
 use Rattle.ns_moves.specs.Starts.{unbegun, started}
-use Rattle.ns_link.specs.Laws.{EndsAs, RunsAsMeant}
+use Rattle.ns_link.specs.Laws.{EndsAs, HasFirst, begins}
 use Rattle.ns_link.proofs.Whole.{whole}
 use Rattle.ns_link.proofs.Opening.{opening_same}
 
@@ -32,11 +32,16 @@ abbrev HasNumber : After → Type 0
 HasNumber (Gives value progress) = value ≡ Ref (cell_number value)
 HasNumber (Halts ending progress) = Unit {0}
 
+in_charged : (o : Option World) (progress : Progress) (go : Progress → After) → ((next : Progress) → HasNumber (go next))
+    → HasNumber (charged Halts Cells o progress go)
+in_charged (Some world) progress go goes = goes (in_world progress world)
+in_charged None progress go goes = tt
+
 all_numbered : (cells : List Cell) (last : Value) (progress : Progress) → last ≡ Ref (cell_number last) → HasNumber (all_made cells last progress)
 all_numbered [] last progress e = e
 all_numbered (cell ∷ cells) last progress e =
-    charged_all HasNumber Halts Cells (made progress.world cell) progress (all_made cells (Ref (heap_size progress.world.cells))) tt
-    (λ world made. all_numbered cells (Ref (heap_size progress.world.cells)) (in_world progress world) refl)
+    in_charged (made progress.world cell) progress (all_made cells (Ref (heap_size progress.world.cells)))
+    (λ next. all_numbered cells (Ref (heap_size progress.world.cells)) next refl)
 
 abbrev has_some : List Cell → Bool
 has_some [] = false
@@ -45,10 +50,10 @@ has_some (cell ∷ cells) = true
 some_numbered : (cells : List Cell) (progress : Progress) → has_some cells ≡ true → HasNumber (all_made cells Nil progress)
 some_numbered [] progress e = absurd (cc)
 some_numbered (cell ∷ cells) progress e =
-    charged_all HasNumber Halts Cells (made progress.world cell) progress (all_made cells (Ref (heap_size progress.world.cells))) tt
-    (λ world made. all_numbered cells (Ref (heap_size progress.world.cells)) (in_world progress world) refl)
+    in_charged (made progress.world cell) progress (all_made cells (Ref (heap_size progress.world.cells)))
+    (λ next. all_numbered cells (Ref (heap_size progress.world.cells)) next refl)
 
-module _ (meant : Meant) where
+module _ (meant : Meant) (home : ReturnsGoHome meant (code_of meant)) where
   abbrev code : CodeProgram
   code = code_of meant
 
@@ -68,11 +73,12 @@ module _ (meant : Meant) where
       (opened_after meant code (Gives value progress)) in
       subst goal (sym numbered) (λ ends.
       subst (λ place. EndsAs code (waiting_at place number progress) (opened_after meant code (Gives (Ref number) progress))) (sym same)
-      (whole meant number progress same ends)) ends
+      (whole meant home number progress same ends)) ends
 
-pub runs_as_meant : (meant : Meant) → RunsAsMeant meant
-runs_as_meant meant first grants arguments limits =
+pub runs_over_code : (meant : Meant) → ReturnsGoHome meant (code_of meant) → RunsEnd meant (code_of meant) → HasFirst meant → (grants : Grants) (arguments : List (List ℕ)) (limits : Limits)
+    → EndsAs (code_of meant) (begins meant grants arguments limits) (ran meant (code_of meant) grants arguments limits)
+runs_over_code meant home end first grants arguments limits =
     let code = code_of meant in
-    from_start meant (start_made code grants arguments limits) (opening_same meant first.class first.init first.is first.does)
+    from_start meant home (start_made code grants arguments limits) (opening_same meant first.class first.init first.is first.does)
     (some_numbered (start_cells code grants arguments) (nothing_done limits) refl)
-    (run_ends meant code grants arguments limits)
+    (end grants arguments limits)

@@ -9,11 +9,10 @@ use Rattle.ns_send.specs.Control.{Progress}
 use Rattle.ns_send.specs.Sends.{sent_plain, site_at}
 use Rattle.ns_meant.specs.Program.{Meant}
 use Rattle.ns_model.specs.Outcome.{Outcome, Yields, Returns, Ends, Spent, bind}
-use Rattle.ns_model.specs.Laws.{IsEnough, GoesHome}
+use Rattle.ns_model.specs.Laws.{IsEnough, GoesHome, ReturnsGoHome}
 use Rattle.ns_model.specs.Run.{fuel_of}
 use Rattle.ns_send.specs.Start.{manifest, platform, first_class}
 use Rattle.ns_model.specs.Whole.{own_sel, opening, opened, opening_place, concluded}
-use Rattle.ns_model.proofs.GoHome.{run_home}
 use Rattle.ns_gen.specs.Code.{code_of}
 use Rattle.ns_moves.specs.Steps as steps
 use Rattle.ns_moves.specs.State.{Sending, Phase, First, Second, State, Pends}
@@ -24,7 +23,7 @@ use Rattle.ns_link.proofs.Lands.{Reaches, step, Lands, first}
 use Rattle.ns_link.proofs.RunOk.{run_ok}
 use Rattle.ns_link.proofs.Coded.{coded}
 
-module _ (meant : Meant) where
+module _ (meant : Meant) (home : ReturnsGoHome meant (code_of meant)) where
   abbrev code : CodeProgram
   code = code_of meant
 
@@ -41,7 +40,7 @@ module _ (meant : Meant) where
       (run_ok meant code phase (coded meant) (fuel_of p) c [])
 
   opening_home : (receiver : Value) (own : Own) (values : List Value) (p : Progress) → GoesHome [] (opening meant code receiver own values p)
-  opening_home receiver own values p = run_home meant code (fuel_of p) (sent_plain code receiver (own_sel code own) values (opening_place meant) p) []
+  opening_home receiver own values p = home (fuel_of p) (sent_plain code receiver (own_sel code own) values (opening_place meant) p) []
 
   second_ok : (start : Progress) (s : State) (o : Outcome Value) → Lands code Second s (λ v _ p. delivered code Second v [] p) [] o → GoesHome [] o
       → IsEnough o → EndsAs code s (concluded start o)

@@ -1,5 +1,5 @@
 -- How long the texts of a source's tokens are, and how many there are.
-use Rattle.std.proofs.Common.{◌≡◌, ℕ, ◌+◌, ◌≤◌, ◌<◌, ◌⊎◌, inl, inr, List, [], ◌∷◌, ◌++◌, length, length-append, cond, Bool, true, false, refl, ap, sym, ◌∙◌, arith, subst}
+use Rattle.std.proofs.Common.{◌≡◌, ℕ, ◌+◌, ◌≤◌, inl, inr, List, [], ◌∷◌, ◌++◌, length, length-append, cond, true, false, ap, ◌∙◌, arith}
 use Rattle.std.specs.Prelude.{◌==◌}
 use Rattle.ns_tree.specs.declared.token.Kind.{Kind}
 use Rattle.ns_tree.specs.declared.token.Kind.TheVariants as k
@@ -7,7 +7,7 @@ use Rattle.ns_tree.specs.declared.token.Token.{Token}
 use Rattle.ns_tree.specs.Tokens.{kinds}
 use Rattle.ns_lex.specs.Lexes.{Cuts}
 use Rattle.ns_lex.specs.Piece.{Text}
-use Rattle.ns_lex.specs.Spells.{AllOf, IsName, IsKey, IsOperator, Spells, doubled}
+use Rattle.ns_lex.specs.Spells.{IsName, IsOperator, Spells, doubled}
 use Rattle.ns_lex.proofs.Words.{stands_spells}
 use Rattle.ns_scope.specs.Whole.{text_of, AllWithin}
 

@@ -5,3 +5,4 @@ pub mod Loads
 pub mod Places
 pub mod Sources
 pub mod WholeLaws
+pub mod Told

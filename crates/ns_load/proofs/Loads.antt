@@ -1,5 +1,5 @@
 -- Files one after another.
-use Rattle.std.proofs.Common.{◌≡◌, ◌≢◌, ℕ, ◌+◌, ◌<◌, ◌≤◌, List, [], ◌∷◌, ◌++◌, length, map, take, drop, get_or, Bool, true, false, Option, Some, None, refl, ap, sym, subst, ◌∙◌, arith, append_assoc, IsSome, Result, Ok, Err, MatchResult}
+use Rattle.std.proofs.Common.{◌≡◌, ◌≢◌, ℕ, ◌+◌, ◌<◌, List, [], ◌∷◌, ◌++◌, length, map, take, drop, get_or, Bool, Option, Some, refl, ap, sym, subst, ◌∙◌, arith, append_assoc, IsSome, Result, Ok, Err, MatchResult}
 use Rattle.std.specs.Prelude.{slice_get, IsSomeAnd, IfErr}
 use Rattle.std.proofs.lemmas.List.{map_more, take_more, map-append, length-map, length-append, length-take-le, drop_more, take-append-drop}
 use Rattle.std.proofs.lemmas.Option.{slice_get-get_or}

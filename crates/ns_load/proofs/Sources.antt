@@ -1,5 +1,5 @@
 -- The faults of a source.
-use Rattle.std.proofs.Common.{◌≡◌, ◌≢◌, ℕ, List, Err, ap, refl, length, nat_lt, cond, Bool, true, false}
+use Rattle.std.proofs.Common.{◌≡◌, ◌≢◌, ℕ, List, Err, ap, refl, length, nat_lt, false}
 use Rattle.ns_lex.specs.Scan.{scan}
 use Rattle.ns_lex.specs.declared.fault.LexFault.{LexFault}
 use Rattle.ns_lex.specs.declared.fault.LexFault.TheVariants as lexing
@@ -7,8 +7,8 @@ use Rattle.ns_lib.specs.Collections.{collections}
 use Rattle.ns_load.specs.Source.{grammatical, lexical, parsed, read, read_tokens, refused, scanned}
 use Rattle.ns_load.specs.declared.fault.LoadFault.TheVariants.{Memory}
 use Rattle.ns_parse.specs.Parse.{parse}
-use Rattle.ns_parse.specs.declared.fault.ParseFault.{ParseFault}
-use Rattle.ns_parse.specs.declared.fault.ParseFault.TheVariants as parsing
+use Rattle.ns_terminal.specs.declared.fault.ParseFault.{ParseFault}
+use Rattle.ns_terminal.specs.declared.fault.ParseFault.TheVariants as parsing
 use Rattle.ns_tree.specs.Tokens.{kinds}
 use Rattle.ns_tree.specs.declared.token.Token.{Token}
 

@@ -12,18 +12,17 @@ use Rattle.ns_lex.proofs.Cutting.{scan_lexes}
 use Rattle.ns_load.specs.Answer.{AreRead, IsRead}
 use Rattle.ns_load.specs.Loaded.{file_names, library_name}
 use Rattle.ns_load.specs.Place.{behind, marks, past, place_of, places, start}
-use Rattle.ns_load.specs.Source.{parsed, read, read_tokens, scanned, spells}
+use Rattle.ns_load.specs.Source.{parsed, read, scanned, spells}
 use Rattle.ns_load.proofs.Lengths.{cut_count, cut_within}
 use Rattle.ns_parse.specs.Parse.{parse, parse_by}
-use Rattle.ns_parse.specs.Read.{Outcome}
+use Rattle.ns_terminal.specs.Read.{Outcome}
 use Rattle.ns_parse.proofs.SoundFile.{parse_spelled}
 use Rattle.ns_lex.proofs.Texts.{cuts_told}
 use Rattle.ns_scope.specs.Whole.{most_bytes, AllWithin, ArePlacesOf, IsPlaceOf, IsWholeUnit, AreWholeUnits, IsFileName, IsWhole}
 use Rattle.ns_scope.specs.declared.program.Program.{Program}
 use Rattle.ns_tree.specs.Deep.{deep}
 use Rattle.ns_tree.specs.Flat.{flat}
-use Rattle.ns_tree.specs.Tree.{Spells}
-use Rattle.ns_parse.specs.declared.fault.ParseFault.{ParseFault}
+use Rattle.ns_terminal.specs.declared.fault.ParseFault.{ParseFault}
 use Rattle.ns_tree.specs.Plain as p
 use Rattle.ns_tree.specs.PlainOf.{unit_of}
 use Rattle.ns_tree.specs.Tokens.{kinds}

@@ -2,8 +2,8 @@
 use Rattle.std.specs.Prelude.{◌≡◌, ◌≤◌, ℕ, ◌+◌, Bool, List, [], ◌∷◌, length, map, take, slice_get, Option, Result, Ok, Err, IsSome, IsSomeAnd}
 use Rattle.ns_base.specs.Files.{Files}
 use Rattle.ns_base.specs.declared.place.Place.{Place}
-use Rattle.ns_load.specs.Loaded.{Loading, units, stopped, load_from, loaded}
-use Rattle.ns_load.specs.Source.{Reading, spells, refused, read, read_file}
+use Rattle.ns_load.specs.Loaded.{Loading, units, stopped, load_from, loaded, loaded_texts}
+use Rattle.ns_load.specs.Source.{spells, refused, read, read_file}
 use Rattle.ns_load.specs.declared.fault.LoadCause.TheVariants.{Missing, TooLong, ReadFault, Spelling}
 use Rattle.ns_load.specs.declared.fault.LoadFault.{LoadFault}
 use Rattle.ns_load.specs.declared.fault.LoadFault.TheVariants.{At, Memory}
@@ -45,6 +45,18 @@ abbrev pub TellsFile : ℕ → Option (List ℕ) → Result Source LoadFault →
 TellsFile k text (Ok source) = read_file k text ≡ spells (unit_of source.unit) source.marks
 TellsFile k text (Err fault) = TellsFileFault k text fault
 
+-- The fault is that of a file of this text. One that couldn't be read and want of memory say nothing.
+abbrev pub IsFaultOf : ℕ → Option (List ℕ) → LoadFault → Type 0
+IsFaultOf k text (At Missing file) = read_file k text ≡ refused (At Missing file)
+IsFaultOf k text (At TooLong file) = read_file k text ≡ refused (At TooLong file)
+IsFaultOf k text (At ReadFault file) = Unit {0}
+IsFaultOf k text (At (Spelling number place) file) = read_file k text ≡ refused (At (Spelling number place) file)
+IsFaultOf k text Memory = Unit {0}
+
+-- There is a text of which the fault is that of a file.
+abbrev pub HasText : ℕ → LoadFault → Type 0
+HasText k fault = (text : Option (List ℕ)) × IsFaultOf k text fault
+
 -- The unit and its places are those of some source, of file k.
 abbrev pub IsRead : ℕ → p.SourceUnit → List Place → Type 0
 IsRead k unit places = (source : List ℕ) × (length source ≤ 1048576) × (read k source ≡ spells unit places)
@@ -72,6 +84,27 @@ TellsFault names lib files Memory = Unit {0}
 abbrev pub Tells : List (List ℕ) → Bool → Files → Result Program LoadFault → Type 0
 Tells names lib files (Ok program) = loaded names lib files ≡ units (map unit_of program.units) program.marks
 Tells names lib files (Err fault) = TellsFault names lib files fault
+
+-- The fault is that of the first of these texts that is refused. A file that couldn't be read and want of memory say nothing.
+abbrev pub IsFaultOfTexts : List (Option (List ℕ)) → Bool → LoadFault → Type 0
+IsFaultOfTexts texts lib (At Missing k) = loaded_texts texts lib ≡ stopped (At Missing k)
+IsFaultOfTexts texts lib (At TooLong k) = loaded_texts texts lib ≡ stopped (At TooLong k)
+IsFaultOfTexts texts lib (At ReadFault k) = Unit {0}
+IsFaultOfTexts texts lib (At (Spelling number place) k) = loaded_texts texts lib ≡ stopped (At (Spelling number place) k)
+IsFaultOfTexts texts lib Memory = Unit {0}
+
+-- The answer says what these texts are loaded as.
+abbrev pub IsOfTexts : List (Option (List ℕ)) → Bool → Result Program LoadFault → Type 0
+IsOfTexts texts lib (Ok program) = loaded_texts texts lib ≡ units (map unit_of program.units) program.marks
+IsOfTexts texts lib (Err fault) = IsFaultOfTexts texts lib fault
+
+-- There is a text, or none, for each name, and the answer says what these are loaded as.
+abbrev pub HasTexts : List (List ℕ) → Bool → Result Program LoadFault → Type 0
+HasTexts names lib result = (texts : List (Option (List ℕ))) × (length texts ≡ length names) × IsOfTexts texts lib result
+
+-- There is a text, or none, for each name, and the fault is that of the first that is refused, whether the library is asked for or not.
+abbrev pub HasRefusedTexts : List (List ℕ) → LoadFault → Type 0
+HasRefusedTexts names fault = (texts : List (Option (List ℕ))) × (length texts ≡ length names) × ((lib : Bool) → IsFaultOfTexts texts lib fault)
 
 -- The files of these names, without the library, are these units; or the fault is theirs, whether the library is asked for or not.
 abbrev pub TellsParts : List (List ℕ) → Files → List p.SourceUnit → List (List Place) → Result (Unit {0}) LoadFault → Type 0

@@ -32,9 +32,13 @@ abbrev pub library : Bool → List (Option (List ℕ))
 library true = Some collections ∷ []
 library false = []
 
+-- what these texts are loaded as, and the library behind them where it is asked for
+abbrev pub loaded_texts : List (Option (List ℕ)) → Bool → Loading
+loaded_texts texts lib = load_from 0 (texts ++ library lib)
+
 -- what the files of these names are loaded as, and the library behind them where it is asked for
 abbrev pub loaded : List (List ℕ) → Bool → Files → Loading
-loaded names lib files = load_from 0 (map files names ++ library lib)
+loaded names lib files = loaded_texts (map files names) lib
 
 abbrev pub library_name : Bool → List (List ℕ)
 library_name true = codes "lib:Collections" ∷ []

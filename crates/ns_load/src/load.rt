@@ -1,14 +1,15 @@
 //! Loading the files of a program.
 
-ghost use Rattle.std.specs.Prelude.{◌≡◌, ◌≢◌, ◌≤◌, ◌+◌, ◌++◌, ◌∷◌, All, IfErr, IfOk, IsErrOf, IsUtf8, length, map, OnOk, OnErr, ℕ, List, Some, [], MatchResult};
+ghost use Rattle.std.specs.Prelude.{◌≡◌, ◌≢◌, ◌≤◌, ◌+◌, ◌++◌, ◌∷◌, All, IfErr, IfOk, IsErrOf, length, map, OnOk, OnErr, ℕ, List, Some, [], MatchResult};
 ghost use Rattle.ns_base.specs.Count.{Rose};
 ghost use Rattle.ns_base.specs.Files.{Files};
 ghost use Rattle.ns_base.specs.Shelf.{OnlyRead};
-ghost use Rattle.ns_load.specs.Answer.{AreRead, IsSpelling, Tells, TellsParts};
+ghost use Rattle.ns_load.specs.Answer.{AreRead, HasRefusedTexts, HasTexts, IsSpelling, Tells, TellsParts};
 ghost use Rattle.ns_load.specs.Loaded as spec;
 ghost use Rattle.ns_load.specs.Source as source_lem;
 ghost use Rattle.ns_load.specs.declared.fault.LoadCause.TheVariants.{Missing, ReadFault};
 ghost use Rattle.ns_load.specs.declared.fault.LoadFault.TheVariants.{At, Memory};
+ghost use Rattle.ns_scope.specs.Whole.{IsFileName, IsWhole};
 ghost use Rattle.ns_tree.specs.PlainOf.{unit_of};
 
 use crate::fault::LoadFault;
@@ -25,18 +26,22 @@ use std::alloc::Global;
 const LIBRARY: &str = "lib:Collections";
 
 /// Loads the files of 1 to 16 names in their order, and then the library where it is asked for. The
-/// first file that is refused decides.
+/// first file that is refused decides. What is loaded is a whole program.
 pub fn load<S: Shelf>(
     alloc: Global,
     shelf: &mut S,
     names: &[Text],
     lib: bool,
 ) -> Result<Program, LoadFault>
+    requires some { 1 ≤ length names.now }
     requires few { length names.now ≤ 16 }
-    requires text { All IsUtf8 names.now }
+    requires named { All IsFileName names.now }
     // Over files that are told, the answer is what they are loaded as.
     ensures told { (files : Files) → S.holds shelf.old ≡ Some files → Tells names.now lib files result }
-    // Whether or not they are told, the program is of sources, with the names that were given.
+    // Whether or not they are told, there are texts of which it is so, and the program is whole.
+    ensures texts { HasTexts names.now lib result }
+    ensures whole { IfOk result IsWhole }
+    // The program is of sources, with the names that were given.
     ensures files { IfOk result (λ program. program.files ≡ spec.file_names names.now lib) }
     ensures count { IfOk result (λ program. length program.units ≡ length program.files) }
     ensures read { IfOk result (λ program. AreRead 0 (map unit_of program.units) program.marks) }
@@ -61,7 +66,7 @@ fn load_files<S: Shelf>(
     parts: &mut Parts,
 ) -> Result<(), LoadFault>
     requires few { length names.now ≤ 16 }
-    requires text { All IsUtf8 names.now }
+    requires named { All IsFileName names.now }
     requires units { parts.old.units.items ≡ [] }
     requires files { parts.old.files.items ≡ [] }
     requires marks { parts.old.marks.items ≡ [] }
@@ -69,6 +74,7 @@ fn load_files<S: Shelf>(
     ensures files { OnOk result (parts.new.files.items ≡ names.now) }
     ensures count { OnOk result (length parts.new.units.items ≡ length names.now) }
     ensures read { OnOk result (AreRead 0 (map unit_of parts.new.units.items) parts.new.marks.items) }
+    ensures texts { IfErr result (HasRefusedTexts names.now) }
 
     ensures missing { (k : ℕ) → IsErrOf result (At Missing k) → Rose (S.misses shelf.old) (S.misses shelf.new) }
     ensures read_fault { (k : ℕ) → IsErrOf result (At ReadFault k) → Rose (S.faults shelf.old) (S.faults shelf.new) }

@@ -1,3 +1,6 @@
-pub mod FormLaws
-pub mod SendLaws
-pub mod TokenLaws
+pub mod Fresh
+pub mod Opening
+pub mod Waited
+pub mod Standing
+pub mod Running
+pub mod LiveEndings

@@ -1,3 +1,5 @@
-pub mod First
-pub mod FirstTokens
-pub mod Sends
+pub mod Machine
+pub mod Fresh
+pub mod Opening
+pub mod Waiting
+pub mod Turning

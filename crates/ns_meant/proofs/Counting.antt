@@ -20,7 +20,7 @@ use Rattle.ns_meant.proofs.Numbering.{both, message_counted, bars_counted, state
 
 -- ---- the bodies of a declaration
 
-super_counted : (clause : Option p.SuperClause) (here : Standing) (next : ℕ) →
+pub super_counted : (clause : Option p.SuperClause) (here : Standing) (next : ℕ) →
     length (super_bodies here next clause) ≡ length (b.super_blocks here.scope clause)
 super_counted (Some (p.clause_with head over (Some message))) here next = message_counted message here next
 super_counted (Some (p.clause_with head over None)) here next = refl
@@ -32,7 +32,7 @@ method_counted (p.method_with (p.pattern_with parts params) bars body) around si
     let here = in_method around side class number params bars in
     ap suc (both _ _ _ _ (bars_counted bars here (number + 1)) (statements_counted body here (number + 1 + length (b.bars_blocks here.scope bars))))
 
-what_methods_counted : (what : p.What) (around : Around) (side : CodeSide) (class next : ℕ) →
+pub what_methods_counted : (what : p.What) (around : Around) (side : CodeSide) (class next : ℕ) →
     length (what_methods around side class next what) ≡ length (b.member_methods around.classes side what)
 what_methods_counted (p.class_member inner) around side class next = refl
 what_methods_counted (p.method_member method) around side class next = method_counted method around side class next
@@ -44,7 +44,7 @@ members_methods_counted (p.more_members (p.member_with categories access what) r
     both _ _ _ _ (what_methods_counted what around side class next)
     (members_methods_counted rest around side class (next + length (b.member_methods around.classes side what)))
 
-side_counted : (members : p.Side) (around : Around) (side : CodeSide) (class next : ℕ) →
+pub side_counted : (members : p.Side) (around : Around) (side : CodeSide) (class next : ℕ) →
     length (side_methods around side class next members) ≡ length (b.side_bodies around.classes side members)
 side_counted (p.side_with members tail) around side class next = members_methods_counted members around side class next
 
@@ -53,7 +53,7 @@ class_side_counted : (others : p.ClassSide) (around : Around) (class next : ℕ)
 class_side_counted p.no_class_side around class next = refl
 class_side_counted (p.class_side_with others) around class next = side_counted others around side.Class class next
 
-own_counted : (class : p.Class) (around : Around) (number next : ℕ) → length (own_bodies around number next class) ≡ length (b.own_bodies around.classes class)
+pub own_counted : (class : p.Class) (around : Around) (number next : ℕ) → length (own_bodies around number next class) ≡ length (b.own_bodies around.classes class)
 own_counted (p.class_with name factory clause bars body members others) around number next =
     let class = p.class_with name factory clause bars body members others in
     let here = standing around (initialiser_scope around.classes factory) number next in
@@ -83,7 +83,7 @@ clause_length None (class ∷ classes) body clause h = absurd h
 clause_length (Some number) [] body clause h = absurd h
 clause_length (Some number) (class ∷ classes) body clause h = refl
 
-clause_counted : (clause : Option p.SuperClause) (around : Around) (number : ℕ) → HasNumber around.outer around.classes →
+pub clause_counted : (clause : Option p.SuperClause) (around : Around) (number : ℕ) → HasNumber around.outer around.classes →
     length (clause_bodies around number clause) ≡ length (b.clause_bodies around.classes clause)
 clause_counted None around number h = refl
 clause_counted (Some clause) around number h =

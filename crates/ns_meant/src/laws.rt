@@ -6,10 +6,12 @@ ghost use Rattle.ns_base.specs.declared.place.Place.{Place};
 ghost use Rattle.ns_base.specs.Names.{NoRepeats, has, place_of};
 ghost use Rattle.ns_tree.specs.Plain.{Class, Expr, SourceUnit};
 ghost use Rattle.ns_scope.specs.Bodies as scopes;
-ghost use Rattle.ns_meant.specs.Program.{Meant};
+ghost use Rattle.ns_meant.specs.Program.{Meant, Body, Declaration};
 ghost use Rattle.ns_meant.specs.Expressions.{Standing};
 ghost use Rattle.ns_meant.specs.Statements.{expr_bodies};
 ghost use Rattle.ns_meant.specs.Classes.{Around, meant_of, class_declared, class_count, units_count};
+ghost use Rattle.ns_meant.specs.There.{IsPlaced};
+ghost use Rattle.ns_meant.specs.Right.{IsNested};
 ghost use Rattle.ns_meant.specs.Tables.{put_all, used_names, names_of};
 
 /// The blocks of an expression are as many bodies as scopes, and so are the bodies of a program. So
@@ -45,4 +47,21 @@ pub fn used_names_have_numbers()
     ensures placed { (meant : Meant) (before : List (List ℕ)) (name : List ℕ) (after : List (List ℕ)) →
         used_names meant ≡ before ++ name ∷ after → slice_get (names_of meant) (place_of (names_of meant) name) ≡ Some name }
     ensures once { (meant : Meant) → NoRepeats (names_of meant) }
+{}
+
+/// Each body of a program is placed: its declaration is there and its parameters are among its
+/// locals. A block stands in an earlier body of its declaration and side, which has an environment
+/// for it, and no other body stands in one; each block that an expression of a body names stands in
+/// that body.
+pub fn bodies_are_placed()
+    ensures { (files : List (List ℕ)) (units : List SourceUnit) (marks : List (List Place)) →
+        length units ≡ length marks → (number : ℕ) (body : Body) → slice_get (meant_of files units marks).bodies number ≡ Some body →
+        IsPlaced (meant_of files units marks) number body }
+{}
+
+/// Each class of a program stands in an earlier one, or in none and then has no clause; and each of
+/// its nested classes has it around itself.
+pub fn classes_are_nested()
+    ensures { (files : List (List ℕ)) (units : List SourceUnit) (marks : List (List Place)) (number : ℕ) (class : Declaration) →
+        slice_get (meant_of files units marks).classes number ≡ Some class → IsNested (meant_of files units marks) number class }
 {}

@@ -65,14 +65,14 @@ perform_leads holds world may code object (value.Ref at) args = tt
 
 -- the rows of mirrors write what is mirrored
 pub mirror_leads : (holds : World → Type 0) (world : World) (may : Allows holds world) (code : CodeProgram) (r : MirrorRow) (shown first second : Value) → Writes holds world shown → ReflectsTo holds (row_outcome world code r shown first second)
-mirror_leads holds world may code row.On shown first second has = reflected_leads holds (making world (MirrorCell first)) (cell_leads holds world may (MirrorCell first) refl refl)
-mirror_leads holds world may code row.ClassName shown first second has = reflected_leads holds (class_name world code shown) (cell_leads holds world may (TextCell (class_text code (class_name_of world.cells shown))) refl refl)
+mirror_leads holds world may code row.On shown first second has = reflected_leads holds (making world (MirrorCell first)) (cell_leads holds world may (MirrorCell first) refl refl refl)
+mirror_leads holds world may code row.ClassName shown first second has = reflected_leads holds (class_name world code shown) (cell_leads holds world may (TextCell (class_text code (class_name_of world.cells shown))) refl refl refl)
 mirror_leads holds world may code row.SlotNames shown first second has =
-    reflected_leads holds (slot_names world code shown) (cell_leads holds world may (ArrayCell (slot_names_along world.cells code (chain_of world.cells (object_class world.cells shown)))) refl refl)
+    reflected_leads holds (slot_names world code shown) (cell_leads holds world may (ArrayCell (slot_names_along world.cells code (chain_of world.cells (object_class world.cells shown)))) refl refl refl)
 mirror_leads holds world may code row.Slot shown first second has = reflected_leads holds (unchanged world (slot world.cells code shown first)) (unchanged_leads holds world may (slot world.cells code shown first))
 mirror_leads holds world may code row.SlotPut shown first second has = reflected_leads holds (slot_put world code shown first second) (put_slot_leads holds world may code shown first second has)
 mirror_leads holds world may code row.Selectors shown first second has =
-    reflected_leads holds (selectors world code shown) (cell_leads holds world may (ArrayCell (public_selectors (methods_of_shape world.cells code (shape_of_value world.cells shown)))) refl refl)
+    reflected_leads holds (selectors world code shown) (cell_leads holds world may (ArrayCell (public_selectors (methods_of_shape world.cells code (shape_of_value world.cells shown)))) refl refl refl)
 mirror_leads holds world may code row.Enclosing shown first second has = may.same
 mirror_leads holds world may code row.Perform shown first second has = perform_leads holds world may code shown first second
 

@@ -4,7 +4,7 @@
 mod arrays;
 pub mod laws;
 pub mod mirror;
-mod naming;
+pub mod naming;
 pub mod row;
 mod selectors;
 mod slots;

@@ -31,7 +31,7 @@ pub fn class_name(world: &mut World, code: &CodeProgram, value: Value) -> Result
 }
 
 /// The name of a declaration.
-fn declared_text(code: &CodeProgram, decl: u32) -> &[u8]
+pub fn declared_text(code: &CodeProgram, decl: u32) -> &[u8]
     ensures { result.now ≡ spec.declared_text code.now decl }
 {
     match code.classes.as_slice().get(decl as usize) {
@@ -41,7 +41,7 @@ fn declared_text(code: &CodeProgram, decl: u32) -> &[u8]
 }
 
 /// The name of a class of the kernel.
-fn kernel_text(row: KernelRow) -> &'static [u8]
+pub fn kernel_text(row: KernelRow) -> &'static [u8]
     ensures { result.now ≡ spec.kernel_text row }
 {
     match row {

@@ -1,6 +1,6 @@
 -- The fuel of a whole run is enough.
 use Rattle.std.proofs.Common.{◌≡◌, ℕ, suc, ◌+◌, ◌-◌, ◌<◌, List, [], ◌∷◌, ◌++◌, refl, sym, ap, ◌∙◌, arith, Option, Some, None}
-use Rattle.std.specs.Prelude.{Bool, true, false, ◌&&◌, map, nat_le, cond}
+use Rattle.std.specs.Prelude.{pos, Bool, true, false, ◌&&◌, map, nat_le, cond}
 use Rattle.ns_base.specs.declared.limits.Limits.{Limits}
 use Rattle.ns_base.specs.declared.place.Place.{Place as SourcePlace}
 use Rattle.ns_base.specs.declared.selector.Sel.{Sel}
@@ -17,7 +17,11 @@ use Rattle.ns_world.specs.Cell.{Cell, TextCell, cell_size}
 use Rattle.ns_world.specs.Heap.{Heap, heap_size, has_superclass, is_ordered}
 use Rattle.ns_world.specs.World.{World, made}
 use Rattle.ns_facets.specs.declared.row.Grants.{Grants}
+use Rattle.ns_kcode.specs.declared.state.KMethod.{KMethod}
+use Rattle.ns_kcode.specs.Rows.{beginning}
+use Rattle.ns_send.specs.declared.site.Site.{Site}
 use Rattle.ns_send.specs.Control.{Progress, in_world, After, Gives, Halts}
+use Rattle.ns_send.specs.Blocks.{method_next, turns_of}
 use Rattle.ns_send.specs.Sends.{sent_plain}
 use Rattle.ns_send.specs.Start.{facet_if, facets_of, top_if, tops_of, standing_cells, start_cells, nothing_done}
 use Rattle.ns_send.specs.Start.{all_made, start_made, manifest, platform, first_class}
@@ -26,8 +30,8 @@ use Rattle.ns_meant.specs.Program.{Meant}
 use Rattle.ns_model.specs.Outcome.{Outcome, Yields, Returns, Ends, Spent}
 use Rattle.ns_model.specs.Run.{run, fuel_of}
 use Rattle.ns_model.specs.Whole.{own_sel, opening_place, opening, opened}
-use Rattle.ns_model.specs.Laws.{IsEnough, Ready, EndsByItself}
-use Rattle.ns_model.proofs.Fuel.{IsOrdered, Fine, fine_bind, moves_on, run_fine}
+use Rattle.ns_model.specs.Laws.{IsEnough, Ready, EndsByItself, method_begins}
+use Rattle.ns_model.proofs.Fuel.{IsOrdered, Fine, fine_bind, moves_on, gone_fine, run_fine}
 use Rattle.ns_model.proofs.Facts.{facts}
 
 -- ---- the opening sends
@@ -68,6 +72,15 @@ opened_enough meant code array p o =
     (fine_bind p (opening meant code (first_class p.world.cells) PackageUsing (manifest ∷ []) p) _
     (opening_fine meant code (first_class p.world.cells) PackageUsing (manifest ∷ []) p o)
     (λ v ls q l. opening_fine meant code v MainArgs (platform ∷ array ∷ []) q (l.ordered o)))
+
+-- a method of the kernel that begins
+pub method_enough : (meant : Meant) (code : CodeProgram) (fuel : ℕ) (named : KMethod) (receiver first second : Value) (site : Site) (live : List ℕ)
+    (p : Progress) → Ready fuel p → IsEnough (run meant code (suc fuel) (method_begins named receiver first second site p) live)
+method_enough meant code fuel named receiver first second site live p r =
+    let state = beginning receiver first second (pos (turns_of p.world.cells named receiver)) in
+    enough_of p _
+    (gone_fine meant code (facts code) fuel (run_fine meant code (facts code) fuel) named site (method_next named state site p) live p
+    ((facts code).next named state site p) r)
 
 -- ---- the start
 

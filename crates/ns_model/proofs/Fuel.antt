@@ -340,7 +340,7 @@ module _ (meant : m.Meant) (code : CodeProgram) (facts : Facts code) where
   after_block n ok (Perform receiver sel array site' p) named state site live old s r =
       fine_from old p _ (past_later old p s) (again n ok named state site live old p r s _ (ok (Perform receiver sel array site' p) live old s r))
 
-  gone_fine : (n : ℕ) → CallFine n (run meant code n) → (named : KMethod) (site : Site) (w : Waiting) (live : List ℕ) (old : Progress) → WaitsLater old w
+  pub gone_fine : (n : ℕ) → CallFine n (run meant code n) → (named : KMethod) (site : Site) (w : Waiting) (live : List ℕ) (old : Progress) → WaitsLater old w
       → Ready n old → Fine old (gone_on code (run meant code n) named site w live)
   gone_fine n ok named site (Finishes after) live old l r = fine_settled old [] after l
   gone_fine n ok named site (Waits block arguments state p) live old l r =

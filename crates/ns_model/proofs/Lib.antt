@@ -3,3 +3,10 @@ pub mod Fuel
 pub mod Facts
 pub mod Enough
 pub mod Examples
+pub mod Lookups
+pub mod RowsRead
+pub mod ActionsRead
+pub mod Agreeing
+pub mod SameRun
+pub mod RowsMean
+pub mod RuleExamples

@@ -1,17 +1,25 @@
 -- What is said of runs by the laws about them.
-use Rattle.std.specs.Prelude.{◌≡◌, ◌<◌, ℕ, ◌+◌, List, Option, IsTrue, true}
+use Rattle.std.specs.Prelude.{◌≡◌, ◌<◌, ◌≤◌, ℕ, suc, pos, ◌+◌, ◌^◌, List, Option, IsTrue, true, FitsSigned}
+use Rattle.std.specs.Int.{w64}
 use Rattle.ns_base.specs.declared.limits.Limits.{Limits}
 use Rattle.ns_base.specs.declared.place.Place.{Place as SourcePlace}
 use Rattle.ns_base.specs.declared.selector.Sel.{Sel}
 use Rattle.ns_code.specs.declared.program.CodeProgram.{CodeProgram}
 use Rattle.ns_world.specs.declared.value.Value.{Value}
+use Rattle.ns_world.specs.declared.value.Value.TheVariants.{Int}
 use Rattle.ns_world.specs.Heap.{is_ordered}
-use Rattle.ns_send.specs.Control.{Progress, After, Gives, Halts, Control}
+use Rattle.ns_kcode.specs.declared.state.KMethod.{KMethod}
+use Rattle.ns_kcode.specs.declared.state.KMethod.TheVariants as method
+use Rattle.ns_kcode.specs.Rows.{beginning}
+use Rattle.ns_send.specs.declared.site.Site.{Site}
+use Rattle.ns_send.specs.Control.{Progress, After, Gives, Halts, Control, Begin}
+use Rattle.ns_send.specs.Blocks.{turns_of}
 use Rattle.ns_facets.specs.declared.row.Grants.{Grants}
 use Rattle.ns_send.specs.Sends.{sent_plain}
 use Rattle.ns_send.specs.Start.{start_made}
 use Rattle.ns_meant.specs.Program.{Meant}
 use Rattle.ns_model.specs.Outcome.{Outcome, Yields, Returns, Ends, Spent, is_live}
+use Rattle.ns_model.specs.Rows.{method_row}
 use Rattle.ns_model.specs.Run.{run}
 use Rattle.ns_model.specs.Whole.{opened}
 
@@ -57,3 +65,36 @@ EndsByItself meant code (Halts ending progress) = Unit {0}
 abbrev pub RunsEnd : Meant → CodeProgram → Type 0
 RunsEnd meant code =
     (grants : Grants) (arguments : List (List ℕ)) (limits : Limits) → EndsByItself meant code (start_made code grants arguments limits)
+
+-- Where the fuel was enough, more of it changes nothing.
+abbrev pub MoreFuel : Meant → CodeProgram → Type 0
+MoreFuel meant code =
+    (fuel more : ℕ) (control : Control) (live : List ℕ) → fuel ≤ more → IsEnough (run meant code fuel control live)
+    → run meant code more control live ≡ run meant code fuel control live
+
+-- ---- the kernel's methods that evaluate blocks
+
+-- The turns of `to:do:` can be counted by an Integer, as its receiver is one.
+abbrev pub AreCounted : ℕ → KMethod → Value → Type 0
+AreCounted turns method.ToDo (Int start) = FitsSigned w64 start × (turns < 2 ^ 63)
+AreCounted turns named receiver = Unit {0}
+
+-- where such a method begins, with its receiver and its arguments
+abbrev pub method_begins : KMethod → Value → Value → Value → Site → Progress → Control
+method_begins named receiver first second site progress =
+    Begin named (beginning receiver first second (pos (turns_of progress.world.cells named receiver))) site progress
+
+-- It means its row: a recursion over at most as many turns as there is fuel.
+abbrev pub MethodsAreRows : Meant → CodeProgram → Type 0
+MethodsAreRows meant code =
+    (fuel enough : ℕ) (named : KMethod) (receiver first second : Value) (site : Site) (live : List ℕ) (progress : Progress)
+    → fuel ≤ enough → AreCounted enough named receiver
+    → IsEnough (run meant code fuel (method_begins named receiver first second site progress) live)
+    → run meant code fuel (method_begins named receiver first second site progress) live
+    ≡ method_row code (run meant code enough) live site enough named receiver first second progress
+
+-- In such a method, too, fuel above the steps that are left doesn't run out.
+abbrev pub FuelIsEnoughInMethods : Meant → CodeProgram → Type 0
+FuelIsEnoughInMethods meant code =
+    (fuel : ℕ) (named : KMethod) (receiver first second : Value) (site : Site) (live : List ℕ) (progress : Progress)
+    → Ready fuel progress → IsEnough (run meant code (suc fuel) (method_begins named receiver first second site progress) live)

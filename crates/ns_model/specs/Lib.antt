@@ -4,3 +4,4 @@ pub mod Run
 pub mod Rows
 pub mod Whole
 pub mod Laws
+pub mod Tables

@@ -11,6 +11,7 @@ use Rattle.ns_world.specs.declared.ending.Kind.TheVariants.{DeadReturn, MustBeBo
 use Rattle.ns_world.specs.declared.ending.LimitKind.TheVariants.{Steps}
 use Rattle.ns_world.specs.Cell.{Cell, BlockCell, TextCell, ArrayCell}
 use Rattle.ns_world.specs.World.{stepped}
+use Rattle.ns_world.specs.Later.{MayCome}
 use Rattle.ns_world.specs.Starts.{start_of}
 use Rattle.ns_world.proofs.Leading.{later_same, later_on, later_left, later_stepped}
 use Rattle.ns_find.specs.declared.found.Sending.TheVariants.{Plain, Inner}
@@ -24,7 +25,7 @@ use Rattle.ns_send.specs.Classes.{super_part, body_ended, part_ended, kept_by}
 use Rattle.ns_send.specs.Sends.{Target, To, ToPrivate, ToSuper, to_value, receiver_of, sent}
 use Rattle.ns_send.specs.Onward.{reached, after_reached, part_reached, touched}
 use Rattle.ns_send.proofs.Onward.{Going, charged_all, may_come}
-use Rattle.ns_send.proofs.BlocksOnward.{cell_onward, evaluated_onward, next_onward}
+use Rattle.ns_send.proofs.BlocksOnward.{any_cell_onward, any_cell_later, evaluated_onward, next_onward}
 use Rattle.ns_send.proofs.ClassesOnward.{super_onward, ended_onward, filled_onward}
 use Rattle.ns_send.proofs.LawfulValues.{local_onward}
 use Rattle.ns_send.proofs.SendsOnward.{sent_onward, stepped_onward}
@@ -83,8 +84,11 @@ module _ (code : CodeProgram) (phase : Phase) (leaving : Leaving) (a : Activatio
   settles after named others g =
       at_state p (settled code phase after others) (after_reached after) (settled_at code phase after others) (of_going named p (after_reached after) g)
 
-  cell_made : (cell : Cell) (others : List Frame) → Going [] p (after_reached (new_cell cell p)) → Onward (settled code phase (new_cell cell p) others)
-  cell_made cell others g = settles (new_cell cell p) [] others g
+  cell_made : (cell : Cell) (others : List Frame) → MayCome p.world.cells cell → Onward (settled code phase (new_cell cell p) others)
+  cell_made cell others may =
+      let after : After = new_cell cell p in
+      at_state p (settled code phase after others) (after_reached after) (settled_at code phase after others)
+      (record { later = any_cell_later cell p may; begun = (any_cell_onward [] cell p).begun })
 
   sends : (target : Target) (sel : Sel) (vs : List Value) (place : Option SourcePlace) (others : List Frame)
       → Onward (arrived code phase (sent code a target sel vs place p) others)
@@ -140,7 +144,7 @@ module _ (code : CodeProgram) (phase : Phase) (leaving : Leaving) (a : Activatio
   executes (i.PushSym sel) place stack = stays p
   executes (i.PushText text) place stack =
       let cell : Cell = TextCell (literal code text) in cell_made cell (Running leaving a ls rest stack ∷ frames)
-      (cell_onward [] cell p (may_come p.world.cells cell refl refl))
+      (may_come p.world.cells cell refl refl)
   executes i.PushSelf place stack = stays p
   executes (i.PushOuter level) place stack = stays p
   executes (i.PushLocal hops index) place stack = stays p
@@ -148,11 +152,11 @@ module _ (code : CodeProgram) (phase : Phase) (leaving : Leaving) (a : Activatio
       on_top_all Onward (Stuck p) stack _ (stays p) (λ v below. of_going _ p _ (local_onward code a hops index v p))
   executes (i.PushBlock body) place stack =
       let cell : Cell = BlockCell body a.env a.home a.self a.holder in
-      cell_made cell (Running leaving a ls rest stack ∷ frames) (cell_onward [] cell p (may_come p.world.cells cell refl refl))
+      cell_made cell (Running leaving a ls rest stack ∷ frames) (may_come p.world.cells cell refl refl)
   executes (i.MakeArray count) place stack =
       taken_all Onward (Stuck p) count [] stack _ (stays p)
       (λ items below. cell_made (ArrayCell items) (Running leaving a ls rest below ∷ frames)
-      (cell_onward [] (ArrayCell items) p (may_come p.world.cells (ArrayCell items) refl refl)))
+      (may_come p.world.cells (ArrayCell items) refl refl))
   executes i.Pop place stack = on_top_all Onward (Stuck p) stack _ (stays p) (λ v below. stays p)
   executes (i.Pick number) place stack = picked_all Onward (Stuck p) number stack _ (stays p) (λ v. stays p)
   executes (i.Send sel argc) place stack =

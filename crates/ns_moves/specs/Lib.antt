@@ -10,13 +10,15 @@ pub mod Turn
 pub mod Starts
 pub mod ValidFrames
 pub mod Valid
-pub mod View
 pub mod Charging
-pub mod Fitting
 pub mod Homes
 pub mod Left
 pub mod Told
 pub mod Charges
 pub mod Onward
 pub mod Counted
+pub mod WorldStays
+pub mod WorldAsks
+pub mod Standing
+pub mod Beginning
 pub mod Laws

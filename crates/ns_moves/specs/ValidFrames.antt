@@ -30,6 +30,7 @@ use Rattle.ns_send.specs.Control.{Progress, Activation, FromMethod, FromBody, Fr
 use Rattle.ns_send.specs.Bodies.{has_environment, locals_of, clause_of, no_home}
 use Rattle.ns_send.specs.Blocks.{is_block, is_integer, has_arguments}
 use Rattle.ns_send.specs.Lawful.{LiveState, FitsActivation, FitsExit}
+use Rattle.ns_send.specs.Fitting.{FitsObject}
 use Rattle.ns_moves.specs.State.{Leaving, Loud, Silent, Frame, Running, Looping, Pending, Evaluating}
 use Rattle.ns_moves.specs.Steps.{Step, steps_of, steps_from}
 use Rattle.ns_moves.specs.Jumps.{is_boolean}
@@ -160,11 +161,12 @@ environment_body code body = if has_environment code body then Some body else pa
 abbrev pub locals_beside : CodeProgram → ℕ → ℕ
 locals_beside code body = if has_environment code body then 0 else locals_of code body
 
--- A body runs: its self, holder, environment and locals fit it, and it stands where its instructions and its
--- operands meet.
+-- A body runs: its self, holder, environment and locals fit it, an initialiser's self is an object with its holder,
+-- and it stands where its instructions and its operands meet.
 pub record RunningIsValid (code : CodeProgram) (progress : Progress) (awaited : Awaited) (leaving : Leaving) (activation : Activation)
     (locals : List Value) (rest : List Step) (stack : List Value) : Type 0 where
   pub fits : FitsActivation progress.world.cells code activation
+  pub object : FitsObject progress.world.cells code activation
   pub kind : IsTrue (ends_kind leaving (kind_of code activation.body))
   pub leaves : FitsLeaving progress.world.cells code leaving activation
   pub inside : rest ≡ steps_from code activation.body (next_number code activation.body rest)

@@ -1,15 +1,4 @@
 pub mod Labels
-pub mod Lists
-pub mod Loops
-pub mod Sound
 pub mod SoundClasses
-pub mod SoundExpressions
 pub mod SoundFile
-pub mod SoundLists
-pub mod SoundMarks
-pub mod SoundPatterns
-pub mod SoundTokens
-pub mod Steps
-pub mod Takes
-pub mod TakesNodes
-pub mod TakesTokens
+pub mod TakesClasses

@@ -7,17 +7,17 @@ use Rattle.ns_tree.specs.declared.tree.Base.{Base}
 use Rattle.ns_tree.specs.Plain as p
 use Rattle.ns_parse.specs.declared.classes.SideOf.{SideOf}
 use Rattle.ns_parse.specs.declared.classes.SideOf.TheVariants as sides
-use Rattle.ns_parse.specs.declared.expressions.Holder.{Holder}
-use Rattle.ns_parse.specs.declared.expressions.Holder.TheVariants as h
-use Rattle.ns_parse.specs.declared.mark.Mark.TheVariants as m
-use Rattle.ns_parse.specs.declared.name.Sort.TheVariants as s
-use Rattle.ns_parse.specs.declared.name.Operators.TheVariants as o
-use Rattle.ns_parse.specs.Read.{Reader, read_none, read_mapped, read_both, read_after, read_until, read_or, read_maybe, read_labelled, Labelled, tail, item}
-use Rattle.ns_parse.specs.Mark.{is_mark, skip, flag}
-use Rattle.ns_parse.specs.Name.{is_name, name}
-use Rattle.ns_parse.specs.Leaf.{maybe_access, is_access, is_string, string, strings}
-use Rattle.ns_parse.specs.Pattern.{pattern, factory, base, starts_base}
-use Rattle.ns_parse.specs.Expressions.{keys, bars, statements, primary}
+use Rattle.ns_phrase.specs.declared.expressions.Holder.{Holder}
+use Rattle.ns_phrase.specs.declared.expressions.Holder.TheVariants as h
+use Rattle.ns_terminal.specs.declared.mark.Mark.TheVariants as m
+use Rattle.ns_terminal.specs.declared.name.Sort.TheVariants as s
+use Rattle.ns_terminal.specs.declared.name.Operators.TheVariants as o
+use Rattle.ns_terminal.specs.Read.{Reader, read_none, read_mapped, read_both, read_after, read_until, read_or, read_maybe, read_labelled, Labelled, tail, item}
+use Rattle.ns_terminal.specs.Mark.{is_mark, skip, flag}
+use Rattle.ns_terminal.specs.Name.{is_name, name}
+use Rattle.ns_terminal.specs.Leaf.{maybe_access, is_access, is_string, string, strings}
+use Rattle.ns_terminal.specs.Pattern.{pattern, factory, base, starts_base}
+use Rattle.ns_phrase.specs.Expressions.{keys, bars, statements, primary}
 
 -- ---- trees from their parts
 

@@ -1,11 +1,3 @@
-pub mod Read
-pub mod Left
-pub mod Mark
-pub mod Name
-pub mod Leaf
-pub mod Pattern
-pub mod Expressions
 pub mod Classes
-pub mod Reads
 pub mod Views
 pub mod Parse

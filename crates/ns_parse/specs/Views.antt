@@ -1,10 +1,7 @@
--- The plain forms of what functions of the parser answer in pairs.
-use Rattle.std.specs.Prelude.{ℕ, Option, option_map}
+-- The plain forms of what functions on classes answer in pairs.
+use Rattle.std.specs.Prelude.{Option, option_map}
 use Rattle.std.specs.Global.{Vec}
 use Rattle.ns_tree.specs.declared.tree.Named.{Named}
-use Rattle.ns_tree.specs.declared.tree.UnExpr.{UnExpr}
-use Rattle.ns_tree.specs.declared.tree.BinExpr.{BinExpr}
-use Rattle.ns_tree.specs.declared.tree.Message.{Message}
 use Rattle.ns_tree.specs.Plain as p
 use Rattle.ns_tree.specs.declared.tree.Access.{Access}
 use Rattle.ns_tree.specs.declared.tree.Pattern.{Pattern}
@@ -13,21 +10,9 @@ use Rattle.ns_tree.specs.declared.tree.Side.{Side}
 use Rattle.ns_tree.specs.declared.tree.Slot.{Slot}
 use Rattle.ns_tree.specs.declared.tree.Statements.{Statements}
 use Rattle.ns_tree.specs.declared.tree.What.{What}
-use Rattle.ns_tree.specs.PlainOf.{un_of, bin_of, message_of, pattern_of, clause_of, bars_of, statements_of, what_of, side_of, class_side_of}
+use Rattle.ns_tree.specs.PlainOf.{pattern_of, clause_of, bars_of, statements_of, what_of, side_of, class_side_of}
 use Rattle.ns_parse.specs.declared.classes.Opening.{Opening}
 use Rattle.ns_parse.specs.Classes.{ClassHead, MemberForm}
-
--- an operator with its argument
-abbrev pub oper_view : Named × UnExpr → Named × p.UnExpr
-oper_view x = (x.0, un_of x.1)
-
--- a key with its argument
-abbrev pub key_view : Named × BinExpr → Named × p.BinExpr
-key_view x = (x.0, bin_of x.1)
-
--- a message of a cascade with the number of its semicolon
-abbrev pub cascaded_view : ℕ × Message → ℕ × p.Message
-cascaded_view x = (x.0, message_of x.1)
 
 -- the name, the factory and the clause of a class
 abbrev pub head_view : Named × Option Pattern × Option SuperClause → ClassHead

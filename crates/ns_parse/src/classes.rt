@@ -4,20 +4,20 @@
 ghost use Rattle.std.specs.Prelude.{◌≡◌, option_map};
 ghost use Rattle.ns_tree.specs.PlainOf.{message_of, clause_of, method_of, class_of, side_of, what_of, class_side_of, unit_of};
 ghost use Rattle.ns_parse.specs.Classes as spec;
-ghost use Rattle.ns_parse.specs.Expressions as exprs;
-ghost use Rattle.ns_parse.specs.Read.{read_maybe};
-ghost use Rattle.ns_parse.specs.Pattern as patterns;
-ghost use Rattle.ns_parse.specs.Reads.{Reads, next_is};
+ghost use Rattle.ns_phrase.specs.Expressions as exprs;
+ghost use Rattle.ns_terminal.specs.Read.{read_maybe};
+ghost use Rattle.ns_terminal.specs.Pattern as patterns;
+ghost use Rattle.ns_terminal.specs.Reads.{Reads, next_is};
 ghost use Rattle.ns_parse.specs.Views.{head_view, body_view, opening_view, sides_view, member_view};
 
-use crate::expressions::{Holder, bars, keys, statements};
-use crate::fault::ParseFault;
-use crate::leaf::{access, is_access, sees_string, string, strings};
-use crate::mark::{Mark, is_mark, sees, skip, skip_if};
-use crate::name::{Operators, Sort, is_name, name, sees_name};
-use crate::pattern::{base, factory, pattern, sees_base};
-use crate::tokens::Tokens;
 use ns_base::text::Text;
+use ns_phrase::expressions::{Holder, bars, keys, statements};
+use ns_terminal::fault::ParseFault;
+use ns_terminal::leaf::{access, is_access, sees_string, string, strings};
+use ns_terminal::mark::{Mark, closed, is_mark, sees, skip, skip_if};
+use ns_terminal::name::{Operators, Sort, is_name, name, sees_name};
+use ns_terminal::pattern::{base, factory, pattern, sees_base};
+use ns_terminal::tokens::Tokens;
 use ns_tree::make;
 use ns_tree::token::Kind;
 use ns_tree::tree::{
@@ -150,13 +150,8 @@ fn body(
     skip(tokens, Mark::Open)?;
     let slots = bars(alloc, tokens, depth, holder)?;
     let body = statements(alloc, tokens, depth)?;
-    match skip(tokens, Mark::Close) {
-        Ok(()) => Ok((slots, body)),
-        Err(fault) => {
-            drop(body);
-            Err(fault)
-        }
-    }
+    let parts = closed(tokens, Mark::Close, (slots, body))?;
+    Ok(parts)
 }
 
 /// Reads a method.
@@ -351,13 +346,8 @@ fn side(
 {
     skip(tokens, Mark::Open)?;
     let members = members(alloc, tokens, depth, nesting, side)?;
-    match skip(tokens, Mark::Close) {
-        Ok(()) => Ok(members),
-        Err(fault) => {
-            drop(members);
-            Err(fault)
-        }
-    }
+    let members = closed(tokens, Mark::Close, members)?;
+    Ok(members)
 }
 
 /// Reads the members of a side with their categories, as many as there are, and the categories behind

@@ -5,11 +5,11 @@ ghost use Rattle.ns_tree.specs.PlainOf.{unit_of};
 ghost use Rattle.ns_tree.specs.Tokens.{kinds};
 ghost use Rattle.ns_tree.specs.Tree.{AllHaveText, Spells};
 ghost use Rattle.ns_parse.specs.Parse as spec;
-ghost use Rattle.ns_parse.specs.declared.fault.ParseFault.TheVariants.{Memory};
+ghost use Rattle.ns_terminal.specs.declared.fault.ParseFault.TheVariants.{Memory};
 
 use crate::classes::file;
-use crate::fault::ParseFault;
-use crate::tokens::Tokens;
+use ns_terminal::fault::ParseFault;
+use ns_terminal::tokens::Tokens;
 use ns_tree::deep::deep;
 use ns_tree::token::Token;
 use ns_tree::tree::Unit;

@@ -1,6 +1,6 @@
 -- What the words behind `check` spell, and the first bad one.
-use Rattle.std.specs.Prelude.{◌≡◌, ℕ, nat_eq, nat_lt, length, List, [], ◌∷◌, ◌++◌, Bool, true, false, cond, codes, take, refl, min}
-use Rattle.std.proofs.Common.{◌≤◌, ◌<◌, ◌+◌, zero, suc, arith, ap, sym, ◌∙◌, subst, inl, inr}
+use Rattle.std.specs.Prelude.{◌≡◌, ℕ, nat_eq, nat_lt, length, List, [], ◌∷◌, ◌++◌, Bool, true, false, cond, codes, take, refl}
+use Rattle.std.proofs.Common.{◌≤◌, ◌<◌, ◌+◌, suc, arith, ap, sym, ◌∙◌, subst, inl, inr}
 use Rattle.std.proofs.Math.Seq.{take-append-add}
 use Rattle.std.proofs.lemmas.Bool.{ltb-true}
 use Rattle.std.proofs.lemmas.Bool.Decides.{nat_tests}
@@ -11,8 +11,8 @@ use Rattle.std.specs.List.{prefix_len}
 use Rattle.std.specs.Str.{bytes_eq}
 use Rattle.ns_run.proofs.NameLaws.{leading_are_names, names_lead}
 use Rattle.ns_run.proofs.WordLaws.{apart}
-use Rattle.ns_run.specs.Forms.{AreFiles, AreNames, Begins, IsCommandOf, IsForm, lib_words}
-use Rattle.ns_run.specs.Words.{Command, Check, Show, Run, Help, Version, Bad, after_check, check_files, check_named, is_file_name}
+use Rattle.ns_run.specs.Forms.{AreFiles, AreNames, Begins, IsCommandOf, lib_words}
+use Rattle.ns_run.specs.Words.{Check, Show, Run, Help, Version, Bad, after_check, check_files, is_file_name}
 
 -- `check`, and the option where it is given
 abbrev pub front : Bool → List (List ℕ)

@@ -1,5 +1,5 @@
 -- What a fault of the files says, and its report.
-use Rattle.std.proofs.Common.{◌≡◌, ℕ, List, [], Bool, Result, Ok, Err, IsSome, refl, sym, ap, subst, ◌∙◌, codes, IfOk}
+use Rattle.std.proofs.Common.{◌≡◌, ℕ, List, [], Bool, Result, Ok, Err, IsSome, refl, sym, ap, ◌∙◌, codes, IfOk}
 use Rattle.ns_base.specs.Files.{Files}
 use Rattle.ns_load.specs.Answer.{TellsFault}
 use Rattle.ns_load.specs.Loaded.{loaded, stopped}
@@ -7,7 +7,7 @@ use Rattle.ns_load.specs.declared.fault.LoadCause.{LoadCause}
 use Rattle.ns_load.specs.declared.fault.LoadCause.TheVariants.{Missing, TooLong, ReadFault, Spelling}
 use Rattle.ns_load.specs.declared.fault.LoadFault.{LoadFault}
 use Rattle.ns_load.specs.declared.fault.LoadFault.TheVariants.{At, Memory}
-use Rattle.ns_run.proofs.ReportLaws.{IsPlain, file_plain, spelling_ends, text_plain, told_plain}
+use Rattle.ns_run.proofs.ReportLaws.{file_plain, spelling_ends, text_plain, told_plain}
 use Rattle.ns_run.specs.Meaning.{name_of, of_cause, of_fault, of_files, of_loading}
 use Rattle.ns_run.specs.Outcome.{IsEnding, IsMissing, IsReadFault, IsRefusal, SomeOf}
 use Rattle.ns_run.specs.Report.{spelling_name}

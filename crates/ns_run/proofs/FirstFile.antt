@@ -2,18 +2,18 @@
 use Rattle.std.proofs.Common.{◌≡◌, ◌≢◌, ℕ, zero, suc, ◌+◌, ◌≤◌, List, [], ◌∷◌, ◌++◌, length, map, Option, Some, None, Bool, true, false, cond, ◌&&◌, not, Ok, refl, sym, ap, subst, ◌∙◌, append_assoc, codes, arith}
 use Rattle.std.specs.Str.{bytes_eq}
 use Rattle.std.proofs.lemmas.Slice.Eq.{bytes_eq-Decides}
-use Rattle.ns_machine.specs.First as machine
-use Rattle.ns_machine.specs.FirstTokens.{IsFirstForm, more_tokens, body_tokens, method_tokens, class_tokens}
+use Rattle.ns_first.specs.First as machine
+use Rattle.ns_first.specs.FirstTokens.{IsFirstForm, more_tokens, body_tokens, method_tokens, class_tokens}
 use Rattle.ns_parse.specs.declared.classes.SideOf.TheVariants as sides
-use Rattle.ns_parse.specs.declared.mark.Mark.TheVariants as m
+use Rattle.ns_terminal.specs.declared.mark.Mark.TheVariants as m
 use Rattle.ns_parse.specs.Classes as x
-use Rattle.ns_parse.specs.Expressions as e
-use Rattle.ns_parse.specs.Leaf.{is_string, string, strings}
-use Rattle.ns_parse.specs.Mark.{skip}
-use Rattle.ns_parse.specs.Name.{named}
+use Rattle.ns_phrase.specs.Expressions as e
+use Rattle.ns_terminal.specs.Leaf.{is_string, string, strings}
+use Rattle.ns_terminal.specs.Mark.{skip}
+use Rattle.ns_terminal.specs.Name.{named}
 use Rattle.ns_parse.specs.Parse as parse
-use Rattle.ns_parse.specs.Pattern.{pattern, factory}
-use Rattle.ns_parse.specs.Read.{Outcome, Reader, got, and_then, begins, read_turns, put, Labelled, tail, read_label_turns, put_item}
+use Rattle.ns_terminal.specs.Pattern.{pattern, factory}
+use Rattle.ns_terminal.specs.Read.{Outcome, Reader, got, and_then, begins, read_turns, put, Labelled, tail, read_label_turns, put_item}
 use Rattle.ns_run.proofs.FirstReads.{body_reads}
 use Rattle.ns_tree.specs.Deep.{deep, deep_from}
 use Rattle.ns_tree.specs.Flat.{flat_category, flat_marker}

@@ -5,11 +5,11 @@ use Rattle.ns_lex.specs.Scan.{Tokens, scan}
 use Rattle.ns_lex.proofs.Cutting.{scan_lexes}
 use Rattle.ns_load.specs.Place.{marks}
 use Rattle.ns_load.specs.Source.{parsed, read_tokens, scanned, spells}
-use Rattle.ns_machine.specs.First.{Form, form_of, is_first}
-use Rattle.ns_machine.specs.FirstTokens.{IsFirstForm}
-use Rattle.ns_machine.proofs.TokenLaws.{first_tokens}
+use Rattle.ns_first.specs.First.{Form, form_of, is_first}
+use Rattle.ns_first.specs.FirstTokens.{IsFirstForm}
+use Rattle.ns_first.proofs.TokenLaws.{first_tokens}
 use Rattle.ns_parse.specs.Parse.{parse}
-use Rattle.ns_parse.specs.declared.fault.ParseFault.{ParseFault}
+use Rattle.ns_terminal.specs.declared.fault.ParseFault.{ParseFault}
 use Rattle.ns_parse.proofs.SoundFile.{parse_spelled}
 use Rattle.ns_lex.proofs.Texts.{cuts_told}
 use Rattle.ns_run.proofs.FirstFile.{IsParsedFirst, first_parsed}

@@ -2,16 +2,16 @@
 use Rattle.std.proofs.Common.{◌≡◌, ℕ, zero, suc, ◌+◌, ◌≤◌, List, [], ◌∷◌, ◌++◌, length, None, Bool, true, false, ◌&&◌, not, refl, ap, ◌∙◌, codes, arith}
 use Rattle.std.specs.Str.{bytes_eq}
 use Rattle.std.proofs.lemmas.Slice.Eq.{bytes_eq-Decides}
-use Rattle.ns_machine.specs.First as machine
-use Rattle.ns_machine.specs.FirstTokens.{more_tokens, body_tokens}
-use Rattle.ns_parse.specs.declared.expressions.Holder.TheVariants as h
-use Rattle.ns_parse.specs.declared.mark.Mark.TheVariants as m
+use Rattle.ns_first.specs.First as machine
+use Rattle.ns_first.specs.FirstTokens.{more_tokens, body_tokens}
+use Rattle.ns_phrase.specs.declared.expressions.Holder.TheVariants as h
+use Rattle.ns_terminal.specs.declared.mark.Mark.TheVariants as m
 use Rattle.ns_parse.specs.Classes as x
-use Rattle.ns_parse.specs.Expressions as e
-use Rattle.ns_parse.specs.Leaf.{leaf}
-use Rattle.ns_parse.specs.Mark.{is_mark, skip}
-use Rattle.ns_parse.specs.Name.{named}
-use Rattle.ns_parse.specs.Read.{Outcome, Reader, got, and_then, read_list_turns, behind, put_next, items, ends_there, ends_separated}
+use Rattle.ns_phrase.specs.Expressions as e
+use Rattle.ns_terminal.specs.Leaf.{leaf}
+use Rattle.ns_terminal.specs.Mark.{is_mark, skip}
+use Rattle.ns_terminal.specs.Name.{named}
+use Rattle.ns_terminal.specs.Read.{Outcome, Reader, got, and_then, read_list_turns, behind, put_next, items, ends_there, ends_separated}
 use Rattle.ns_tree.specs.Lists.{list_statements}
 use Rattle.ns_tree.specs.Plain as p
 use Rattle.ns_tree.specs.Rule.{Listed, last, next}

@@ -8,4 +8,5 @@ pub mod NameLaws
 pub mod NumberLaws
 pub mod PieceLaws
 pub mod ReportLaws
+pub mod TextLaws
 pub mod WordLaws

@@ -10,22 +10,22 @@ use Rattle.ns_base.specs.declared.no_memory.NoMemory.{NoMemory}
 use Rattle.ns_base.specs.declared.place.Place.{Place}
 use Rattle.ns_base.specs.declared.status.Status.{Status}
 use Rattle.ns_base.specs.declared.status.Status.TheVariants.{Done, ProgramError, Limit, Refused, ReadFault, WriteFault, Memory}
-use Rattle.ns_machine.specs.First.{first_run, form_of, is_first, sends_of}
-use Rattle.ns_machine.specs.Sends.{all_answered}
+use Rattle.ns_first.specs.First.{first_run, form_of, is_first, sends_of}
+use Rattle.ns_first.specs.Sends.{all_answered}
 use Rattle.ns_run.specs.Meaning.{name_of, of_check, of_first_run, of_run, of_show, of_units, run_report}
-use Rattle.ns_run.specs.Outcome.{IsDelivered, IsEnding, IsMissing, Leaves, NamesMissing, SomeOf, TellsMissing, Wrote, missing_line, names_of}
+use Rattle.ns_run.specs.Outcome.{IsDelivered, IsEnding, IsMissing, Leaves, NamesMissing, SomeOf, TellsMissing, Wrote, missing_line}
 use Rattle.ns_run.specs.Report.{many_name, refused_file, refused_text, spelling_name, static_name, told}
-use Rattle.ns_run.specs.Words.{Command}
+use Rattle.ns_run.specs.Words.{Command, names_of}
 use Rattle.ns_run.specs.declared.report.Report.{Report}
 use Rattle.ns_run.specs.declared.stop.Stop.{Stop}
 use Rattle.ns_run.specs.declared.stop.Stop.TheVariants as stop
 use Rattle.ns_run.specs.declared.task.Task.{Task}
 use Rattle.ns_run.specs.declared.task.Task.TheVariants as task
-use Rattle.ns_static.specs.declared.fault.Many.{Many}
-use Rattle.ns_static.specs.declared.fault.Many.TheVariants as many
-use Rattle.ns_static.specs.declared.fault.Placed.{Placed}
-use Rattle.ns_static.specs.declared.fault.StaticCause.{StaticCause}
-use Rattle.ns_static.specs.declared.fault.StaticCause.TheVariants as static
+use Rattle.ns_rules.specs.declared.fault.Many.{Many}
+use Rattle.ns_rules.specs.declared.fault.Many.TheVariants as many
+use Rattle.ns_rules.specs.declared.fault.Placed.{Placed}
+use Rattle.ns_rules.specs.declared.fault.StaticCause.{StaticCause}
+use Rattle.ns_rules.specs.declared.fault.StaticCause.TheVariants as static
 use Rattle.ns_tree.specs.Plain as p
 
 -- What holds of a report holds of it behind `or_stop`.

@@ -1,6 +1,6 @@
 -- What the words of a command line spell, and the first bad word.
-use Rattle.std.specs.Prelude.{◌≡◌, ◌⊎◌, ℕ, nat_eq, nat_lt, not, ◌&&◌, nat_le, length, List, [], ◌∷◌, ◌++◌, Bool, true, false, Option, Some, None, cond, codes, take, drop, refl, Result, Ok, Err}
-use Rattle.std.proofs.Common.{◌≤◌, ◌<◌, ◌+◌, zero, suc, arith, ap, sym, ◌∙◌, inl, inr, subst}
+use Rattle.std.specs.Prelude.{◌≡◌, ◌⊎◌, ℕ, nat_eq, nat_lt, not, ◌&&◌, nat_le, length, List, [], ◌∷◌, ◌++◌, Bool, true, false, Some, None, cond, codes, take, drop, refl, Ok, Err}
+use Rattle.std.proofs.Common.{◌≤◌, ◌+◌, arith, ap, sym, ◌∙◌, inl, inr}
 use Rattle.std.proofs.lemmas.Bool.{le-ltb}
 use Rattle.std.proofs.lemmas.Bool.Decides.{nat_tests}
 use Rattle.std.proofs.lemmas.Slice.Eq.{bytes_eq-Decides}
@@ -8,7 +8,7 @@ use Rattle.std.proofs.lemmas.Option.{none-some}
 use Rattle.std.specs.List.{prefix_len}
 use Rattle.std.specs.Str.{bytes_eq}
 use Rattle.ns_run.specs.Forms.{AreFiles, AreNames, Begins, IsCommandOf, IsForm, lib_words}
-use Rattle.ns_run.specs.Words.{Command, Check, Show, Run, Help, Version, Bad, after_check, after_option, after_run, check_files, check_named, alone, command_of, ends, for_file, is_file_name, number_of, one_file, steps_of, with_option}
+use Rattle.ns_run.specs.Words.{Command, Check, Show, Run, Help, Version, Bad, after_option, after_run, check_files, check_named, command_of, ends, for_file, is_file_name, number_of, one_file, steps_of, with_option}
 
 -- An option is no name of a file.
 pub option_is_no_name : (option : List ℕ) (steps : ℕ) → steps_of option ≡ Some steps → is_file_name option ≡ false

@@ -3,8 +3,8 @@ use Rattle.std.specs.Prelude.{◌≡◌, ℕ, List, true}
 use Rattle.ns_base.specs.declared.place.Place.{Place}
 use Rattle.ns_lex.specs.Lexes.{Lexes}
 use Rattle.ns_load.specs.Source.{read, spells}
-use Rattle.ns_machine.specs.First.{Form, form_of, is_first}
-use Rattle.ns_machine.specs.FirstTokens.{IsFirstForm}
+use Rattle.ns_first.specs.First.{Form, form_of, is_first}
+use Rattle.ns_first.specs.FirstTokens.{IsFirstForm}
 use Rattle.ns_tree.specs.Plain as p
 use Rattle.ns_tree.specs.Tokens.{kinds}
 use Rattle.ns_tree.specs.declared.token.Token.{Token}

@@ -1,23 +1,23 @@
--- What a command means: the bytes that it writes and its status, over the files that are there.
-use Rattle.std.specs.Prelude.{ℕ, Bool, true, false, List, Option, Some, None, codes, ◌++◌, ◌∷◌, [], slice_get, if◌then◌else◌}
+-- What a command means: the bytes that it writes and its status, over the texts of its files.
+use Rattle.std.specs.Prelude.{ℕ, Bool, false, List, Option, Some, None, codes, map, ◌++◌, ◌∷◌, [], slice_get, if◌then◌else◌}
 use Rattle.ns_base.specs.Files.{Files}
 use Rattle.ns_base.specs.declared.place.Place.{Place}
-use Rattle.ns_load.specs.Loaded.{Loading, units, stopped, loaded}
+use Rattle.ns_load.specs.Loaded.{Loading, units, stopped, loaded_texts}
 use Rattle.ns_load.specs.declared.fault.LoadCause.{LoadCause}
 use Rattle.ns_load.specs.declared.fault.LoadCause.TheVariants.{Missing, TooLong, ReadFault, Spelling}
 use Rattle.ns_load.specs.declared.fault.LoadFault.{LoadFault}
 use Rattle.ns_load.specs.declared.fault.LoadFault.TheVariants.{At, Memory}
-use Rattle.ns_machine.specs.First.{first_run, is_first}
-use Rattle.ns_machine.specs.declared.first.FirstRun.{FirstRun}
+use Rattle.ns_first.specs.First.{first_run, is_first}
+use Rattle.ns_first.specs.declared.first.FirstRun.{FirstRun}
 use Rattle.ns_print.specs.Printed.{printed}
 use Rattle.ns_run.specs.Report.{bad_word, refused_file, refused_text, spelling_name, static_name, told}
-use Rattle.ns_run.specs.Words.{Command, Check, Show, Run, Help, Version, Bad, command_of}
+use Rattle.ns_run.specs.Words.{Command, Check, Show, Run, Help, Version, Bad, command_of, names_of}
 use Rattle.ns_run.specs.declared.report.Report.{Report}
 use Rattle.ns_run.specs.declared.task.Task.{Task}
 use Rattle.ns_run.specs.declared.task.Task.TheVariants as task
 use Rattle.ns_run.specs.declared.usage.TheConstants.{HELP, VERSION}
-use Rattle.ns_static.specs.Least.{faults, least}
-use Rattle.ns_static.specs.declared.fault.Placed.{Placed}
+use Rattle.ns_rules.specs.Least.{faults, least}
+use Rattle.ns_rules.specs.declared.fault.Placed.{Placed}
 use Rattle.ns_tree.specs.Flat.{flat}
 use Rattle.ns_tree.specs.Plain as p
 
@@ -74,18 +74,27 @@ abbrev pub of_loading : Task → List (List ℕ) → Loading → Report
 of_loading task names (units trees places) = of_units task names trees places
 of_loading task names (stopped fault) = of_fault names fault
 
+-- what is done with these texts of the files of these names, and with the library where it is asked for
+abbrev pub of_texts : Task → List (List ℕ) → Bool → List (Option (List ℕ)) → Report
+of_texts task names lib texts = of_loading task names (loaded_texts texts lib)
+
 -- what is done with the files of these names, and with the library where it is asked for
 abbrev pub of_files : Task → List (List ℕ) → Bool → Files → Report
-of_files task names lib files = of_loading task names (loaded names lib files)
+of_files task names lib files = of_texts task names lib (map files names)
 
-abbrev pub of_command : Command → Files → Report
-of_command (Check lib names) files = of_files task.Check names lib files
-of_command (Show file) files = of_files task.Show (file ∷ []) false files
-of_command (Run steps file) files = of_files (task.Run steps) (file ∷ []) false files
-of_command Help files = told HELP.now
-of_command Version files = told VERSION.now
-of_command (Bad word) files = bad_word word
+-- what a command writes over these texts of its files, and its status
+abbrev pub of_command : Command → List (Option (List ℕ)) → Report
+of_command (Check lib names) texts = of_texts task.Check names lib texts
+of_command (Show file) texts = of_texts task.Show (file ∷ []) false texts
+of_command (Run steps file) texts = of_texts (task.Run steps) (file ∷ []) false texts
+of_command Help texts = told HELP.now
+of_command Version texts = told VERSION.now
+of_command (Bad word) texts = bad_word word
+
+-- what the command of these words writes over these texts of its files, and its status
+abbrev pub meaning_of_texts : List (List ℕ) → List (Option (List ℕ)) → Report
+meaning_of_texts words texts = of_command (command_of words) texts
 
 -- what the command of these words writes over these files, and its status
 abbrev pub meaning : List (List ℕ) → Files → Report
-meaning words files = of_command (command_of words) files
+meaning words files = meaning_of_texts words (map files (names_of (command_of words)))

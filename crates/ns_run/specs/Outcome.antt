@@ -1,5 +1,5 @@
 -- What the streams have after a command.
-use Rattle.std.specs.Prelude.{◌≡◌, ◌⊎◌, ℕ, List, [], ◌∷◌, Option, Some, None, ◌++◌, codes, slice_get, IsSome, IsSomeAnd}
+use Rattle.std.specs.Prelude.{◌≡◌, ◌⊎◌, ℕ, List, Option, Some, ◌++◌, codes, length, slice_get, IsSome, IsSomeAnd}
 use Rattle.ns_base.specs.Files.{Files}
 use Rattle.ns_base.specs.Sink.{WrotePrefix, with_bytes}
 use Rattle.ns_base.specs.declared.status.Status.{Status}
@@ -8,7 +8,8 @@ use Rattle.ns_load.specs.declared.fault.LoadCause.{LoadCause}
 use Rattle.ns_load.specs.declared.fault.LoadCause.TheVariants as cause
 use Rattle.ns_load.specs.declared.fault.LoadFault.{LoadFault}
 use Rattle.ns_load.specs.declared.fault.LoadFault.TheVariants as fault
-use Rattle.ns_run.specs.Words.{Command, Check, Show, Run, Help, Version, Bad}
+use Rattle.ns_run.specs.Meaning.{meaning_of_texts}
+use Rattle.ns_run.specs.Words.{Command, command_of, names_of}
 use Rattle.ns_run.specs.Report.{refused_file}
 use Rattle.ns_run.specs.declared.report.Report.{Report}
 
@@ -48,18 +49,17 @@ IsEnding ReadFault = ⊥
 IsEnding WriteFault = ⊥
 IsEnding Memory = ⊥
 
--- the names of a command's files
-abbrev pub names_of : Command → List (List ℕ)
-names_of (Check lib names) = names
-names_of (Show file) = file ∷ []
-names_of (Run steps file) = file ∷ []
-names_of Help = []
-names_of Version = []
-names_of (Bad word) = []
-
 -- Some of these names is such.
 abbrev pub SomeOf : List (List ℕ) → (List ℕ → Type 0) → Type 0
 SomeOf names P = (k : ℕ) × IsSomeAnd (slice_get names k) P
+
+-- There is a text, or none, for each of these names, and of these this is so.
+abbrev pub SomeTexts : List (List ℕ) → (List (Option (List ℕ)) → Type 0) → Type 0
+SomeTexts names P = (texts : List (Option (List ℕ))) × (length texts ≡ length names) × P texts
+
+-- There is a text, or none, for each file of the command of these words, and over these its meaning is so.
+abbrev pub OverTexts : List (List ℕ) → (Report → Type 0) → Type 0
+OverTexts words P = SomeTexts (names_of (command_of words)) (λ texts. P (meaning_of_texts words texts))
 
 -- Some file of the command is there.
 abbrev pub HasAFile : Command → Files → Type 0

@@ -4,10 +4,10 @@ use Rattle.std.specs.Fmt.{decimal}
 use Rattle.ns_base.specs.declared.place.Place.{Place}
 use Rattle.ns_base.specs.declared.status.Status.TheVariants as status
 use Rattle.ns_run.specs.declared.report.Report.{Report}
-use Rattle.ns_static.specs.declared.fault.Many.{Many}
-use Rattle.ns_static.specs.declared.fault.Many.TheVariants.{Parameters, Locals, Elements, Members, Classes}
-use Rattle.ns_static.specs.declared.fault.StaticCause.{StaticCause}
-use Rattle.ns_static.specs.declared.fault.StaticCause.TheVariants.{DuplicateMember, DuplicateLocal, FixedLocal, BadReturn, BareReceiver, NoSuchOuter, BadCascade, PlainTooLarge, TooMany, TopSuper, DuplicateTop}
+use Rattle.ns_rules.specs.declared.fault.Many.{Many}
+use Rattle.ns_rules.specs.declared.fault.Many.TheVariants.{Parameters, Locals, Elements, Members, Classes}
+use Rattle.ns_rules.specs.declared.fault.StaticCause.{StaticCause}
+use Rattle.ns_rules.specs.declared.fault.StaticCause.TheVariants.{DuplicateMember, DuplicateLocal, FixedLocal, BadReturn, BareReceiver, NoSuchOuter, BadCascade, PlainTooLarge, TooMany, TopSuper, DuplicateTop}
 
 -- what is wrong with a text, by its number from 1 to 6
 abbrev pub spelling_name : ℕ → List ℕ

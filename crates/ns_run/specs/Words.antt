@@ -105,3 +105,12 @@ command_of (word ∷ words) =
     else (if bytes_eq word (codes "--help") then alone Help words
     else (if bytes_eq word (codes "--version") then alone Version words
     else Bad 0))))
+
+-- the names of a command's files
+abbrev pub names_of : Command → List (List ℕ)
+names_of (Check lib names) = names
+names_of (Show file) = file ∷ []
+names_of (Run steps file) = file ∷ []
+names_of Help = []
+names_of Version = []
+names_of (Bad word) = []

@@ -3,7 +3,7 @@
 ghost use Rattle.std.specs.Prelude.{◌≡◌};
 ghost use Rattle.ns_run.specs.Report as spec;
 
-use ns_static::fault::{Many, StaticCause};
+use ns_rules::fault::{Many, StaticCause};
 
 /// What is wrong with a text, by the number that the loader gives.
 pub fn spelling_name(number: u8) -> &'static str

@@ -6,9 +6,11 @@ ghost use Rattle.ns_base.specs.Files.{Files};
 ghost use Rattle.ns_base.specs.Shelf.{OnlyRead};
 ghost use Rattle.ns_load.specs.declared.fault.LoadCause.TheVariants.{ReadFault};
 ghost use Rattle.ns_print.specs.Printed.{printed};
+ghost use Rattle.ns_run.specs.Forms.{AreFiles};
 ghost use Rattle.ns_run.specs.Meaning as spec;
-ghost use Rattle.ns_run.specs.Outcome.{IsEnding, IsMissing, IsReadFault, IsRefusal, IsRefusedFor, SomeOf};
+ghost use Rattle.ns_run.specs.Outcome.{IsEnding, IsMissing, IsReadFault, IsRefusal, IsRefusedFor, SomeOf, SomeTexts};
 ghost use Rattle.ns_run.specs.Report.{told as told_lem};
+ghost use Rattle.ns_scope.specs.Whole.{IsFileName, IsWhole};
 ghost use Rattle.ns_static.specs.Check.{fault_of};
 ghost use Rattle.ns_tree.specs.Flat.{flat};
 ghost use Rattle.ns_tree.specs.PlainOf.{unit_of};
@@ -20,11 +22,11 @@ use crate::task::Task;
 use ns_base::no_memory::NoMemory;
 use ns_base::shelf::Shelf;
 use ns_base::text::Text;
+use ns_first::first::{FirstRun, run_first};
+use ns_first::form::is_first;
 use ns_load::fault::{LoadCause, LoadFault};
 use ns_load::load::load;
 use ns_load::names::names_of;
-use ns_machine::first::{FirstRun, run_first};
-use ns_machine::form::is_first;
 use ns_print::print::print;
 use ns_scope::program::Program;
 use ns_static::check::check;
@@ -40,8 +42,9 @@ pub fn on_files<S: Shelf>(
     names: &[String],
     shelf: &mut S,
 ) -> Result<Report, Stop>
-    requires { length names.now ≤ 16 }
+    requires { AreFiles (map string_bytes names.now) }
     ensures told { (files : Files) → S.holds shelf.old ≡ Some files → IfOk result (λ r. r ≡ spec.of_files task (map string_bytes names.now) lib files) }
+    ensures texts { SomeTexts (map string_bytes names.now) (λ read. IfOk result (λ r. r ≡ spec.of_texts task (map string_bytes names.now) lib read)) }
     ensures ending { IfOk result (λ r. IsEnding r.status) }
     ensures only_read { OnlyRead S.holds S.misses S.faults S.store_faults shelf.old shelf.new }
     ensures read_fault { IsErrOf result Stop.ReadFault → Rose (S.faults shelf.old) (S.faults shelf.new) }
@@ -63,10 +66,12 @@ fn on_texts<S: Shelf>(
     texts: &[Text],
     shelf: &mut S,
 ) -> Result<Report, Stop>
+    requires some { 1 ≤ length texts.now }
     requires few { length texts.now ≤ 16 }
-    requires text { All IsUtf8 texts.now }
+    requires named { All IsFileName texts.now }
     requires same { texts.now ≡ map string_bytes names.now }
     ensures told { (files : Files) → S.holds shelf.old ≡ Some files → IfOk result (λ r. r ≡ spec.of_files task texts.now lib files) }
+    ensures texts { SomeTexts texts.now (λ read. IfOk result (λ r. r ≡ spec.of_texts task texts.now lib read)) }
     ensures ending { IfOk result (λ r. IsEnding r.status) }
     ensures only_read { OnlyRead S.holds S.misses S.faults S.store_faults shelf.old shelf.new }
     ensures read_fault { IsErrOf result Stop.ReadFault → Rose (S.faults shelf.old) (S.faults shelf.new) }
@@ -124,6 +129,7 @@ fn on_program(
     names: &[String],
     program: Program,
 ) -> Result<Report, NoMemory>
+    requires { IsWhole program }
     ensures { IfOk result (λ r. r ≡ spec.of_units task (map string_bytes names.now) (map unit_of program.units) program.marks) }
 {
     match task {
@@ -135,6 +141,7 @@ fn on_program(
 
 /// The report of the check of a program.
 fn on_check(alloc: Global, names: &[String], program: Program) -> Result<Report, NoMemory>
+    requires { IsWhole program }
     ensures { IfOk result (λ r. r ≡ spec.of_check (map string_bytes names.now) (fault_of program)) }
 {
     match check(alloc, program) {

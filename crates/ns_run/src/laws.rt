@@ -2,7 +2,7 @@
 //! does nothing.
 
 ghost use Rattle.std.specs.Prelude.{◌≡◌, ◌↔◌, ℕ, List};
-ghost use Rattle.ns_machine.specs.First.{Form};
+ghost use Rattle.ns_first.specs.First.{Form};
 ghost use Rattle.ns_run.specs.FirstSource.{IsFirstSource, IsTakenFirst};
 ghost use Rattle.ns_run.specs.Forms.{IsCommandOf, IsForm};
 ghost use Rattle.ns_run.specs.Words.{Command, command_of};

@@ -5,7 +5,7 @@ ghost use Rattle.ns_base.specs.Count.{Rose};
 ghost use Rattle.ns_base.specs.Files.{Files};
 ghost use Rattle.ns_base.specs.Shelf.{OnlyRead};
 ghost use Rattle.ns_run.specs.Meaning as spec;
-ghost use Rattle.ns_run.specs.Outcome.{HasAFile, IsEnding, Leaves, NamesMissing, TellsMissing};
+ghost use Rattle.ns_run.specs.Outcome.{HasAFile, IsEnding, Leaves, NamesMissing, OverTexts, TellsMissing};
 ghost use Rattle.ns_run.specs.Words.{command_of};
 
 use crate::deliver::deliver;
@@ -32,6 +32,8 @@ pub fn nspk<S: Shelf, O: Sink, E: Sink>(
 ) -> Status
     // Over files that are told, the streams are left as the command's meaning says.
     ensures told { (files : Files) → S.holds shelf.old ≡ Some files → Leaves (spec.meaning (map string_bytes words.now) files) result (O.written out.old) (O.written out.new) (E.written err.old) (E.written err.new) }
+    // Over any shelf there are texts of the command's files, over which its meaning says how the streams are left.
+    ensures texts { OverTexts (map string_bytes words.now) (λ report. Leaves report result (O.written out.old) (O.written out.new) (E.written err.old) (E.written err.new)) }
     ensures files_stand { S.holds shelf.new ≡ S.holds shelf.old }
 
     // Each fault has its cause.
@@ -56,6 +58,7 @@ pub fn nspk<S: Shelf, O: Sink, E: Sink>(
 /// The report of the command of these words.
 fn work<S: Shelf>(alloc: Global, line: &[String], shelf: &mut S) -> Result<Report, Stop>
     ensures told { (files : Files) → S.holds shelf.old ≡ Some files → IfOk result (λ r. r ≡ spec.meaning (map string_bytes line.now) files) }
+    ensures texts { OverTexts (map string_bytes line.now) (λ report. IfOk result (λ r. r ≡ report)) }
     ensures ending { IfOk result (λ r. IsEnding r.status) }
     ensures only_read { OnlyRead S.holds S.misses S.faults S.store_faults shelf.old shelf.new }
     ensures read_fault { IsErrOf result Stop.ReadFault → Rose (S.faults shelf.old) (S.faults shelf.new) }

@@ -1,4 +1,3 @@
 pub mod Examples
-pub mod Inside
 pub mod Numbers
 pub mod Tables

@@ -1,12 +1,9 @@
 //! What a name means in a program: its members, its locals, and where each is seen.
 #![tactic(auto)]
 
-pub mod blocks;
-pub mod bodies;
 pub mod chain;
 pub mod names;
 pub mod program;
 pub mod resolve;
 pub mod scope;
-pub mod scopes;
 pub mod table;

@@ -1,5 +1,5 @@
 -- What blocks and the methods that evaluate them leave.
-use Rattle.std.proofs.Common.{List, [], ◌∷◌, length, arith, Bool, true, false, cond, eqb}
+use Rattle.std.proofs.Common.{◌≡◌, List, [], ◌∷◌, length, arith, Bool, true, false, cond, eqb}
 use Rattle.std.specs.Prelude.{pos, nat_lt}
 use Rattle.ns_code.specs.declared.program.CodeProgram.{CodeProgram}
 use Rattle.ns_world.specs.declared.value.Value.{Value}
@@ -8,10 +8,12 @@ use Rattle.ns_world.specs.declared.ending.Kind.TheVariants.{WrongArity, WrongKin
 use Rattle.ns_world.specs.declared.ending.LimitKind.TheVariants.{Steps, Depth, Cells}
 use Rattle.ns_world.specs.declared.cell.NewCell.{NewCell}
 use Rattle.ns_world.specs.declared.cell.NewCell.TheVariants as new
-use Rattle.ns_world.specs.Cell.{Cell}
+use Rattle.ns_world.specs.Cell.{Cell, shape_of}
 use Rattle.ns_world.specs.Heap.{heap_size}
 use Rattle.ns_world.specs.World.{made, stepped, entered, left}
-use Rattle.ns_world.specs.Later.{MayCome}
+use Rattle.ns_world.specs.Later.{IsLater, MayCome}
+use Rattle.ns_world.proofs.Leading.{later_same, later_made}
+use Rattle.ns_kdata.specs.Leading.{is_common}
 use Rattle.ns_kdata.specs.Arguments.{is_array, items_of, shape_of_value}
 use Rattle.ns_kcode.specs.declared.state.KMethod.{KMethod}
 use Rattle.ns_kcode.specs.declared.state.KState.{KState}
@@ -27,14 +29,21 @@ use Rattle.ns_send.specs.Onward.{Onward, after_reached, reached, waiting_reached
 use Rattle.ns_send.proofs.Growing.{making_grows, step_moves, leaving_moves}
 use Rattle.ns_send.proofs.Onward.{Going, onward_of, onward_not, onward_on, onward_in, charged_all, charge_onward, frame_onward, after_cells_onward, opened_onward}
 
-pub cell_onward : (named : List Value) (cell : Cell) (progress : Progress) → MayCome progress.world.cells cell → Going named progress (after_reached (new_cell cell progress))
-cell_onward named cell progress may = after_cells_onward named cell progress (Gives (Ref (heap_size progress.world.cells))) may (λ next. onward_not named next)
+pub cell_onward : (named : List Value) (cell : Cell) (progress : Progress) → MayCome progress.world.cells cell → is_common (shape_of cell) ≡ true
+    → Going named progress (after_reached (new_cell cell progress))
+cell_onward named cell progress may common = after_cells_onward named cell progress (Gives (Ref (heap_size progress.world.cells))) may common (λ next. onward_not named next)
 
 -- any cell at all leaves the cells that were there
 pub any_cell_onward : (named : List Value) (cell : Cell) (progress : Progress) → Onward named progress (after_reached (new_cell cell progress))
 any_cell_onward named cell progress =
     charged_all (λ a. Onward named progress (after_reached a)) Halts Cells (made progress.world cell) progress (Gives (Ref (heap_size progress.world.cells)))
     (onward_of named progress progress (onward_not named progress)) (λ world e. record { world = making_grows named progress.world world cell e; begun = omega arith })
+
+-- and one that may come leads on
+pub any_cell_later : (cell : Cell) (progress : Progress) → MayCome progress.world.cells cell → IsLater progress.world (after_reached (new_cell cell progress)).world
+any_cell_later cell progress may =
+    charged_all (λ a. IsLater progress.world (after_reached a).world) Halts Cells (made progress.world cell) progress (Gives (Ref (heap_size progress.world.cells)))
+    (later_same progress.world) (λ world e. later_made progress.world world cell may e)
 
 pub block_onward : (named : List Value) (code : CodeProgram) (cell : NewCell) (arguments : List Value) (site : Site) (progress : Progress) → Going named progress (reached (block_entered code cell arguments site progress))
 block_onward named code (new.Block body env home receiver holder) arguments site progress = tested (eqb (length arguments) (parameters_of code body))

@@ -24,6 +24,7 @@ use Rattle.ns_classes.specs.declared.apply.MakeFault.TheVariants.{NotAClass}
 use Rattle.ns_classes.specs.Apply.{class_fault, chain_fault}
 use Rattle.ns_kdata.specs.Arguments.{shape_of_value}
 use Rattle.ns_classes.specs.Nested.{kept_class, nested_entry}
+use Rattle.ns_kdata.specs.Leading.{is_common}
 use Rattle.ns_kdata.specs.Rows.{stored}
 use Rattle.ns_send.specs.declared.site.Site.{Site}
 use Rattle.ns_send.specs.Site.{error}
@@ -34,10 +35,10 @@ use Rattle.ns_send.specs.Onward.{after_reached, reached, part_reached}
 use Rattle.ns_send.proofs.Growing.{leaving_moves, frame_moves, writing_moves, storing_moves}
 use Rattle.ns_send.proofs.Onward.{Going, may_come, onward_not, onward_on, onward_in, charged_all, opened_all, frame_onward, cells_onward, after_cells_onward, opened_onward}
 
-made_onward : (named : List Value) (cell : Cell) (fault : Option MakeFault) (site : Site) (progress : Progress) (go : ℕ → Progress → After) → (fault ≡ None → MayCome progress.world.cells cell)
+made_onward : (named : List Value) (cell : Cell) (fault : Option MakeFault) (site : Site) (progress : Progress) (go : ℕ → Progress → After) → (fault ≡ None → MayCome progress.world.cells cell) → is_common (shape_of cell) ≡ true
     → ((number : ℕ) (next : Progress) → Going named next (after_reached (go number next))) → Going named progress (after_reached (class_made cell fault site progress go))
-made_onward named cell (Some fault) site progress go may goes = onward_not named progress
-made_onward named cell None site progress go may goes = after_cells_onward named cell progress (go _) (may refl) (λ next. goes _ next)
+made_onward named cell (Some fault) site progress go may common goes = onward_not named progress
+made_onward named cell None site progress go may common goes = after_cells_onward named cell progress (go _) (may refl) common (λ next. goes _ next)
 
 -- a superclass that passes the checks is one
 passed : (heap : Heap) (over : Value) → class_fault heap over ≡ None → is_superclass heap over ≡ true
@@ -108,7 +109,7 @@ no_first heap (Kernel class) decl encl holder under over e = absurd (cc)
 pub mixed_onward : (named : List Value) (receiver : Value) (cell : NewCell) (over : Value) (site : Site) (progress : Progress) → shape_of_value progress.world.cells receiver ≡ cell → Going named progress (after_reached (mixed cell over site progress))
 mixed_onward named receiver' (new.Class decl encl holder under) over site progress is =
     made_onward named (ClassCell decl encl holder over) (class_fault progress.world.cells over) site progress (λ number progress. Gives (Ref number) progress)
-    (λ e. may_come progress.world.cells (ClassCell decl encl holder over) (passed progress.world.cells over e) (no_first progress.world.cells receiver' decl encl holder under over is)) (λ number next. onward_not named next)
+    (λ e. may_come progress.world.cells (ClassCell decl encl holder over) (passed progress.world.cells over e) (no_first progress.world.cells receiver' decl encl holder under over is)) refl (λ number next. onward_not named next)
 mixed_onward named receiver' (new.Object class words) over site progress is = onward_not named progress
 mixed_onward named receiver' (new.Block body env home receiver holder) over site progress is = onward_not named progress
 mixed_onward named receiver' (new.Environment parent locals) over site progress is = onward_not named progress
@@ -128,7 +129,7 @@ over_onward named code object holder class over site progress has =
     kept_onward named (kept_class progress.world.cells code object holder class) progress (newly_kept code object holder class over site progress)
     (made_onward named (ClassCell class (Ref object) (Ref holder) over) (class_fault progress.world.cells over) site progress
     (λ number progress. Gives (Ref number) (in_world progress (keeping code object holder class number progress.world)))
-    (λ e. may_come progress.world.cells (ClassCell class (Ref object) (Ref holder) over) (passed progress.world.cells over e) refl)
+    (λ e. may_come progress.world.cells (ClassCell class (Ref object) (Ref holder) over) (passed progress.world.cells over e) refl) refl
     (λ number next. onward_in named next (keeping code object holder class number next.world)
     (writing_moves named next.world object (entry_word next.world.cells code holder (nested_entry code (declaration_of next.world.cells holder) class)) (Ref number) has)))
 
@@ -150,7 +151,7 @@ nested_onward named code object holder class None site progress has = head_onwar
 pub instance_onward : (named : List Value) (code : CodeProgram) (class : ℕ) (arguments : List Value) (site : Site) (progress : Progress) → Going named progress (reached (instance code class arguments site progress))
 instance_onward named code class arguments site progress =
     cells_onward named (ObjectCell class (replicate (layout_of progress.world.cells code class) Nil)) progress (opened code halts (Enter FromBody) inner arguments)
-    (may_come progress.world.cells (ObjectCell class (replicate (layout_of progress.world.cells code class) Nil)) refl refl)
+    (may_come progress.world.cells (ObjectCell class (replicate (layout_of progress.world.cells code class) Nil)) refl refl) refl
     (λ next. opened_onward named code (Enter FromBody) inner arguments next (λ running locals last. onward_not named last))
   where
     inner : Activation

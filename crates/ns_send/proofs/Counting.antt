@@ -52,7 +52,7 @@ stored_counts world (Kernel class) word value = counts_not world
 
 -- so rows of the kernel keep them
 pub counts_allow : (world : World) → Allows (SameCounts world) world
-counts_allow world = record { same = counts_not world; cell = λ after cell may e. made_counts world after cell e; output = λ after bytes e. printed_counts world after bytes e }
+counts_allow world = record { same = counts_not world; cell = λ after cell may common e. made_counts world after cell e; output = λ after bytes e. printed_counts world after bytes e }
 
 pub counts_write : (world : World) (object : Value) → Writes (SameCounts world) world object
 counts_write world object word item = stored_counts world object word item

@@ -29,12 +29,14 @@ use Rattle.ns_send.proofs.LawfulClasses.{object_live}
 use Rattle.ns_send.proofs.LawfulRows.{mirrored_live}
 use Rattle.ns_send.proofs.LawfulSends.{answered_lawful}
 use Rattle.ns_send.proofs.Nesting.{nested_inner}
-use Rattle.ns_send.proofs.Suiting.{Suits, found_suits}
+use Rattle.ns_send.specs.Suits.{Suits}
+use Rattle.ns_send.proofs.Suiting.{found_suits}
 use Rattle.ns_send.specs.Blocks.{is_block}
-use Rattle.ns_send.specs.Fitting.{belongs_to, FitsMethod}
-use Rattle.ns_send.proofs.RowsSuit.{RowSuits, FoundSuits}
+use Rattle.ns_send.specs.Fitting.{belongs_to, counts_fit, FitsMethod}
+use Rattle.ns_send.specs.Suiting.{RowSuits, FoundSuits}
+use Rattle.ns_send.proofs.Counts.{first_within, same_within}
 use Rattle.ns_send.proofs.Running.{RunsBody, Runs, body_runs, instance_fits, found_runs}
-use Rattle.ns_send.proofs.Lasting.{block_lasts, belonging_lasts, activation_lasts, exit_lasts, arguments_last}
+use Rattle.ns_send.proofs.Lasting.{block_lasts, belonging_lasts, activation_lasts, exit_lasts, arguments_last, array_size_lasts}
 use Rattle.ns_base.specs.declared.selector.Sel.{Sel}
 use Rattle.ns_code.specs.declared.program.CodeProgram.{CodeProgram}
 use Rattle.ns_code.specs.declared.own.Own.TheVariants.{DoesNotUnderstand}
@@ -67,6 +69,7 @@ use Rattle.ns_mirror.specs.declared.row.Mirrored.TheVariants.{Answer, Perform}
 use Rattle.ns_mirror.specs.Looking.{mirrored}
 use Rattle.ns_mirror.specs.Mirror.{Reflected, Reflects, Refuses, mirror, cell_number}
 use Rattle.ns_kcode.specs.declared.state.KMethod.{KMethod}
+use Rattle.ns_kcode.specs.declared.state.KMethod.TheVariants as method
 use Rattle.ns_kcode.specs.Rows.{beginning}
 use Rattle.ns_send.specs.declared.row.Row.{Row}
 use Rattle.ns_send.specs.declared.row.Row.TheVariants as row
@@ -83,12 +86,17 @@ use Rattle.ns_send.proofs.OwnSelector.{one_message}
 use Rattle.ns_send.proofs.Opening.{Around, IsOpened, nothing_around, opened_bare, opened_over}
 
 -- What is to be shown of where control goes from a world, where it goes on lawfully.
+abbrev pub Later : ℕ → World → CodeProgram → Control → Type 0
+Later own old code (Now after) = Unit {0}
+Later own old code (Enter exit activation locals progress) = RunsOn code old progress.world → FitsEntered progress.world.cells code activation locals × FitsEnd own progress.world.cells code exit activation
+Later own old code (Evaluate block arguments site progress) = RunsOn code old progress.world → is_block progress.world.cells block ≡ true
+Later own old code (Begin method state site progress) = RunsOn code old progress.world → FitsMethod progress.world.cells method state
+Later own old code (WaitsToPerform receiver sel array site progress) =
+    RunsOn code old progress.world → FitsSelector progress.world.cells code sel (items_of progress.world.cells (value.Ref array)) × (is_array progress.world.cells (value.Ref array) ≡ true)
+
+-- the same of a send
 abbrev pub FitsLater : World → CodeProgram → Control → Type 0
-FitsLater old code (Now after) = Unit {0}
-FitsLater old code (Enter exit activation locals progress) = RunsOn code old progress.world → FitsEntered progress.world.cells code activation locals × FitsEnd progress.world.cells code exit activation
-FitsLater old code (Evaluate block arguments site progress) = RunsOn code old progress.world → is_block progress.world.cells block ≡ true
-FitsLater old code (Begin method state site progress) = RunsOn code old progress.world → FitsMethod progress.world.cells method state
-FitsLater old code (WaitsToPerform receiver sel array site progress) = RunsOn code old progress.world → FitsSelector progress.world.cells code sel (items_of progress.world.cells (value.Ref array))
+FitsLater old code control = Later initialiser_kind old code control
 
 -- ---- rows of the kernel
 
@@ -102,11 +110,14 @@ answer_fits old code (Err fault) site progress = tt
 
 reflected_fits : (old : World) (code : CodeProgram) (r : Reflected) (site : Site) (progress : Progress) → ReflectsLive code r → FitsLater old code (reflected_reached r site progress)
 reflected_fits old code (Reflects (Answer answer) world) site progress live = tt
-reflected_fits old code (Reflects (Perform receiver sel array) world) site progress (live, is, items, there, many) = λ run. record {
-  selector = is;
-  arity = rw there many;
-  live = cell_items_live world code array run.after (find_cell world.cells array) refl;
-}
+reflected_fits old code (Reflects (Perform receiver sel array) world) site progress (live, is, items, there, many) = λ run. (
+  record {
+    selector = is;
+    arity = rw there many;
+    live = cell_items_live world code array run.after (find_cell world.cells array) refl;
+  },
+  rw there refl,
+)
 reflected_fits old code (Refuses fault) site progress live = tt
 
 refused_fits : (old : World) (code : CodeProgram) (outcome : Outcome) (selector : Value) (site : Site) (progress : Progress) → FitsLater old code (message_refused outcome selector site progress)
@@ -157,6 +168,22 @@ array_fits code block array site progress suits = tested (is_array progress.worl
     tested true false = λ run. block_lasts block code progress.world progress.world run suits
     tested false c = tt
 
+-- a method begins within its counts
+begins_within : (named : KMethod) (receiver first second : Value) (code : CodeProgram) (old new : World) → RunsOn code old new → belongs_to old.cells receiver named ≡ true → counts_fit new.cells (beginning receiver first second (pos (turns_of old.cells named receiver))) named ≡ true
+begins_within method.Do receiver first second code old new run suits =
+    let many = length (items_of old.cells receiver) in
+    same_within (pos many) (pos 0) many (length (items_of new.cells receiver)) (array_size_lasts receiver code old new run suits) (first_within many)
+begins_within method.And receiver first second code old new run suits = refl
+begins_within method.Or receiver first second code old new run suits = refl
+begins_within method.IfTrue receiver first second code old new run suits = refl
+begins_within method.IfFalse receiver first second code old new run suits = refl
+begins_within method.IfTrueIfFalse receiver first second code old new run suits = refl
+begins_within method.IfFalseIfTrue receiver first second code old new run suits = refl
+begins_within method.WhileTrue receiver first second code old new run suits = refl
+begins_within method.WhileFalse receiver first second code old new run suits = refl
+begins_within method.ToDo receiver first second code old new run suits = refl
+begins_within method.TimesRepeat receiver first second code old new run suits = refl
+
 begun_fits : (code : CodeProgram) (method : KMethod) (receiver first second : Value) (site : Site) (progress : Progress) → belongs_to progress.world.cells receiver method ≡ true → FitsLater progress.world code (method_begun method receiver first second site progress)
 begun_fits code method receiver first second site progress suits = tested (has_arguments progress.world.cells method first second) refl
   where
@@ -164,7 +191,7 @@ begun_fits code method receiver first second site progress suits = tested (has_a
     go = Begin method (beginning receiver first second (pos (turns_of progress.world.cells method receiver))) site
 
     tested : (b : Bool) → has_arguments progress.world.cells method first second ≡ b → FitsLater progress.world code (cond b (charged halts Depth (entered progress.world) progress go) (fails WrongKind site progress))
-    tested true t = charged_all (FitsLater progress.world code) halts Depth (entered progress.world) progress go tt (λ world e. λ run. record { arguments = arguments_last method first second code progress.world world run t; receiver = belonging_lasts method receiver code progress.world world run suits })
+    tested true t = charged_all (FitsLater progress.world code) halts Depth (entered progress.world) progress go tt (λ world e. λ run. record { arguments = arguments_last method first second code progress.world world run t; receiver = belonging_lasts method receiver code progress.world world run suits; counts = begins_within method receiver first second code progress.world world run suits })
     tested false t = tt
 
 row_fits : (code : CodeProgram) (r : Row) (sel : Sel) (receiver : Value) (arguments : List Value) (site : Site) (progress : Progress) → LawfulRun code progress → All (IsLiveValue progress.world.cells code) arguments → RowSuits progress.world.cells receiver r
@@ -188,10 +215,10 @@ row_fits code row.NumArgs sel receiver arguments site progress lawful all suits 
 -- ---- bodies
 
 -- a body that begins keeps self, holder and body, and has all of its locals
-pub opened_fits : (old : World) (code : CodeProgram) (go : Activation → List Value → Progress → Control) (activation : Activation) (arguments : List Value) (progress : Progress) → IsLater old progress.world
-    → ((env : Value) (locals : List Value) (world : World) → IsLater progress.world world → IsOpened world.cells code activation.body activation.env arguments env locals → FitsLater old code (go (record activation { env = env }) locals (in_world progress world)))
-    → FitsLater old code (opened code halts go activation arguments progress)
-opened_fits old code go activation arguments progress later goes = tested (has_environment code activation.body) refl
+pub opened_fits : (own : ℕ) (old : World) (code : CodeProgram) (go : Activation → List Value → Progress → Control) (activation : Activation) (arguments : List Value) (progress : Progress) → IsLater old progress.world
+    → ((env : Value) (locals : List Value) (world : World) → IsLater progress.world world → IsOpened world.cells code activation.body activation.env arguments env locals → Later own old code (go (record activation { env = env }) locals (in_world progress world)))
+    → Later own old code (opened code halts go activation arguments progress)
+opened_fits own old code go activation arguments progress later goes = tested (has_environment code activation.body) refl
   where
     locals : List Value
     locals = first_locals code activation.body arguments
@@ -202,8 +229,8 @@ opened_fits old code go activation arguments progress later goes = tested (has_e
     cell : Cell
     cell = EnvironmentCell activation.env locals
 
-    tested : (b : Bool) → has_environment code activation.body ≡ b → FitsLater old code (cond b (charged halts Cells (made progress.world cell) progress (go inner [])) (go activation locals progress))
-    tested true b = charged_all (FitsLater old code) halts Cells (made progress.world cell) progress (go inner []) tt
+    tested : (b : Bool) → has_environment code activation.body ≡ b → Later own old code (cond b (charged halts Cells (made progress.world cell) progress (go inner [])) (go activation locals progress))
+    tested true b = charged_all (Later own old code) halts Cells (made progress.world cell) progress (go inner []) tt
         (λ world e. goes (value.Ref (heap_size progress.world.cells)) [] world (later_made progress.world world cell (may_come progress.world.cells cell refl refl) e)
         (opened_over code progress.world world activation.body activation.env arguments b e))
     tested false b = goes activation.env locals progress.world (later_same progress.world) (opened_bare progress.world.cells code activation.body activation.env arguments b)
@@ -213,19 +240,21 @@ pub runs_last : (code : CodeProgram) (old new : World) (activation : Activation)
 runs_last code old new activation kind params runs run = activation_lasts activation code old new run (record { live = runs.live; there = runs.there; fits = runs.fits })
 
 -- so it fits where it is entered
-pub entered_here : (code : CodeProgram) (world : World) (exit : Exit) (activation : Activation) (around : Value) (arguments locals : List Value) (kind params : ℕ) → RunsBody world.cells code activation.self activation.holder activation.body kind params
+pub entered_here : (own : ℕ) (code : CodeProgram) (world : World) (exit : Exit) (activation : Activation) (around : Value) (arguments locals : List Value) (kind params : ℕ) → RunsBody world.cells code activation.self activation.holder activation.body kind params
     → length arguments ≡ params → IsOpened world.cells code activation.body around arguments activation.env locals → (StandsWell code activation.body → Around world.cells code activation.body around)
-    → FitsExit world.cells code exit → ends_kind exit kind ≡ true → EndsOwn code exit activation → FitsEntered world.cells code activation locals × FitsEnd world.cells code exit activation
-entered_here code world exit activation around arguments locals kind params runs count opens outer met ends own =
+    → (kind ≡ initialiser_kind → HasHolder world.cells activation.self activation.holder)
+    → FitsExit world.cells code exit → ends_kind own exit kind ≡ true → EndsOwn code exit activation → FitsEntered world.cells code activation locals × FitsEnd own world.cells code exit activation
+entered_here own code world exit activation around arguments locals kind params runs count opens outer object met ends ends_own =
     let many : length arguments ≡ parameters_of code activation.body = count ∙ sym runs.params_are in
     let next : suc activation.body ≡ activation.body + 1 = omega arith in
     let env = environment_body code activation.body in (
       record {
         fits = record { live = runs.live; there = runs.there; fits = runs.fits };
+        object = λ is. object (sym runs.kind_is ∙ is);
         beside = λ stands. opens.beside many stands;
         environment = λ stands. subst (λ depth. FitsEnvironment depth world.cells code env activation.env) next (opens.environment many stands (outer stands));
       },
-      record { met = met; kind = ap (ends_kind exit) runs.kind_is ∙ ends; own = own },
+      record { met = met; kind = ap (ends_kind own exit) runs.kind_is ∙ ends; own = ends_own },
     )
 
 -- a body that runs lasts
@@ -256,14 +285,15 @@ method_fits code body holder params receiver arguments site progress runs count 
     charged_all (FitsLater progress.world code) halts Depth (entered progress.world) progress _ tt
     (λ world e. given_fits progress.world code arguments (in_world progress world) _
     (λ values next same many.
-    opened_fits progress.world code (λ activation locals progress. Enter FromMethod activation locals (one_more progress))
+    opened_fits initialiser_kind progress.world code (λ activation locals progress. Enter FromMethod activation locals (one_more progress))
     (record { self = receiver; holder = holder; body = body; home = progress.begun; env = value.Nil; site = site }) values (in_world progress next)
     (later_on progress.world world next (later_entered progress.world world e) same)
     (λ env locals last more all. λ run.
     let running : Activation = record { self = receiver; holder = holder; body = body; home = progress.begun; env = env; site = site } in
     let here = body_lasts code progress.world last running method_kind params runs run in
-    entered_here code last FromMethod running value.Nil values locals method_kind params here (many ∙ count) all
-    (nothing_around last.cells code body method_kind runs.kind_is (λ e. let q : 0 ≡ 1 = e in omega (arith, q))) tt refl tt)))
+    entered_here initialiser_kind code last FromMethod running value.Nil values locals method_kind params here (many ∙ count) all
+    (nothing_around last.cells code body method_kind runs.kind_is (λ e. let q : 0 ≡ 1 = e in omega (arith, q)))
+    (λ e. let q : 0 ≡ 2 = e in absurd (omega (arith, q))) tt refl tt)))
 
 -- the declaration of a class is one of the code
 pub class_there : (world : World) (code : CodeProgram) (class : ℕ) → IsLawful world code → is_class (find_cell world.cells class) ≡ true → IsSome (slice_get code.classes (declaration_of world.cells class))
@@ -281,12 +311,25 @@ class_there world code class lawful is = found (find_cell world.cells class) ref
     found (Some (MirrorCell mirrored)) e is = absurd (cc)
     found (Some (MessageCell sel args)) e is = absurd (cc)
 
--- an object that was just made runs the initialiser of its class
+-- an object that was just made has its class
+made_has : (code : CodeProgram) (old mid new : World) (class number : ℕ) (entries : List Value) → is_class (find_cell old.cells class) ≡ true → IsLater mid new → RunsOn code old new → find_cell mid.cells number ≡ Some (ObjectCell class entries)
+    → HasHolder new.cells (value.Ref number) class
+made_has code old mid new class number entries is after run there =
+    let chain : chain_of new.cells class ≡ class ∷ chain_of new.cells (superclass_of new.cells class) = (goes_on new.cells class run.after.ordered (omega (arith, lawful_small new code run.after)) is').chain in
+    (λ other e. let both : Some class ≡ Some other = sym object ∙ e in let same : class ≡ other = cc in subst (λ c. Contains (chain_of new.cells c) class) same (0, omega (arith, ap length chain), ap (λ ms. get_or ms 0 class) chain), rw object refl)
+  where
+    is' : is_class (find_cell new.cells class) ≡ true
+    is' = ap is_class (class_same old.cells new.cells class run.later.cells is) ∙ is
+
+    object : class_of_object (find_cell new.cells number) ≡ Some class
+    object = let s = after.cells.cells number (ObjectCell class entries) there in ap class_of_object s.there ∙ (twins_of_shape (ObjectCell class entries) s.now s.shape).object
+
+-- it runs the initialiser of its class
 new_runs : (code : CodeProgram) (old mid new : World) (class number params : ℕ) (entries : List Value) → HasInitialiser old.cells code class params → is_class (find_cell old.cells class) ≡ true → IsLater old mid → IsLater mid new → RunsOn code old new → find_cell mid.cells number ≡ Some (ObjectCell class entries)
     → RunsBody new.cells code (value.Ref number) class (initialiser_of code (declaration_of old.cells class)) initialiser_kind params
 new_runs code old mid new class number params entries begins is before after run there =
     subst (λ n. RunsBody new.cells code (value.Ref number) class n initialiser_kind params) (sym (ap (λ o. option_map_or (λ (c : ClassCode). c.init) o 0) begins.class_is))
-    (body_runs new.cells code (value.Ref number) class begins.declared.init initialiser_kind instance_side (declaration_of old.cells class) params begins.body (object_live new.cells code number (rw object refl))
+    (body_runs new.cells code (value.Ref number) class begins.declared.init initialiser_kind instance_side (declaration_of old.cells class) params begins.body (object_live new.cells code number has.1)
     (instance_fits new.cells code number class begins.body.body is' (begins.body.class_is ∙ sym decl) begins.body.side_is has))
   where
     is' : is_class (find_cell new.cells class) ≡ true
@@ -295,13 +338,8 @@ new_runs code old mid new class number params entries begins is before after run
     decl : declaration_of new.cells class ≡ declaration_of old.cells class
     decl = declaration_lasts class code old new run is
 
-    object : class_of_object (find_cell new.cells number) ≡ Some class
-    object = let s = after.cells.cells number (ObjectCell class entries) there in ap class_of_object s.there ∙ (twins_of_shape (ObjectCell class entries) s.now s.shape).object
-
     has : HasHolder new.cells (value.Ref number) class
-    has =
-        let chain : chain_of new.cells class ≡ class ∷ chain_of new.cells (superclass_of new.cells class) = (goes_on new.cells class run.after.ordered (omega (arith, lawful_small new code run.after)) is').chain in
-        (λ other e. let both : Some class ≡ Some other = sym object ∙ e in let same : class ≡ other = cc in subst (λ c. Contains (chain_of new.cells c) class) same (0, omega (arith, ap length chain), ap (λ ms. get_or ms 0 class) chain), rw object refl)
+    has = made_has code old mid new class number entries is after run there
 
 instance_enters : (code : CodeProgram) (old : World) (class params : ℕ) (arguments : List Value) (site : Site) (progress : Progress) → HasInitialiser old.cells code class params → length arguments ≡ params → is_class (find_cell old.cells class) ≡ true → IsLater old progress.world → FitsLater old code (instance code class arguments site progress)
 instance_enters code old class params arguments site progress begins count is later =
@@ -309,15 +347,16 @@ instance_enters code old class params arguments site progress begins count is la
     (λ world e.
     let one = later_made progress.world world object (may_come progress.world.cells object refl refl) e in
     let so_far = later_on old progress.world world later one in
-    opened_fits old code (Enter FromBody) inner arguments (in_world progress world) so_far
+    opened_fits initialiser_kind old code (Enter FromBody) inner arguments (in_world progress world) so_far
     (λ env locals last more all. λ run.
     let fresh = heap_size progress.world.cells in
     let here = new_runs code old world last class fresh params (replicate (layout_of progress.world.cells code class) value.Nil) begins is so_far more run (new_found progress.world world object e) in
     let same = sym (declaration_stays old.cells progress.world.cells class (class_same old.cells progress.world.cells class later.cells is)) in
     let here' : RunsBody last.cells code (value.Ref fresh) class (initialiser_of code (declaration_of progress.world.cells class)) initialiser_kind params =
     subst (λ n. RunsBody last.cells code (value.Ref fresh) class (initialiser_of code n) initialiser_kind params) same here in
-    entered_here code last FromBody (record inner { env = env }) value.Nil arguments locals initialiser_kind params here' count all
-    (nothing_around last.cells code inner.body initialiser_kind here'.kind_is (λ e. let q : 2 ≡ 1 = e in omega (arith, q))) tt refl tt))
+    entered_here initialiser_kind code last FromBody (record inner { env = env }) value.Nil arguments locals initialiser_kind params here' count all
+    (nothing_around last.cells code inner.body initialiser_kind here'.kind_is (λ e. let q : 2 ≡ 1 = e in omega (arith, q)))
+    (λ is_one. made_has code old world last class fresh (replicate (layout_of progress.world.cells code class) value.Nil) is more run (new_found progress.world world object e)) tt refl tt))
   where
     object : Cell
     object = ObjectCell class (replicate (layout_of progress.world.cells code class) value.Nil)
@@ -351,12 +390,13 @@ head_fits : (code : CodeProgram) (object holder class : ℕ) (clause : Option �
 head_fits code object holder class None site progress lawful has e = tt
 head_fits code object holder class (Some clause) site progress lawful has c =
     charged_all (FitsLater progress.world code) halts Depth (entered progress.world) progress (opened code halts (Enter (FromClause object holder class)) inner []) tt
-    (λ world e. opened_fits progress.world code (Enter (FromClause object holder class)) inner [] (in_world progress world) (later_entered progress.world world e)
+    (λ world e. opened_fits initialiser_kind progress.world code (Enter (FromClause object holder class)) inner [] (in_world progress world) (later_entered progress.world world e)
     (λ env locals last more all. λ run.
     let runs = clause_runs progress.world code object holder class clause lawful has c in
     let here = body_lasts code progress.world last (record inner { env = env }) clause_kind 0 runs run in
-    entered_here code last (FromClause object holder class) (record inner { env = env }) value.Nil [] locals clause_kind 0 here refl all
+    entered_here initialiser_kind code last (FromClause object holder class) (record inner { env = env }) value.Nil [] locals clause_kind 0 here refl all
     (nothing_around last.cells code clause clause_kind runs.kind_is (λ e. let q : 3 ≡ 1 = e in omega (arith, q)))
+    (λ e. let q : 3 ≡ 2 = e in absurd (omega (arith, q)))
     (exit_lasts (FromClause object holder class) code progress.world last run has) refl (refl, refl, c)))
   where
     inner : Activation
@@ -416,17 +456,17 @@ answered_fits code found.NotPublic sel receiver values site progress lawful live
 -- ---- plain sends
 
 -- what holds later holds of a run that goes on lawfully
-pub fits_now : (old : World) (code : CodeProgram) (control : Control) → IsLawful old code → IsLater old (reached control).world → LawfulControl code control → FitsLater old code control → FitsNext code control
-fits_now old code (Now after) before later lawful fits = tt
-fits_now old code (Enter exit activation locals progress) before later lawful fits = fits (record { before = before; after = lawful.0; later = later })
-fits_now old code (Evaluate block arguments site progress) before later lawful fits = fits (record { before = before; after = lawful.0; later = later })
-fits_now old code (Begin method state site progress) before later lawful fits = fits (record { before = before; after = lawful.0; later = later })
-fits_now old code (WaitsToPerform receiver sel array site progress) before later lawful fits = fits (record { before = before; after = lawful.0; later = later })
+pub fits_now : (own : ℕ) (old : World) (code : CodeProgram) (control : Control) → IsLawful old code → IsLater old (reached control).world → LawfulControl code control → Later own old code control → FitsNext own code control
+fits_now own old code (Now after) before later lawful fits = tt
+fits_now own old code (Enter exit activation locals progress) before later lawful fits = fits (record { before = before; after = lawful.0; later = later })
+fits_now own old code (Evaluate block arguments site progress) before later lawful fits = fits (record { before = before; after = lawful.0; later = later })
+fits_now own old code (Begin method state site progress) before later lawful fits = fits (record { before = before; after = lawful.0; later = later })
+fits_now own old code (WaitsToPerform receiver sel array site progress) before later lawful fits = fits (record { before = before; after = lawful.0; later = later })
 
 pub stepped_fits : (code : CodeProgram) (member : Found) (sel : Sel) (receiver : Value) (values : List Value) (site : Site) (progress : Progress) → LawfulRun code progress → IsLiveValue progress.world.cells code receiver → FitsSelector progress.world.cells code sel values
-    → Suits progress.world.cells code receiver member → Runs progress.world.cells code receiver sel.0 member → FoundSuits progress.world.cells receiver member → FitsNext code (charged halts Steps (stepped progress.world) progress (answered_by code member sel receiver values site))
+    → Suits progress.world.cells code receiver member → Runs progress.world.cells code receiver sel.0 member → FoundSuits progress.world.cells receiver member → FitsNext initialiser_kind code (charged halts Steps (stepped progress.world) progress (answered_by code member sel receiver values site))
 stepped_fits code member sel receiver values site progress lawful live fits suits runs rows =
-    charged_all (FitsNext code) halts Steps (stepped progress.world) progress (answered_by code member sel receiver values site) tt
+    charged_all (FitsNext initialiser_kind code) halts Steps (stepped progress.world) progress (answered_by code member sel receiver values site) tt
     (λ world e.
     let same = step_cells progress.world world e in
     let after = step_keeps progress.world world code lawful e in
@@ -436,7 +476,7 @@ stepped_fits code member sel receiver values site progress lawful live fits suit
     let runs' : Runs world.cells code receiver sel.0 member = subst (λ cells. Runs cells code receiver sel.0 member) (sym same) runs in
     let rows' : FoundSuits world.cells receiver member = subst (λ cells. FoundSuits cells receiver member) (sym same) rows in
     let next : Progress = in_world progress world in
-    fits_now world code (answered_by code member sel receiver values site next) after
+    fits_now initialiser_kind world code (answered_by code member sel receiver values site next) after
     (answered_onward (touched world.cells receiver) code member sel receiver values site next (0, omega arith, refl) (1, omega arith, refl)).world.later
     (answered_lawful code member sel receiver values site next after live' fits' suits')
     (answered_fits code member sel receiver values site next after live' fits' suits' runs' rows'))

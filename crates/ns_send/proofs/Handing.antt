@@ -1,12 +1,12 @@
 -- What each action hands on fits.
-use Rattle.std.proofs.Common.{◌≡◌, ℕ, ◌+◌, List, [], length, refl, ap, ◌∙◌, Option, Some, None, Bool, true, false, cond, eqb, slice_get}
+use Rattle.std.proofs.Common.{◌≡◌, ℕ, ◌+◌, List, [], length, refl, ap, ◌∙◌, arith, Option, Some, None, Bool, true, false, cond, eqb, slice_get}
 use Rattle.std.specs.Prelude.{IsSome}
 use Rattle.std.specs.Option.{option_map_or}
 use Rattle.ns_base.specs.declared.place.Place.{Place as SourcePlace}
 use Rattle.ns_base.specs.declared.selector.Sel.{Sel}
 use Rattle.ns_code.specs.declared.program.CodeProgram.{CodeProgram}
 use Rattle.ns_code.specs.declared.body.BodyCode.{BodyCode}
-use Rattle.ns_code.specs.Soundness.{block_kind, clause_kind}
+use Rattle.ns_code.specs.Soundness.{block_kind, initialiser_kind, clause_kind}
 use Rattle.std.proofs.lemmas.Bool.{eqb-true}
 use Rattle.ns_world.specs.declared.value.Value.{Value}
 use Rattle.ns_world.specs.declared.value.Value.TheVariants.{Nil, True, False, Int, Sym as SymValue, Kernel, Ref}
@@ -44,24 +44,24 @@ use Rattle.ns_send.proofs.RowsSuit.{value_suits, above_suits, own_suits}
 use Rattle.ns_send.proofs.WaitsFit.{method_hands_on}
 use Rattle.ns_send.proofs.Opening.{Around, block_around}
 use Rattle.ns_send.proofs.PartsFit.{super_part_fits}
-use Rattle.ns_send.proofs.Fitting.{FitsLater, opened_fits, entered_here, body_lasts, fits_now, stepped_fits}
+use Rattle.ns_send.proofs.Fitting.{Later, opened_fits, entered_here, body_lasts, fits_now, stepped_fits}
 
 -- ---- sends
 
 plain_fits : (code : CodeProgram) (receiver : Value) (sel : Sel) (values : List Value) (place : Option SourcePlace) (progress : Progress) → LawfulRun code progress → IsLiveValue progress.world.cells code receiver → FitsSelector progress.world.cells code sel values
-    → FitsNext code (sent_plain code receiver sel values place progress)
+    → FitsNext initialiser_kind code (sent_plain code receiver sel values place progress)
 plain_fits code receiver sel values place progress lawful live fits =
     stepped_fits code (found_from progress.world.cells code (start_of progress.world.cells receiver) sel.0 Plain) sel receiver values (site_at progress.world.cells place receiver sel) progress lawful live fits
     (found_suits progress.world code receiver sel.0 Plain lawful) (found_runs progress.world code receiver sel.0 Plain lawful live) (value_suits progress.world.cells code receiver sel.0 Plain)
 
 sent_fits : (code : CodeProgram) (activation : Activation) (target : Target) (sel : Sel) (values : List Value) (place : Option SourcePlace) (progress : Progress) → LawfulRun code progress → FitsTarget progress.world.cells code activation target → FitsSelector progress.world.cells code sel values
-    → FitsNext code (sent code activation target sel values place progress)
+    → FitsNext initialiser_kind code (sent code activation target sel values place progress)
 sent_fits code activation (To receiver kind) sel values place progress lawful live fits =
     stepped_fits code (found_from progress.world.cells code (start_of progress.world.cells receiver) sel.0 kind) sel receiver values (site_at progress.world.cells place receiver sel) progress lawful live fits
     (found_suits progress.world code receiver sel.0 kind lawful) (found_runs progress.world code receiver sel.0 kind lawful live) (value_suits progress.world.cells code receiver sel.0 kind)
 sent_fits code activation (ToPrivate level) sel values place progress lawful (here, there) fits = declared (declaration_at code activation.body level) refl there
   where
-    declared : (o : Option ℕ) → declaration_at code activation.body level ≡ o → IsSome o → FitsNext code (sent code activation (ToPrivate level) sel values place progress)
+    declared : (o : Option ℕ) → declaration_at code activation.body level ≡ o → IsSome o → FitsNext initialiser_kind code (sent code activation (ToPrivate level) sel values place progress)
     declared (Some decl) e some =
         let p = places_fit progress.world code activation level decl lawful here e in
         let o = enclosing progress.world.cells activation level in
@@ -71,7 +71,7 @@ sent_fits code activation (ToPrivate level) sel values place progress lawful (he
     declared None e some = absurd (cc)
 sent_fits code activation ToSuper sel values place progress lawful here fits = declared (declaration_at code activation.body 0) refl (body_declared code activation.body here.there)
   where
-    declared : (o : Option ℕ) → declaration_at code activation.body 0 ≡ o → IsSome o → FitsNext code (sent code activation ToSuper sel values place progress)
+    declared : (o : Option ℕ) → declaration_at code activation.body 0 ≡ o → IsSome o → FitsNext initialiser_kind code (sent code activation ToSuper sel values place progress)
     declared (Some decl) e some =
         let p = places_fit progress.world code activation 0 decl lawful here e in
         stepped_fits code (found_from progress.world.cells code (super_start progress.world.cells activation.holder (side_of_body code activation.body)) sel.0 Inner) sel activation.self values
@@ -106,7 +106,7 @@ kept_around old later code number env receiver holder run block = there (slice_g
     there None e some = absurd (cc)
 
 block_later : (code : CodeProgram) (o : Option Cell) (number : ℕ) (arguments : List Value) (site : Site) (progress : Progress) → LawfulRun code progress → find_cell progress.world.cells number ≡ o
-    → FitsLater progress.world code (block_entered code (option_map_or shape_of o (new.Mirror Nil)) arguments site progress)
+    → Later block_kind progress.world code (block_entered code (option_map_or shape_of o (new.Mirror Nil)) arguments site progress)
 block_later code (Some (BlockCell body env home receiver holder)) number arguments site progress lawful e = tested (eqb (length arguments) (parameters_of code body)) refl
   where
     activation : Activation
@@ -121,18 +121,19 @@ block_later code (Some (BlockCell body env home receiver holder)) number argumen
     framed : Progress → Control
     framed progress = charged halts Depth (entered progress.world) progress (opened code halts (Enter FromBody) activation arguments)
 
-    within : Counted → (world : World) → stepped progress.world ≡ Some world → FitsLater progress.world code (framed (in_world progress world))
+    within : Counted → (world : World) → stepped progress.world ≡ Some world → Later block_kind progress.world code (framed (in_world progress world))
     within count world s =
-        charged_all (FitsLater progress.world code) halts Depth (entered world) (in_world progress world) (opened code halts (Enter FromBody) activation arguments) tt
+        charged_all (Later block_kind progress.world code) halts Depth (entered world) (in_world progress world) (opened code halts (Enter FromBody) activation arguments) tt
         (λ next d.
-        opened_fits progress.world code (Enter FromBody) activation arguments (in_world progress next) (later_on progress.world world next (later_stepped progress.world world s) (later_entered world next d))
+        opened_fits block_kind progress.world code (Enter FromBody) activation arguments (in_world progress next) (later_on progress.world world next (later_stepped progress.world world s) (later_entered world next d))
         (λ env' locals last more all. λ run.
         let here = body_lasts code progress.world last (record activation { env = env' }) block_kind (parameters_of code body) runs run in
-        entered_here code last FromBody (record activation { env = env' }) env arguments locals block_kind (parameters_of code body) here count all
-        (λ stands. kept_around progress.world last code body env receiver holder run (lawful.cells number (BlockCell body env home receiver holder) e)) tt refl tt))
+        entered_here block_kind code last FromBody (record activation { env = env' }) env arguments locals block_kind (parameters_of code body) here count all
+        (λ stands. kept_around progress.world last code body env receiver holder run (lawful.cells number (BlockCell body env home receiver holder) e))
+        (λ is. let q : 1 ≡ 2 = is in absurd (omega (arith, q))) tt refl tt))
 
-    tested : (b : Bool) → eqb (length arguments) (parameters_of code body) ≡ b → FitsLater progress.world code (cond b (charged halts Steps (stepped progress.world) progress framed) (fails WrongArity site progress))
-    tested true t = charged_all (FitsLater progress.world code) halts Steps (stepped progress.world) progress framed tt (λ world s. within (eqb-true (length arguments) (parameters_of code body) t) world s)
+    tested : (b : Bool) → eqb (length arguments) (parameters_of code body) ≡ b → Later block_kind progress.world code (cond b (charged halts Steps (stepped progress.world) progress framed) (fails WrongArity site progress))
+    tested true t = charged_all (Later block_kind progress.world code) halts Steps (stepped progress.world) progress framed tt (λ world s. within (eqb-true (length arguments) (parameters_of code body) t) world s)
     tested false t = tt
 block_later code None number arguments site progress lawful e = tt
 block_later code (Some (ObjectCell class entries)) number arguments site progress lawful e = tt
@@ -144,7 +145,7 @@ block_later code (Some (FacetCell kind)) number arguments site progress lawful e
 block_later code (Some (MirrorCell mirrored)) number arguments site progress lawful e = tt
 block_later code (Some (MessageCell sel args)) number arguments site progress lawful e = tt
 
-evaluated_later : (code : CodeProgram) (block : Value) (arguments : List Value) (site : Site) (progress : Progress) → LawfulRun code progress → FitsLater progress.world code (evaluated code block arguments site progress)
+evaluated_later : (code : CodeProgram) (block : Value) (arguments : List Value) (site : Site) (progress : Progress) → LawfulRun code progress → Later block_kind progress.world code (evaluated code block arguments site progress)
 evaluated_later code (Ref at) arguments site progress lawful = block_later code (find_cell progress.world.cells at) at arguments site progress lawful refl
 evaluated_later code Nil arguments site progress lawful = tt
 evaluated_later code True arguments site progress lawful = tt
@@ -160,7 +161,7 @@ action_hands_on code (Sends activation target sel values place) progress lawful 
 action_hands_on code (SendsPlain receiver sel values place) progress lawful asks = plain_fits code receiver sel values place progress lawful asks.0 asks.1
 action_hands_on code (Performs receiver sel array site) progress lawful asks = plain_fits code receiver sel (items_of progress.world.cells (Ref array)) site.place progress lawful asks.0 asks.1
 action_hands_on code (Evaluates block arguments site) progress lawful asks =
-    fits_now progress.world code (evaluated code block arguments site progress) lawful (evaluated_onward [] code block arguments site progress).world.later
+    fits_now block_kind progress.world code (evaluated code block arguments site progress) lawful (evaluated_onward [] code block arguments site progress).world.later
     (evaluated_lawful code block arguments site progress lawful asks) (evaluated_later code block arguments site progress lawful)
 action_hands_on code (Continues method state site) progress lawful asks = method_hands_on method state site progress asks
 action_hands_on code (BeginsPart activation arguments) progress lawful asks = super_part_fits code activation arguments progress lawful asks.0 asks.1

@@ -10,7 +10,7 @@ use Rattle.ns_world.specs.declared.value.Value.TheVariants.{Nil, True, False, In
 use Rattle.ns_world.specs.declared.cell.NewCell.{NewCell}
 use Rattle.ns_world.specs.declared.cell.NewCell.TheVariants as new
 use Rattle.ns_world.specs.Cell.{Cell, ObjectCell, ClassCell, BlockCell, EnvironmentCell, ArrayCell, TextCell, FacetCell, MirrorCell, MessageCell, shape_of}
-use Rattle.ns_world.specs.Heap.{find_cell, is_class, chain_of}
+use Rattle.ns_world.specs.Heap.{Heap, find_cell, is_class, chain_of}
 use Rattle.ns_world.specs.World.{World}
 use Rattle.ns_world.specs.Layout.{declaration_of}
 use Rattle.ns_world.specs.Lawful.{IsLawful, IsLiveValue, HasHolder, class_of_object}
@@ -27,8 +27,9 @@ use Rattle.ns_kcode.specs.declared.state.KMethod.TheVariants as method
 use Rattle.ns_kcode.specs.declared.state.KState.{KState}
 use Rattle.ns_send.specs.Control.{Activation, Exit, FromMethod, FromBody, FromClause}
 use Rattle.ns_send.specs.Blocks.{is_block, is_block_shape, is_integer, are_blocks, has_arguments}
-use Rattle.ns_send.specs.Fitting.{belongs_to, FitsMethod}
+use Rattle.ns_send.specs.Fitting.{belongs_to, counts_fit, FitsMethod}
 use Rattle.ns_send.specs.Sends.{Target, To, ToPrivate, ToSuper}
+use Rattle.ns_send.proofs.Counts.{same_within}
 use Rattle.ns_send.proofs.Suiting.{object_holders}
 use Rattle.ns_send.specs.Lawful.{LiveActivation, LiveState, HasClass, FitsExit, FitsSelector, FitsActivation, FitsSlot, FitsTarget}
 
@@ -155,12 +156,6 @@ belonging_lasts method.IfFalse receiver code old new run t = t
 belonging_lasts method.IfTrueIfFalse receiver code old new run t = t
 belonging_lasts method.IfFalseIfTrue receiver code old new run t = t
 
-pub method_lasts : (named : KMethod) (state : KState) (code : CodeProgram) (old new : World) → RunsOn code old new → FitsMethod old.cells named state → FitsMethod new.cells named state
-method_lasts named state code old new run fits = record {
-  arguments = arguments_last named state.first state.second code old new run fits.arguments;
-  receiver = belonging_lasts named state.receiver code old new run fits.receiver;
-}
-
 -- an array has as many elements as it had
 size_told : (o : Option Cell) → length (array_items o) ≡ array_size_in (option_map_or shape_of o (new.Mirror Nil))
 size_told None = refl
@@ -174,15 +169,57 @@ size_told (Some (FacetCell kind)) = refl
 size_told (Some (MirrorCell mirrored)) = refl
 size_told (Some (MessageCell sel args)) = refl
 
+size_there : (at : ℕ) (code : CodeProgram) (old new : World) → RunsOn code old new → IsSome (find_cell old.cells at) → length (items_of new.cells (Ref at)) ≡ length (items_of old.cells (Ref at))
+size_there at code old later run there =
+    size_told (find_cell later.cells at) ∙ (ap array_size_in (shape_lasts at code old later run there) ∙ sym (size_told (find_cell old.cells at)))
+
 pub size_lasts : (array : Value) (code : CodeProgram) (old new : World) → RunsOn code old new → IsLiveValue old.cells code array → length (items_of new.cells array) ≡ length (items_of old.cells array)
-size_lasts (Ref at) code old later run live =
-    size_told (find_cell later.cells at) ∙ (ap array_size_in (shape_lasts at code old later run live.0) ∙ sym (size_told (find_cell old.cells at)))
+size_lasts (Ref at) code old later run live = size_there at code old later run live.0
 size_lasts Nil code old later run live = refl
 size_lasts True code old later run live = refl
 size_lasts False code old later run live = refl
 size_lasts (Int number) code old later run live = refl
 size_lasts (Sym sel) code old later run live = refl
 size_lasts (Kernel class) code old later run live = refl
+
+-- an array is a cell that is there
+array_there : (heap : Heap) (at : ℕ) → is_array heap (Ref at) ≡ true → IsSome (find_cell heap at)
+array_there heap at t = found (find_cell heap at) t
+  where
+    found : (o : Option Cell) → is_array_shape (option_map_or shape_of o (new.Mirror Nil)) ≡ true → IsSome o
+    found (Some cell) t = refl
+    found None t = absurd (cc)
+
+pub array_size_lasts : (array : Value) (code : CodeProgram) (old new : World) → RunsOn code old new → is_array old.cells array ≡ true → length (items_of new.cells array) ≡ length (items_of old.cells array)
+array_size_lasts (Ref at) code old later run is = size_there at code old later run (array_there old.cells at is)
+array_size_lasts Nil code old later run is = refl
+array_size_lasts True code old later run is = refl
+array_size_lasts False code old later run is = refl
+array_size_lasts (Int number) code old later run is = refl
+array_size_lasts (Sym sel) code old later run is = refl
+array_size_lasts (Kernel class) code old later run is = refl
+
+-- counts stay within their array
+pub counts_last : (named : KMethod) (state : KState) (code : CodeProgram) (old new : World) → RunsOn code old new → belongs_to old.cells state.receiver named ≡ true → counts_fit old.cells state named ≡ true → counts_fit new.cells state named ≡ true
+counts_last method.Do state code old new run is t =
+    same_within state.size state.count (length (items_of old.cells state.receiver)) (length (items_of new.cells state.receiver)) (array_size_lasts state.receiver code old new run is) t
+counts_last method.And state code old new run is t = refl
+counts_last method.Or state code old new run is t = refl
+counts_last method.IfTrue state code old new run is t = refl
+counts_last method.IfFalse state code old new run is t = refl
+counts_last method.IfTrueIfFalse state code old new run is t = refl
+counts_last method.IfFalseIfTrue state code old new run is t = refl
+counts_last method.WhileTrue state code old new run is t = refl
+counts_last method.WhileFalse state code old new run is t = refl
+counts_last method.ToDo state code old new run is t = refl
+counts_last method.TimesRepeat state code old new run is t = refl
+
+pub method_lasts : (named : KMethod) (state : KState) (code : CodeProgram) (old new : World) → RunsOn code old new → FitsMethod old.cells named state → FitsMethod new.cells named state
+method_lasts named state code old new run fits = record {
+  arguments = arguments_last named state.first state.second code old new run fits.arguments;
+  receiver = belonging_lasts named state.receiver code old new run fits.receiver;
+  counts = counts_last named state code old new run fits.receiver fits.counts;
+}
 
 -- a holder of an object is a class
 pub holder_is_class : (world : World) (code : CodeProgram) (self : Value) (holder : ℕ) → IsLawful world code → HasHolder world.cells self holder → is_class (find_cell world.cells holder) ≡ true

@@ -87,7 +87,7 @@ later_written code old at word value lawful may =
     (changing_keeps_cells old.cells at (λ cell. with_word cell word value) (word_plainly word value) (λ cell. word_twins word value cell) (lawful_order old code lawful))
 
 -- a step, a frame, a frame given back
-entered_cells : (world after : World) → entered world ≡ Some after → after.cells ≡ world.cells
+pub entered_cells : (world after : World) → entered world ≡ Some after → after.cells ≡ world.cells
 entered_cells world after e = tested (nat_lt world.depth world.limits.depth) e
   where
     more : World

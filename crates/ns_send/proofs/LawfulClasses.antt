@@ -151,7 +151,7 @@ kept_live world code object holder class kept lawful has e =
     subst (IsLiveValue world.cells code) (kept_is (word_at world.cells object word) kept e) (word_live world code object word lawful has.1)
 
 -- the enclosing two of a nested class are those that its declaration asks for
-enclosed : (world : World) (code : CodeProgram) (object holder class : ℕ) → IsLawful world code → HasClass world.cells code object holder class → IsEnclosed world.cells code class (Ref object) (Ref holder)
+pub enclosed : (world : World) (code : CodeProgram) (object holder class : ℕ) → IsLawful world code → HasClass world.cells code object holder class → IsEnclosed world.cells code class (Ref object) (Ref holder)
 enclosed world code object holder class lawful has =
     let n = has.nested in
     let inner = nested_inner code (declaration_of world.cells holder) n.place n.class n.nested lawful.classes n.class_is n.nested_is in

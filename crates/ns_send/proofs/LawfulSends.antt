@@ -42,7 +42,8 @@ use Rattle.ns_send.proofs.Later.{Later, later_not, later_on, later_made, later_s
 use Rattle.ns_send.proofs.LawfulBodies.{frame_lawful, opened_lawful, new_found, new_live, one_live}
 use Rattle.ns_send.proofs.LawfulClasses.{instance_lawful, nested_lawful, word_live}
 use Rattle.ns_send.proofs.LawfulRows.{row_lawful}
-use Rattle.ns_send.proofs.Suiting.{Suits, found_suits, private_suits, super_suits, super_side_suits}
+use Rattle.ns_send.specs.Suits.{Suits}
+use Rattle.ns_send.proofs.Suiting.{found_suits, private_suits, super_suits, super_side_suits}
 use Rattle.ns_send.proofs.Places.{places_fit}
 
 -- Arguments that are live; those that go into a Message are as many as its selector takes.
@@ -185,7 +186,7 @@ answered_lawful code found.NotPublic sel receiver values site progress lawful li
 -- ---- sends
 
 -- a send whose member suits its receiver
-stepped_lawful : (code : CodeProgram) (member : Found) (sel : Sel) (receiver : Value) (values : List Value) (site : Site) (progress : Progress) → LawfulRun code progress → IsLiveValue progress.world.cells code receiver → FitsSelector progress.world.cells code sel values → Suits progress.world.cells code receiver member
+pub stepped_lawful : (code : CodeProgram) (member : Found) (sel : Sel) (receiver : Value) (values : List Value) (site : Site) (progress : Progress) → LawfulRun code progress → IsLiveValue progress.world.cells code receiver → FitsSelector progress.world.cells code sel values → Suits progress.world.cells code receiver member
     → LawfulControl code (charged halts Steps (stepped progress.world) progress (answered_by code member sel receiver values site))
 stepped_lawful code member sel receiver values site progress lawful live fits suits =
     charged_all (LawfulControl code) halts Steps (stepped progress.world) progress (answered_by code member sel receiver values site) lawful

@@ -8,7 +8,7 @@ use Rattle.ns_send.specs.Control.{Progress}
 use Rattle.ns_send.specs.Actions.{Action, Sends, SendsPlain, Performs, Evaluates, Continues, BeginsPart, EndsPart, EndsBody, MakesBlock, MakesText, MakesArray, FillsSlot, StoresLocal, progress_after}
 use Rattle.ns_send.proofs.Onward.{may_come}
 use Rattle.ns_send.proofs.ClassesOnward.{super_onward, ended_onward, filled_onward}
-use Rattle.ns_send.proofs.BlocksOnward.{evaluated_onward, next_onward, cell_onward}
+use Rattle.ns_send.proofs.BlocksOnward.{evaluated_onward, next_onward, any_cell_later}
 use Rattle.ns_send.proofs.LawfulValues.{local_onward}
 use Rattle.ns_send.proofs.SendsOnward.{sent_onward, plain_sent_onward, performed_onward}
 
@@ -24,8 +24,8 @@ action_leads code EndsPart progress = later_left progress.world
 action_leads code (EndsBody exit activation value) progress = (ended_onward code exit activation value progress).world.later
 action_leads code (MakesBlock activation body) progress =
     let cell : Cell = BlockCell body activation.env activation.home activation.self activation.holder in
-    (cell_onward [] cell progress (may_come progress.world.cells cell refl refl)).world.later
-action_leads code (MakesText bytes) progress = (cell_onward [] (TextCell bytes) progress (may_come progress.world.cells (TextCell bytes) refl refl)).world.later
-action_leads code (MakesArray items) progress = (cell_onward [] (ArrayCell items) progress (may_come progress.world.cells (ArrayCell items) refl refl)).world.later
+    any_cell_later cell progress (may_come progress.world.cells cell refl refl)
+action_leads code (MakesText bytes) progress = any_cell_later (TextCell bytes) progress (may_come progress.world.cells (TextCell bytes) refl refl)
+action_leads code (MakesArray items) progress = any_cell_later (ArrayCell items) progress (may_come progress.world.cells (ArrayCell items) refl refl)
 action_leads code (FillsSlot activation slot value) progress = (filled_onward code activation slot value progress).world.later
 action_leads code (StoresLocal activation hops place value) progress = (local_onward code activation hops place value progress).world.later

@@ -11,6 +11,7 @@ use Rattle.ns_world.specs.Heap.{Heap, heap_size, has_superclass}
 use Rattle.ns_world.specs.Seek.{may_be_first}
 use Rattle.ns_world.specs.Later.{IsLater, MayCome}
 use Rattle.ns_world.specs.World.{World, made, entered}
+use Rattle.ns_kdata.specs.Leading.{is_common}
 use Rattle.ns_send.specs.Control.{Progress, in_world, Activation, After, Halts, Control, charged, halts}
 use Rattle.ns_send.specs.Bodies.{has_environment, first_locals, opened}
 use Rattle.ns_send.specs.Onward.{Onward, after_reached, reached}
@@ -63,7 +64,7 @@ opened_all P code stop go activation arguments progress stops goes = tested (has
 
     tested : (b : Bool) → P (cond b (charged stop Cells (made progress.world (EnvironmentCell activation.env locals)) progress (go inner [])) (go activation locals progress))
     tested true = charged_all P stop Cells (made progress.world (EnvironmentCell activation.env locals)) progress (go inner []) stops
-        (λ world e. goes inner [] world (λ named. making_moves named progress.world world (EnvironmentCell activation.env locals) (may_come progress.world.cells (EnvironmentCell activation.env locals) refl refl) e))
+        (λ world e. goes inner [] world (λ named. making_moves named progress.world world (EnvironmentCell activation.env locals) (may_come progress.world.cells (EnvironmentCell activation.env locals) refl refl) refl e))
     tested false = goes activation locals progress.world (λ named. moving_not named progress.world)
 
 -- a charge whose world has grown
@@ -78,17 +79,17 @@ pub frame_onward : (named : List Value) (progress : Progress) (go : Progress →
 frame_onward named progress go goes =
     charge_onward named Depth (entered progress.world) progress go (λ world e. frame_moves named progress.world world e) (λ world e. goes (in_world progress world))
 
-pub cells_onward : (named : List Value) (cell : Cell) (progress : Progress) (go : Progress → Control) → MayCome progress.world.cells cell
+pub cells_onward : (named : List Value) (cell : Cell) (progress : Progress) (go : Progress → Control) → MayCome progress.world.cells cell → is_common (shape_of cell) ≡ true
     → ((next : Progress) → Going named next (reached (go next))) → Going named progress (reached (charged halts Cells (made progress.world cell) progress go))
-cells_onward named cell progress go may goes =
-    charge_onward named Cells (made progress.world cell) progress go (λ world e. making_moves named progress.world world cell may e) (λ world e. goes (in_world progress world))
+cells_onward named cell progress go may common goes =
+    charge_onward named Cells (made progress.world cell) progress go (λ world e. making_moves named progress.world world cell may common e) (λ world e. goes (in_world progress world))
 
 -- the same where a value comes next
-pub after_cells_onward : (named : List Value) (cell : Cell) (progress : Progress) (go : Progress → After) → MayCome progress.world.cells cell
+pub after_cells_onward : (named : List Value) (cell : Cell) (progress : Progress) (go : Progress → After) → MayCome progress.world.cells cell → is_common (shape_of cell) ≡ true
     → ((next : Progress) → Going named next (after_reached (go next))) → Going named progress (after_reached (charged Halts Cells (made progress.world cell) progress go))
-after_cells_onward named cell progress go may goes =
+after_cells_onward named cell progress go may common goes =
     charged_all (λ a. Going named progress (after_reached a)) Halts Cells (made progress.world cell) progress go (onward_not named progress)
-    (λ world e. onward_on named progress (in_world progress world) (after_reached (go (in_world progress world))) (onward_in named progress world (making_moves named progress.world world cell may e)) (goes (in_world progress world)))
+    (λ world e. onward_on named progress (in_world progress world) (after_reached (go (in_world progress world))) (onward_in named progress world (making_moves named progress.world world cell may common e)) (goes (in_world progress world)))
 
 -- a body that is entered
 pub opened_onward : (named : List Value) (code : CodeProgram) (go : Activation → List Value → Progress → Control) (activation : Activation) (arguments : List Value) (progress : Progress)

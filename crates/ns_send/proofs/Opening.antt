@@ -42,7 +42,7 @@ earlier_from number (suc k) (first ∷ bodies) body parent s e is =
     let two = both_of (option_map_or (λ parent. nat_lt parent number) first.parent true) (are_parents_earlier (number + 1) bodies) s in
     omega (arith, earlier_from (number + 1) k bodies body parent two.1 e is)
 
-earlier : (code : CodeProgram) (number : ℕ) (body : BodyCode) (parent : ℕ) → are_parents_earlier 0 code.bodies ≡ true → slice_get code.bodies number ≡ Some body → body.parent ≡ Some parent → parent < number
+pub earlier : (code : CodeProgram) (number : ℕ) (body : BodyCode) (parent : ℕ) → are_parents_earlier 0 code.bodies ≡ true → slice_get code.bodies number ≡ Some body → body.parent ≡ Some parent → parent < number
 earlier code number body parent s e is = omega (arith, earlier_from 0 number code.bodies body parent s e is)
 
 -- an environment that fits a body fits it at each depth above its number

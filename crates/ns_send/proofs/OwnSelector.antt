@@ -11,16 +11,16 @@ use Rattle.ns_code.specs.Own.{own_text}
 use Rattle.ns_code.specs.Selector.{own_text_at, selector_text, text_arity, selector_arity, name_number, own_number}
 
 -- The number of a text among names is that of one of this text, or else the other number.
-record Named (names : List (List ℕ)) (first found : ℕ) (text : List ℕ) : Type 0 where
-  place : ℕ
-  inside : place < length names
-  number_is : found ≡ first + place
-  text_is : slice_index_or names place [] ≡ text
+pub record Named (names : List (List ℕ)) (first found : ℕ) (text : List ℕ) : Type 0 where
+  pub place : ℕ
+  pub inside : place < length names
+  pub number_is : found ≡ first + place
+  pub text_is : slice_index_or names place [] ≡ text
 
 one_more : (name : List ℕ) (names : List (List ℕ)) (first found : ℕ) (text : List ℕ) → Named names (first + 1) found text → Named (name ∷ names) first found text
 one_more name names first found text n = record { place = suc n.place; inside = omega (arith, n.inside); number_is = omega (arith, n.number_is); text_is = n.text_is }
 
-named : (names : List (List ℕ)) (first : ℕ) (text : List ℕ) (other : ℕ) → Named names first (name_number names first text other) text ⊎ (name_number names first text other ≡ other)
+pub named : (names : List (List ℕ)) (first : ℕ) (text : List ℕ) (other : ℕ) → Named names first (name_number names first text other) text ⊎ (name_number names first text other ≡ other)
 named [] first text other = inr refl
 named (name ∷ names) first text other = tested (named names (first + 1) text other) (bytes_eq name text) refl
   where

@@ -33,6 +33,7 @@ use Rattle.ns_send.specs.Fitting.{kind_of, StandsWell, FitsEntered, FitsNextPart
 use Rattle.ns_send.proofs.Onward.{charged_all}
 use Rattle.ns_send.proofs.ClassesOnward.{super_onward}
 use Rattle.ns_send.proofs.LawfulParts.{super_lawful}
+use Rattle.ns_send.proofs.Lasting.{holder_lasts}
 use Rattle.ns_send.proofs.Suiting.{object_holders, above_too}
 use Rattle.ns_send.proofs.Places.{holder_live}
 use Rattle.ns_send.proofs.Running.{RunsBody, own_params, body_runs, instance_fits}
@@ -47,8 +48,8 @@ PartLater old code Counted (EnterPart activation locals progress) =
     RunsOn code old progress.world → (FitsActivation progress.world.cells code activation × (kind_of code activation.body ≡ initialiser_kind)) × (Counted → FitsEntered progress.world.cells code activation locals)
 
 opened_part : (old : World) (code : CodeProgram) (Counted : Type 0) (activation : Activation) (arguments : List Value) (progress : Progress) (params : ℕ) → RunsBody old.cells code activation.self activation.holder activation.body initialiser_kind params
-    → (Counted → length arguments ≡ params) → ((heap : Heap) → StandsWell code activation.body → Around heap code activation.body activation.env) → PartLater old code Counted (opened code Stop EnterPart activation arguments progress)
-opened_part old code Counted activation arguments progress params runs counts outer = tested (has_environment code activation.body) refl
+    → HasHolder old.cells activation.self activation.holder → (Counted → length arguments ≡ params) → ((heap : Heap) → StandsWell code activation.body → Around heap code activation.body activation.env) → PartLater old code Counted (opened code Stop EnterPart activation arguments progress)
+opened_part old code Counted activation arguments progress params runs has counts outer = tested (has_environment code activation.body) refl
   where
     locals : List Value
     locals = first_locals code activation.body arguments
@@ -64,11 +65,11 @@ opened_part old code Counted activation arguments progress params runs counts ou
         (λ world e. λ run.
         let here = body_lasts code old world inner initialiser_kind params runs run in
         let opens = opened_over code progress.world world activation.body activation.env arguments b e in
-        ((record { live = here.live; there = here.there; fits = here.fits }, here.kind_is), λ c. (entered_here code world FromBody inner activation.env arguments [] initialiser_kind params here (counts c) opens (outer world.cells) tt refl tt).0))
+        ((record { live = here.live; there = here.there; fits = here.fits }, here.kind_is), λ c. (entered_here initialiser_kind code world FromBody inner activation.env arguments [] initialiser_kind params here (counts c) opens (outer world.cells) (λ is. holder_lasts code old world activation.self activation.holder run has) tt refl tt).0))
     tested false b = λ run.
         let here = body_lasts code old progress.world activation initialiser_kind params runs run in
         let opens = opened_bare progress.world.cells code activation.body activation.env arguments b in
-        ((record { live = here.live; there = here.there; fits = here.fits }, here.kind_is), λ c. (entered_here code progress.world FromBody activation activation.env arguments locals initialiser_kind params here (counts c) opens (outer progress.world.cells) tt refl tt).0)
+        ((record { live = here.live; there = here.there; fits = here.fits }, here.kind_is), λ c. (entered_here initialiser_kind code progress.world FromBody activation activation.env arguments locals initialiser_kind params here (counts c) opens (outer progress.world.cells) (λ is. holder_lasts code old progress.world activation.self activation.holder run has) tt refl tt).0)
 
 -- a declared superclass of a holder is in the chain too
 above_has : (world : World) (code : CodeProgram) (self : Value) (holder over : ℕ) → IsLawful world code → HasHolder world.cells self holder → superclass_of world.cells holder ≡ over → is_class (find_cell world.cells over) ≡ true → HasHolder world.cells self over
@@ -102,6 +103,7 @@ above_has world code (Kernel class) holder over lawful has super is = absurd has
 
 -- The initialiser of a class runs with a self, and takes as many arguments as its factory.
 record Initialises (world : World) (code : CodeProgram) (self : Value) (over : ℕ) : Type 0 where
+  has : HasHolder world.cells self over
   runs : (let init : ℕ = initialiser_of code (declaration_of world.cells over) in RunsBody world.cells code self over init initialiser_kind (parameters_of code init))
   takes : selector_arity code (factory_selector code (declaration_of world.cells over)) ≡ parameters_of code (initialiser_of code (declaration_of world.cells over))
 
@@ -120,7 +122,7 @@ factory_takes world code over lawful is = declared (slice_get code.classes (decl
 
 -- so its initialiser runs with self
 initialiser_runs : (world : World) (code : CodeProgram) (self : Value) (over : ℕ) → IsLawful world code → HasHolder world.cells self over → is_class (find_cell world.cells over) ≡ true → Initialises world code self over
-initialiser_runs world code (Ref at) over lawful has is = record { runs = declared (slice_get code.classes (declaration_of world.cells over)) refl; takes = factory_takes world code over lawful is }
+initialiser_runs world code (Ref at) over lawful has is = record { has = has; runs = declared (slice_get code.classes (declaration_of world.cells over)) refl; takes = factory_takes world code over lawful is }
   where
     declared : (o : Option ClassCode) → slice_get code.classes (declaration_of world.cells over) ≡ o
         → RunsBody world.cells code (Ref at) over (option_map_or (λ (c : ClassCode). c.init) o 0) initialiser_kind (parameters_of code (option_map_or (λ (c : ClassCode). c.init) o 0))
@@ -152,7 +154,7 @@ declared_fits code Counted activation over sel arguments progress counts init = 
     tested true t =
         let same : sel ≡ factory_selector code (declaration_of progress.world.cells over) = eqb-true sel (factory_selector code (declaration_of progress.world.cells over)) t in
         charged_all (PartLater progress.world code Counted) Stop Depth (entered progress.world) progress (opened code Stop EnterPart inner arguments) tt
-        (λ world e. opened_part progress.world code Counted inner arguments (in_world progress world) (parameters_of code inner.body) init.runs (λ c. counts c ∙ (ap (selector_arity code) same ∙ init.takes)) outer)
+        (λ world e. opened_part progress.world code Counted inner arguments (in_world progress world) (parameters_of code inner.body) init.runs init.has (λ c. counts c ∙ (ap (selector_arity code) same ∙ init.takes)) outer)
     tested false t = tt
 
 object_fits : (old : World) (code : CodeProgram) (Counted : Type 0) (activation : Activation) (sel : ℕ) (progress : Progress) → PartLater old code Counted (object_part code activation sel progress)

@@ -34,28 +34,9 @@ use Rattle.ns_find.specs.Rows.{top_rows, kernel_rows}
 use Rattle.ns_find.specs.Find.{members_from, found_from, found_private, super_start}
 use Rattle.ns_find.proofs.Named.{EachNamed, named_append, search_named}
 use Rattle.ns_kdata.specs.Arguments.{is_array}
-use Rattle.ns_send.specs.declared.row.Row.{Row}
-use Rattle.ns_send.specs.declared.row.Row.TheVariants as answer
 use Rattle.ns_send.specs.Blocks.{is_block, is_integer}
-use Rattle.ns_send.specs.Rows.{row_at}
-use Rattle.ns_send.specs.Fitting.{is_boolean, belongs_to}
-
--- A row that evaluates blocks has a receiver of its kind.
-abbrev pub RowSuits : Heap → Value → Row → Type 0
-RowSuits heap self (answer.Data r) = Unit {0}
-RowSuits heap self (answer.Integer r) = Unit {0}
-RowSuits heap self answer.Top = Unit {0}
-RowSuits heap self (answer.Facet r) = Unit {0}
-RowSuits heap self (answer.Mirror r) = Unit {0}
-RowSuits heap self (answer.Method method) = belongs_to heap self method ≡ true
-RowSuits heap self answer.Apply = Unit {0}
-RowSuits heap self answer.Value = is_block heap self ≡ true
-RowSuits heap self answer.ValueWithArguments = is_block heap self ≡ true
-RowSuits heap self answer.NumArgs = Unit {0}
-
-abbrev pub FoundSuits : Heap → Value → Found → Type 0
-FoundSuits heap self (found.Kernel number) = RowSuits heap self (row_at number)
-FoundSuits heap self other = Unit {0}
+use Rattle.ns_send.specs.Fitting.{is_boolean}
+use Rattle.ns_send.specs.Suiting.{is_reference, FoundSuits}
 
 -- What is known of a receiver by the class of the kernel at which its lookups start.
 abbrev IsOfKind : Heap → Value → KernelRow → Type 0
@@ -63,6 +44,8 @@ IsOfKind heap self row.Boolean = is_boolean self ≡ true
 IsOfKind heap self row.Integer = is_integer self ≡ true
 IsOfKind heap self row.Array = is_array heap self ≡ true
 IsOfKind heap self row.Block = is_block heap self ≡ true
+IsOfKind heap self row.Mirrors = is_reference self ≡ true
+IsOfKind heap self row.Mirror = is_reference self ≡ true
 IsOfKind heap self other = Unit {0}
 
 tops_suit : (heap : Heap) (code : CodeProgram) (self : Value) (sel number : ℕ) (classes : List ClassCode) → EachNamed (FoundSuits heap self) code sel (top_rows heap number classes)
@@ -83,8 +66,8 @@ rows_suit heap code self sel row.Block kind = ((λ n. kind), ((λ n. kind), ((λ
 rows_suit heap code self sel row.Kernel kind = ((λ n. tt), ((λ n. tt), tt))
 rows_suit heap code self sel row.Console kind = ((λ n. tt), ((λ n. tt), tt))
 rows_suit heap code self sel row.Board kind = ((λ n. tt), ((λ n. tt), tt))
-rows_suit heap code self sel row.Mirrors kind = ((λ n. tt), tt)
-rows_suit heap code self sel row.Mirror kind = ((λ n. tt), ((λ n. tt), ((λ n. tt), ((λ n. tt), ((λ n. tt), ((λ n. tt), ((λ n. tt), tt)))))))
+rows_suit heap code self sel row.Mirrors kind = ((λ n. kind), tt)
+rows_suit heap code self sel row.Mirror kind = ((λ n. kind), ((λ n. kind), ((λ n. kind), ((λ n. kind), ((λ n. kind), ((λ n. kind), ((λ n. kind), tt)))))))
 rows_suit heap code self sel row.Message kind = ((λ n. tt), ((λ n. tt), tt))
 rows_suit heap code self sel row.Object kind = ((λ n. tt), ((λ n. tt), ((λ n. tt), ((λ n. tt), ((λ n. tt), ((λ n. tt), tt))))))
 rows_suit heap code self sel row.Manifest kind = tops_suit heap code self sel 0 code.classes
@@ -146,13 +129,13 @@ from_suits heap code self (start.Kernel r) sel kind known =
     search_named (FoundSuits heap self) code sel kind (members_from heap code (start.Kernel r)) tt tt
     (named_append (FoundSuits heap self) code sel (kernel_rows heap code r) (kernel_rows heap code row.Object) (rows_suit heap code self sel r known) (rows_suit heap code self sel row.Object tt))
 
-facet_kind : (heap : Heap) (self : Value) (k : FacetKind) → IsOfKind heap self (facet_row k)
-facet_kind heap self kinds.Manifest = tt
-facet_kind heap self kinds.Platform = tt
-facet_kind heap self kinds.Console = tt
-facet_kind heap self kinds.Mirrors = tt
-facet_kind heap self kinds.Kernel = tt
-facet_kind heap self kinds.Board = tt
+facet_kind : (heap : Heap) (at : ℕ) (k : FacetKind) → IsOfKind heap (value.Ref at) (facet_row k)
+facet_kind heap at kinds.Manifest = tt
+facet_kind heap at kinds.Platform = tt
+facet_kind heap at kinds.Console = tt
+facet_kind heap at kinds.Mirrors = refl
+facet_kind heap at kinds.Kernel = tt
+facet_kind heap at kinds.Board = tt
 
 class_kind : (heap : Heap) (self : Value) (k : KClass) → IsOfKind heap self (kernel_class_row k)
 class_kind heap self kernel.Object = tt
@@ -162,15 +145,15 @@ starts_as : (heap : Heap) (self : Value) → StartsAs heap self (start_of heap s
 starts_as heap (value.Ref at) = cell (find_cell heap at) refl
   where
     cell : (o : Option Cell) → find_cell heap at ≡ o → StartsAs heap (value.Ref at) (start_of_cell (option_map_or shape_of o (new.Mirror value.Nil)) at)
-    cell None e = tt
+    cell None e = refl
     cell (Some (ObjectCell class entries)) e = tt
     cell (Some (ClassCell decl encl holder over)) e = tt
     cell (Some (BlockCell body env home receiver holder)) e = rw e refl
     cell (Some (EnvironmentCell parent locals)) e = tt
     cell (Some (ArrayCell items)) e = rw e refl
     cell (Some (TextCell bytes)) e = tt
-    cell (Some (FacetCell k)) e = facet_kind heap (value.Ref at) k
-    cell (Some (MirrorCell shown)) e = tt
+    cell (Some (FacetCell k)) e = facet_kind heap at k
+    cell (Some (MirrorCell shown)) e = refl
     cell (Some (MessageCell name args)) e = tt
 starts_as heap value.Nil = tt
 starts_as heap value.True = refl

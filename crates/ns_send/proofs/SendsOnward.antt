@@ -141,8 +141,8 @@ given_onward : (named : List Value) (arguments : Arguments) (progress : Progress
     → ((values : List Value) (next : Progress) → Going named next (reached (go values next))) → Going named progress (reached (given arguments progress go))
 given_onward named (Listed values) progress go goes = goes values progress
 given_onward named (Wrapped sel values) progress go goes =
-    cells_onward named (ArrayCell values) progress _ (may_come progress.world.cells (ArrayCell values) refl refl)
-    (λ next. let message = MessageCell sel (value.Ref (heap_size progress.world.cells)) in cells_onward named message next _ (may_come next.world.cells message refl refl) (λ last. goes _ last))
+    cells_onward named (ArrayCell values) progress _ (may_come progress.world.cells (ArrayCell values) refl refl) refl
+    (λ next. let message = MessageCell sel (value.Ref (heap_size progress.world.cells)) in cells_onward named message next _ (may_come next.world.cells message refl refl) refl (λ last. goes _ last))
 
 more_onward : (named : List Value) (progress : Progress) → Going named progress (one_more progress)
 more_onward named progress = record { world = moving_not named progress.world; begun = omega arith }

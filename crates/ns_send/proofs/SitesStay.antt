@@ -127,7 +127,24 @@ begun_at Few method receiver first second site progress = tested (has_arguments 
     tested true = charged_all (GoesOnAt Few site no_home) halts Depth (entered progress.world) progress go tt (λ world e. refl)
     tested false = tt
 
-row_at_site : (Few : Type 0) (code : CodeProgram) (r : Row) (sel : Sel) (receiver : Value) (arguments : List Value) (site : Site) (progress : Progress) → (Few → length arguments ≤ 255) → GoesOnAt Few site no_home (row_reached code r sel receiver arguments site progress)
+-- what has to be few of the arguments of a send, by what it finds
+abbrev pub FewOf : Type 0 → ℕ → Row → Type 0
+FewOf Few count (row.Data r) = Unit {0}
+FewOf Few count (row.Integer r) = Unit {0}
+FewOf Few count row.Top = Unit {0}
+FewOf Few count (row.Facet r) = Unit {0}
+FewOf Few count (row.Mirror r) = Unit {0}
+FewOf Few count (row.Method method) = Unit {0}
+FewOf Few count row.Apply = Unit {0}
+FewOf Few count row.Value = Few → count ≤ 255
+FewOf Few count row.ValueWithArguments = Unit {0}
+FewOf Few count row.NumArgs = Unit {0}
+
+abbrev pub FewFound : Type 0 → ℕ → Found → Type 0
+FewFound Few count (found.Kernel number) = FewOf Few count (row_at number)
+FewFound Few count other = Unit {0}
+
+row_at_site : (Few : Type 0) (code : CodeProgram) (r : Row) (sel : Sel) (receiver : Value) (arguments : List Value) (site : Site) (progress : Progress) → FewOf Few (length arguments) r → GoesOnAt Few site no_home (row_reached code r sel receiver arguments site progress)
 row_at_site Few code (row.Data d) sel receiver arguments site progress few = data_at Few code d receiver arguments site progress
 row_at_site Few code (row.Integer i) sel receiver arguments site progress few = answer_at Few (integer i (number_of receiver) (argument arguments 0)) site progress
 row_at_site Few code row.Top sel receiver arguments site progress few = facet_at Few code (facet.Top sel) arguments site progress
@@ -197,7 +214,7 @@ nested_at Few code (value.Int number) holder class site progress = tt
 nested_at Few code (value.Sym sel) holder class site progress = tt
 nested_at Few code (value.Kernel kernel) holder class site progress = tt
 
-listed_at : (Few : Type 0) (code : CodeProgram) (member : Found) (sel : Sel) (receiver : Value) (values : List Value) (site : Site) (progress : Progress) → (Few → length values ≤ 255) → GoesOnAt Few site no_home (done_with code member sel receiver (Listed values) site progress)
+listed_at : (Few : Type 0) (code : CodeProgram) (member : Found) (sel : Sel) (receiver : Value) (values : List Value) (site : Site) (progress : Progress) → FewFound Few (length values) member → GoesOnAt Few site no_home (done_with code member sel receiver (Listed values) site progress)
 listed_at Few code (found.Method body holder) sel receiver values site progress few = method_at Few code body holder receiver (Listed values) site progress
 listed_at Few code (found.Getter holder word) sel receiver values site progress few = tt
 listed_at Few code (found.Setter holder word) sel receiver values site progress few = set_at Few code word receiver (Listed values) site progress
@@ -217,7 +234,7 @@ absent_at Few code (found.Kernel number) sel receiver values site progress = tt
 absent_at Few code found.NotPublic sel receiver values site progress = tt
 absent_at Few code found.Absent sel receiver values site progress = tt
 
-answered_at : (Few : Type 0) (code : CodeProgram) (member : Found) (sel : Sel) (receiver : Value) (values : List Value) (site : Site) (progress : Progress) → (Few → length values ≤ 255) → GoesOnAt Few site no_home (answered_by code member sel receiver values site progress)
+pub answered_at : (Few : Type 0) (code : CodeProgram) (member : Found) (sel : Sel) (receiver : Value) (values : List Value) (site : Site) (progress : Progress) → FewFound Few (length values) member → GoesOnAt Few site no_home (answered_by code member sel receiver values site progress)
 answered_at Few code (found.Method body holder) sel receiver values site progress few = listed_at Few code (found.Method body holder) sel receiver values site progress few
 answered_at Few code (found.Getter holder word) sel receiver values site progress few = listed_at Few code (found.Getter holder word) sel receiver values site progress few
 answered_at Few code (found.Setter holder word) sel receiver values site progress few = listed_at Few code (found.Setter holder word) sel receiver values site progress few
@@ -227,19 +244,42 @@ answered_at Few code (found.Kernel number) sel receiver values site progress few
 answered_at Few code found.NotPublic sel receiver values site progress few = listed_at Few code found.NotPublic sel receiver values site progress few
 answered_at Few code found.Absent sel receiver values site progress few = absent_at Few code (found_from progress.world.cells code (start_of progress.world.cells receiver) (own_number code DoesNotUnderstand) Inner) sel receiver values site progress
 
+-- where it is few anyway
+few_row : (count : ℕ) (r : Row) → FewOf (count ≤ 255) count r
+few_row count (row.Data r) = tt
+few_row count (row.Integer r) = tt
+few_row count row.Top = tt
+few_row count (row.Facet r) = tt
+few_row count (row.Mirror r) = tt
+few_row count (row.Method method) = tt
+few_row count row.Apply = tt
+few_row count row.Value = λ few. few
+few_row count row.ValueWithArguments = tt
+few_row count row.NumArgs = tt
+
+few_found : (count : ℕ) (member : Found) → FewFound (count ≤ 255) count member
+few_found count (found.Kernel number) = few_row count (row_at number)
+few_found count (found.Method body holder) = tt
+few_found count (found.Getter holder word) = tt
+few_found count (found.Setter holder word) = tt
+few_found count (found.Nested class holder) = tt
+few_found count (found.Factory class) = tt
+few_found count found.NotPublic = tt
+few_found count found.Absent = tt
+
 pub sent_at : (code : CodeProgram) (activation : Activation) (target : Target) (sel : Sel) (values : List Value) (place : Option SourcePlace) (progress : Progress)
     → GoesOnAt (length values ≤ 255) (site_at progress.world.cells place (receiver_of progress.world.cells activation target) sel) no_home (sent code activation target sel values place progress)
 sent_at code activation target sel values place progress =
     let receiver = receiver_of progress.world.cells activation target in
     let site = site_at progress.world.cells place receiver sel in
     charged_all (GoesOnAt (length values ≤ 255) site no_home) halts Steps (stepped progress.world) progress _ tt
-    (λ world e. answered_at (length values ≤ 255) code (found_at progress.world.cells code activation target sel.0) sel receiver values site (in_world progress world) (λ few. few))
+    (λ world e. answered_at (length values ≤ 255) code (found_at progress.world.cells code activation target sel.0) sel receiver values site (in_world progress world) (few_found (length values) (found_at progress.world.cells code activation target sel.0)))
 
 pub plain_at : (code : CodeProgram) (receiver : Value) (sel : Sel) (values : List Value) (place : Option SourcePlace) (progress : Progress) → GoesOnAt (length values ≤ 255) (site_at progress.world.cells place receiver sel) no_home (sent_plain code receiver sel values place progress)
 plain_at code receiver sel values place progress =
     let site = site_at progress.world.cells place receiver sel in
     charged_all (GoesOnAt (length values ≤ 255) site no_home) halts Steps (stepped progress.world) progress _ tt
-    (λ world e. answered_at (length values ≤ 255) code (found_from progress.world.cells code (start_of progress.world.cells receiver) sel.0 Plain) sel receiver values site (in_world progress world) (λ few. few))
+    (λ world e. answered_at (length values ≤ 255) code (found_from progress.world.cells code (start_of progress.world.cells receiver) sel.0 Plain) sel receiver values site (in_world progress world) (few_found (length values) (found_from progress.world.cells code (start_of progress.world.cells receiver) sel.0 Plain)))
 
 -- ---- evaluations
 

@@ -313,7 +313,7 @@ answered_spends steps old code found.NotPublic sel receiver values site progress
 
 -- ---- sends and evaluations
 
-stepped_spends : (code : CodeProgram) (member : Found) (sel : Sel) (receiver : Value) (values : List Value) (site : Site) (progress : Progress)
+pub stepped_spends : (code : CodeProgram) (member : Found) (sel : Sel) (receiver : Value) (values : List Value) (site : Site) (progress : Progress)
     → ControlSpends 1 progress (charged halts Steps (stepped progress.world) progress (answered_by code member sel receiver values site))
 stepped_spends code member sel receiver values site progress =
     charged_all (ControlSpends 1 progress) halts Steps (stepped progress.world) progress (answered_by code member sel receiver values site) (inl refl)

@@ -23,17 +23,9 @@ use Rattle.ns_find.specs.declared.found.Sending.TheVariants.{Inner}
 use Rattle.ns_find.specs.declared.members.Side.{Side}
 use Rattle.ns_find.specs.declared.members.Side.TheVariants.{Instance as InstanceSide, Class as ClassSide}
 use Rattle.ns_find.specs.Find.{found_from, found_private}
-use Rattle.ns_find.specs.Belonging.{Belongs, HasSlot, HasNested}
+use Rattle.ns_find.specs.Belonging.{Belongs}
 use Rattle.ns_find.proofs.Belonging.{instance_belongs, class_belongs, kernel_belongs, private_belongs}
-
--- What is found can be done with a receiver: a slot and a nested class are those of a holder in its chain, and
--- a factory is that of a class.
-abbrev pub Suits : Heap → CodeProgram → Value → Found → Type 0
-Suits heap code receiver (found.Getter holder word) = HasHolder heap receiver holder × (is_class (find_cell heap holder) ≡ true) × HasSlot heap code holder word
-Suits heap code receiver (found.Setter holder word) = HasHolder heap receiver holder × (is_class (find_cell heap holder) ≡ true) × HasSlot heap code holder word
-Suits heap code receiver (found.Nested class holder) = HasHolder heap receiver holder × (is_class (find_cell heap holder) ≡ true) × HasNested heap code holder class
-Suits heap code receiver (found.Factory class) = is_class (find_cell heap class) ≡ true
-Suits heap code receiver other = Unit {0}
+use Rattle.ns_send.specs.Suits.{Suits}
 
 pub no_holder : (holder : ℕ) → Contains [] holder → ⊥
 no_holder holder (k, inside, is) = omega (arith, inside)

@@ -1,5 +1,5 @@
 -- What a method of the kernel waits for is a block.
-use Rattle.std.proofs.Common.{◌≡◌, ℤ, [], ◌∷◌, refl, sym, subst, Option, Some, None, Bool, true, false, cond}
+use Rattle.std.proofs.Common.{◌≡◌, ℤ, [], ◌∷◌, length, refl, sym, subst, Option, Some, None, Bool, true, false, cond}
 use Rattle.std.specs.Prelude.{pos, int_lt, ◌+ℤ◌}
 use Rattle.std.specs.Int.{w64, saturate_signed}
 use Rattle.ns_world.specs.declared.value.Value.{Value}
@@ -8,6 +8,7 @@ use Rattle.ns_world.specs.declared.ending.LimitKind.TheVariants.{Steps}
 use Rattle.ns_world.specs.Heap.{Heap}
 use Rattle.ns_world.specs.World.{stepped}
 use Rattle.ns_world.proofs.Chains.{both_of}
+use Rattle.ns_kdata.specs.Arguments.{items_of}
 use Rattle.ns_kcode.specs.declared.state.KMethod.{KMethod}
 use Rattle.ns_kcode.specs.declared.state.KMethod.TheVariants as method
 use Rattle.ns_kcode.specs.declared.state.KState.{KState}
@@ -17,7 +18,8 @@ use Rattle.ns_kcode.specs.Next.{value_of, and_next, or_next, if_true_next, if_fa
 use Rattle.ns_send.specs.declared.site.Site.{Site}
 use Rattle.ns_send.specs.Control.{Progress, in_world, Halts, Waiting, Waits, Finishes}
 use Rattle.ns_send.specs.Blocks.{is_block, is_integer, listed, waiting, turned, item_at, acted, method_next}
-use Rattle.ns_send.specs.Fitting.{FitsMethod, FitsNextWaiting}
+use Rattle.ns_send.specs.Fitting.{counts_fit, FitsMethod, FitsNextWaiting}
+use Rattle.ns_send.proofs.Counts.{next_within}
 use Rattle.ns_send.proofs.Growing.{step_cells}
 use Rattle.ns_send.proofs.Onward.{charged_all}
 
@@ -152,24 +154,58 @@ next_blocks heap method.ToDo state fits = to_do_blocks heap state.receiver state
 next_blocks heap method.TimesRepeat state fits = times_blocks heap state.receiver state.first state.count fits.arguments
 next_blocks heap method.Do state fits = do_blocks heap state.receiver state.first state.size state.count fits.arguments
 
+-- An action counts on within the counts of its method.
+abbrev CountsOn : Heap → KMethod → KState → KAction → Type 0
+CountsOn heap named state (action.Evaluate block argument turn count) = counts_fit heap (waiting state count) named ≡ true
+CountsOn heap named state (action.EvaluateItem block item count) = counts_fit heap (waiting state count) named ≡ true
+CountsOn heap named state (action.Answer value) = Unit {0}
+CountsOn heap named state (action.Fail kind) = Unit {0}
+
+-- where each count is within them
+freely : (heap : Heap) (named : KMethod) (state : KState) → ((count : ℤ) → counts_fit heap (waiting state count) named ≡ true) → (a : KAction) → CountsOn heap named state a
+freely heap named state free (action.Evaluate block argument turn count) = free count
+freely heap named state free (action.EvaluateItem block item count) = free count
+freely heap named state free (action.Answer value) = tt
+freely heap named state free (action.Fail kind) = tt
+
+do_counts : (heap : Heap) (state : KState) → counts_fit heap state method.Do ≡ true → CountsOn heap method.Do state (do_next state.receiver state.first state.size state.count)
+do_counts heap state within = turn (int_lt state.count state.size) refl
+  where
+    turn : (b : Bool) → int_lt state.count state.size ≡ b → CountsOn heap method.Do state (cond b (action.EvaluateItem state.first state.count (state.count +ℤ pos 1)) (action.Answer state.receiver))
+    turn true t = next_within state.size state.count (length (items_of heap state.receiver)) within t
+    turn false t = tt
+
+next_counts : (heap : Heap) (named : KMethod) (state : KState) → FitsMethod heap named state → CountsOn heap named state (next named state)
+next_counts heap method.Do state fits = do_counts heap state fits.counts
+next_counts heap method.And state fits = freely heap method.And state (λ count. refl) (next method.And state)
+next_counts heap method.Or state fits = freely heap method.Or state (λ count. refl) (next method.Or state)
+next_counts heap method.IfTrue state fits = freely heap method.IfTrue state (λ count. refl) (next method.IfTrue state)
+next_counts heap method.IfFalse state fits = freely heap method.IfFalse state (λ count. refl) (next method.IfFalse state)
+next_counts heap method.IfTrueIfFalse state fits = freely heap method.IfTrueIfFalse state (λ count. refl) (next method.IfTrueIfFalse state)
+next_counts heap method.IfFalseIfTrue state fits = freely heap method.IfFalseIfTrue state (λ count. refl) (next method.IfFalseIfTrue state)
+next_counts heap method.WhileTrue state fits = freely heap method.WhileTrue state (λ count. refl) (next method.WhileTrue state)
+next_counts heap method.WhileFalse state fits = freely heap method.WhileFalse state (λ count. refl) (next method.WhileFalse state)
+next_counts heap method.ToDo state fits = freely heap method.ToDo state (λ count. refl) (next method.ToDo state)
+next_counts heap method.TimesRepeat state fits = freely heap method.TimesRepeat state (λ count. refl) (next method.TimesRepeat state)
+
 -- a method that waits keeps its receiver and its arguments
-waiting_fits : (heap : Heap) (named : KMethod) (state : KState) (count : ℤ) → FitsMethod heap named state → FitsMethod heap named (waiting state count)
-waiting_fits heap named state count fits = record { arguments = fits.arguments; receiver = fits.receiver }
+waiting_fits : (heap : Heap) (named : KMethod) (state : KState) (count : ℤ) → FitsMethod heap named state → counts_fit heap (waiting state count) named ≡ true → FitsMethod heap named (waiting state count)
+waiting_fits heap named state count fits within = record { arguments = fits.arguments; receiver = fits.receiver; counts = within }
 
 turned_fits : (named : KMethod) (turn : Bool) (progress : Progress) (go : Progress → Waiting) → ((next : Progress) → next.world.cells ≡ progress.world.cells → FitsNextWaiting named (go next)) → FitsNextWaiting named (turned turn progress go)
 turned_fits named true progress go goes =
     charged_all (FitsNextWaiting named) (λ ending progress. Finishes (Halts ending progress)) Steps (stepped progress.world) progress go tt (λ world e. goes (in_world progress world) (step_cells progress.world world e))
 turned_fits named false progress go goes = goes progress refl
 
-acted_fits : (named : KMethod) (a : KAction) (state : KState) (site : Site) (progress : Progress) → FitsMethod progress.world.cells named state → EvaluatesBlock progress.world.cells a → FitsNextWaiting named (acted a state site progress)
-acted_fits named (action.Evaluate block argument turn count) state site progress fits is =
+acted_fits : (named : KMethod) (a : KAction) (state : KState) (site : Site) (progress : Progress) → FitsMethod progress.world.cells named state → EvaluatesBlock progress.world.cells a → CountsOn progress.world.cells named state a → FitsNextWaiting named (acted a state site progress)
+acted_fits named (action.Evaluate block argument turn count) state site progress fits is within =
     turned_fits named turn progress (Waits block (listed argument) (waiting state count))
-    (λ next same. (subst (λ cells. is_block cells block ≡ true) (sym same) is, subst (λ cells. FitsMethod cells named (waiting state count)) (sym same) (waiting_fits progress.world.cells named state count fits)))
-acted_fits named (action.EvaluateItem block item count) state site progress fits is =
+    (λ next same. (subst (λ cells. is_block cells block ≡ true) (sym same) is, subst (λ cells. FitsMethod cells named (waiting state count)) (sym same) (waiting_fits progress.world.cells named state count fits within)))
+acted_fits named (action.EvaluateItem block item count) state site progress fits is within =
     turned_fits named true progress (λ progress. Waits block (item_at progress.world.cells state.receiver item ∷ []) (waiting state count) progress)
-    (λ next same. (subst (λ cells. is_block cells block ≡ true) (sym same) is, subst (λ cells. FitsMethod cells named (waiting state count)) (sym same) (waiting_fits progress.world.cells named state count fits)))
-acted_fits named (action.Answer value) state site progress fits is = tt
-acted_fits named (action.Fail kind) state site progress fits is = tt
+    (λ next same. (subst (λ cells. is_block cells block ≡ true) (sym same) is, subst (λ cells. FitsMethod cells named (waiting state count)) (sym same) (waiting_fits progress.world.cells named state count fits within)))
+acted_fits named (action.Answer value) state site progress fits is within = tt
+acted_fits named (action.Fail kind) state site progress fits is within = tt
 
 pub method_hands_on : (named : KMethod) (state : KState) (site : Site) (progress : Progress) → FitsMethod progress.world.cells named state → FitsNextWaiting named (method_next named state site progress)
-method_hands_on named state site progress fits = acted_fits named (next named state) state site progress fits (next_blocks progress.world.cells named state fits)
+method_hands_on named state site progress fits = acted_fits named (next named state) state site progress fits (next_blocks progress.world.cells named state fits) (next_counts progress.world.cells named state fits)

@@ -1,6 +1,7 @@
 -- What an action hands on is what the next one asks for.
-use Rattle.std.specs.Prelude.{◌≡◌, ◌≢◌, ℕ, suc, ◌+◌, ◌<◌, ◌≤◌, nat_lt, List, length, slice_get, Option, Some, None, IsTrue, All, Bool, true, false, ◌==◌, ◌||◌, if◌then◌else◌}
+use Rattle.std.specs.Prelude.{◌≡◌, ◌≢◌, ℕ, pos, int_le, suc, ◌+◌, ◌<◌, ◌≤◌, nat_lt, List, length, slice_get, Option, Some, None, IsTrue, All, Bool, true, false, ◌==◌, ◌&&◌, if◌then◌else◌}
 use Rattle.std.specs.Option.{option_map_or, ForSome}
+use Rattle.std.specs.Ordering.{int_eq}
 use Rattle.ns_base.specs.declared.place.Place.{Place as SourcePlace}
 use Rattle.ns_code.specs.declared.program.CodeProgram.{CodeProgram}
 use Rattle.ns_code.specs.declared.body.BodyCode.{BodyCode}
@@ -48,20 +49,28 @@ belongs_to heap receiver method.IfFalse = is_boolean receiver
 belongs_to heap receiver method.IfTrueIfFalse = is_boolean receiver
 belongs_to heap receiver method.IfFalseIfTrue = is_boolean receiver
 
--- A method of the kernel has a receiver and arguments of its kinds.
+-- whether the counts of `do:` are within its array
+abbrev pub counts_fit : Heap → KState → KMethod → Bool
+counts_fit heap state method.Do =
+    int_eq state.size (pos (length (items_of heap state.receiver))) && int_le (pos 0) state.count && int_le state.count state.size
+counts_fit heap state method = true
+
+-- A method of the kernel has a receiver and arguments of its kinds, and counts within them.
 pub record FitsMethod (heap : Heap) (method : KMethod) (state : KState) : Type 0 where
   pub arguments : IsTrue (has_arguments heap method state.first state.second)
   pub receiver : IsTrue (belongs_to heap state.receiver method)
+  pub counts : IsTrue (counts_fit heap state method)
 
 -- the kind of a body
 abbrev pub kind_of : CodeProgram → ℕ → ℕ
 kind_of code body = option_map_or (λ (b : BodyCode). b.kind) (slice_get code.bodies body) clause_kind
 
--- whether an end is that of a body of a kind
-abbrev pub ends_kind : Exit → ℕ → Bool
-ends_kind FromMethod kind = kind == method_kind
-ends_kind FromBody kind = kind == block_kind || kind == initialiser_kind
-ends_kind (FromClause object holder class) kind = kind == clause_kind
+-- whether an end is that of a body of a kind, where a body without a name of its own is of this kind: a block's
+-- where a block is evaluated, and an initialiser's in a send
+abbrev pub ends_kind : ℕ → Exit → ℕ → Bool
+ends_kind own FromMethod kind = kind == method_kind
+ends_kind own FromBody kind = kind == own
+ends_kind own (FromClause object holder class) kind = kind == clause_kind
 
 -- The end of a clause names the self and the holder that run it, and the class whose clause it is.
 abbrev pub EndsOwn : CodeProgram → Exit → Activation → Type 0
@@ -70,9 +79,9 @@ EndsOwn code (FromClause object holder class) activation =
 EndsOwn code exit activation = Unit {0}
 
 -- The end of a body that is entered can be met, and is that of a body of its kind.
-pub record FitsEnd (heap : Heap) (code : CodeProgram) (exit : Exit) (activation : Activation) : Type 0 where
+pub record FitsEnd (sort : ℕ) (heap : Heap) (code : CodeProgram) (exit : Exit) (activation : Activation) : Type 0 where
   pub met : FitsExit heap code exit
-  pub kind : IsTrue (ends_kind exit (kind_of code activation.body))
+  pub kind : IsTrue (ends_kind sort exit (kind_of code activation.body))
   pub own : EndsOwn code exit activation
 
 -- how many locals stand beside an activation
@@ -83,29 +92,39 @@ locals_beside code body = if has_environment code body then 0 else locals_of cod
 abbrev pub environment_body : CodeProgram → ℕ → Option ℕ
 environment_body code body = if has_environment code body then Some body else parent_of code body
 
+-- The environment of running code is that.
+abbrev pub FitsOwnEnvironment : Heap → CodeProgram → Activation → Type 0
+FitsOwnEnvironment heap code activation = FitsEnvironment (activation.body + 1) heap code (environment_body code activation.body) activation.env
+
 -- What holds of all code that was verified: the parameters of a body are among its locals, and one that is no
 -- block stands in no other.
 pub record StandsWell (code : CodeProgram) (body : ℕ) : Type 0 where
   pub parameters : parameters_of code body ≤ locals_of code body
   pub alone : kind_of code body ≢ block_kind → parent_of code body ≡ None
 
+-- An initialiser runs with an object that has its holder.
+abbrev pub FitsObject : Heap → CodeProgram → Activation → Type 0
+FitsObject heap code activation = kind_of code activation.body ≡ initialiser_kind → HasHolder heap activation.self activation.holder
+
 -- A body that is entered fits its self, its holder and its environment, and has all of its locals.
 pub record FitsEntered (heap : Heap) (code : CodeProgram) (activation : Activation) (locals : List Value) : Type 0 where
   pub fits : FitsActivation heap code activation
+  pub object : FitsObject heap code activation
   pub beside : StandsWell code activation.body → length locals ≡ locals_beside code activation.body
   pub environment : StandsWell code activation.body
       → FitsEnvironment (activation.body + 1) heap code (environment_body code activation.body) activation.env
 
 -- A body that is entered fits, and so does its end; what is evaluated is a block; a
--- method of the kernel has a receiver and arguments of the kinds that it asks for; and a send that waits has a
--- selector and as many live arguments as it takes.
-abbrev pub FitsNext : CodeProgram → Control → Type 0
-FitsNext code (Now after) = Unit {0}
-FitsNext code (Enter exit activation locals progress) =
-    FitsEntered progress.world.cells code activation locals × FitsEnd progress.world.cells code exit activation
-FitsNext code (Evaluate block arguments site progress) = IsTrue (is_block progress.world.cells block)
-FitsNext code (Begin method state site progress) = FitsMethod progress.world.cells method state
-FitsNext code (Perform receiver sel array site progress) = FitsSelector progress.world.cells code sel (items_of progress.world.cells (Ref array))
+-- method of the kernel has a receiver and arguments of the kinds that it asks for; and a send that waits has an
+-- array, a selector and as many live arguments as it takes.
+abbrev pub FitsNext : ℕ → CodeProgram → Control → Type 0
+FitsNext own code (Now after) = Unit {0}
+FitsNext own code (Enter exit activation locals progress) =
+    FitsEntered progress.world.cells code activation locals × FitsEnd own progress.world.cells code exit activation
+FitsNext own code (Evaluate block arguments site progress) = IsTrue (is_block progress.world.cells block)
+FitsNext own code (Begin method state site progress) = FitsMethod progress.world.cells method state
+FitsNext own code (Perform receiver sel array site progress) =
+    FitsSelector progress.world.cells code sel (items_of progress.world.cells (Ref array)) × IsTrue (is_array progress.world.cells (Ref array))
 
 -- So does the initialiser of a superclass that is entered.
 abbrev pub FitsNextPart : CodeProgram → Part → Type 0
@@ -159,6 +178,22 @@ GoesOnAt Few site home (Evaluate block arguments at progress) = (at ≡ site) ×
 GoesOnAt Few site home (Begin method state at progress) = at ≡ site
 GoesOnAt Few site home (Perform receiver sel array at progress) = at ≡ site
 
+-- The initialiser of a superclass has the site of what begins it, and no home.
+abbrev pub PartGoesOnAt : Site → Part → Type 0
+PartGoesOnAt site (Skip progress) = Unit {0}
+PartGoesOnAt site (Stop ending progress) = Unit {0}
+PartGoesOnAt site (EnterPart activation locals progress) = (activation.site ≡ site) × (activation.home ≡ no_home)
+
+-- What is entered is that block's body, and nothing else goes on.
+abbrev pub EntersBlock : ℕ → Control → Type 0
+EntersBlock body (Now after) = Unit {0}
+EntersBlock body (Enter FromBody activation locals progress) = activation.body ≡ body
+EntersBlock body (Enter FromMethod activation locals progress) = ⊥
+EntersBlock body (Enter (FromClause object holder class) activation locals progress) = ⊥
+EntersBlock body (Evaluate block arguments site progress) = ⊥
+EntersBlock body (Begin method state site progress) = ⊥
+EntersBlock body (Perform receiver sel array site progress) = ⊥
+
 -- What the actions that go on elsewhere ask for: a send one that can be made, with arguments that fit its
 -- selector, an evaluation live arguments, a superclass part a self with the holder in its chain as well, and a
 -- method of the kernel a receiver and arguments of its kinds.
@@ -176,10 +211,10 @@ Asks code other progress = Unit {0}
 
 -- What they hand on fits.
 abbrev pub HandsOn : CodeProgram → Action → Progress → Type 0
-HandsOn code (Sends activation target sel values place) progress = FitsNext code (sent code activation target sel values place progress)
-HandsOn code (SendsPlain receiver sel values place) progress = FitsNext code (sent_plain code receiver sel values place progress)
-HandsOn code (Performs receiver sel array site) progress = FitsNext code (performed code receiver sel array site progress)
-HandsOn code (Evaluates block arguments site) progress = FitsNext code (evaluated code block arguments site progress)
+HandsOn code (Sends activation target sel values place) progress = FitsNext initialiser_kind code (sent code activation target sel values place progress)
+HandsOn code (SendsPlain receiver sel values place) progress = FitsNext initialiser_kind code (sent_plain code receiver sel values place progress)
+HandsOn code (Performs receiver sel array site) progress = FitsNext initialiser_kind code (performed code receiver sel array site progress)
+HandsOn code (Evaluates block arguments site) progress = FitsNext block_kind code (evaluated code block arguments site progress)
 HandsOn code (BeginsPart activation arguments) progress =
     FitsNextPart code (super_part code activation arguments progress)
     × (FitsMessage progress.world.cells code activation arguments → EntersPart code (super_part code activation arguments progress))

@@ -1,16 +1,17 @@
 -- Actions of a lawful run: the world after them is lawful, and each value that they go on with is live.
-use Rattle.std.specs.Prelude.{◌≡◌, ℕ, zero, suc, ◌<◌, List, length, All, Option, Some, None, false, IsTrue, IsSome, slice_get}
-use Rattle.std.specs.Option.{option_map, option_map_or, ForSome}
+use Rattle.std.specs.Prelude.{◌≡◌, ℕ, zero, suc, ◌<◌, List, length, All, Option, Some, None, true, false, IsTrue, IsSome, slice_get}
+use Rattle.std.specs.Option.{option_and_then, option_map, option_map_or, ForSome}
 use Rattle.ns_base.specs.declared.selector.Sel.{Sel}
 use Rattle.ns_code.specs.declared.program.CodeProgram.{CodeProgram}
 use Rattle.ns_code.specs.declared.class.ClassCode.{ClassCode}
 use Rattle.ns_code.specs.declared.body.BodyCode.{BodyCode}
 use Rattle.ns_code.specs.Selector.{is_selector_number, selector_arity}
+use Rattle.ns_code.specs.Soundness.{block_kind}
 use Rattle.ns_world.specs.declared.value.Value.{Value}
 use Rattle.ns_world.specs.declared.value.Value.TheVariants.{Ref}
 use Rattle.ns_world.specs.Heap.{Heap, find_cell, is_class}
 use Rattle.ns_world.specs.Layout.{declaration_of}
-use Rattle.ns_world.specs.Lawful.{IsLawful, IsLiveValue, IsEnvironmentOrNil, is_environment, HasHolder, FitsBody}
+use Rattle.ns_world.specs.Lawful.{IsLawful, IsLiveValue, IsEnvironmentOrNil, is_environment, HasHolder, FitsBody, parent_of}
 use Rattle.ns_find.specs.Belonging.{HasNested}
 use Rattle.ns_kcode.specs.declared.state.KState.{KState}
 use Rattle.ns_send.specs.Control.{Progress, Activation, Exit, FromClause, After, Gives, Halts, Control, Now, Enter, Evaluate, Begin, Perform, Part, Skip, Stop, EnterPart, Waiting, Waits, Finishes}
@@ -112,3 +113,22 @@ abbrev pub FitsTarget : Heap → CodeProgram → Activation → Target → Type 
 FitsTarget heap code activation (To receiver kind) = IsLiveValue heap code receiver
 FitsTarget heap code activation (ToPrivate level) = FitsActivation heap code activation × IsSome (declaration_at code activation.body level)
 FitsTarget heap code activation ToSuper = FitsActivation heap code activation
+
+-- ---- bodies within bodies
+
+-- the body so many bodies out from one, where there are as many
+abbrev pub body_out : CodeProgram → ℕ → ℕ → Option ℕ
+body_out code body zero = Some body
+body_out code body (suc hops) = option_and_then (parent_of code) (body_out code body hops)
+
+-- A block stands in a body: it is a block of that class and side, and the body has an environment for it.
+pub record IsBlockIn (code : CodeProgram) (block body : ℕ) : Type 0 where
+  pub inner : BodyCode
+  pub outer : BodyCode
+  pub inner_is : slice_get code.bodies block ≡ Some inner
+  pub outer_is : slice_get code.bodies body ≡ Some outer
+  pub kind : inner.kind ≡ block_kind
+  pub parent : inner.parent ≡ Some body
+  pub class : inner.class ≡ outer.class
+  pub side : inner.side ≡ outer.side
+  pub around : outer.environment ≡ true

@@ -1,5 +1,6 @@
 pub mod Site
 pub mod Control
+pub mod Shown
 pub mod Bodies
 pub mod Classes
 pub mod Blocks
@@ -10,7 +11,12 @@ pub mod Report
 pub mod Start
 pub mod Onward
 pub mod Actions
+pub mod Adding
 pub mod Spending
 pub mod Fitting
+pub mod Suiting
+pub mod Ending
 pub mod Worked
 pub mod Lawful
+pub mod Suits
+pub mod Stated

@@ -160,12 +160,16 @@ sent code activation target sel values place progress =
     (answered_by code (found_at progress.world.cells code activation target sel.0) sel (receiver_of progress.world.cells activation target) values
     (site_at progress.world.cells place (receiver_of progress.world.cells activation target) sel))
 
+-- A plain send that waited with its site.
+abbrev pub sent_from : CodeProgram → Value → Sel → List Value → Site → Progress → Control
+sent_from code receiver sel values site progress =
+    charged halts Steps (stepped progress.world) progress
+    (answered_by code (found_from progress.world.cells code (start_of progress.world.cells receiver) sel.0 Plain) sel receiver values site)
+
 -- A plain send that no code of the program makes: one that opens a run, or that a host makes.
 abbrev pub sent_plain : CodeProgram → Value → Sel → List Value → Option SourcePlace → Progress → Control
 sent_plain code receiver sel values place progress =
-    charged halts Steps (stepped progress.world) progress
-    (answered_by code (found_from progress.world.cells code (start_of progress.world.cells receiver) sel.0 Plain) sel receiver values
-    (site_at progress.world.cells place receiver sel))
+    sent_from code receiver sel values (site_at progress.world.cells place receiver sel) progress
 
 -- A send of `perform:with:` that waited: it has the place of the send being answered, and its own class and selector.
 abbrev pub performed : CodeProgram → Value → Sel → ℕ → Site → Progress → Control

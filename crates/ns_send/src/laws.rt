@@ -1,29 +1,42 @@
 //! What holds of every action. Each function does nothing, and its contract is the law.
 
-ghost use Rattle.std.specs.Prelude.{ℕ, ◌<◌, ◌≤◌, [], ◌∷◌, List, length, Option, All, IsTrue};
+ghost use Rattle.std.specs.Prelude.{◌≡◌, ℕ, IsSome, ◌<◌, ◌≤◌, [], ◌∷◌, List, length, Option, All, IsTrue};
 ghost use Rattle.std.specs.Option.{ForSome};
 ghost use Rattle.ns_base.specs.declared.place.Place.{Place};
 ghost use Rattle.ns_base.specs.declared.selector.Sel.{Sel};
 ghost use Rattle.ns_code.specs.declared.program.CodeProgram.{CodeProgram};
-ghost use Rattle.ns_code.specs.Selector.{is_selector_number};
+ghost use Rattle.ns_code.specs.declared.own.Own.{Own};
+ghost use Rattle.ns_code.specs.Own.{own_text};
+ghost use Rattle.ns_code.specs.Selector.{is_selector_number, selector_arity, text_arity, own_number};
+ghost use Rattle.ns_code.specs.Soundness.{initialiser_kind};
 ghost use Rattle.ns_world.specs.declared.value.Value.{Value};
 ghost use Rattle.ns_world.specs.declared.value.Value.TheVariants.{Ref};
 ghost use Rattle.ns_world.specs.Cell.{Cell};
+ghost use Rattle.ns_world.specs.Heap.{Heap};
+ghost use Rattle.ns_world.specs.Starts.{start_of};
 ghost use Rattle.ns_world.specs.Later.{IsLater, Lasts, Unchanged};
 ghost use Rattle.ns_world.specs.Lawful.{IsLiveValue, IsEnvironmentOrNil, BlockIsLawful};
+ghost use Rattle.ns_find.specs.declared.found.Sending.{Sending};
+ghost use Rattle.ns_find.specs.declared.found.Sending.TheVariants.{Inner};
+ghost use Rattle.ns_find.specs.declared.members.Side.{Side};
+ghost use Rattle.ns_find.specs.Find.{found_from, found_private, super_start};
 ghost use Rattle.ns_kdata.specs.Arguments.{shape_of_value, items_of, is_array};
 ghost use Rattle.ns_kcode.specs.declared.state.KMethod.{KMethod};
 ghost use Rattle.ns_kcode.specs.declared.state.KState.{KState};
 ghost use Rattle.ns_send.specs.declared.site.Site.{Site};
 ghost use Rattle.ns_send.specs.Control.{Progress, Activation, Exit};
 ghost use Rattle.ns_send.specs.Classes.{super_part, body_ended, slot_filled, kept_by};
-ghost use Rattle.ns_send.specs.Bodies.{no_home, environment_at, local_stored};
-ghost use Rattle.ns_send.specs.Blocks.{new_cell, new_block, new_text, new_array, evaluated, method_next, is_block};
-ghost use Rattle.ns_send.specs.Sends.{Target, receiver_of, site_at, sent, sent_plain, performed};
-ghost use Rattle.ns_send.specs.Lawful.{LawfulRun, LawfulAfter, LawfulControl, LawfulPart, LawfulWaiting, LiveState, LiveActivation, FitsActivation, FitsTarget, FitsSelector, FitsExit, FitsSlot, FitsLocal};
+ghost use Rattle.ns_send.specs.Bodies.{no_home, environment_at, local_stored, local_at, enclosing};
+ghost use Rattle.ns_send.specs.Blocks.{block_body_in, new_cell, new_block, new_text, new_array, evaluated, method_next, is_block};
+ghost use Rattle.ns_send.specs.Sends.{Target, receiver_of, site_at, sent, sent_plain, sent_from, performed};
+ghost use Rattle.ns_send.specs.Lawful.{LawfulRun, LawfulAfter, LawfulControl, LawfulPart, LawfulWaiting, LiveState, LiveActivation, FitsActivation, FitsTarget, FitsSelector, FitsExit, FitsSlot, FitsLocal, declaration_at, body_out, IsBlockIn};
 ghost use Rattle.ns_send.specs.Actions.{Action, progress_after};
-ghost use Rattle.ns_send.specs.Spending.{Spends};
+ghost use Rattle.ns_send.specs.Adding.{AddsOnly};
+ghost use Rattle.ns_send.specs.Ending.{HasSite, EndsFitly};
+ghost use Rattle.ns_send.specs.Spending.{Spends, ControlSpends};
 ghost use Rattle.ns_send.specs.Fitting.{FitsMethod, FitsSite, GoesOnAt, home_in, Asks, HandsOn};
+ghost use Rattle.ns_send.specs.Suiting.{FoundSuits};
+ghost use Rattle.ns_send.specs.Stated.{WaitedIsLawful, WaitedFits, WaitedStays, WaitedLeadsOn, WaitedSpends, EnclosingIsLive, LocalStands, LocalIsLive, BlockMayBeMade, BlockIsEntered, PartStays};
 ghost use Rattle.ns_send.specs.Onward.{Onward, touched, reached, after_reached, part_reached, waiting_reached};
 
 /// No send changes a limit, lowers a counter but depth, takes back what was printed, or changes a
@@ -51,6 +64,13 @@ pub fn actions_go_onward()
 /// Each action leads to a later world.
 pub fn actions_lead_on()
     ensures { (code : CodeProgram) (action : Action) (progress : Progress) → IsLater progress.world (progress_after code action progress).world }
+{}
+
+/// No action makes a facet, and none but the making of a block a block, which has the home of the
+/// activation that makes it; the cells that were there keep their kinds, sizes and fixed parts.
+#[tactic(auto, using(crate::proofs::AddingOn::action_adds))]
+pub fn actions_add_cells()
+    ensures { (code : CodeProgram) (action : Action) (progress : Progress) → AddsOnly code action progress }
 {}
 
 /// Each action charges exactly so much: a send and an evaluation a step, each frame that is entered
@@ -137,4 +157,55 @@ pub fn sites_stay()
     ensures sent { (code : CodeProgram) (activation : Activation) (target : Target) (sel : Sel) (values : List Value) (place : Option Place) (progress : Progress) → GoesOnAt (length values ≤ 255) (site_at progress.world.cells place (receiver_of progress.world.cells activation target) sel) no_home (sent code activation target sel values place progress) }
     ensures plain { (code : CodeProgram) (receiver : Value) (sel : Sel) (values : List Value) (place : Option Place) (progress : Progress) → GoesOnAt (length values ≤ 255) (site_at progress.world.cells place receiver sel) no_home (sent_plain code receiver sel values place progress) }
     ensures evaluated { (code : CodeProgram) (block : Value) (arguments : List Value) (site : Site) (progress : Progress) → GoesOnAt (length arguments ≤ 255) site (home_in (shape_of_value progress.world.cells block)) (evaluated code block arguments site progress) }
+    ensures part { (code : CodeProgram) → PartStays code }
+{}
+
+/// The evaluation of a block enters the block's body.
+#[tactic(auto, using(crate::proofs::PartsStay::evaluated_body))]
+pub fn blocks_enter_their_bodies()
+    ensures { (code : CodeProgram) → BlockIsEntered code }
+{}
+
+/// A plain send that waited with its site is as any other send: it leads to a later world, which is
+/// lawful, charges what a send charges, and what it hands on fits and has its site. A selector that
+/// finds the evaluation of a block takes few arguments, however many another takes.
+pub fn sends_that_waited_go_on()
+    ensures lawful { (code : CodeProgram) → WaitedIsLawful code }
+    ensures fits { (code : CodeProgram) → WaitedFits code }
+    ensures at { (code : CodeProgram) → WaitedStays code }
+    ensures later { (code : CodeProgram) → WaitedLeadsOn code }
+    ensures spends { (code : CodeProgram) → WaitedSpends code }
+{}
+
+/// What running code names in a lawful run is there: an enclosing object is live where its level has a
+/// declaration; a local so many bodies out stands beside the code or in an environment, and is live;
+/// and a block of the body may be made.
+pub fn what_code_names_is_there()
+    ensures enclosing { (code : CodeProgram) → EnclosingIsLive code }
+    ensures stands { (code : CodeProgram) → LocalStands code }
+    ensures local { (code : CodeProgram) → LocalIsLive code }
+    ensures block { (code : CodeProgram) → BlockMayBeMade code }
+{}
+
+/// The selectors that the machine sends by itself are selectors, whether code names them or not, and
+/// take the arguments of their texts.
+#[tactic(auto, using(crate::proofs::OwnSelectors::own_is, crate::proofs::OwnSelectors::own_arity))]
+pub fn own_selectors_are_selectors()
+    ensures selectors { (code : CodeProgram) (own : Own) → IsTrue (is_selector_number code (own_number code own)) }
+    ensures arities { (code : CodeProgram) (own : Own) → selector_arity code (own_number code own) ≡ text_arity (own_text own) }
+{}
+
+/// In a lawful run no action ends it with a value, and an error names the place and the class of the
+/// action's site, with its selector or that of a Message: a file, a class and a selector of the code.
+#[tactic(auto, using(crate::proofs::Ending::action_ends))]
+pub fn endings_fit()
+    ensures { (code : CodeProgram) (action : Action) (progress : Progress) → LawfulRun code progress → HasSite code action → EndsFitly code action progress }
+{}
+
+/// A row of the kernel that a send finds suits its receiver: what a method of the kernel is sent to
+/// is of its kind, what is evaluated is a block, and a mirror's row is sent to a cell.
+pub fn rows_that_are_found_suit()
+    ensures value { (heap : Heap) (code : CodeProgram) (receiver : Value) (sel : ℕ) (kind : Sending) → FoundSuits heap receiver (found_from heap code (start_of heap receiver) sel kind) }
+    ensures above { (heap : Heap) (code : CodeProgram) (receiver : Value) (holder : ℕ) (side : Side) (sel : ℕ) → FoundSuits heap receiver (found_from heap code (super_start heap holder side) sel Inner) }
+    ensures own { (heap : Heap) (code : CodeProgram) (receiver : Value) (holder : ℕ) (side : Side) (sel : ℕ) → FoundSuits heap receiver (found_private heap code holder side sel) }
 {}

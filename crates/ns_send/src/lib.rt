@@ -9,6 +9,8 @@
 #![tactic(auto)]
 
 pub mod begin;
+pub mod control;
+pub mod finding;
 pub mod laws;
 pub mod row;
 pub mod site;

@@ -1,5 +1,1 @@
 pub mod ClassParts
-pub mod Inside
-pub mod Order
-pub mod Past
-pub mod Shapes

@@ -1,6 +1,1 @@
 pub mod Check
-pub mod Faults
-pub mod Least
-pub mod LeastOf
-pub mod Rules
-pub mod Walk

@@ -1,17 +1,19 @@
 //! Programs without static faults.
 
 ghost use Rattle.std.specs.Prelude.{◌≡◌, None, IfOk, MatchResult};
+ghost use Rattle.ns_scope.specs.Whole.{IsWhole};
 ghost use Rattle.ns_static.specs.Check.{fault_of, Told};
 
-use crate::fault::{Placed, StaticFault};
+use crate::fault::StaticFault;
 use crate::units::{Before, unit_faults};
 use ns_base::no_memory::NoMemory;
+use ns_rules::fault::Placed;
 use ns_scope::program::Program;
 use ns_scope::table::Table;
 use std::alloc::Global;
 use std::marker::Model;
 
-/// A program without static faults. A clause sees the program.
+/// A whole program without static faults. A clause sees the program.
 #[derive(Drop)]
 pub struct Checked {
     program: Program,
@@ -21,6 +23,7 @@ impl Model for Checked {
     ghost use Rattle.std.specs.Prelude.{◌≡◌, None};
     ghost use Rattle.std.specs.Coded.{codes};
     ghost use Rattle.ns_tree.specs.contracts.tree.Class as class;
+    ghost use Rattle.ns_scope.specs.Whole.{IsWhole};
     ghost use Rattle.ns_scope.specs.declared.program.Program.{Program};
     ghost use Rattle.ns_static.specs.Check.{fault_of};
 
@@ -30,7 +33,7 @@ impl Model for Checked {
 
     ghost view = { λ checked. checked.program };
 
-    ghost invariant = { λ checked. fault_of checked.program ≡ None };
+    ghost invariant = { λ checked. (fault_of checked.program ≡ None) × IsWhole checked.program };
 }
 
 impl Checked {
@@ -38,13 +41,15 @@ impl Checked {
     pub fn program(&self) -> &Program
         ensures program { result.now ≡ self.now }
         ensures faultless { fault_of result.now ≡ None }
+        ensures whole { IsWhole result.now }
     {
         &self.program
     }
 }
 
-/// The program, where it has no static fault; else its least one.
+/// The whole program, where it has no static fault; else its least one.
 pub fn check(alloc: Global, program: Program) -> Result<Checked, StaticFault>
+    requires whole { IsWhole program }
     ensures program { IfOk result (λ checked. checked ≡ program) }
     ensures exact { MatchResult result (λ _. fault_of program ≡ None) (λ fault. Told (fault_of program) fault) }
 {

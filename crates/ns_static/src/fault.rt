@@ -1,46 +1,7 @@
-//! Static faults.
+//! Why a program is refused.
 
 use ns_base::place::Place;
-
-/// What is wrong. Of two at one place, the one that stands first here is answered.
-#[derive(Clone, Copy, Debug, PartialEq, Eq)]
-pub enum StaticCause {
-    DuplicateMember,
-    DuplicateLocal,
-    FixedLocal,
-    BadReturn,
-    BareReceiver,
-    NoSuchOuter,
-    BadCascade,
-    PlainTooLarge,
-    TooMany(Many),
-    TopSuper,
-    DuplicateTop,
-}
-
-/// Of what there are too many. Of two at one place, the one that stands first here is answered.
-#[derive(Clone, Copy, Debug, PartialEq, Eq)]
-pub enum Many {
-    Parameters,
-    Locals,
-    Elements,
-    Members,
-    Classes,
-}
-
-/// A cause at its place.
-#[derive(Clone, Copy, Debug, PartialEq, Eq)]
-pub struct Placed {
-    pub place: Place,
-    pub cause: StaticCause,
-}
-
-/// Whether a message is sent to an expression.
-#[derive(Clone, Copy, Debug, PartialEq, Eq)]
-pub enum Role {
-    Receiver,
-    Value,
-}
+use ns_rules::fault::StaticCause;
 
 /// What the check of a program refuses it for: a fault at its place, or want of memory.
 #[derive(Clone, Copy, Debug, PartialEq, Eq)]

@@ -2,13 +2,13 @@
 
 ghost use Rattle.std.specs.Prelude.{◌≡◌, ◌++◌, option_map, codes};
 ghost use Rattle.ns_tree.specs.PlainOf.{clause_of, message_of};
-ghost use Rattle.ns_static.specs.Faults.{head_faults, clause_faults, base_faults, over_faults, origin_faults};
-ghost use Rattle.ns_static.specs.Rules.{top_found, is_object, is_object_name, is_here, is_new, is_new_message, clause_start, base_start, origin_start};
-ghost use Rattle.ns_static.specs.Walk.{with_found};
+ghost use Rattle.ns_rules.specs.Faults.{head_faults, clause_faults, base_faults, over_faults, origin_faults};
+ghost use Rattle.ns_rules.specs.Rules.{top_found, is_object, is_object_name, is_here, is_new, is_new_message, clause_start, base_start, origin_start};
+ghost use Rattle.ns_rules.specs.Walk.{with_found};
 
-use crate::checker::{Checker, found_if};
-use crate::fault::StaticCause;
-use crate::rules::outer_found;
+use ns_rules::checker::{Checker, found_if};
+use ns_rules::fault::StaticCause;
+use ns_rules::rules::outer_found;
 use ns_scope::chain::Chain;
 use ns_scope::scope::ClassScope;
 use ns_tree::tree::{Base, Message, Origin, SuperClause};

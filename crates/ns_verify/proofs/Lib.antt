@@ -1,6 +1,3 @@
-mod Selectors
-mod Different
-mod Sets
 mod Places
 mod Order
 mod Agreeing

@@ -1,6 +1,5 @@
 pub mod Heights
 pub mod Chains
-pub mod Members
 pub mod Causes
 pub mod Verify
 pub mod Counts

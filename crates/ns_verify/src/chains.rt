@@ -4,10 +4,10 @@ ghost use Rattle.std.specs.Prelude.{◌≡◌, ◌≤◌, [], IfOk, length};
 ghost use Rattle.std.specs.List.{slice_index_or};
 ghost use Rattle.ns_verify.specs.Chains as spec;
 
-use crate::kinds::BLOCK;
 use ns_base::no_memory::NoMemory;
 use ns_code::body::BodyCode;
 use ns_code::program::CodeProgram;
+use ns_members::kinds::BLOCK;
 use std::alloc::Global;
 
 /// The declaration around a class, if there is one.

@@ -10,13 +10,13 @@ ghost use Rattle.ns_code.specs.Soundness as spec;
 ghost use Rattle.ns_verify.specs.Verify as own;
 
 use crate::fault::VerifyCause;
-use crate::kinds::{CLASS, CLAUSE, INITIALISER, INSTANCES, METHOD};
-use crate::members::{instance_selectors, side_selectors};
-use crate::names::{has_params_of, is_identifier_name, is_name};
-use crate::texts::are_different;
 use ns_base::no_memory::NoMemory;
 use ns_code::class::{ClassCode, MethodCode, NestedCode, SlotCode};
 use ns_code::program::CodeProgram;
+use ns_members::kinds::{CLASS, CLAUSE, INITIALISER, INSTANCES, METHOD};
+use ns_members::members::{instance_selectors, side_selectors};
+use ns_members::names::{has_params_of, is_identifier_name, is_name};
+use ns_members::texts::are_different;
 use std::alloc::Global;
 
 /// The first cause that holds of a class.

@@ -4,7 +4,7 @@ ghost use Rattle.std.specs.Prelude.{◌≡◌, ◌≤◌, ◌<◌, IfOk, length}
 ghost use Rattle.ns_verify.specs.Counts.{HasFewParts};
 ghost use Rattle.ns_verify.specs.Chains.{home_kinds};
 ghost use Rattle.ns_verify.specs.Heights.{begin};
-ghost use Rattle.ns_verify.specs.Members.{all_privates};
+ghost use Rattle.ns_members.specs.Members.{all_privates};
 ghost use Rattle.ns_verify.specs.Verify as spec;
 
 use crate::chains::{home_kinds, kind_or};
@@ -12,10 +12,10 @@ use crate::classes::class_cause;
 use crate::fault::{Fault, VerifyCause, Where};
 use crate::heights::Pass;
 use crate::instructions::{cause_at, empty_cause};
-use crate::privates::{Privates, all_privates};
 use ns_base::no_memory::NoMemory;
 use ns_code::body::BodyCode;
 use ns_code::program::CodeProgram;
+use ns_members::privates::{Privates, all_privates};
 use std::alloc::Global;
 
 /// The first fault of code, if it has one. The code has few enough parts that 32 bits number them.

@@ -3,19 +3,19 @@
 ghost use Rattle.std.specs.Prelude.{◌≡◌, ◌≤◌, ◌<◌, false, IsTrue, length, option_copied};
 ghost use Rattle.ns_verify.specs.Causes as spec;
 ghost use Rattle.ns_verify.specs.Heights as heights;
-ghost use Rattle.ns_verify.specs.Members as members;
+ghost use Rattle.ns_members.specs.Members as members;
 
 use crate::chains::{around, body_at, declaration_at};
 use crate::fault::VerifyCause;
 use crate::heights::Pass;
-use crate::kinds::{BLOCK, CLAUSE, INITIALISER, INSTANCES, METHOD};
-use crate::names::is_name;
-use crate::privates::Privates;
 use ns_base::selector::Sel;
 use ns_code::body::BodyCode;
 use ns_code::instruction::Instr;
 use ns_code::program::CodeProgram;
 use ns_code::table::{ends_wrongly, goes_on, takes, target};
+use ns_members::kinds::{BLOCK, CLAUSE, INITIALISER, INSTANCES, METHOD};
+use ns_members::names::is_name;
+use ns_members::privates::Privates;
 
 /// The greatest height of a body that can run.
 const MOST_OPERANDS: u16 = 1_023;

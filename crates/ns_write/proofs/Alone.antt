@@ -1,5 +1,5 @@
 -- An expression without a further part is what stands before that part.
-use Rattle.std.proofs.Common.{◌≡◌, ◌<◌, ℕ, ◌+◌, List, [], ◌∷◌, length, refl, ap, ◌∙◌, length-append, arith}
+use Rattle.std.proofs.Common.{◌≡◌, ◌<◌, ℕ, List, [], ◌∷◌, length, refl, ap, ◌∙◌, length-append, arith}
 use Rattle.std.specs.Prelude.{Some}
 use Rattle.ns_tree.specs.declared.tree.BinExpr.{BinExpr, out-BinExpr}
 use Rattle.ns_tree.specs.declared.tree.Expr.{Expr, out-Expr}

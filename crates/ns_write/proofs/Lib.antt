@@ -9,5 +9,4 @@ pub mod Walking
 pub mod Cascades
 pub mod Firsts
 pub mod Alone
-pub mod Stepping
-pub mod Highest
+pub mod Tables

@@ -7,11 +7,10 @@ use Rattle.std.proofs.lemmas.List.{get_or_append_left}
 use Rattle.std.proofs.lemmas.Option.{get_or_from_slice_get}
 use Rattle.std.proofs.lemmas.Slice.Eq.{bytes_eq-Decides}
 use Rattle.ns_base.specs.declared.selector.Sel.{Sel}
-use Rattle.ns_base.specs.Names.{has, put_in, place_of, IsFull, NoRepeats}
+use Rattle.ns_base.specs.Names.{has, put_in, place_of, NoRepeats}
 use Rattle.ns_code.specs.declared.instruction.Instr.TheVariants as i
 use Rattle.ns_meant.proofs.Places.{has_put, name_at_place, place_below}
 use Rattle.ns_gen.specs.Code.{does, symbol, sends}
-use Rattle.ns_gen.specs.Sizes.{most}
 use Rattle.ns_write.specs.declared.draft.Draft.{Draft}
 use Rattle.ns_write.specs.declared.draft.Draft.TheVariants as d
 use Rattle.ns_write.specs.Drafts.{line_of, way_of, IsBelow, AreBelow, written, with_line, with_name, with_text, IsNumberOf}
@@ -103,14 +102,6 @@ pub text_put : (names texts : List (List ℕ)) (drafts : List Draft) (bytes : Li
 text_put names texts drafts bytes number e =
     ap (λ lines. record { names = names; texts = texts ++ bytes ∷ []; lines = lines }) (map_push names drafts (d.Does (i.PushText number)))
     ∙ ap (λ n. record { names = names; texts = texts ++ bytes ∷ []; lines = map (line_of names) drafts ++ does (i.PushText n) ∷ [] }) e
-
--- ---- a table that is full
-
-pub passes : (names : List (List ℕ)) (text : List ℕ) → IsFull names text → most < length (put_in names text)
-passes names text full = tested (has names text) full.0 where
-  tested : (b : Bool) → b ≡ false → most < length (if b then names else names ++ text ∷ [])
-  tested true e = absurd (let f : true ≡ false = e in cc)
-  tested false e = omega (full.1, length-append names (text ∷ []), arith)
 
 -- the empty table
 pub table_distinct : NoRepeats []

@@ -1,7 +1,6 @@
 pub mod Drafts
-pub mod Faults
 pub mod Sending
 pub mod Counting
 pub mod Setting
 pub mod Cascading
-pub mod Stepping
+pub mod Standing

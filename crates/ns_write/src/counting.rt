@@ -7,7 +7,7 @@ ghost use Rattle.ns_tree.specs.PlainOf.{exprs_of, block_of, slots_of, slot_of, s
 ghost use Rattle.ns_write.specs.Counting.{expr_count, cascade_count, message_count, key_expr_count, keys_count, bin_count, opers_count, un_count, primary_count};
 ghost use Rattle.ns_write.specs.Counting.{items_count, block_count, slots_count, slot_count, statements_count, list_count};
 
-use crate::fault::GenFault;
+use ns_base::no_memory::NoMemory;
 use ns_tree::tree::{
     BinExpr, Block, Expr, KeyExpr, Message, Named, Primary, Slot, SlotInit, Statement, Statements,
     UnExpr,
@@ -15,11 +15,11 @@ use ns_tree::tree::{
 
 /// The block, and those in it.
 #[cycle(counting)]
-pub fn count_block(count: &mut u32, block: &Block) -> Result<(), GenFault>
+pub fn count_block(count: &mut u32, block: &Block) -> Result<(), NoMemory>
     ensures { OnOk result (count.new ≡ count.old + block_count (block_of block.now)) }
 {
     let Some(more) = count.checked_add(1) else {
-        return Err(GenFault::Memory);
+        return Err(NoMemory);
     };
     *count = more;
     count_inside(count, block)
@@ -27,7 +27,7 @@ pub fn count_block(count: &mut u32, block: &Block) -> Result<(), GenFault>
 
 /// The blocks in a block, of which the block itself was counted.
 #[cycle(counting)]
-fn count_inside(count: &mut u32, block: &Block) -> Result<(), GenFault>
+fn count_inside(count: &mut u32, block: &Block) -> Result<(), NoMemory>
     ensures { OnOk result (count.new + 1 ≡ count.old + block_count (block_of block.now)) }
 {
     match &block.slots {
@@ -40,7 +40,7 @@ fn count_inside(count: &mut u32, block: &Block) -> Result<(), GenFault>
 }
 
 #[cycle(counting)]
-fn count_expr(count: &mut u32, expr: &Expr) -> Result<(), GenFault>
+fn count_expr(count: &mut u32, expr: &Expr) -> Result<(), NoMemory>
     ensures { OnOk result (count.new ≡ count.old + expr_count (expr_of expr.now)) }
 {
     count_key_expr(count, &expr.first)?;
@@ -48,7 +48,7 @@ fn count_expr(count: &mut u32, expr: &Expr) -> Result<(), GenFault>
 }
 
 #[cycle(counting)]
-fn count_cascade(count: &mut u32, messages: &[(u32, Message)]) -> Result<(), GenFault>
+fn count_cascade(count: &mut u32, messages: &[(u32, Message)]) -> Result<(), NoMemory>
     ensures { OnOk result (count.new ≡ count.old + cascade_count (cascade_of messages.now)) }
 {
     for message in messages {
@@ -58,7 +58,7 @@ fn count_cascade(count: &mut u32, messages: &[(u32, Message)]) -> Result<(), Gen
 }
 
 #[cycle(counting)]
-fn count_message(count: &mut u32, message: &Message) -> Result<(), GenFault>
+pub fn count_message(count: &mut u32, message: &Message) -> Result<(), NoMemory>
     ensures { OnOk result (count.new ≡ count.old + message_count (message_of message.now)) }
 {
     match message {
@@ -69,7 +69,7 @@ fn count_message(count: &mut u32, message: &Message) -> Result<(), GenFault>
 }
 
 #[cycle(counting)]
-fn count_key_expr(count: &mut u32, expr: &KeyExpr) -> Result<(), GenFault>
+fn count_key_expr(count: &mut u32, expr: &KeyExpr) -> Result<(), NoMemory>
     ensures { OnOk result (count.new ≡ count.old + key_expr_count (key_expr_of expr.now)) }
 {
     match &expr.receiver {
@@ -82,7 +82,7 @@ fn count_key_expr(count: &mut u32, expr: &KeyExpr) -> Result<(), GenFault>
 }
 
 #[cycle(counting)]
-fn count_keys(count: &mut u32, keys: &[(Named, BinExpr)]) -> Result<(), GenFault>
+fn count_keys(count: &mut u32, keys: &[(Named, BinExpr)]) -> Result<(), NoMemory>
     ensures { OnOk result (count.new ≡ count.old + keys_count (keys_of keys.now)) }
 {
     for key in keys {
@@ -92,7 +92,7 @@ fn count_keys(count: &mut u32, keys: &[(Named, BinExpr)]) -> Result<(), GenFault
 }
 
 #[cycle(counting)]
-fn count_bin(count: &mut u32, expr: &BinExpr) -> Result<(), GenFault>
+fn count_bin(count: &mut u32, expr: &BinExpr) -> Result<(), NoMemory>
     ensures { OnOk result (count.new ≡ count.old + bin_count (bin_of expr.now)) }
 {
     count_un(count, &expr.first)?;
@@ -100,7 +100,7 @@ fn count_bin(count: &mut u32, expr: &BinExpr) -> Result<(), GenFault>
 }
 
 #[cycle(counting)]
-fn count_opers(count: &mut u32, opers: &[(Named, UnExpr)]) -> Result<(), GenFault>
+fn count_opers(count: &mut u32, opers: &[(Named, UnExpr)]) -> Result<(), NoMemory>
     ensures { OnOk result (count.new ≡ count.old + opers_count (opers_of opers.now)) }
 {
     for oper in opers {
@@ -110,14 +110,14 @@ fn count_opers(count: &mut u32, opers: &[(Named, UnExpr)]) -> Result<(), GenFaul
 }
 
 #[cycle(counting)]
-fn count_un(count: &mut u32, expr: &UnExpr) -> Result<(), GenFault>
+fn count_un(count: &mut u32, expr: &UnExpr) -> Result<(), NoMemory>
     ensures { OnOk result (count.new ≡ count.old + un_count (un_of expr.now)) }
 {
     count_primary(count, &expr.primary)
 }
 
 #[cycle(counting)]
-fn count_primary(count: &mut u32, primary: &Primary) -> Result<(), GenFault>
+fn count_primary(count: &mut u32, primary: &Primary) -> Result<(), NoMemory>
     ensures { OnOk result (count.new ≡ count.old + primary_count (primary_of primary.now)) }
 {
     match primary {
@@ -129,7 +129,7 @@ fn count_primary(count: &mut u32, primary: &Primary) -> Result<(), GenFault>
 }
 
 #[cycle(counting)]
-fn count_items(count: &mut u32, items: &[Expr]) -> Result<(), GenFault>
+fn count_items(count: &mut u32, items: &[Expr]) -> Result<(), NoMemory>
     ensures { OnOk result (count.new ≡ count.old + items_count (exprs_of items.now)) }
 {
     for item in items {
@@ -139,7 +139,7 @@ fn count_items(count: &mut u32, items: &[Expr]) -> Result<(), GenFault>
 }
 
 #[cycle(counting)]
-fn count_slots(count: &mut u32, slots: &[Slot]) -> Result<(), GenFault>
+pub fn count_slots(count: &mut u32, slots: &[Slot]) -> Result<(), NoMemory>
     ensures { OnOk result (count.new ≡ count.old + slots_count (slots_of slots.now)) }
 {
     for slot in slots {
@@ -149,7 +149,7 @@ fn count_slots(count: &mut u32, slots: &[Slot]) -> Result<(), GenFault>
 }
 
 #[cycle(counting)]
-fn count_slot(count: &mut u32, slot: &Slot) -> Result<(), GenFault>
+fn count_slot(count: &mut u32, slot: &Slot) -> Result<(), NoMemory>
     ensures { OnOk result (count.new ≡ count.old + slot_count (slot_of slot.now)) }
 {
     match &slot.init {
@@ -160,14 +160,14 @@ fn count_slot(count: &mut u32, slot: &Slot) -> Result<(), GenFault>
 }
 
 #[cycle(counting)]
-fn count_statements(count: &mut u32, body: &Statements) -> Result<(), GenFault>
+pub fn count_statements(count: &mut u32, body: &Statements) -> Result<(), NoMemory>
     ensures { OnOk result (count.new ≡ count.old + statements_count (statements_of body.now)) }
 {
     count_list(count, &body.list)
 }
 
 #[cycle(counting)]
-fn count_list(count: &mut u32, list: &[Statement]) -> Result<(), GenFault>
+fn count_list(count: &mut u32, list: &[Statement]) -> Result<(), NoMemory>
     ensures { OnOk result (count.new ≡ count.old + list_count (statement_list_of list.now)) }
 {
     for statement in list {

@@ -9,7 +9,6 @@ ghost use Rattle.ns_meant.specs.Expressions.{as_receiver, as_value, name_sent, o
 ghost use Rattle.ns_write.specs.Cascading.{unset_node, with_rest, with_first, said_kept, is_said};
 ghost use Rattle.ns_write.specs.Sending.{standing, with_node, with_nodes, with_receiver, with_message, with_opers, with_keywords, with_value, opers_left, keys_left, kept};
 
-use crate::fault::GenFault;
 use crate::here::Here;
 use crate::keys::{count, first_key, joined, keys_count};
 use crate::primaries::{put_alone, put_block};
@@ -20,6 +19,7 @@ use crate::receiver::{
 };
 use crate::sets::put_sets;
 use crate::writer::Writer;
+use ns_base::no_memory::NoMemory;
 use ns_code::instruction::Instr;
 use ns_tree::tree::{BinExpr, Expr, KeyExpr, Message, Named, Primary, UnExpr};
 
@@ -31,7 +31,7 @@ fn put_un(
     here: &Here<'_>,
     next: &mut u32,
     un: &UnExpr,
-) -> Result<Receiver, GenFault>
+) -> Result<Receiver, NoMemory>
     ensures put { OnOk result (writer.new ≡ with_receiver (as_receiver (standing here.now) (un_said (standing here.now) next.old (un_of un.now))) writer.old) }
     ensures kept { IfOk result (λ receiver. receiver ≡ kept (as_receiver (standing here.now) (un_said (standing here.now) next.old (un_of un.now)))) }
     ensures next { OnOk result (next.new ≡ next.old + length (un_blocks here.now.scope.now (un_of un.now))) }
@@ -43,12 +43,12 @@ fn put_un(
 /// A primary with its unary messages, as a value.
 #[cycle(expressions)]
 #[tactic(auto, using(crate::proofs::Composing::value_is))]
-fn put_un_value(
+pub fn put_un_value(
     writer: &mut Writer,
     here: &Here<'_>,
     next: &mut u32,
     un: &UnExpr,
-) -> Result<(), GenFault>
+) -> Result<(), NoMemory>
     ensures put { OnOk result (writer.new ≡ with_node (un_node (standing here.now) next.old (un_of un.now)) writer.old) }
     ensures next { OnOk result (next.new ≡ next.old + length (un_blocks here.now.scope.now (un_of un.now))) }
 {
@@ -65,7 +65,7 @@ fn put_oper(
     receiver: &Receiver,
     name: &Named,
     argument: &UnExpr,
-) -> Result<(), GenFault>
+) -> Result<(), NoMemory>
     ensures put { OnOk result (writer.new ≡ with_message here.now.scope.now receiver.now (name_sent (standing here.now) name.now) (one (un_node (standing here.now) next.old (un_of argument.now))) writer.old) }
     ensures next { OnOk result (next.new ≡ next.old + length (un_blocks here.now.scope.now (un_of argument.now))) }
 {
@@ -84,7 +84,7 @@ fn put_opers(
     next: &mut u32,
     receiver: Receiver,
     opers: &[(Named, UnExpr)],
-) -> Result<Receiver, GenFault>
+) -> Result<Receiver, NoMemory>
     ensures put { OnOk result (writer.new ≡ with_opers (standing here.now) next.old receiver (opers_of opers.now) writer.old) }
     ensures left { IfOk result (λ behind. behind ≡ opers_left receiver (opers_of opers.now)) }
     ensures next { OnOk result (next.new ≡ next.old + length (opers_blocks here.now.scope.now (opers_of opers.now))) }
@@ -104,7 +104,7 @@ fn put_bin(
     here: &Here<'_>,
     next: &mut u32,
     bin: &BinExpr,
-) -> Result<Receiver, GenFault>
+) -> Result<Receiver, NoMemory>
     ensures put { OnOk result (writer.new ≡ with_receiver (as_receiver (standing here.now) (bin_said (standing here.now) next.old (bin_of bin.now))) writer.old) }
     ensures kept { IfOk result (λ receiver. receiver ≡ kept (as_receiver (standing here.now) (bin_said (standing here.now) next.old (bin_of bin.now)))) }
     ensures next { OnOk result (next.new ≡ next.old + length (bin_blocks here.now.scope.now (bin_of bin.now))) }
@@ -122,7 +122,7 @@ fn put_bin_value(
     here: &Here<'_>,
     next: &mut u32,
     bin: &BinExpr,
-) -> Result<(), GenFault>
+) -> Result<(), NoMemory>
     ensures put { OnOk result (writer.new ≡ with_node (as_value (standing here.now) (bin_said (standing here.now) next.old (bin_of bin.now))) writer.old) }
     ensures next { OnOk result (next.new ≡ next.old + length (bin_blocks here.now.scope.now (bin_of bin.now))) }
 {
@@ -132,12 +132,12 @@ fn put_bin_value(
 
 /// The arguments of keys.
 #[cycle(expressions)]
-fn put_keys(
+pub fn put_keys(
     writer: &mut Writer,
     here: &Here<'_>,
     next: &mut u32,
     keys: &[(Named, BinExpr)],
-) -> Result<(), GenFault>
+) -> Result<(), NoMemory>
     ensures put { OnOk result (writer.new ≡ with_nodes (keys_nodes (standing here.now) next.old (keys_of keys.now)) writer.old) }
     ensures next { OnOk result (next.new ≡ next.old + length (keys_blocks here.now.scope.now (keys_of keys.now))) }
 {
@@ -155,7 +155,7 @@ fn put_keywords(
     next: &mut u32,
     receiver: &Receiver,
     keys: &[(Named, BinExpr)],
-) -> Result<(), GenFault>
+) -> Result<(), NoMemory>
     ensures put { OnOk result (writer.new ≡ with_message here.now.scope.now receiver.now (keys_sent (standing here.now) (keys_of keys.now)) (keys_nodes (standing here.now) next.old (keys_of keys.now)) writer.old) }
     ensures next { OnOk result (next.new ≡ next.old + length (keys_blocks here.now.scope.now (keys_of keys.now))) }
 {
@@ -175,7 +175,7 @@ fn put_implicit(
     here: &Here<'_>,
     next: &mut u32,
     keys: &[(Named, BinExpr)],
-) -> Result<(), GenFault>
+) -> Result<(), NoMemory>
     ensures put { OnOk result (writer.new ≡ with_node (implicit_send (standing here.now) (keys_sent (standing here.now) (keys_of keys.now)) (keys_nodes (standing here.now) next.old (keys_of keys.now))) writer.old) }
     ensures next { OnOk result (next.new ≡ next.old + length (keys_blocks here.now.scope.now (keys_of keys.now))) }
 {
@@ -197,7 +197,7 @@ fn put_keyed(
     next: &mut u32,
     receiver: Receiver,
     keys: &[(Named, BinExpr)],
-) -> Result<Receiver, GenFault>
+) -> Result<Receiver, NoMemory>
     ensures put { OnOk result (writer.new ≡ with_keywords (standing here.now) next.old receiver (keys_of keys.now) writer.old) }
     ensures left { IfOk result (λ behind. behind ≡ keys_left receiver (keys_of keys.now)) }
     ensures next { OnOk result (next.new ≡ next.old + length (keys_blocks here.now.scope.now (keys_of keys.now))) }
@@ -219,7 +219,7 @@ fn put_keyed_value(
     next: &mut u32,
     receiver: Receiver,
     keys: &[(Named, BinExpr)],
-) -> Result<(), GenFault>
+) -> Result<(), NoMemory>
     ensures put { OnOk result (writer.new ≡ with_value (keys_left receiver (keys_of keys.now)) (with_keywords (standing here.now) next.old receiver (keys_of keys.now) writer.old)) }
     ensures next { OnOk result (next.new ≡ next.old + length (keys_blocks here.now.scope.now (keys_of keys.now))) }
 {
@@ -235,7 +235,7 @@ fn put_key_value(
     here: &Here<'_>,
     next: &mut u32,
     expr: &KeyExpr,
-) -> Result<(), GenFault>
+) -> Result<(), NoMemory>
     ensures put { OnOk result (writer.new ≡ with_node (as_value (standing here.now) (key_expr_said (standing here.now) next.old (key_expr_of expr.now))) writer.old) }
     ensures next { OnOk result (next.new ≡ next.old + length (key_expr_blocks here.now.scope.now (key_expr_of expr.now))) }
 {
@@ -260,7 +260,7 @@ fn put_message(
     next: &mut u32,
     receiver: &Receiver,
     message: &Message,
-) -> Result<(), GenFault>
+) -> Result<(), NoMemory>
     ensures put { OnOk result (writer.new ≡ with_message here.now.scope.now receiver.now (message_said (standing here.now) next.old (message_of message.now)).sent (message_said (standing here.now) next.old (message_of message.now)).arguments writer.old) }
     ensures next { OnOk result (next.new ≡ next.old + length (message_blocks here.now.scope.now (message_of message.now))) }
 {
@@ -279,7 +279,7 @@ fn put_rest(
     next: &mut u32,
     receiver: &Receiver,
     messages: &[(u32, Message)],
-) -> Result<(), GenFault>
+) -> Result<(), NoMemory>
     ensures put { OnOk result (writer.new ≡ with_rest (standing here.now) next.old receiver.now (cascade_of messages.now) writer.old) }
     ensures next { OnOk result (next.new ≡ next.old + length (cascade_blocks here.now.scope.now (cascade_of messages.now))) }
 {
@@ -300,14 +300,14 @@ fn put_first_name(
     here: &Here<'_>,
     next: &mut u32,
     un: &UnExpr,
-) -> Result<Receiver, GenFault>
+) -> Result<Receiver, NoMemory>
     ensures put { OnOk result (writer.new ≡ with_first (standing here.now) (un_said (standing here.now) next.old (un_of un.now)) writer.old) }
     ensures kept { IfOk result (λ receiver. receiver ≡ said_kept (un_said (standing here.now) next.old (un_of un.now))) }
     ensures said { OnOk result (is_said (un_said (standing here.now) next.old (un_of un.now)) ≡ true) }
     ensures next { OnOk result (next.new ≡ next.old + length (un_blocks here.now.scope.now (un_of un.now))) }
 {
     match un.names.as_slice() {
-        [] => Err(GenFault::Memory),
+        [] => Err(NoMemory),
         [front @ .., last] => {
             let first = put_primary(writer, here, next, un.at, &un.primary)?;
             let receiver = put_names(writer, here, first, front)?;
@@ -325,7 +325,7 @@ fn put_first_oper(
     here: &Here<'_>,
     next: &mut u32,
     bin: &BinExpr,
-) -> Result<Receiver, GenFault>
+) -> Result<Receiver, NoMemory>
     ensures put { OnOk result (writer.new ≡ with_first (standing here.now) (bin_said (standing here.now) next.old (bin_of bin.now)) writer.old) }
     ensures kept { IfOk result (λ receiver. receiver ≡ said_kept (bin_said (standing here.now) next.old (bin_of bin.now))) }
     ensures said { OnOk result (is_said (bin_said (standing here.now) next.old (bin_of bin.now)) ≡ true) }
@@ -350,14 +350,14 @@ fn put_first(
     here: &Here<'_>,
     next: &mut u32,
     expr: &KeyExpr,
-) -> Result<Receiver, GenFault>
+) -> Result<Receiver, NoMemory>
     ensures put { OnOk result (writer.new ≡ with_first (standing here.now) (key_expr_said (standing here.now) next.old (key_expr_of expr.now)) writer.old) }
     ensures kept { IfOk result (λ receiver. receiver ≡ said_kept (key_expr_said (standing here.now) next.old (key_expr_of expr.now))) }
     ensures said { OnOk result (is_said (key_expr_said (standing here.now) next.old (key_expr_of expr.now)) ≡ true) }
     ensures next { OnOk result (next.new ≡ next.old + length (key_expr_blocks here.now.scope.now (key_expr_of expr.now))) }
 {
     let Some(bin) = &expr.receiver else {
-        return Err(GenFault::Memory);
+        return Err(NoMemory);
     };
     match expr.keys.as_slice() {
         [] => put_first_oper(writer, here, next, bin),
@@ -379,16 +379,16 @@ fn put_cascade(
     here: &Here<'_>,
     next: &mut u32,
     expr: &Expr,
-) -> Result<(), GenFault>
+) -> Result<(), NoMemory>
     ensures put { OnOk result (writer.new ≡ with_node (unset_node (standing here.now) next.old (expr_of expr.now)) writer.old) }
     ensures next { OnOk result (next.new ≡ next.old + length (expr_blocks here.now.scope.now (expr_of expr.now))) }
 {
     if expr.more.is_empty() {
-        return Err(GenFault::Memory);
+        return Err(NoMemory);
     }
     let receiver = put_first(writer, here, next, &expr.first)?;
     if !is_repeated(&receiver) {
-        return Err(GenFault::Memory);
+        return Err(NoMemory);
     }
     put_rest(writer, here, next, &receiver, &expr.more)?;
     Ok(())
@@ -401,7 +401,7 @@ fn put_unset(
     here: &Here<'_>,
     next: &mut u32,
     expr: &Expr,
-) -> Result<(), GenFault>
+) -> Result<(), NoMemory>
     ensures put { OnOk result (writer.new ≡ with_node (unset_node (standing here.now) next.old (expr_of expr.now)) writer.old) }
     ensures next { OnOk result (next.new ≡ next.old + length (expr_blocks here.now.scope.now (expr_of expr.now))) }
 {
@@ -421,7 +421,7 @@ pub fn put_expr(
     here: &Here<'_>,
     next: &mut u32,
     expr: &Expr,
-) -> Result<(), GenFault>
+) -> Result<(), NoMemory>
     ensures put { OnOk result (writer.new ≡ with_node (expr_node (standing here.now) next.old (expr_of expr.now)) writer.old) }
     ensures next { OnOk result (next.new ≡ next.old + length (expr_blocks here.now.scope.now (expr_of expr.now))) }
 {
@@ -437,7 +437,7 @@ fn put_items(
     here: &Here<'_>,
     next: &mut u32,
     items: &[Expr],
-) -> Result<(), GenFault>
+) -> Result<(), NoMemory>
     ensures put { OnOk result (writer.new ≡ with_nodes (items_nodes (standing here.now) next.old (exprs_of items.now)) writer.old) }
     ensures next { OnOk result (next.new ≡ next.old + length (items_blocks here.now.scope.now (exprs_of items.now))) }
 {
@@ -455,7 +455,7 @@ fn put_tuple(
     here: &Here<'_>,
     next: &mut u32,
     items: &[Expr],
-) -> Result<(), GenFault>
+) -> Result<(), NoMemory>
     ensures put { OnOk result (writer.new ≡ with_node (m.array (items_nodes (standing here.now) next.old (exprs_of items.now))) writer.old) }
     ensures next { OnOk result (next.new ≡ next.old + length (items_blocks here.now.scope.now (exprs_of items.now))) }
 {
@@ -472,7 +472,7 @@ fn put_primary(
     next: &mut u32,
     at: u32,
     primary: &Primary,
-) -> Result<Receiver, GenFault>
+) -> Result<Receiver, NoMemory>
     ensures put { OnOk result (writer.new ≡ with_receiver (primary_receiver (standing here.now) next.old at (primary_of primary.now)) writer.old) }
     ensures kept { IfOk result (λ receiver. receiver ≡ kept (primary_receiver (standing here.now) next.old at (primary_of primary.now))) }
     ensures next { OnOk result (next.new ≡ next.old + length (primary_blocks here.now.scope.now (primary_of primary.now))) }

@@ -10,6 +10,7 @@ use ns_scope::scope::Scope;
 
 /// What is seen from an expression, the numbers of its body and of its declaration, and the places
 /// of its file's tokens.
+#[derive(Drop)]
 pub struct Here<'a> {
     pub scope: &'a Scope,
     pub body: u32,

@@ -5,25 +5,25 @@ ghost use Rattle.ns_tree.specs.PlainOf.{keys_of};
 ghost use Rattle.ns_meant.specs.Expressions.{joined, first_key};
 ghost use Rattle.ns_write.specs.Sending.{keys_count};
 
-use crate::fault::GenFault;
 use crate::reach::byte;
+use ns_base::no_memory::NoMemory;
 use ns_base::text::Text;
 use ns_tree::tree::{BinExpr, Named};
 use std::alloc::Global;
 
 /// A count as a byte. More than 255, which no program without faults has, is taken for want of
 /// memory.
-pub fn count(len: usize) -> Result<u8, GenFault>
+pub fn count(len: usize) -> Result<u8, NoMemory>
     ensures { IfOk result (λ count. count ≡ len) }
 {
     match u32::try_from(len) {
         Ok(len) => byte(len),
-        Err(_) => Err(GenFault::Memory),
+        Err(_) => Err(NoMemory),
     }
 }
 
 /// The keys, joined.
-pub fn joined(alloc: Global, keys: &[(Named, BinExpr)]) -> Result<Text, GenFault>
+pub fn joined(alloc: Global, keys: &[(Named, BinExpr)]) -> Result<Text, NoMemory>
     ensures { IfOk result (λ text. text ≡ joined (keys_of keys.now)) }
 {
     let mut bytes = Vec::new(alloc);
@@ -45,14 +45,14 @@ pub fn first_key(keys: &[(Named, BinExpr)]) -> u32
 
 /// How many keys there are, as a byte.
 #[tactic(auto, using(crate::proofs::Counted::keys_counted))]
-pub fn keys_count(keys: &[(Named, BinExpr)]) -> Result<u8, GenFault>
+pub fn keys_count(keys: &[(Named, BinExpr)]) -> Result<u8, NoMemory>
     ensures { IfOk result (λ count. count ≡ keys_count (keys_of keys.now)) }
 {
     count(keys.len())
 }
 
 /// The selector of a setter.
-pub fn setter_of(alloc: Global, name: &Text) -> Result<Text, GenFault>
+pub fn setter_of(alloc: Global, name: &Text) -> Result<Text, NoMemory>
     ensures { IfOk result (λ setter. setter ≡ name.now ++ codes ":") }
 {
     let mut bytes = Vec::from_slice(alloc, name.bytes())?;

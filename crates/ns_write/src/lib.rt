@@ -1,17 +1,16 @@
-//! The generator: the code of a program in which every name has its meaning, written in one pass.
+//! What is written of expressions: the lines of code of each, in one walk over the tree.
 #![tactic(auto)]
 
+pub mod around;
 pub mod counting;
 pub mod draft;
 pub mod expressions;
-pub mod fault;
-pub mod finish;
 pub mod here;
 pub mod keys;
 pub mod literals;
+pub mod name_table;
 pub mod primaries;
 pub mod reach;
 pub mod receiver;
 pub mod sets;
-pub mod steps;
 pub mod writer;

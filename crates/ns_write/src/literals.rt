@@ -7,18 +7,18 @@ ghost use Rattle.ns_meant.specs.Expressions.{integer_of, name_node, sent_at};
 ghost use Rattle.ns_gen.specs.Code.{object_lines, way_of as meant_way};
 ghost use Rattle.ns_write.specs.Sending.{standing, meant_reach, with_node};
 
-use crate::fault::GenFault;
 use crate::here::Here;
 use crate::reach::{Reach, byte, reach_of};
 use crate::receiver::begin_object;
 use crate::writer::Writer;
+use ns_base::no_memory::NoMemory;
 use ns_base::text::Text;
 use ns_code::instruction::Instr;
 use ns_scope::resolve::Target;
 
 /// The Integer of a number as it is written. One that 64 bits don't hold, which no program without
 /// faults has, is taken for want of memory.
-fn integer(minus: bool, size: u64) -> Result<i64, GenFault>
+fn integer(minus: bool, size: u64) -> Result<i64, NoMemory>
     ensures { IfOk result (λ number. number ≡ integer_of minus size) }
 {
     match i64::try_from(size) {
@@ -28,18 +28,18 @@ fn integer(minus: bool, size: u64) -> Result<i64, GenFault>
 }
 
 /// The least Integer, whose size is one more than the greatest.
-fn lowest(minus: bool, size: u64) -> Result<i64, GenFault>
+fn lowest(minus: bool, size: u64) -> Result<i64, NoMemory>
     ensures { IfOk result (λ number. number ≡ integer_of minus size) }
 {
     if minus && size == 9223372036854775808 {
         Ok(i64::MIN)
     } else {
-        Err(GenFault::Memory)
+        Err(NoMemory)
     }
 }
 
 /// A number as it is written.
-pub fn put_number(writer: &mut Writer, minus: bool, size: u64) -> Result<(), GenFault>
+pub fn put_number(writer: &mut Writer, minus: bool, size: u64) -> Result<(), NoMemory>
     ensures { OnOk result (writer.new ≡ with_node (m.integer (integer_of minus size)) writer.old) }
 {
     let number = integer(minus, size)?;
@@ -47,21 +47,21 @@ pub fn put_number(writer: &mut Writer, minus: bool, size: u64) -> Result<(), Gen
 }
 
 /// A literal text.
-pub fn put_text(writer: &mut Writer, text: &Text) -> Result<(), GenFault>
+pub fn put_text(writer: &mut Writer, text: &Text) -> Result<(), NoMemory>
     ensures { OnOk result (writer.new ≡ with_node (m.text text.now) writer.old) }
 {
     writer.text(text.bytes())
 }
 
 /// A symbol.
-pub fn put_symbol(writer: &mut Writer, name: &Text) -> Result<(), GenFault>
+pub fn put_symbol(writer: &mut Writer, name: &Text) -> Result<(), NoMemory>
     ensures { OnOk result (writer.new ≡ with_node (m.symbol name.now) writer.old) }
 {
     writer.symbol(name.bytes())
 }
 
 /// A name alone: a local, or an implicit send.
-pub fn put_named(writer: &mut Writer, here: &Here<'_>, text: &Text, at: u32) -> Result<(), GenFault>
+pub fn put_named(writer: &mut Writer, here: &Here<'_>, text: &Text, at: u32) -> Result<(), NoMemory>
     ensures { OnOk result (writer.new ≡ with_node (name_node (standing here.now) (sent_at (standing here.now) text.now at)) writer.old) }
 {
     match here.resolve(text.bytes()) {
@@ -87,7 +87,7 @@ fn put_sent(
     reach: Reach,
     text: &Text,
     at: u32,
-) -> Result<(), GenFault>
+) -> Result<(), NoMemory>
     ensures { OnOk result (writer.new ≡ with_node (m.send_to (meant_reach reach) (sent_at (standing here.now) text.now at) m.no_nodes) writer.old) }
 {
     let way = begin_object(writer, reach)?;

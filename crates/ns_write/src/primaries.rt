@@ -8,11 +8,11 @@ ghost use Rattle.ns_meant.specs.Expressions.{primary_receiver};
 ghost use Rattle.ns_write.specs.Sending.{standing, with_node, with_receiver, kept};
 
 use crate::counting::count_block;
-use crate::fault::GenFault;
 use crate::here::Here;
 use crate::literals::{put_named, put_number, put_symbol, put_text};
 use crate::receiver::Receiver;
 use crate::writer::Writer;
+use ns_base::no_memory::NoMemory;
 use ns_base::text::Text;
 use ns_code::instruction::Instr;
 use ns_tree::tree::{Block, Primary};
@@ -24,7 +24,7 @@ pub fn put_block(
     here: &Here<'_>,
     next: &mut u32,
     block: &Block,
-) -> Result<(), GenFault>
+) -> Result<(), NoMemory>
     ensures put { OnOk result (writer.new ≡ with_node (m.block next.old) writer.old) }
     ensures next { OnOk result (next.new ≡ next.old + length (block_blocks here.now.scope.now (block_of block.now))) }
 {
@@ -38,7 +38,7 @@ pub fn put_alone(
     here: &Here<'_>,
     at: u32,
     primary: &Primary,
-) -> Result<Receiver, GenFault>
+) -> Result<Receiver, NoMemory>
     ensures put { (next : ℕ) → OnOk result (writer.new ≡ with_receiver (primary_receiver (standing here.now) next at (primary_of primary.now)) writer.old) }
     ensures kept { (next : ℕ) → IfOk result (λ receiver. receiver ≡ kept (primary_receiver (standing here.now) next at (primary_of primary.now))) }
     ensures none { OnOk result (length (primary_blocks here.now.scope.now (primary_of primary.now)) ≡ 0) }
@@ -78,6 +78,6 @@ pub fn put_alone(
             writer.does(Instr::PushFalse)?;
             Ok(Receiver::Value)
         }
-        _ => Err(GenFault::Memory),
+        _ => Err(NoMemory),
     }
 }

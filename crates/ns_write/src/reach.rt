@@ -5,7 +5,7 @@ ghost use Rattle.ns_scope.specs.Resolve.{levels};
 ghost use Rattle.ns_meant.specs.Expressions.{at_level, reach_of, private_here, private_in, private_at, level_of, reach_self, reach_outer};
 ghost use Rattle.ns_write.specs.Sending.{meant_reach};
 
-use crate::fault::GenFault;
+use ns_base::no_memory::NoMemory;
 use ns_scope::chain::Link;
 use ns_scope::resolve::Target;
 use ns_scope::scope::{ClassScope, Scope};
@@ -23,17 +23,17 @@ pub enum Reach {
 
 /// A number that a byte holds. A larger one, which no program without faults has, is taken for want
 /// of memory.
-pub fn byte(number: u32) -> Result<u8, GenFault>
+pub fn byte(number: u32) -> Result<u8, NoMemory>
     ensures { IfOk result (λ byte. byte ≡ number) }
 {
     match u8::try_from(number) {
         Ok(byte) => Ok(byte),
-        Err(_) => Err(GenFault::Memory),
+        Err(_) => Err(NoMemory),
     }
 }
 
 /// What an implicit send of a name reaches that means this, and is no local.
-pub fn reach_of(target: Target) -> Result<Reach, GenFault>
+pub fn reach_of(target: Target) -> Result<Reach, NoMemory>
     ensures { IfOk result (λ reach. meant_reach reach ≡ reach_of target) }
 {
     match target {
@@ -55,7 +55,7 @@ pub fn reach_self(scope: &Scope, name: &[u8]) -> Reach
 }
 
 /// What a send to the enclosing object for the innermost declaration of a name reaches.
-pub fn reach_outer(scope: &Scope, class: &[u8], name: &[u8]) -> Result<Reach, GenFault>
+pub fn reach_outer(scope: &Scope, class: &[u8], name: &[u8]) -> Result<Reach, NoMemory>
     ensures { IfOk result (λ reach. meant_reach reach ≡ reach_outer scope.now class.now name.now) }
 {
     let level = level_of(scope.classes.links(), class);
@@ -63,7 +63,7 @@ pub fn reach_outer(scope: &Scope, class: &[u8], name: &[u8]) -> Result<Reach, Ge
 }
 
 /// A private member is reached itself, others by lookup from the enclosing object.
-fn at_level(level: u32, private: bool) -> Result<Reach, GenFault>
+fn at_level(level: u32, private: bool) -> Result<Reach, NoMemory>
     ensures { IfOk result (λ reach. meant_reach reach ≡ at_level level private) }
 {
     let level = byte(level)?;

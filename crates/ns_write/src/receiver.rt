@@ -9,10 +9,10 @@ ghost use Rattle.ns_write.specs.Cascading.{with_copy, with_copies, is_repeated};
 ghost use Rattle.ns_write.specs.Sending.{standing, meant_reach, with_lines, begin_lines, begin_way, with_message, with_names, with_value, left};
 
 use crate::draft::SendWay;
-use crate::fault::GenFault;
 use crate::here::Here;
 use crate::reach::{Reach, reach_outer, reach_self};
 use crate::writer::Writer;
+use ns_base::no_memory::NoMemory;
 use ns_base::text::Text;
 use ns_code::instruction::Instr;
 use ns_tree::tree::Named;
@@ -29,7 +29,7 @@ pub enum Receiver {
 }
 
 /// The object under the arguments of a send; a private member needs none.
-pub fn put_object(writer: &mut Writer, reach: Reach) -> Result<(), GenFault>
+pub fn put_object(writer: &mut Writer, reach: Reach) -> Result<(), NoMemory>
     ensures { OnOk result (writer.new ≡ with_lines (object_lines (meant_reach reach) []) writer.old) }
 {
     match reach {
@@ -50,7 +50,7 @@ pub fn way_of(reach: Reach) -> SendWay
 }
 
 /// Begins a message to an object: writes what stands under its arguments, and tells how it is sent.
-pub fn begin_object(writer: &mut Writer, reach: Reach) -> Result<SendWay, GenFault>
+pub fn begin_object(writer: &mut Writer, reach: Reach) -> Result<SendWay, NoMemory>
     ensures lines { OnOk result (writer.new ≡ with_lines (object_lines (meant_reach reach) []) writer.old) }
     ensures way { IfOk result (λ way. way_of way ≡ meant_way (meant_reach reach)) }
 {
@@ -64,7 +64,7 @@ pub fn begin(
     here: &Here<'_>,
     receiver: &Receiver,
     selector: &[u8],
-) -> Result<SendWay, GenFault>
+) -> Result<SendWay, NoMemory>
     ensures lines { OnOk result (writer.new ≡ with_lines (begin_lines here.now.scope.now receiver.now selector.now []) writer.old) }
     ensures way { IfOk result (λ way. way_of way ≡ begin_way here.now.scope.now receiver.now selector.now) }
 {
@@ -80,7 +80,7 @@ pub fn begin(
 }
 
 /// The value of a receiver to which no message is sent.
-pub fn put_value(writer: &mut Writer, receiver: &Receiver) -> Result<(), GenFault>
+pub fn put_value(writer: &mut Writer, receiver: &Receiver) -> Result<(), NoMemory>
     ensures { OnOk result (writer.new ≡ with_value receiver.now writer.old) }
 {
     match receiver {
@@ -95,7 +95,7 @@ pub fn put_name(
     here: &Here<'_>,
     receiver: &Receiver,
     name: &Named,
-) -> Result<(), GenFault>
+) -> Result<(), NoMemory>
     ensures { OnOk result (writer.new ≡ with_message here.now.scope.now receiver.now (name_sent (standing here.now) name.now) no_nodes writer.old) }
 {
     let selector = name.text.bytes();
@@ -109,7 +109,7 @@ pub fn put_names(
     here: &Here<'_>,
     receiver: Receiver,
     names: &[Named],
-) -> Result<Receiver, GenFault>
+) -> Result<Receiver, NoMemory>
     ensures put { OnOk result (writer.new ≡ with_names (standing here.now) receiver names.now writer.old) }
     ensures left { IfOk result (λ behind. behind ≡ left receiver names.now) }
 {
@@ -122,7 +122,7 @@ pub fn put_names(
 }
 
 /// A copy of a receiver that is a value, for a message behind which there is another.
-pub fn put_copy(writer: &mut Writer, receiver: &Receiver) -> Result<(), GenFault>
+pub fn put_copy(writer: &mut Writer, receiver: &Receiver) -> Result<(), NoMemory>
     ensures { OnOk result (writer.new ≡ with_copy receiver.now writer.old) }
 {
     match receiver {
@@ -133,7 +133,7 @@ pub fn put_copy(writer: &mut Writer, receiver: &Receiver) -> Result<(), GenFault
 
 /// The same, where so many messages are left.
 #[tactic(auto, using(crate::proofs::Cascades::copies_some))]
-pub fn put_copies(writer: &mut Writer, receiver: &Receiver, left: usize) -> Result<(), GenFault>
+pub fn put_copies(writer: &mut Writer, receiver: &Receiver, left: usize) -> Result<(), NoMemory>
     ensures { OnOk result (writer.new ≡ with_copies left receiver.now writer.old) }
 {
     if left == 0 {

@@ -6,19 +6,19 @@ ghost use Rattle.ns_write.specs.Sending.{standing, meant_reach};
 ghost use Rattle.ns_write.specs.Setting.{with_setter, with_set, with_sets, setter_reach, setter_sent, below};
 ghost use Rattle.ns_meant.specs.Expressions.{sent_at};
 
-use crate::fault::GenFault;
 use crate::here::Here;
 use crate::keys::setter_of;
 use crate::reach::{Reach, byte, reach_of};
 use crate::receiver::begin_object;
 use crate::writer::Writer;
+use ns_base::no_memory::NoMemory;
 use ns_base::text::Text;
 use ns_code::instruction::Instr;
 use ns_scope::resolve::Target;
 use ns_tree::tree::Named;
 
 /// Sets names, the last first.
-pub fn put_sets(writer: &mut Writer, here: &Here<'_>, names: &[Named]) -> Result<(), GenFault>
+pub fn put_sets(writer: &mut Writer, here: &Here<'_>, names: &[Named]) -> Result<(), NoMemory>
     ensures { OnOk result (writer.new ≡ with_sets (standing here.now) names.now writer.old) }
 {
     let mut left = names.len();
@@ -30,7 +30,7 @@ pub fn put_sets(writer: &mut Writer, here: &Here<'_>, names: &[Named]) -> Result
 }
 
 /// Sets a local, or sends a setter.
-fn put_set(writer: &mut Writer, here: &Here<'_>, name: &Named) -> Result<(), GenFault>
+fn put_set(writer: &mut Writer, here: &Here<'_>, name: &Named) -> Result<(), NoMemory>
     ensures { OnOk result (writer.new ≡ with_set (standing here.now) name.now (resolve here.now.scope.now name.now.text) writer.old) }
 {
     match here.resolve(name.text.bytes()) {
@@ -46,7 +46,7 @@ fn put_set(writer: &mut Writer, here: &Here<'_>, name: &Named) -> Result<(), Gen
 }
 
 /// Sends the setter of a name to what it reaches.
-fn put_name_setter(writer: &mut Writer, here: &Here<'_>, name: &Named) -> Result<(), GenFault>
+fn put_name_setter(writer: &mut Writer, here: &Here<'_>, name: &Named) -> Result<(), NoMemory>
     ensures { OnOk result (writer.new ≡ with_setter (setter_reach (standing here.now) name.now) (setter_sent (standing here.now) name.now) writer.old) }
 {
     let setter = setter_of(writer.alloc(), &name.text)?;
@@ -62,7 +62,7 @@ fn put_setter(
     reach: Reach,
     setter: &Text,
     at: u32,
-) -> Result<(), GenFault>
+) -> Result<(), NoMemory>
     ensures { OnOk result (writer.new ≡ with_setter (meant_reach reach) (sent_at (standing here.now) setter.now at) writer.old) }
 {
     let way = begin_object(writer, reach)?;

@@ -1,15 +1,12 @@
 //! The writer of a program's names, its literal texts, and the lines of one body after the other.
 
-ghost use Rattle.std.specs.Prelude.{◌≡◌, ◌<◌, ◌++◌, [], OnOk, IfOk, IsErrOf, length, map};
-ghost use Rattle.ns_write.specs.declared.fault.GenFault.TheVariants.{TooLarge};
-ghost use Rattle.ns_gen.specs.declared.size.SizeKind.TheVariants as s;
+ghost use Rattle.std.specs.Prelude.{◌≡◌, ◌++◌, [], OnOk, IfOk, length, map};
 ghost use Rattle.ns_gen.specs.Code.{does, symbol, sends, starts, instr_of, places_from};
 ghost use Rattle.ns_write.specs.Drafts.{with_line, with_name, with_text, without_lines, way_of, line_of, IsBelow, IsNumberOf, instruction, draft_places};
-ghost use Rattle.ns_gen.specs.Sizes.{most};
 
 use crate::draft::{Draft, SendWay};
-use crate::fault::GenFault;
-use ns_base::names::Names;
+use crate::name_table::NameTable;
+use ns_base::no_memory::NoMemory;
 use ns_base::place::Place;
 use ns_base::selector::Sel;
 use ns_base::text::Text;
@@ -22,7 +19,7 @@ use std::marker::Model;
 #[derive(Drop)]
 pub struct Writer {
     alloc: Global,
-    names: Names,
+    names: NameTable,
     texts: Vec<Text>,
     drafts: Vec<Draft>,
 }
@@ -47,7 +44,7 @@ impl Writer {
     {
         Writer {
             alloc,
-            names: Names::new(alloc),
+            names: NameTable::new(alloc),
             texts: Vec::new(alloc),
             drafts: Vec::new(alloc),
         }
@@ -59,16 +56,15 @@ impl Writer {
     }
 
     /// An instruction that names no selector.
-    pub fn does(&mut self, instr: Instr) -> Result<(), GenFault>
+    pub fn does(&mut self, instr: Instr) -> Result<(), NoMemory>
         ensures put { OnOk result (self.new ≡ with_line self.old (does instr)) }
     {
         self.put(Draft::Does(instr))
     }
 
     /// The symbol of that text.
-    pub fn symbol(&mut self, text: &[u8]) -> Result<(), GenFault>
+    pub fn symbol(&mut self, text: &[u8]) -> Result<(), NoMemory>
         ensures put { OnOk result (self.new ≡ with_line (with_name self.old text.now) (symbol text.now)) }
-        ensures full { IsErrOf result (TooLarge s.Names) → most < length (with_name self.old text.now).names }
     {
         let sel = self.number(text)?;
         self.put(Draft::Symbol(sel))
@@ -81,9 +77,8 @@ impl Writer {
         text: &[u8],
         place: Place,
         argc: u8,
-    ) -> Result<(), GenFault>
+    ) -> Result<(), NoMemory>
         ensures put { OnOk result (self.new ≡ with_line (with_name self.old text.now) (sends (way_of way) (record { selector = text.now; place = place }) argc)) }
-        ensures full { IsErrOf result (TooLarge s.Names) → most < length (with_name self.old text.now).names }
     {
         let sel = self.number(text)?;
         self.put(Draft::Sends {
@@ -95,7 +90,7 @@ impl Writer {
     }
 
     /// A superclass part that is initialised with so many arguments.
-    pub fn starts(&mut self, place: Place, argc: u8) -> Result<(), GenFault>
+    pub fn starts(&mut self, place: Place, argc: u8) -> Result<(), NoMemory>
         ensures put { OnOk result (self.new ≡ with_line self.old (starts place argc)) }
     {
         self.put(Draft::Starts { place, argc })
@@ -103,11 +98,11 @@ impl Writer {
 
     /// A literal text, which gets the next number.
     #[tactic(auto, using(crate::proofs::Stand::text_put, crate::proofs::Stand::below_push))]
-    pub fn text(&mut self, bytes: &[u8]) -> Result<(), GenFault>
+    pub fn text(&mut self, bytes: &[u8]) -> Result<(), NoMemory>
         ensures put { OnOk result (self.new ≡ with_text self.old bytes.now) }
     {
         let Ok(number) = u32::try_from(self.texts.len()) else {
-            return Err(GenFault::Memory);
+            return Err(NoMemory);
         };
         let text = Text::of(self.alloc, bytes)?;
         self.texts.push(text)?;
@@ -116,12 +111,26 @@ impl Writer {
     }
 
     /// A name of a class's record, which gets a number.
-    pub fn name(&mut self, text: &[u8]) -> Result<Sel, GenFault>
+    pub fn name(&mut self, text: &[u8]) -> Result<Sel, NoMemory>
         ensures named { OnOk result (self.new ≡ with_name self.old text.now) }
         ensures found { IfOk result (λ sel. IsNumberOf self.new.names sel text.now) }
-        ensures full { IsErrOf result (TooLarge s.Names) → most < length (with_name self.old text.now).names }
     {
         self.number(text)
+    }
+
+    /// The tables of names and literal texts.
+    pub fn into_tables(self) -> (NameTable, Vec<Text>)
+        ensures names { result.0 ≡ self.names }
+        ensures texts { result.1.items ≡ self.texts }
+    {
+        (self.names, self.texts)
+    }
+
+    /// How many names there are.
+    pub fn name_count(&self) -> usize
+        ensures { result ≡ length self.now.names }
+    {
+        self.names.count()
     }
 
     /// Begins the next body.
@@ -133,44 +142,42 @@ impl Writer {
 
     /// The instructions of the lines.
     #[tactic(auto, using(crate::proofs::Numbers::instructions_are))]
-    pub fn instructions(&self) -> Result<Vec<Instr>, GenFault>
+    pub fn instructions(&self) -> Result<Vec<Instr>, NoMemory>
         ensures { IfOk result (λ instrs. instrs.items ≡ map (instr_of self.now.names) self.now.lines) }
     {
         instructions(self.alloc, &self.drafts)
     }
 
     /// The places of sends and superclass parts, by the numbers of their instructions.
-    pub fn places(&self) -> Result<Vec<(u32, Place)>, GenFault>
+    pub fn places(&self) -> Result<Vec<(u32, Place)>, NoMemory>
         ensures { IfOk result (λ places. places.items ≡ places_from 0 self.now.lines) }
     {
         places(self.alloc, &self.drafts)
     }
 
     /// The number of a text, which gets the next one where it is new.
-    #[tactic(auto, using(crate::proofs::Stand::named, crate::proofs::Stand::below_named, crate::proofs::Stand::text_at_number, crate::proofs::Stand::passes))]
-    fn number(&mut self, text: &[u8]) -> Result<Sel, GenFault>
+    #[tactic(auto, using(crate::proofs::Stand::named, crate::proofs::Stand::below_named, crate::proofs::Stand::text_at_number))]
+    fn number(&mut self, text: &[u8]) -> Result<Sel, NoMemory>
         ensures named { OnOk result (self.new ≡ with_name self.old text.now) }
         ensures found { IfOk result (λ sel. IsNumberOf self.new.names sel text.now) }
-        ensures full { IsErrOf result (TooLarge s.Names) → most < length (with_name self.old text.now).names }
     {
         let sel = self.names.intern(text)?;
         Ok(sel)
     }
 
     #[tactic(auto, using(crate::proofs::Stand::below_push, crate::proofs::Stand::line_put))]
-    fn put(&mut self, draft: Draft) -> Result<(), GenFault>
+    fn put(&mut self, draft: Draft) -> Result<(), NoMemory>
         requires { IsBelow (length self.old.names) draft }
         ensures put { OnOk result (self.new ≡ with_line self.old (line_of self.old.names draft)) }
-        ensures memory { IsErrOf result (TooLarge s.Names) → ⊥ }
     {
         match self.drafts.push(draft) {
-            Err(_) => Err(GenFault::Memory),
+            Err(_) => Err(NoMemory),
             Ok(()) => Ok(()),
         }
     }
 }
 
-fn instructions(alloc: Global, drafts: &[Draft]) -> Result<Vec<Instr>, GenFault>
+fn instructions(alloc: Global, drafts: &[Draft]) -> Result<Vec<Instr>, NoMemory>
     ensures { IfOk result (λ instrs. instrs.items ≡ map instruction drafts.now) }
 {
     let mut instrs = Vec::new(alloc);
@@ -178,7 +185,7 @@ fn instructions(alloc: Global, drafts: &[Draft]) -> Result<Vec<Instr>, GenFault>
     Ok(instrs)
 }
 
-fn put_instructions(instrs: &mut Vec<Instr>, drafts: &[Draft]) -> Result<(), GenFault>
+fn put_instructions(instrs: &mut Vec<Instr>, drafts: &[Draft]) -> Result<(), NoMemory>
     ensures { OnOk result (instrs.new.items ≡ instrs.old.items ++ map instruction drafts.now) }
 {
     for draft in drafts {
@@ -187,7 +194,7 @@ fn put_instructions(instrs: &mut Vec<Instr>, drafts: &[Draft]) -> Result<(), Gen
     Ok(())
 }
 
-fn places(alloc: Global, drafts: &[Draft]) -> Result<Vec<(u32, Place)>, GenFault>
+fn places(alloc: Global, drafts: &[Draft]) -> Result<Vec<(u32, Place)>, NoMemory>
     ensures { IfOk result (λ places. places.items ≡ draft_places 0 drafts.now) }
 {
     let mut places = Vec::new(alloc);
@@ -195,7 +202,7 @@ fn places(alloc: Global, drafts: &[Draft]) -> Result<Vec<(u32, Place)>, GenFault
     Ok(places)
 }
 
-fn put_places(places: &mut Vec<(u32, Place)>, drafts: &[Draft]) -> Result<(), GenFault>
+fn put_places(places: &mut Vec<(u32, Place)>, drafts: &[Draft]) -> Result<(), NoMemory>
     ensures { OnOk result (places.new.items ≡ places.old.items ++ draft_places 0 drafts.now) }
 {
     let mut number: u32 = 0;
@@ -204,7 +211,7 @@ fn put_places(places: &mut Vec<(u32, Place)>, drafts: &[Draft]) -> Result<(), Ge
             places.push((number, place))?;
         }
         let Some(next) = number.checked_add(1) else {
-            return Err(GenFault::Memory);
+            return Err(NoMemory);
         };
         number = next;
     }

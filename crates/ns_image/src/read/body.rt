@@ -40,13 +40,37 @@ impl Format for Body {
 
     #[tactic(auto, unfolding(crate::specs::Reading::body))]
     fn read(&self, alloc: Global, input: &mut Input<'_>) -> Result<BodyCode, Fault> {
-        let mut body = head(alloc, input)?;
-        let local_names = times(alloc, input, &LocalName, u32::from(body.locals))?;
-        let places = places(alloc, input, self.files, body.instrs.as_slice())?;
-        body.local_names = local_names;
-        body.places = places;
-        Ok(body)
+        let body = head(alloc, input)?;
+        with_local_names(alloc, input, self.files, body)
     }
+}
+
+/// A body with the names of its locals and the places, which follow it.
+#[tactic(auto, unfolding(crate::specs::Reading::with_local_names))]
+fn with_local_names(
+    alloc: Global,
+    input: &mut Input<'_>,
+    files: usize,
+    mut body: BodyCode,
+) -> Result<BodyCode, Fault>
+    ensures { Reads (spec.with_local_names files body input.old.rest.now) result input.new.rest.now }
+{
+    body.local_names = times(alloc, input, &LocalName, u32::from(body.locals))?;
+    with_places(alloc, input, files, body)
+}
+
+/// A body with the places that follow it.
+#[tactic(auto, unfolding(crate::specs::Reading::with_places))]
+fn with_places(
+    alloc: Global,
+    input: &mut Input<'_>,
+    files: usize,
+    mut body: BodyCode,
+) -> Result<BodyCode, Fault>
+    ensures { Reads (spec.with_places files body input.old.rest.now) result input.new.rest.now }
+{
+    body.places = places(alloc, input, files, body.instrs.as_slice())?;
+    Ok(body)
 }
 
 /// A body of version 1, whose locals get numbers for names.
@@ -75,6 +99,21 @@ fn head(alloc: Global, input: &mut Input<'_>) -> Result<BodyCode, Fault>
     let side = input.byte_up_to(CLASS_SIDE)?;
     let class = input.word()?;
     let parent = input.reference()?;
+    head_from_params(alloc, input, kind, side, class, parent)
+}
+
+/// What follows the parent.
+#[tactic(auto, unfolding(crate::specs::Reading::head_from_params))]
+fn head_from_params(
+    alloc: Global,
+    input: &mut Input<'_>,
+    kind: u8,
+    side: u8,
+    class: u32,
+    parent: Option<u32>,
+) -> Result<BodyCode, Fault>
+    ensures { Reads (spec.head_from_params kind side class parent input.old.rest.now) result input.new.rest.now }
+{
     let params = input.byte()?;
     let locals = input.byte()?;
     let environment = input.flag()?;

@@ -8,6 +8,7 @@ use crate::fault::Fault;
 use crate::read::format::{Format, times};
 use crate::read::input::Input;
 use ns_base::items::Items;
+use ns_base::selector::Sel;
 use ns_code::class::{ClassCode, MethodCode, NestedCode, SlotCode};
 use std::alloc::Global;
 
@@ -94,25 +95,65 @@ impl Format for Class {
         let outer = input.reference()?;
         let factory = input.sel()?;
         let params = input.byte()?;
-        let clause = input.reference()?;
-        let init = input.word()?;
-        let super_sel = input.sel()?;
-        let slots = counted(alloc, input, &Slot)?;
-        let nested = counted(alloc, input, &Nested)?;
-        let methods = counted(alloc, input, &Method)?;
-        let side_methods = counted(alloc, input, &Method)?;
-        Ok(ClassCode {
-            name,
-            outer,
-            factory,
-            params,
-            clause,
-            init,
-            super_sel,
-            slots,
-            nested,
-            methods,
-            side_methods,
-        })
+        class_from_clause(alloc, input, name, outer, factory, params)
     }
+}
+
+/// What follows the parameters of a class record.
+#[tactic(auto, unfolding(crate::specs::Reading::class_from_clause))]
+fn class_from_clause(
+    alloc: Global,
+    input: &mut Input<'_>,
+    name: Sel,
+    outer: Option<u32>,
+    factory: Sel,
+    params: u8,
+) -> Result<ClassCode, Fault>
+    ensures { Reads (spec.class_from_clause name outer factory params input.old.rest.now) result input.new.rest.now }
+{
+    let clause = input.reference()?;
+    let init = input.word()?;
+    let super_sel = input.sel()?;
+    let class = ClassCode {
+        name,
+        outer,
+        factory,
+        params,
+        clause,
+        init,
+        super_sel,
+        slots: Items::from_vec(Vec::new(alloc)),
+        nested: Items::from_vec(Vec::new(alloc)),
+        methods: Items::from_vec(Vec::new(alloc)),
+        side_methods: Items::from_vec(Vec::new(alloc)),
+    };
+    with_members(alloc, input, class)
+}
+
+/// A class record with the members that follow it.
+#[tactic(auto, unfolding(crate::specs::Reading::with_members))]
+fn with_members(
+    alloc: Global,
+    input: &mut Input<'_>,
+    mut class: ClassCode,
+) -> Result<ClassCode, Fault>
+    ensures { Reads (spec.with_members class input.old.rest.now) result input.new.rest.now }
+{
+    class.slots = counted(alloc, input, &Slot)?;
+    class.nested = counted(alloc, input, &Nested)?;
+    with_methods(alloc, input, class)
+}
+
+/// A class record with the methods of both sides, which follow it.
+#[tactic(auto, unfolding(crate::specs::Reading::with_methods))]
+fn with_methods(
+    alloc: Global,
+    input: &mut Input<'_>,
+    mut class: ClassCode,
+) -> Result<ClassCode, Fault>
+    ensures { Reads (spec.with_methods class input.old.rest.now) result input.new.rest.now }
+{
+    class.methods = counted(alloc, input, &Method)?;
+    class.side_methods = counted(alloc, input, &Method)?;
+    Ok(class)
 }

@@ -23,8 +23,7 @@ impl Format for Instruction {
     fn read(&self, _alloc: Global, input: &mut Input<'_>) -> Result<Instr, Fault> {
         let left = input.rest.len();
         let code = input.byte()?;
-        let instr = behind(input, left, code)?;
-        Ok(instr)
+        behind(input, left, code)
     }
 }
 

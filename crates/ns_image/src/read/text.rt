@@ -8,10 +8,11 @@ ghost use Rattle.ns_image.specs.Reads.{Reads, ReadsAs};
 use crate::fault::Fault;
 use crate::read::format::Format;
 use crate::read::input::Input;
-use crate::spelling::{is_file_name, is_local_name, is_selector};
+use crate::spelling::{is_file_name, is_local_name};
 use ns_base::items::Items;
 use ns_base::names::{MOST_NAMES, Names};
 use ns_base::text::Text;
+use ns_spelling::spelling::is_selector;
 use std::alloc::Global;
 
 /// A literal text, which may be any bytes.

@@ -1,4 +1,4 @@
-use Rattle.std.proofs.Common.{arith, ap, ◌∙◌, ◌≡◌, ◌∷◌, [], map, length}
+use Rattle.std.proofs.Common.{arith, ap, ◌∙◌, ◌∷◌, [], map}
 use Rattle.std.proofs.lemmas.List.{map-append, length-map}
 use Rattle.ns_load.proofs.Loads.{next_read}
 use Rattle.ns_load.proofs.load.with_source.Goals as goal

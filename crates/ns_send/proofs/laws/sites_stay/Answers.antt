@@ -1,4 +1,5 @@
 use Rattle.ns_send.proofs.SitesStay.{sent_at, plain_at, evaluated_at}
+use Rattle.ns_send.proofs.PartsStay.{super_part_at}
 use Rattle.ns_send.proofs.laws.sites_stay.Goals as goal
 
 pub returns-clause-sent : goal.returns-clause-sent
@@ -9,3 +10,6 @@ returns-clause-plain c = plain_at
 
 pub returns-clause-evaluated : goal.returns-clause-evaluated
 returns-clause-evaluated c = evaluated_at
+
+pub returns-clause-part : goal.returns-clause-part
+returns-clause-part c = super_part_at

@@ -1,0 +1,9 @@
+pub mod Applying
+pub mod Beside
+pub mod Counted
+pub mod Entries
+pub mod Levels
+pub mod Members
+pub mod Others
+pub mod Stepping
+pub mod Wrapped

@@ -1,0 +1,10 @@
+pub mod Room
+pub mod Run
+pub mod Running
+pub mod Enclosing
+pub mod Locals
+pub mod Waited
+pub mod Wrapping
+pub mod Counting
+pub mod Plain
+pub mod Answered

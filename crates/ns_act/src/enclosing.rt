@@ -1,0 +1,62 @@
+//! The objects around running code, and the private members of their declarations.
+
+ghost use Rattle.std.specs.Prelude.{◌≡◌, IsSome, IsTrue};
+ghost use Rattle.ns_world.specs.Heap.{find_cell, is_class, shape_at};
+ghost use Rattle.ns_world.specs.Lawful.{IsLawful};
+ghost use Rattle.ns_send.specs.declared.site.Site.{Site};
+ghost use Rattle.ns_send.specs.Bodies as bodies;
+ghost use Rattle.ns_send.specs.Lawful.{FitsActivation, declaration_at};
+ghost use Rattle.ns_act.specs.Enclosing.{place_of};
+ghost use Rattle.ns_act.specs.Running.{activation_at, code_of};
+
+use crate::running::{Running, cell_number};
+use ns_code::program::CodeProgram;
+use ns_send::finding::enclosing_objects_are_there;
+use ns_world::cell::NewCell;
+use ns_world::value::Value;
+use ns_world::world::World;
+
+/// An object, and the class in its chain by which it is meant.
+#[derive(Clone, Copy, Debug, PartialEq, Eq)]
+pub struct Surrounding {
+    pub object: Value,
+    pub holder: u32,
+}
+
+/// Self and the holder of running code, and so many declarations further out the enclosing object
+/// and its holder.
+#[inline]
+pub fn enclosing(world: &World, code: &CodeProgram, running: Running, level: u8) -> Surrounding
+    requires lawful { IsLawful world.now.world code.now }
+    requires running { FitsActivation world.now.world.cells code.now (code_of running) }
+    requires level { IsSome (declaration_at code.now running.body level) }
+    ensures { (site : Site) → place_of result ≡ bodies.enclosing world.now.world.cells (activation_at site running) level }
+{
+    enclosing_objects_are_there();
+    let mut at = Surrounding {
+        object: running.me,
+        holder: running.holder,
+    };
+    'out: for _level in 0..level {
+        at = around(world, at.holder);
+    }
+    at
+}
+
+/// The object and the holder that enclose a class.
+#[inline]
+fn around(world: &World, class: u32) -> Surrounding
+    requires { IsTrue (is_class (find_cell world.now.world.cells class)) }
+    ensures { place_of result ≡ bodies.enclosing_place (shape_at world.now.world.cells class) }
+{
+    match world.cell(class) {
+        NewCell::Class { encl, holder, .. } => Surrounding {
+            object: encl,
+            holder: cell_number(holder),
+        },
+        _ => Surrounding {
+            object: Value::Nil,
+            holder: 0,
+        },
+    }
+}

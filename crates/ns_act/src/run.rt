@@ -1,0 +1,17 @@
+//! What a machine keeps of a run beside its frames.
+
+ghost use Rattle.std.specs.Prelude.{◌≡◌};
+ghost use Rattle.ns_world.specs.World.{Charges, stepped, entered, left};
+
+use ns_facets::board::Board;
+use ns_find::memo::Memo;
+use ns_world::world::World;
+
+/// The world, the board, the lookups that are kept, and how many method activations have begun.
+#[derive(Drop)]
+pub struct Run {
+    pub world: World,
+    pub board: Board,
+    pub memo: Memo,
+    pub begun: u64,
+}

@@ -1,0 +1,318 @@
+//! What is done with what a send finds.
+
+ghost use Rattle.std.specs.Prelude.{◌≡◌, ◌<◌, ◌≤◌, ℕ, List, length, IsTrue};
+ghost use Rattle.ns_code.specs.declared.program.CodeProgram.{CodeProgram};
+ghost use Rattle.ns_world.specs.declared.value.Value.{Value};
+ghost use Rattle.ns_world.specs.declared.value.Value.TheVariants.{Nil, Ref};
+ghost use Rattle.ns_send.specs.declared.control.Reached.TheVariants as reached;
+ghost use Rattle.ns_world.specs.declared.ending.LimitKind.TheVariants.{Depth};
+ghost use Rattle.ns_world.specs.World.{entered};
+ghost use Rattle.ns_world.specs.Heap.{find_cell, is_class, words_at, open_words_at};
+ghost use Rattle.ns_world.specs.Lawful.{IsLawful};
+ghost use Rattle.ns_mirror.specs.Slots as slots;
+ghost use Rattle.ns_send.specs.declared.site.Site.{Site};
+ghost use Rattle.ns_send.specs.Bodies.{no_home, opened};
+ghost use Rattle.ns_send.specs.Classes.{instance as made_instance};
+ghost use Rattle.ns_send.specs.Control.{Progress, in_world, Enter, FromMethod, halts, charged};
+ghost use Rattle.ns_send.specs.Lawful.{FitsSelector, HasClass};
+ghost use Rattle.ns_send.specs.Sends as spec;
+ghost use Rattle.ns_send.specs.Shown.{reached_shown};
+ghost use Rattle.ns_act.specs.Counting as counting;
+ghost use Rattle.ns_act.specs.Plain.{IsPlain};
+ghost use Rattle.ns_act.specs.Room.{HasRoom, SameRest};
+ghost use Rattle.ns_act.specs.Run.{progress_of};
+ghost use Rattle.ns_act.specs.Running.{activation_at};
+
+use crate::bodies::{enter_body, open_body};
+use crate::classes::{instance, nested_class};
+use crate::messages::make_message;
+use crate::run::Run;
+use crate::running::Running;
+use crate::slots::{store, word_of_object};
+use ns_base::selector::Sel;
+use ns_code::program::CodeProgram;
+use ns_send::control::{Exit, Given, Reached};
+use ns_world::ending::{Fault, Kind};
+use ns_world::lawful::charging_keeps_lawful;
+use ns_world::value::Value;
+use ns_world::world::World;
+
+/// What a send comes to with what it finds; or the number of the row of the kernel that answers it,
+/// which is still to do so, and nothing has changed.
+#[derive(Clone, Copy, Debug, PartialEq, Eq)]
+pub enum Answered {
+    Comes(Reached),
+    Row(u32),
+}
+
+/// How many methods begin by what an action comes to: one where a method is entered.
+#[inline]
+fn begins(reached: Reached) -> u64
+    ensures begins { result ≡ counting.begins reached }
+    ensures one { result ≤ 1 }
+{
+    match reached {
+        Reached::Enters {
+            exit: Exit::Method,
+            ..
+        } => 1,
+        _ => 0,
+    }
+}
+
+/// Enters a method, which has begun then: its frame, and its environment where it has one.
+#[inline]
+pub fn enter_method(
+    run: &mut Run,
+    code: &CodeProgram,
+    body: u32,
+    holder: u32,
+    receiver: Value,
+    values: &[Value],
+) -> Reached
+    requires room { HasRoom run.old.world }
+    requires begun { run.old.begun < no_home }
+    ensures reached { (site : Site) → reached_shown code.now site values.now result (progress_of run.new) ≡ spec.method_entered code.now body holder receiver (spec.Listed values.now) site (progress_of run.old) }
+    ensures rest { SameRest run.old.world run.new.world }
+    ensures memo { run.new.memo ≡ run.old.memo }
+    ensures plain { IsPlain result }
+{
+    let running = method_running(run.begun, body, holder, receiver);
+    let reached = enter_body(
+        &mut run.world,
+        code,
+        Exit::Method,
+        running,
+        Given::Listed,
+        values,
+    );
+    run.begun += begins(reached);
+    reached
+}
+
+/// Enters a method with the Message of a selector and these arguments, which is charged between its
+/// frame and its environment.
+pub fn enter_method_with_message(
+    run: &mut Run,
+    code: &CodeProgram,
+    body: u32,
+    holder: u32,
+    receiver: Value,
+    sel: Sel,
+    values: &[Value],
+) -> Reached
+    requires room { HasRoom run.old.world }
+    requires begun { run.old.begun < no_home }
+    ensures reached { (site : Site) → reached_shown code.now site values.now result (progress_of run.new) ≡ spec.method_entered code.now body holder receiver (spec.Wrapped sel values.now) site (progress_of run.old) }
+    ensures rest { SameRest run.old.world run.new.world }
+    ensures memo { run.new.memo ≡ run.old.memo }
+    ensures plain { IsPlain result }
+{
+    let running = method_running(run.begun, body, holder, receiver);
+    let reached = enter_with_message(&mut run.world, code, running, sel, values);
+    run.begun += begins(reached);
+    reached
+}
+
+/// Charges the frame of a method, and then the Message and the environment.
+fn enter_with_message(
+    world: &mut World,
+    code: &CodeProgram,
+    running: Running,
+    sel: Sel,
+    values: &[Value],
+) -> Reached
+    requires room { HasRoom world.old }
+    ensures reached { (site : Site) (rest : Progress) (sent : List Value) → reached_shown code.now site sent result (in_world rest world.new.world) ≡ charged halts Depth (entered world.old.world) (in_world rest world.old.world) (λ p. spec.given (spec.Wrapped sel values.now) p (opened code.now halts (Enter FromMethod) (activation_at site running))) }
+    ensures rest { SameRest world.old world.new }
+    ensures plain { IsPlain result }
+{
+    match world.enter() {
+        Ok(()) => open_with_message(world, code, running, sel, values),
+        Err(limit) => Reached::Fails(Fault::Limit(limit)),
+    }
+}
+
+/// Charges the Message and the environment of a method whose frame is charged.
+fn open_with_message(
+    world: &mut World,
+    code: &CodeProgram,
+    running: Running,
+    sel: Sel,
+    values: &[Value],
+) -> Reached
+    requires room { HasRoom world.old }
+    ensures reached { (site : Site) (rest : Progress) (sent : List Value) → reached_shown code.now site sent result (in_world rest world.new.world) ≡ spec.given (spec.Wrapped sel values.now) (in_world rest world.old.world) (opened code.now halts (Enter FromMethod) (activation_at site running)) }
+    ensures rest { SameRest world.old world.new }
+    ensures plain { IsPlain result }
+{
+    match make_message(world, sel, values) {
+        Ok(at) => open_body(
+            world,
+            code,
+            Exit::Method,
+            running,
+            Given::Message(at),
+            &[Value::Ref(at)],
+        ),
+        Err(fault) => Reached::Fails(fault),
+    }
+}
+
+/// A method's body as it begins: its home is its own activation, and nothing is around it.
+#[inline]
+fn method_running(home: u64, body: u32, holder: u32, receiver: Value) -> Running
+    ensures { result ≡ record { me = receiver; holder = holder; body = body; home = home; env = Nil } }
+{
+    Running {
+        me: receiver,
+        holder,
+        body,
+        home,
+        env: Value::Nil,
+    }
+}
+
+/// A factory: its frame, the object, and the environment of its initialiser.
+#[inline]
+pub fn enter_factory(world: &mut World, code: &CodeProgram, class: u32, values: &[Value]) -> Reached
+    requires lawful { IsLawful world.old.world code.now }
+    requires room { HasRoom world.old }
+    requires class { IsTrue (is_class (find_cell world.old.world.cells class)) }
+    ensures reached { (site : Site) (rest : Progress) → reached_shown code.now site values.now result (in_world rest world.new.world) ≡ spec.factory_entered code.now class (spec.Listed values.now) site (in_world rest world.old.world) }
+    ensures rest { SameRest world.old world.new }
+    ensures plain { IsPlain result }
+{
+    charging_keeps_lawful();
+    match world.enter() {
+        Ok(()) => instance(world, code, class, Given::Listed, values),
+        Err(limit) => Reached::Fails(Fault::Limit(limit)),
+    }
+}
+
+/// A setter stores its argument, nil where there is none, and answers its receiver.
+#[inline]
+pub fn set(world: &mut World, receiver: Value, word: u32, values: &[Value]) -> Reached
+    requires { (at : ℕ) → receiver ≡ Ref at → word < length (open_words_at world.old.world.cells at) }
+    ensures reached { (code : CodeProgram) (site : Site) (rest : Progress) → reached_shown code site values.now result (in_world rest world.new.world) ≡ spec.set word receiver (spec.Listed values.now) (in_world rest world.old.world) }
+    ensures rest { SameRest world.old world.new }
+    ensures plain { IsPlain result }
+{
+    store(world, receiver, word, first_of(values));
+    Reached::Gives(receiver)
+}
+
+/// The first argument, nil where there is none.
+#[inline]
+fn first_of(values: &[Value]) -> Value
+    ensures { result ≡ spec.first_of values.now }
+{
+    match values {
+        [first, ..] => *first,
+        [] => Value::Nil,
+    }
+}
+
+/// A getter answers a word of its receiver.
+#[inline]
+pub fn get(world: &mut World, receiver: Value, word: u32) -> Reached
+    requires { (at : ℕ) → receiver ≡ Ref at → word < length (words_at world.old.world.cells at) }
+    ensures reached { result ≡ reached.Gives (slots.word_of_object world.old.world.cells receiver word) }
+    ensures world { world.new ≡ world.old }
+    ensures plain { IsPlain result }
+{
+    Reached::Gives(word_of_object(world, receiver, word))
+}
+
+/// A nested class of an object; no other value has one.
+#[inline]
+pub fn nested_in(
+    world: &mut World,
+    code: &CodeProgram,
+    receiver: Value,
+    holder: u32,
+    class: u32,
+) -> Reached
+    requires lawful { IsLawful world.old.world code.now }
+    requires room { HasRoom world.old }
+    requires class { (object : ℕ) → receiver ≡ Ref object → HasClass world.old.world.cells code.now object holder class }
+    ensures reached { (site : Site) (rest : Progress) (values : List Value) → reached_shown code.now site values result (in_world rest world.new.world) ≡ spec.nested_in code.now receiver holder class site (in_world rest world.old.world) }
+    ensures rest { SameRest world.old world.new }
+    ensures plain { IsPlain result }
+{
+    match receiver {
+        Value::Ref(object) => nested_class(world, code, object, holder, class),
+        _ => Reached::Fails(Fault::Kind(Kind::NotUnderstood)),
+    }
+}
+
+/// The same of a send that goes on with a Message, which is charged between the frame and the object.
+pub fn enter_factory_with_message(
+    world: &mut World,
+    code: &CodeProgram,
+    class: u32,
+    sel: Sel,
+    values: &[Value],
+) -> Reached
+    requires lawful { IsLawful world.old.world code.now }
+    requires room { HasRoom world.old }
+    requires class { IsTrue (is_class (find_cell world.old.world.cells class)) }
+    requires selector { FitsSelector world.old.world.cells code.now sel values.now }
+    ensures reached { (site : Site) (rest : Progress) (sent : List Value) → reached_shown code.now site sent result (in_world rest world.new.world) ≡ spec.factory_entered code.now class (spec.Wrapped sel values.now) site (in_world rest world.old.world) }
+    ensures rest { SameRest world.old world.new }
+    ensures plain { IsPlain result }
+{
+    charging_keeps_lawful();
+    match world.enter() {
+        Ok(()) => instance_with_message(world, code, class, sel, values),
+        Err(limit) => Reached::Fails(Fault::Limit(limit)),
+    }
+}
+
+/// The Message, and the instance that is made with it.
+fn instance_with_message(
+    world: &mut World,
+    code: &CodeProgram,
+    class: u32,
+    sel: Sel,
+    values: &[Value],
+) -> Reached
+    requires lawful { IsLawful world.old.world code.now }
+    requires room { HasRoom world.old }
+    requires class { IsTrue (is_class (find_cell world.old.world.cells class)) }
+    requires selector { FitsSelector world.old.world.cells code.now sel values.now }
+    ensures reached { (site : Site) (rest : Progress) (sent : List Value) → reached_shown code.now site sent result (in_world rest world.new.world) ≡ spec.given (spec.Wrapped sel values.now) (in_world rest world.old.world) (λ values progress. made_instance code.now class values site progress) }
+    ensures rest { SameRest world.old world.new }
+    ensures plain { IsPlain result }
+{
+    match make_message(world, sel, values) {
+        Ok(at) => instance(world, code, class, Given::Message(at), &[Value::Ref(at)]),
+        Err(fault) => Reached::Fails(fault),
+    }
+}
+
+/// A setter that is sent with a Message stores that.
+pub fn set_with_message(
+    world: &mut World,
+    code: &CodeProgram,
+    receiver: Value,
+    word: u32,
+    sel: Sel,
+    values: &[Value],
+) -> Reached
+    requires lawful { IsLawful world.old.world code.now }
+    requires room { HasRoom world.old }
+    requires word { (at : ℕ) → receiver ≡ Ref at → word < length (open_words_at world.old.world.cells at) }
+    requires selector { FitsSelector world.old.world.cells code.now sel values.now }
+    ensures reached { (site : Site) (rest : Progress) (sent : List Value) → reached_shown code.now site sent result (in_world rest world.new.world) ≡ spec.set word receiver (spec.Wrapped sel values.now) (in_world rest world.old.world) }
+    ensures rest { SameRest world.old world.new }
+    ensures plain { IsPlain result }
+{
+    match make_message(world, sel, values) {
+        Ok(at) => {
+            store(world, receiver, word, Value::Ref(at));
+            Reached::Gives(receiver)
+        }
+        Err(fault) => Reached::Fails(fault),
+    }
+}

@@ -1,0 +1,6 @@
+pub mod Highest
+pub mod Stepping
+pub mod Starting
+pub mod Written
+pub mod Finishing
+pub mod Routines

@@ -1,0 +1,5 @@
+pub mod Stepping
+pub mod Starting
+pub mod Finishing
+pub mod Heading
+pub mod Coding

@@ -1,0 +1,15 @@
+pub mod Pushed
+pub mod Settled
+pub mod Taken
+pub mod Made
+pub mod Fetched
+pub mod Kept
+pub mod Stored
+pub mod Arrived
+pub mod Turned
+pub mod EntersBodies
+pub mod Environments
+pub mod LocalsDone
+pub mod Enclosed
+pub mod Framed
+pub mod Arguments

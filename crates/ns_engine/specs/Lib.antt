@@ -1,0 +1,12 @@
+pub mod Shown
+pub mod Doing
+pub mod Standing
+pub mod Moving
+pub mod Ready
+pub mod Arriving
+pub mod Turning
+pub mod Entering
+pub mod Own
+pub mod Locals
+pub mod Jumping
+pub mod Framed

@@ -1,0 +1,15 @@
+//! The machine that runs code: its instructions, one function for each kind, over the world of a run, its frames and
+//! its values. The state that it shows is one of ns_moves, and each instruction is the move of that state.
+#![tactic(auto)]
+
+pub mod arriving;
+pub mod jumping;
+pub mod laws;
+pub mod locals;
+pub mod making;
+pub mod own;
+pub mod pushing;
+pub mod settling;
+pub mod state;
+pub mod storing;
+pub mod taking;

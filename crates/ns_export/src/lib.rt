@@ -1,0 +1,4 @@
+//! The bytes of an image from code.
+#![tactic(auto)]
+
+pub mod write;

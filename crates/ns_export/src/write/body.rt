@@ -1,0 +1,53 @@
+//! Bodies and the places of their instructions.
+
+ghost use Rattle.std.specs.Prelude.{◌≡◌, ◌++◌, OnOk};
+ghost use Rattle.ns_image.specs.Bytes as spec;
+ghost use Rattle.ns_export.specs.Room.{HasRoom};
+
+use crate::write::output::{
+    Part, put_all, put_byte, put_counted, put_flag, put_half, put_reference, put_word,
+};
+use ns_base::no_memory::NoMemory;
+use ns_base::place::Place;
+use ns_code::body::BodyCode;
+
+/// A place behind the number of its instruction.
+impl Part for (u32, Place) {
+    ghost layout = { spec.place };
+
+    ghost fits = { λ _. Unit {0} };
+
+    fn put(&self, out: &mut Vec<u8>) -> Result<(), NoMemory> {
+        put_word(out, self.0)?;
+        put_word(out, self.1.file)?;
+        put_word(out, self.1.line)?;
+        put_word(out, self.1.col)
+    }
+}
+
+impl Part for BodyCode {
+    ghost layout = { spec.body };
+
+    ghost fits = { HasRoom };
+
+    fn put(&self, out: &mut Vec<u8>) -> Result<(), NoMemory> {
+        put_fields(out, self)?;
+        put_counted(out, self.instrs.as_slice())?;
+        put_all(out, self.local_names.as_slice())?;
+        put_counted(out, self.places.as_slice())
+    }
+}
+
+fn put_fields(out: &mut Vec<u8>, body: &BodyCode) -> Result<(), NoMemory>
+    requires { HasRoom body.now }
+    ensures { OnOk result (out.new.items ≡ out.old.items ++ spec.body_fields body.now) }
+{
+    put_byte(out, body.kind)?;
+    put_byte(out, body.side)?;
+    put_word(out, body.class)?;
+    put_reference(out, body.parent)?;
+    put_byte(out, body.params)?;
+    put_byte(out, body.locals)?;
+    put_flag(out, body.environment)?;
+    put_half(out, body.height)
+}

@@ -1,0 +1,5 @@
+pub mod Weights
+pub mod Earlier
+pub mod Lowered
+pub mod Bounded
+pub mod Ending

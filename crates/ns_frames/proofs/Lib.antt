@@ -1,0 +1,14 @@
+pub mod Topmost
+pub mod Standing
+pub mod Pushing
+pub mod Taking
+pub mod Locals
+pub mod Filling
+pub mod Ended
+pub mod Searching
+pub mod Homes
+pub mod Operands
+pub mod Returning
+pub mod Called
+pub mod Room
+pub mod Arriving

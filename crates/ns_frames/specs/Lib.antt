@@ -1,0 +1,9 @@
+pub mod Row
+pub mod Standing
+pub mod Stack
+pub mod Leaving
+pub mod View
+pub mod Laws
+pub mod Calls
+pub mod Room
+pub mod Arriving

@@ -1,0 +1,4 @@
+pub mod Inner
+pub mod Walking
+pub mod Sizes
+pub mod Whole

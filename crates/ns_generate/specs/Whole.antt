@@ -1,0 +1,16 @@
+-- The whole of a program.
+use Rattle.std.specs.Prelude.{ℕ, List, [], flat_map, nat_lt, Option, Some, None, if◌then◌else◌}
+use Rattle.ns_meant.specs.Program as m
+use Rattle.ns_meant.specs.Tables.{put_all, class_names}
+use Rattle.ns_gen.specs.Sizes.{most}
+use Rattle.ns_gen.specs.declared.size.SizeKind.{SizeKind}
+use Rattle.ns_gen.specs.declared.size.SizeKind.TheVariants as s
+use Rattle.ns_bodies.specs.Coding.{Coded}
+
+-- the names of the records of classes, and no body yet
+abbrev pub named : List m.Declaration → Coded
+named classes = record { names = put_all [] (flat_map class_names classes); texts = []; bodies = []; fault = None }
+
+-- the first size that passes its limit, by how many names and bodies there are, and what of the bodies is too large
+abbrev pub first_fault : ℕ → ℕ → Option SizeKind → Option SizeKind
+first_fault names bodies fault = if nat_lt most names then Some s.Names else if nat_lt most bodies then Some s.Bodies else fault

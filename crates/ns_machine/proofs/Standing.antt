@@ -1,0 +1,222 @@
+-- What holds of a machine at every moment.
+use Rattle.std.proofs.Common.{◌≡◌, ℕ, List, [], refl, ap, sym, subst, ◌∙◌, true, Result, Ok, Err, All}
+use Rattle.ns_base.specs.declared.limits.Limits.{Limits}
+use Rattle.ns_code.specs.declared.program.CodeProgram.{CodeProgram}
+use Rattle.ns_facets.specs.declared.row.Grants.{Grants}
+use Rattle.ns_world.specs.declared.value.Value.{Value}
+use Rattle.ns_world.specs.declared.value.Value.TheVariants as value
+use Rattle.ns_world.specs.declared.cell.CellLimit.{CellLimit}
+use Rattle.ns_world.specs.World.{World, WorldView}
+use Rattle.ns_world.specs.Starts.{start_of, has_class}
+use Rattle.ns_world.specs.Lawful.{IsLawful}
+use Rattle.ns_report.proofs.Cells.{class_named}
+use Rattle.ns_send.specs.Control.{Progress, in_world}
+use Rattle.ns_send.specs.Start.{nothing_done, start_made}
+use Rattle.ns_start.specs.Making.{start_shown}
+use Rattle.ns_moves.specs.State.{State, Ended, progress_of, swapped}
+use Rattle.ns_moves.specs.Starts.{unbegun, new_machine}
+use Rattle.ns_moves.specs.Valid.{Valid}
+use Rattle.ns_engine.specs.declared.state.Core.{Core}
+use Rattle.ns_engine.specs.Shown.{phase_shown, progress_in}
+use Rattle.ns_engine.proofs.Kept.{valid_lawful, shown_progress, rooms_stay}
+use Rattle.ns_engine.specs.declared.state.Phase.{Phase as KeptPhase}
+use Rattle.ns_engine.specs.declared.state.Phase.TheVariants.{Start, Hosted}
+use Rattle.ns_world.specs.declared.ending.Ending.TheVariants.{Limit}
+use Rattle.ns_world.specs.declared.ending.LimitKind.TheVariants.{Cells}
+use Rattle.std.proofs.Common.{Option, None, Bool, if◌then◌else◌, ◌≤◌, ◌++◌, length, append-nil}
+use Rattle.ns_engine.specs.Ready.{IsReady}
+use Rattle.ns_turns.specs.Turning.{RunsBy}
+use Rattle.ns_base.specs.declared.selector.Sel.{Sel}
+use Rattle.ns_send.specs.Sends.{site_at}
+use Rattle.ns_moves.specs.State as state
+use Rattle.ns_moves.specs.State.{Sending, Pends, world_of}
+use Rattle.ns_moves.specs.Starts.{begun}
+use Rattle.ns_moves.specs.Beginning.{MayBegin, HostKeepsValid}
+use Rattle.ns_plan.specs.Steps.{places_of, no_place}
+use Rattle.ns_engine.specs.declared.state.Next.{Next}
+use Rattle.ns_engine.specs.Shown.{shown}
+use Rattle.ns_machine.proofs.Opening.{no_place_is}
+use Rattle.ns_machine.specs.Waiting.{SendWaits}
+use Rattle.ns_machine.specs.declared.stage.Stage.{Stage}
+use Rattle.ns_machine.specs.declared.stage.Stage.TheVariants as stage
+use Rattle.ns_machine.specs.Machine.{stage_shown, stage_after, StandIn, IsMachine}
+use Rattle.ns_machine.specs.Fresh.{IsFresh}
+use Rattle.std.specs.List.{slice_get}
+use Rattle.ns_base.specs.declared.place.Place.{Place as SourcePlace}
+use Rattle.ns_facets.specs.declared.board.Board.{Board}
+use Rattle.ns_find.specs.Memo.{IsRight}
+use Rattle.ns_act.specs.declared.run.Run.{Run}
+use Rattle.ns_moves.specs.Steps.{opening_place}
+use Rattle.ns_moves.specs.WorldStays.{SwapsKeepValid}
+use Rattle.ns_frames.specs.declared.frame.Pending.TheVariants as pending
+use Rattle.ns_plan.specs.declared.plan.Plan.{Plan}
+use Rattle.ns_engine.specs.declared.own.OwnSends.{OwnSends}
+use Rattle.ns_engine.specs.declared.state.Next.TheVariants as next
+use Rattle.ns_engine.specs.Standing.{Stays}
+
+-- the class of each value is there, or is the kernel's
+pub class_there : (world : World) (code : CodeProgram) → IsLawful world code → (v : Value) → has_class world.cells (start_of world.cells v) ≡ true
+class_there world code lawful value.Nil = refl
+class_there world code lawful value.True = refl
+class_there world code lawful value.False = refl
+class_there world code lawful (value.Int number) = refl
+class_there world code lawful (value.Sym sel) = refl
+class_there world code lawful (value.Kernel class) = refl
+class_there world code lawful (value.Ref at) = class_named world code at lawful
+
+-- what it has done is what its state has
+pub stage_progress : (code : CodeProgram) (core : Core) (stage : Stage) → progress_of (stage_shown code core stage) ≡ progress_in core
+stage_progress code core (stage.Unbegun arguments) = refl
+stage_progress code core (stage.Begun next) = shown_progress code core next
+
+pub stage_lawful : (code : CodeProgram) (grants : Grants) (core : Core) (stage : Stage) → Valid code grants (stage_shown code core stage)
+    → IsLawful core.run.world.world code
+stage_lawful code grants core stage valid =
+    subst (λ (p : Progress). IsLawful p.world code) (stage_progress code core stage) (valid_lawful code grants (stage_shown code core stage) valid)
+
+-- ---- the start
+
+-- the core with another world
+abbrev pub with_world : Core → WorldView → Core
+with_world core world = record core { run = record core.run { world = world } }
+
+stage_unbegun : (code : CodeProgram) (core : Core) (made : Result ℕ CellLimit) → core.phase ≡ Start
+    → stage_shown code core (stage_after made) ≡ unbegun (start_shown made (progress_in core))
+stage_unbegun code core (Ok arguments) phase = refl
+stage_unbegun code core (Err limit) phase = ap (λ (p : KeptPhase). Ended (Limit Cells) (phase_shown p) (progress_in core)) phase
+
+-- where it stands after its start
+pub stage_started : (code : CodeProgram) (limits : Limits) (grants : Grants) (arguments : List (List ℕ)) (core : Core) (world : WorldView) (made : Result ℕ CellLimit)
+    → IsFresh code limits core
+    → start_shown made (in_world (nothing_done core.run.world.world.limits) world.world) ≡ start_made code grants arguments core.run.world.world.limits
+    → stage_shown code (with_world core world) (stage_after made) ≡ new_machine code limits grants arguments
+stage_started code limits grants arguments core world made fresh is =
+    let same : core.run.world.world.limits ≡ limits = ap (λ (p : Progress). p.world.limits) fresh.progress in
+    let done : progress_in (with_world core world) ≡ in_world (nothing_done limits) world.world = ap (λ (p : Progress). in_world p world.world) fresh.progress in
+    stage_unbegun code (with_world core world) made fresh.phase
+    ∙ (ap (λ (p : Progress). unbegun (start_shown made p)) done
+    ∙ ap unbegun (subst (λ (l : Limits). start_shown made (in_world (nothing_done l) world.world) ≡ start_made code grants arguments l) same is))
+
+-- ---- another board
+
+-- the core with another board
+abbrev pub with_board_of : Core → Board → Core
+with_board_of core board = record core { run = record core.run { board = board } }
+
+-- it shows the same state with that board
+pub stage_swapped : (code : CodeProgram) (core : Core) (board : Board) (stage : Stage)
+    → stage_shown code (with_board_of core board) stage ≡ swapped board (stage_shown code core stage)
+stage_swapped code core board (stage.Unbegun arguments) = refl
+stage_swapped code core board (stage.Begun (next.On at)) = refl
+stage_swapped code core board (stage.Begun (next.Waits pending.Nothing at)) = refl
+stage_swapped code core board (stage.Begun (next.Waits (pending.Sending receiver sel site floor first) at)) = refl
+stage_swapped code core board (stage.Begun (next.Waits (pending.Performing receiver sel array site floor) at)) = refl
+stage_swapped code core board (stage.Begun (next.Waits (pending.Evaluating block site floor first) at)) = refl
+stage_swapped code core board (stage.Begun (next.Ends ending)) = refl
+
+pub swapped_machine : (code : CodeProgram) (grants : Grants) (plan : Plan) (core : Core) (own : OwnSends) (stage : Stage) (board : Board)
+    → SwapsKeepValid code grants → IsMachine code grants plan core own stage → IsMachine code grants plan (with_board_of core board) own stage
+swapped_machine code grants plan core own stage board keeps is = record {
+  valid = subst (Valid code grants) (sym (stage_swapped code core board stage)) (keeps board (stage_shown code core stage) is.valid);
+  rooms = record { cells = is.rooms.cells; out = is.rooms.out; frames = is.rooms.frames; values = is.rooms.values; sends = is.rooms.sends };
+  stand = is.stand;
+  kept = is.kept;
+  prepared = is.prepared;
+  places = is.places;
+  sends = record {
+    package_using = is.sends.package_using;
+    main_args = is.sends.main_args;
+    does_not_understand = is.sends.does_not_understand;
+    opening = is.sends.opening;
+  };
+}
+
+-- ---- sends
+
+-- the core in another phase
+abbrev pub with_phase : Core → KeptPhase → Core
+with_phase core phase = record core { phase = phase }
+
+-- a machine in which a send waits, which is a valid state
+waiting_machine : (code : CodeProgram) (grants : Grants) (plan : Plan) (old new : Core) (phase : KeptPhase) (own : OwnSends) (before after : Stage)
+    → IsMachine code grants plan old own before → Valid code grants (stage_shown code new after) → StandIn code new.stack after → new.run ≡ old.run
+    → Stays (with_phase old phase) new → IsMachine code grants plan new own after
+waiting_machine code grants plan old new phase own before after is valid stand run stays = record {
+  valid = valid;
+  rooms = rooms_stay code (with_phase old phase) new (record { cells = is.rooms.cells; out = is.rooms.out; frames = is.rooms.frames; values = is.rooms.values; sends = is.rooms.sends }) stays;
+  stand = stand;
+  kept = subst (λ (r : Run). All (IsRight r.world.world.cells code) r.memo) (sym run) is.kept;
+  prepared = is.prepared;
+  places = stays.places ∙ is.places;
+  sends = record {
+    package_using = is.sends.package_using;
+    main_args = is.sends.main_args;
+    does_not_understand = is.sends.does_not_understand;
+    opening = subst (λ (places : List SourcePlace). slice_get places own.opening ≡ opening_place code) (sym stays.places) is.sends.opening;
+  };
+}
+
+-- a send of the host that waits has begun
+pub host_shown : (code : CodeProgram) (grants : Grants) (plan : Plan) (core new : Core) (own : OwnSends) (stage : Stage) (next : Next) (receiver : Value) (sel : Sel)
+    (arguments : List Value) → IsMachine code grants plan core own stage → MayBegin code receiver sel arguments (stage_shown code core stage)
+    → SendWaits code (with_phase core Hosted) receiver sel (slice_get core.places no_place) arguments new next
+    → shown code new next ≡ begun receiver sel arguments (stage_shown code core stage)
+host_shown code grants plan core new own stage next receiver sel arguments is may waits =
+    let before = stage_shown code core stage in
+    let none : slice_get core.places no_place ≡ None =
+    ap (λ (places : List SourcePlace). slice_get places no_place) is.places ∙ no_place_is (places_of code) is.prepared.few in
+    waits.state
+    ∙ (ap (λ (place : Option SourcePlace).
+    Pends state.Hosted (Sending receiver sel arguments (site_at core.run.world.world.cells place receiver sel)) [] (progress_in core)) none
+    ∙ (ap (λ (p : Progress). Pends state.Hosted (Sending receiver sel arguments (site_at p.world.cells None receiver sel)) [] p) (sym (stage_progress code core stage))
+    ∙ sym (ap (λ (idle : Bool). if idle then Pends state.Hosted (Sending receiver sel arguments (site_at (world_of before).cells None receiver sel)) [] (progress_of before)
+    else before) may.idle)))
+
+pub host_machine : (code : CodeProgram) (grants : Grants) (plan : Plan) (core new : Core) (own : OwnSends) (before : Stage) (next : Next) (receiver : Value) (sel : Sel)
+    (arguments : List Value) → HostKeepsValid code grants → IsMachine code grants plan core own before
+    → MayBegin code receiver sel arguments (stage_shown code core before)
+    → SendWaits code (with_phase core Hosted) receiver sel (slice_get core.places no_place) arguments new next
+    → IsMachine code grants plan new own (stage.Begun next)
+host_machine code grants plan core new own before next receiver sel arguments keeps is may waits =
+    waiting_machine code grants plan core new Hosted own before (stage.Begun next) is
+    (subst (Valid code grants) (sym (host_shown code grants plan core new own before next receiver sel arguments is may waits))
+    (keeps receiver sel arguments (stage_shown code core before) is.valid may))
+    waits.stand waits.run waits.stays
+
+-- ---- turns
+
+-- a machine that has begun is ready, and runs by its plan
+pub machine_ready : (code : CodeProgram) (grants : Grants) (plan : Plan) (core : Core) (own : OwnSends) (next : Next)
+    → IsMachine code grants plan core own (stage.Begun next) → IsReady code grants core next
+machine_ready code grants plan core own next is = record { valid = is.valid; rooms = is.rooms; stand = is.stand; kept = is.kept }
+
+pub machine_runs : (code : CodeProgram) (grants : Grants) (plan : Plan) (core : Core) (own : OwnSends) (next : Next)
+    → IsMachine code grants plan core own (stage.Begun next) → RunsBy code plan own core next
+machine_runs code grants plan core own next is = record {
+  prepared = record {
+    of_code = is.prepared;
+    more = [];
+    begins = is.places ∙ sym (append-nil (places_of code));
+    few = subst (λ (places : List SourcePlace). length places ≤ no_place) (sym (append-nil (places_of code))) is.prepared.few;
+  };
+  own = is.sends;
+  can = record { grants = grants; ready = machine_ready code grants plan core own next is };
+}
+
+-- it is a machine still where it is ready after a run
+pub machine_on : (code : CodeProgram) (grants : Grants) (plan : Plan) (old new : Core) (own : OwnSends) (from next : Next)
+    → IsMachine code grants plan old own (stage.Begun from) → IsReady code grants new next → Stays old new → IsMachine code grants plan new own (stage.Begun next)
+machine_on code grants plan old new own from next is ready stays = record {
+  valid = ready.valid;
+  rooms = ready.rooms;
+  stand = ready.stand;
+  kept = ready.kept;
+  prepared = is.prepared;
+  places = stays.places ∙ is.places;
+  sends = record {
+    package_using = is.sends.package_using;
+    main_args = is.sends.main_args;
+    does_not_understand = is.sends.does_not_understand;
+    opening = subst (λ (places : List SourcePlace). slice_get places own.opening ≡ opening_place code) (sym stays.places) is.sends.opening;
+  };
+}

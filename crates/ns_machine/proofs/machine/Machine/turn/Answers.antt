@@ -1,0 +1,38 @@
+use Rattle.std.proofs.Common.{◌≡◌, ◌+◌, zero, true, refl, arith, subst, sym, inr}
+use Rattle.ns_code.specs.declared.program.CodeProgram.{CodeProgram}
+use Rattle.ns_moves.specs.Turn.{is_still, Turns}
+use Rattle.ns_engine.specs.Ready.{IsReady}
+use Rattle.ns_turns.specs.Turning.{RunsBy}
+use Rattle.ns_machine.specs.Machine.{MachineView, IsMachine, stage_shown}
+use Rattle.ns_machine.specs.declared.stage.Stage.{Stage}
+use Rattle.ns_machine.proofs.Standing.{machine_runs, machine_ready, machine_on}
+use Rattle.ns_machine.proofs.machine.Machine.turn.Goals as goal
+
+pub turn-next-requires : goal.turn-next-requires
+turn-next-requires c =
+    let m = c.self.inside in
+    subst (λ (code : CodeProgram). RunsBy code m.plan m.own m.core c.in-Begun.from) (sym c.code.ensures.code)
+    (machine_runs m.code m.grants m.plan m.core m.own c.in-Begun.from
+    (subst (λ (s : Stage). IsMachine m.code m.grants m.plan m.core m.own s) c.in-Begun.is c.self.invariant))
+
+pub invariant_of-self : goal.invariant_of-self
+invariant_of-self c =
+    let m = c.self.inside in
+    let is = subst (λ (s : Stage). IsMachine m.code m.grants m.plan m.core m.own s) c.in-Begun.is c.self.invariant in
+    machine_on m.code m.grants m.plan m.core c.turn-next.new.core m.own c.in-Begun.from c.turn-next.result is
+    (subst (λ (code : CodeProgram). IsReady code m.grants m.core c.in-Begun.from → IsReady code m.grants c.turn-next.new.core c.turn-next.result)
+    c.code.ensures.code (c.turn-next.ensures.ready m.grants) (machine_ready m.code m.grants m.plan m.core m.own c.in-Begun.from is))
+    c.turn-next.ensures.stays
+
+pub returns-in-Unbegun-clause-turns : goal.returns-in-Unbegun-clause-turns
+returns-in-Unbegun-clause-turns c =
+    let m = c.self.inside in
+    let still = subst (λ (s : Stage). is_still (stage_shown m.code m.core s) ≡ true) (sym c.in-Unbegun.is) refl in
+    let all : zero + c.args.steps ≡ c.args.steps = omega arith in
+    inr (record {
+      count = zero;
+      spared = c.args.steps;
+      is = refl;
+      charged = all;
+      still = subst (λ (shown : MachineView). is_still shown.state ≡ true) c.self.view_is still;
+    })

@@ -1,0 +1,19 @@
+-- A machine's memory before its start.
+use Rattle.std.specs.Prelude.{◌≡◌, All}
+use Rattle.ns_base.specs.declared.limits.Limits.{Limits}
+use Rattle.ns_code.specs.declared.program.CodeProgram.{CodeProgram}
+use Rattle.ns_find.specs.Memo.{IsEmpty}
+use Rattle.ns_send.specs.Start.{nothing_done}
+use Rattle.ns_plan.specs.Steps.{places_of}
+use Rattle.ns_engine.specs.declared.state.Core.{Core}
+use Rattle.ns_engine.specs.declared.state.Phase.TheVariants.{Start}
+use Rattle.ns_engine.specs.Shown.{progress_in}
+use Rattle.ns_engine.specs.Standing.{HasRooms}
+
+-- Nothing was done and no lookup is kept, but memory was taken for all that a run can need.
+pub record IsFresh (code : CodeProgram) (limits : Limits) (core : Core) : Type 0 where
+  pub progress : progress_in core ≡ nothing_done limits
+  pub phase : core.phase ≡ Start
+  pub rooms : HasRooms code core
+  pub memo : All IsEmpty core.run.memo
+  pub places : core.places ≡ places_of code

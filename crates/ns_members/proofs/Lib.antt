@@ -1,0 +1,3 @@
+mod Selectors
+mod Different
+mod Sets

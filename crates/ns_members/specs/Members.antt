@@ -1,0 +1,50 @@
+-- The private members of a declaration.
+use Rattle.std.specs.Prelude.{ℕ, List, [], ◌++◌, ◌==◌, filter, fold, map, if◌then◌else◌}
+use Rattle.ns_base.specs.Names.{put_in}
+use Rattle.ns_members.specs.declared.privates.Privates.{Privates}
+use Rattle.ns_code.specs.declared.program.CodeProgram.{CodeProgram}
+use Rattle.ns_code.specs.declared.class.ClassCode.{ClassCode}
+use Rattle.ns_code.specs.declared.class.SlotCode.{SlotCode}
+use Rattle.ns_code.specs.declared.class.NestedCode.{NestedCode}
+use Rattle.ns_code.specs.declared.class.MethodCode.{MethodCode}
+use Rattle.ns_code.specs.Soundness.{instance_side, all_slot_selectors, texts_of, nested_names}
+
+abbrev pub private_access : ℕ
+private_access = 2
+
+-- the selectors of slots, nested classes and methods
+abbrev pub selectors_of : CodeProgram → List SlotCode → List NestedCode → List MethodCode → List (List ℕ)
+selectors_of code slots nested methods =
+    all_slot_selectors code slots
+    ++ (texts_of code (nested_names code nested) ++ texts_of code (map (λ (method : MethodCode). method.sel.0) methods))
+
+-- the selectors of the private members of the instance side
+abbrev pub private_instance_selectors : CodeProgram → ClassCode → List (List ℕ)
+private_instance_selectors code class =
+    selectors_of code
+    (filter (λ (slot : SlotCode). slot.access == private_access) class.slots)
+    (filter (λ (nested : NestedCode). nested.access == private_access) class.nested)
+    (filter (λ (method : MethodCode). method.access == private_access) class.methods)
+
+-- the selectors of the private members of the class side
+abbrev pub private_side_selectors : CodeProgram → ClassCode → List (List ℕ)
+private_side_selectors code class =
+    texts_of code (map (λ (method : MethodCode). method.sel.0) (filter (λ (method : MethodCode). method.access == private_access) class.side_methods))
+
+-- the selectors of the private members of a side
+abbrev pub private_selectors : CodeProgram → ℕ → ClassCode → List (List ℕ)
+private_selectors code side class =
+    if side == instance_side then private_instance_selectors code class else private_side_selectors code class
+
+-- the texts of a list, each once
+abbrev pub set_of : List (List ℕ) → List (List ℕ)
+set_of texts = fold put_in [] texts
+
+-- the sets of the selectors of a declaration's private members, of both sides
+abbrev pub privates_of : CodeProgram → ClassCode → Privates
+privates_of code class =
+    record { instance = set_of (private_instance_selectors code class); side = set_of (private_side_selectors code class) }
+
+-- the same of all declarations, by number
+abbrev pub all_privates : CodeProgram → List Privates
+all_privates code = map (privates_of code) code.classes

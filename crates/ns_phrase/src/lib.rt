@@ -1,0 +1,5 @@
+//! Reads expressions, slots, statements and blocks from tokens.
+#![tactic(auto)]
+
+pub mod expressions;
+pub mod fronts;

@@ -1,0 +1,6 @@
+pub mod Made
+pub mod Walk
+pub mod Rows
+pub mod Lookup
+pub mod Following
+pub mod Finding

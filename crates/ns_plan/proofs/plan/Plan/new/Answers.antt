@@ -1,0 +1,10 @@
+use Rattle.std.proofs.Common.{arith}
+use Rattle.ns_plan.proofs.Made.{round, body_fits}
+use Rattle.ns_plan.proofs.plan.Plan.new.Goals as goal
+
+pub add-requires-clause-body : goal.add-requires-clause-body
+add-requires-clause-body c = body_fits c.code-code.result.now c.body-item.result c.bodies.body-index c.as_slice-body-items.result.now _ c.as_slice-body-items.ensures (omega arith) c.body-item.is c.code-code.ensures.fits
+
+pub bodies-preserved : goal.bodies-preserved
+bodies-preserved c =
+    round c.code-code.result.now c.bodies.draft c.add.new.self c.body-item.result c.bodies.body-index c.as_slice-body-items.result.now _ c.as_slice-body-items.ensures (omega arith) c.body-item.is c.bodies.invariant c.in_ok-add.ensures

@@ -1,0 +1,65 @@
+-- What steps of sound code can rely on, and what the machine's definitions say of them.
+use Rattle.std.specs.Prelude.{◌≡◌, ℕ, ◌+◌, ◌<◌, ◌≤◌, List, length, Some, IsSome, slice_get, true}
+use Rattle.ns_base.specs.declared.selector.Sel.{Sel}
+use Rattle.ns_code.specs.declared.program.CodeProgram.{CodeProgram}
+use Rattle.ns_code.specs.declared.body.BodyCode.{BodyCode}
+use Rattle.ns_code.specs.Table.{goes_on, target}
+use Rattle.ns_verify.specs.Verify.{IsSound}
+use Rattle.ns_verify.specs.Uses.{IsUsable}
+use Rattle.ns_world.specs.declared.value.Value.{Value}
+use Rattle.ns_world.specs.Lawful.{IsLawful}
+use Rattle.ns_world.specs.World.{World}
+use Rattle.ns_send.specs.Bodies.{enclosing, locals_of}
+use Rattle.ns_send.specs.Control.{Progress, Activation}
+use Rattle.ns_send.specs.Lawful.{FitsActivation, declaration_at}
+use Rattle.ns_send.specs.Sends.{ToPrivate, found_at}
+use Rattle.ns_moves.specs.State.{Leaving}
+use Rattle.ns_moves.specs.Steps as moves
+use Rattle.ns_moves.specs.Steps.{steps_from}
+use Rattle.ns_moves.specs.ValidFrames.{Nothing, RunningIsValid}
+use Rattle.ns_plan.specs.declared.step.Step.{Step}
+use Rattle.ns_plan.specs.Privates.{found_in, member_at}
+use Rattle.ns_plan.specs.Steps.{instr_of}
+use Rattle.ns_plan.specs.Rows.{height_of, greatest_frame}
+use Rattle.ns_plan.specs.Plan.{IsStep, IsStepAt}
+
+-- The first step of a body is there.
+abbrev pub BodiesBegin : CodeProgram → Type 0
+BodiesBegin code = (body : ℕ) → IsSound code → body < length code.bodies → IsStep code body 0
+
+-- Behind a step that goes on there is a next one.
+abbrev pub StepsGoOn : CodeProgram → Type 0
+StepsGoOn code =
+    (body next : ℕ) (step : Step) → IsSound code → IsStep code body next → IsStepAt code body next step → goes_on (instr_of step) ≡ true
+    → IsStep code body (next + 1)
+
+-- The target of a jump is a step of its body.
+abbrev pub JumpsLand : CodeProgram → Type 0
+JumpsLand code =
+    (body next to : ℕ) (step : Step) → IsSound code → IsStep code body next → IsStepAt code body next step → target (instr_of step) ≡ Some to
+    → IsStep code body to
+
+-- What a step names is there, and it stands in a body in which it can be used.
+abbrev pub StepsAreUsable : CodeProgram → Type 0
+StepsAreUsable code =
+    (body next : ℕ) (step : Step) (b : BodyCode) → IsSound code → IsStep code body next → IsStepAt code body next step
+    → slice_get code.bodies body ≡ Some b → IsUsable code body b next (instr_of step)
+
+-- A body that runs and waits for nothing has a next step.
+abbrev pub RunningHasStep : CodeProgram → Type 0
+RunningHasStep code =
+    (progress : Progress) (leaving : Leaving) (activation : Activation) (locals stack : List Value) (next : ℕ) (rest : List moves.Step)
+    → rest ≡ steps_from code activation.body next → RunningIsValid code progress Nothing leaving activation locals rest stack
+    → IsStep code activation.body next
+
+-- In a lawful world the member of a private send, with the holder at its level, is what its lookup finds.
+abbrev pub MembersAreFound : CodeProgram → Type 0
+MembersAreFound code =
+    (world : World) (activation : Activation) (b : BodyCode) (level : ℕ) (sel : Sel) → IsLawful world code
+    → FitsActivation world.cells code activation → slice_get code.bodies activation.body ≡ Some b → IsSome (declaration_at code activation.body level)
+    → found_at world.cells code activation (ToPrivate level) sel.0
+    ≡ found_in world.cells code (enclosing world.cells activation level).holder (member_at code b level sel)
+
+-- No body has more locals and operands than the greatest frame.
+abbrev pub FramesAreWithin : CodeProgram → Type 0
+FramesAreWithin code = (body : ℕ) → locals_of code body + height_of code body ≤ greatest_frame code.bodies

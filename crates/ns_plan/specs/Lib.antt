@@ -1,0 +1,6 @@
+pub mod Privates
+pub mod Steps
+pub mod Rows
+pub mod Making
+pub mod Plan
+pub mod Laws

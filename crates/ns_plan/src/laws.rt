@@ -1,0 +1,42 @@
+//! Laws of steps. Each function does nothing, and its contract is the law.
+
+ghost use Rattle.ns_code.specs.declared.program.CodeProgram.{CodeProgram};
+ghost use Rattle.ns_plan.specs.Laws.{BodiesBegin, StepsGoOn, JumpsLand, StepsAreUsable, RunningHasStep, MembersAreFound, FramesAreWithin};
+
+use ns_send::finding::enclosing_objects_are_there;
+use ns_verify::laws::{heights_agree, sound_code_has_no_cause, sound_instructions_are_usable};
+
+/// In sound code each body has a first step; behind a step that goes on there is a next one, and the target of a jump
+/// is a step of its body.
+pub fn steps_lead_to_steps()
+    ensures first { (code : CodeProgram) → BodiesBegin code }
+    ensures next { (code : CodeProgram) → StepsGoOn code }
+    ensures target { (code : CodeProgram) → JumpsLand code }
+{
+    sound_code_has_no_cause();
+    heights_agree();
+}
+
+/// In sound code the literals, selectors, bodies, locals and members that a step names are there.
+pub fn what_steps_name_is_there()
+    ensures { (code : CodeProgram) → StepsAreUsable code }
+{
+    sound_instructions_are_usable();
+}
+
+/// A frame in a valid state that is about to go on has a step to go on with.
+pub fn running_bodies_have_steps()
+    ensures { (code : CodeProgram) → RunningHasStep code }
+{}
+
+/// What was found for a private send when the code was prepared is what its lookup finds.
+pub fn members_are_found()
+    ensures { (code : CodeProgram) → MembersAreFound code }
+{
+    enclosing_objects_are_there();
+}
+
+/// No body has more locals and operands than the greatest frame.
+pub fn frames_are_within_the_greatest()
+    ensures { (code : CodeProgram) → FramesAreWithin code }
+{}

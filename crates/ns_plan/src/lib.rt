@@ -1,0 +1,10 @@
+//! Code prepared for running: made once from verified code, and read in constant time from then on.
+#![tactic(auto)]
+
+pub mod laws;
+mod making;
+pub mod plan;
+mod privates;
+pub mod row;
+pub mod step;
+mod steps;

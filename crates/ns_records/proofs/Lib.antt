@@ -1,0 +1,5 @@
+pub mod BlocksOf
+pub mod Naming
+pub mod Clauses
+pub mod Parts
+pub mod Units

@@ -1,0 +1,5 @@
+pub mod Handing
+pub mod Ending
+pub mod Unwinding
+pub mod Acting
+pub mod Parts

@@ -1,0 +1,46 @@
+-- What the spelling of a class's names gives: identifiers, and patterns with as many parameters as their selectors take.
+use Rattle.std.specs.Prelude.{◌≡◌, true, List, length, Option, Some, None}
+use Rattle.ns_tree.specs.Plain as p
+use Rattle.ns_scope.specs.Names.{selector_of}
+use Rattle.ns_code.specs.Selector.{text_arity}
+use Rattle.ns_code.specs.Spelling.{is_identifier}
+
+-- A pattern has as many parameters as its selector takes arguments.
+abbrev pub Takes : p.Pattern → Type 0
+Takes (p.pattern_with parts params) = length params ≡ text_arity (selector_of parts)
+
+abbrev pub FactoryTakes : Option p.Pattern → Type 0
+FactoryTakes None = Unit {0}
+FactoryTakes (Some pattern) = Takes pattern
+
+abbrev pub MethodTakes : p.Method → Type 0
+MethodTakes (p.method_with pattern bars body) = Takes pattern
+
+abbrev pub WhatTakes : p.What → Type 0
+WhatTakes (p.class_member class) = Unit {0}
+WhatTakes (p.method_member method) = MethodTakes method
+
+abbrev pub MembersTake : p.Members → Type 0
+MembersTake p.no_members = Unit {0}
+MembersTake (p.more_members (p.member_with categories access what) rest) = WhatTakes what × MembersTake rest
+
+abbrev pub SideTakes : p.Side → Type 0
+SideTakes (p.side_with members tail) = MembersTake members
+
+abbrev pub ClassSideTakes : p.ClassSide → Type 0
+ClassSideTakes p.no_class_side = Unit {0}
+ClassSideTakes (p.class_side_with others) = SideTakes others
+
+-- The names of slots are identifiers.
+abbrev pub SlotsNamed : p.Slots → Type 0
+SlotsNamed p.no_slots = Unit {0}
+SlotsNamed (p.more_slots (p.slot_with access name init) rest) = (is_identifier name.text ≡ true) × SlotsNamed rest
+
+abbrev pub BarsNamed : p.Bars → Type 0
+BarsNamed p.no_bars = Unit {0}
+BarsNamed (p.bars_around slots) = SlotsNamed slots
+
+-- The names of a class and of its slots are identifiers, and its patterns take what their selectors say.
+abbrev pub IsSpelled : p.Class → Type 0
+IsSpelled (p.class_with name factory clause bars body members others) =
+    (is_identifier name.text ≡ true) × FactoryTakes factory × BarsNamed bars × SideTakes members × ClassSideTakes others

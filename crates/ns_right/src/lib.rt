@@ -1,0 +1,4 @@
+//! Laws: which programs mean what is right. There is nothing here to call.
+#![tactic(auto)]
+
+pub mod laws;

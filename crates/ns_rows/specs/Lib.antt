@@ -1,0 +1,4 @@
+pub mod Asked
+pub mod Reaching
+pub mod Parts
+pub mod Plain

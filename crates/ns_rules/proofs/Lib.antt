@@ -1,0 +1,4 @@
+pub mod Inside
+pub mod Order
+pub mod Past
+pub mod Shapes

@@ -1,0 +1,331 @@
+-- What waits goes on: the evaluation of a block.
+use Rattle.std.proofs.Common.{◌≡◌, ◌+◌, ◌-◌, ◌<◌, ◌≤◌, ℕ, suc, List, [], ◌∷◌, length, take, drop, ap, sym, ◌∙◌, refl, subst, arith, Option, Some, None, Bool, true, false, cond, length-take-le}
+use Rattle.std.specs.Prelude.{IsTrue, IsSome, ◌==◌, All}
+use Rattle.std.specs.Option.{option_map_or}
+use Rattle.std.proofs.lemmas.List.{take-take, length-drop}
+use Rattle.ns_code.specs.declared.program.CodeProgram.{CodeProgram}
+use Rattle.ns_code.specs.Soundness.{block_kind}
+use Rattle.ns_facets.specs.declared.row.Grants.{Grants}
+use Rattle.ns_world.specs.declared.value.Value.{Value}
+use Rattle.ns_world.specs.declared.cell.NewCell.{NewCell}
+use Rattle.ns_world.specs.declared.cell.NewCell.TheVariants as new
+use Rattle.ns_world.specs.declared.ending.LimitKind.{LimitKind}
+use Rattle.ns_world.specs.declared.ending.LimitKind.TheVariants.{Steps, Depth, Cells}
+use Rattle.ns_world.specs.declared.ending.Kind.TheVariants.{WrongArity}
+use Rattle.ns_world.specs.declared.value.Value.TheVariants.{Nil, True, False, Int, Sym, Kernel, Ref}
+use Rattle.ns_world.specs.Lawful.{IsLawful, IsLiveValue}
+use Rattle.ns_world.specs.Cell.{Cell, EnvironmentCell, shape_of}
+use Rattle.ns_world.specs.Heap.{Heap, heap_size, find_cell}
+use Rattle.ns_world.specs.World.{World, WorldView, stepped, entered, made}
+use Rattle.ns_kdata.specs.Arguments.{IsThere, shape_of_value}
+use Rattle.ns_send.specs.declared.site.Site.{Site}
+use Rattle.ns_send.specs.declared.control.Reached.{Reached}
+use Rattle.ns_send.specs.declared.control.Reached.TheVariants as reached
+use Rattle.ns_send.specs.Control.{Progress, in_world, Activation, Control, Now, Enter, FromBody, Evaluate, Begin, Perform, Gives, Halts, halts, fails, charged}
+use Rattle.ns_send.specs.Bodies.{parameters_of, has_environment, first_locals, opened}
+use Rattle.ns_send.specs.Shown.{reached_shown}
+use Rattle.ns_send.specs.Blocks.{is_block_shape, is_block, evaluated, block_entered}
+use Rattle.ns_frames.specs.declared.frame.Frame.{Frame}
+use Rattle.ns_find.specs.declared.memo.Kept.{Kept}
+use Rattle.ns_find.specs.Memo.{IsRight}
+use Rattle.ns_send.specs.Actions.{Action, Evaluates}
+use Rattle.ns_send.specs.Lawful.{LawfulRun, LawfulControl}
+use Rattle.ns_send.specs.Fitting.{GoesOnAt, home_in, Asks, HandsOn}
+use Rattle.ns_send.specs.Spending.{Spends}
+use Rattle.ns_moves.specs.Arrivals.{arrived}
+use Rattle.ns_act.specs.declared.run.Run.{Run}
+use Rattle.ns_act.specs.Room.{SameRest}
+use Rattle.ns_frames.specs.declared.frame.Pending.TheVariants as pending
+use Rattle.ns_frames.specs.View.{site_shown}
+use Rattle.ns_engine.specs.declared.state.Next.{Next}
+use Rattle.ns_engine.specs.declared.state.Next.TheVariants as next
+use Rattle.ns_engine.specs.Shown.{phase_shown, progress_in}
+use Rattle.ns_engine.specs.Arriving.{Arrives}
+use Rattle.ns_engine.specs.Ready.{Moves}
+use Rattle.ns_engine.proofs.Kept.{rooms_stay}
+use Rattle.ns_engine.proofs.Made.{in_other}
+use Rattle.ns_sends.proofs.Goes.{room_above}
+use Rattle.ns_base.specs.declared.place.Place.{Place as SourcePlace}
+use Rattle.ns_frames.specs.declared.registers.Registers.{Registers}
+use Rattle.ns_frames.specs.declared.stack.Stack.{Stack}
+use Rattle.ns_frames.specs.Row.{FrameRow}
+use Rattle.ns_frames.specs.Room.{AreWithin, bound}
+use Rattle.ns_frames.specs.Standing.{Stood, standing, at_next, AreLaid}
+use Rattle.ns_frames.specs.Stack.{in_use, stood, with_top, IsLaid, KeepsRoom}
+use Rattle.ns_frames.specs.View.{frames_shown}
+use Rattle.ns_engine.specs.declared.state.Core.{Core}
+use Rattle.ns_engine.specs.Standing.{height_in, greatest_of, AreStanding, ArgumentsWait}
+use Rattle.ns_engine.proofs.Pushed.{stack_stays}
+use Rattle.ns_sends.specs.declared.sent.Sent.{Sent}
+use Rattle.ns_sends.specs.Going.{arguments_in, control_at, ComesToBody, GoesOn, IsLeft, Leads}
+use Rattle.ns_sends.specs.Waiting.{BlockWaits, HasMadePlace, IsWaiting, evaluated_at}
+use Rattle.ns_sends.proofs.Placed.{reach_all, within_more}
+use Rattle.ns_sends.proofs.Operands.{many_stand, many_next}
+
+-- ---- an evaluation gives no value by itself
+
+abbrev pub GivesNone : Control → Type 0
+GivesNone (Now (Gives value progress)) = ⊥
+GivesNone (Now (Halts ending progress)) = Unit {0}
+GivesNone (Enter exit activation locals progress) = Unit {0}
+GivesNone (Evaluate block arguments site progress) = Unit {0}
+GivesNone (Begin method state site progress) = Unit {0}
+GivesNone (Perform receiver sel array site progress) = Unit {0}
+
+none_charged : (limit : LimitKind) (o : Option World) (progress : Progress) (go : Progress → Control) → ((p : Progress) → GivesNone (go p))
+    → GivesNone (charged halts limit o progress go)
+none_charged limit (Some world) progress go goes = goes (in_world progress world)
+none_charged limit None progress go goes = tt
+
+none_opened : (code : CodeProgram) (activation : Activation) (arguments : List Value) (progress : Progress)
+    → GivesNone (opened code halts (Enter FromBody) activation arguments progress)
+none_opened code activation arguments progress = tested (has_environment code activation.body)
+  where
+    tested : (b : Bool) → GivesNone (cond b
+        (charged halts Cells (made progress.world (EnvironmentCell activation.env (first_locals code activation.body arguments))) progress
+        (Enter FromBody (record activation { env = Ref (heap_size progress.world.cells) }) []))
+        (Enter FromBody activation (first_locals code activation.body arguments) progress))
+    tested true = none_charged Cells (made progress.world (EnvironmentCell activation.env (first_locals code activation.body arguments))) progress
+        (Enter FromBody (record activation { env = Ref (heap_size progress.world.cells) }) []) (λ p. tt)
+    tested false = tt
+
+none_entered : (code : CodeProgram) (cell : NewCell) (arguments : List Value) (site : Site) (progress : Progress) → GivesNone (block_entered code cell arguments site progress)
+none_entered code (new.Block body env home receiver holder) arguments site progress = tested (length arguments == parameters_of code body)
+  where
+    inner : Activation
+    inner = record { self = receiver; holder = holder; body = body; home = home; env = env; site = site }
+
+    tested : (b : Bool) → GivesNone (cond b
+        (charged halts Steps (stepped progress.world) progress (λ progress. charged halts Depth (entered progress.world) progress
+        (opened code halts (Enter FromBody) inner arguments)))
+        (fails WrongArity site progress))
+    tested true = none_charged Steps (stepped progress.world) progress
+        (λ progress. charged halts Depth (entered progress.world) progress (opened code halts (Enter FromBody) inner arguments))
+        (λ p. none_charged Depth (entered p.world) p (opened code halts (Enter FromBody) inner arguments) (none_opened code inner arguments))
+    tested false = tt
+none_entered code _ arguments site progress = tt
+
+pub none_evaluated : (code : CodeProgram) (block : Value) (arguments : List Value) (site : Site) (progress : Progress) → GivesNone (evaluated code block arguments site progress)
+none_evaluated code block arguments site progress = none_entered code (shape_of_value progress.world.cells block) arguments site progress
+
+-- so no value comes to a body
+pub comes_none : (code : CodeProgram) (site : Site) (values : List Value) (r : Reached) (progress : Progress) (frames : List Frame)
+    → GivesNone (reached_shown code site values r progress) → ComesToBody r frames
+comes_none code site values (reached.Gives value) progress frames none = absurd none
+comes_none code site values (reached.Fails fault) progress frames none = tt
+comes_none code site values (reached.Refused sel) progress frames none = tt
+comes_none code site values (reached.Enters exit entered) progress frames none = tt
+comes_none code site values (reached.Evaluates block given) progress frames none = tt
+comes_none code site values (reached.Begins method state) progress frames none = tt
+comes_none code site values (reached.Performs receiver sel array) progress frames none = tt
+
+-- ---- the machine that waits
+
+pub many_shown : (code : CodeProgram) (places : List SourcePlace) (stood : List Stood) → length (frames_shown code places stood) ≡ length stood
+many_shown code places [] = refl
+many_shown code places (one ∷ stood) = ap suc (many_shown code places stood)
+
+pub waiting : (code : CodeProgram) (grants : Grants) (core : Core) (at : Registers) (sent : Sent) (block : Value) → BlockWaits code grants core at sent block
+    → IsWaiting code core at sent block
+waiting code grants core at sent block ready = record {
+  sound = ready.valid.0.world.sound;
+  lawful = ready.valid.0.world.lawful;
+  depth = ready.valid.0.depth ∙ (many_shown code core.places (stood core.stack (with_top sent.floor at))
+      ∙ (many_stand (at_next at.next core.stack.frames.items) (take sent.floor core.stack.values.items) ∙ many_next at.next core.stack.frames.items));
+  block_is = ready.valid.1.0;
+  few = ready.valid.1.1;
+  live = ready.valid.1.2;
+}
+
+-- the arguments end within what was taken
+pub place_fits : (code : CodeProgram) (grants : Grants) (core : Core) (at : Registers) (sent : Sent) (block : Value) → BlockWaits code grants core at sent block
+    → at.top + 1 ≤ core.stack.values.room
+place_fits code grants core at sent block ready =
+    let is = waiting code grants core at sent block ready in
+    let few = is.few in
+    let size : length (arguments_in core at sent) ≡ at.top - sent.first = length-drop sent.first (take at.top core.stack.values.items)
+    ∙ ap (λ (n : ℕ). n - sent.first) (length-take-le at.top core.stack.values.items ready.stand.0.laid.filled) in
+    let reach = ready.stand.1.reach in
+    let depth = is.depth in
+    let within = is.lawful.within.depth in
+    let all = reach_all (greatest_of code.bodies) core.run.world.world.limits.depth core.stack.frames.items (omega (arith, depth, within)) in
+    let room = ready.rooms.values in
+    omega (arith, few, size, reach, all, room)
+
+pub place_made : (code : CodeProgram) (core : Core) (at : Registers) (sent : Sent) (stack : Stack) → AreStanding code core.stack at
+    → ArgumentsWait code core.stack at sent.floor sent.first → in_use stack at ≡ in_use core.stack at → stack.frames ≡ core.stack.frames → at.top + 1 ≤ length stack.values.items → IsLaid stack at → KeepsRoom core.stack stack
+    → HasMadePlace code core at sent (record core { stack = stack })
+place_made code core at sent stack stands waits used frames filled laid room = record {
+  used = used;
+  below = ap (λ (kept : FrameRow). standing (at_next at.next kept.items) (take sent.floor stack.values.items)) frames
+      ∙ ap (λ (vs : List Value). standing (at_next at.next core.stack.frames.items) vs) lower;
+  frames = frames;
+  stands = record { laid = laid; within = within };
+  waits = record {
+    order = waits.order;
+    low = waits.low;
+    reach = subst (λ (kept : FrameRow). sent.first ≤ bound (greatest_of code.bodies) kept.items) (sym frames) waits.reach;
+    stands = record {
+      laid = record {
+        frames = subst (λ (kept : FrameRow). AreLaid kept.items sent.floor) (sym frames) waits.stands.laid.frames;
+        base = laid.base;
+        filled = let order = waits.order in let low = waits.low in omega (arith, filled, order, low);
+        within = laid.within;
+        small = laid.small;
+      };
+      within = within;
+    };
+  };
+  place = let order = waits.order in let low = waits.low in omega (arith, filled, order, low);
+  run = refl;
+  phase = refl;
+  stays = stack_stays core stack room.values room.frames;
+}
+  where
+    low_top : sent.floor ≤ at.top
+    low_top = let order = waits.order in let low = waits.low in omega (arith, order, low)
+
+    lower : take sent.floor stack.values.items ≡ take sent.floor core.stack.values.items
+    lower = sym (take-take sent.floor at.top stack.values.items low_top) ∙ (ap (take sent.floor) used ∙ take-take sent.floor at.top core.stack.values.items low_top)
+
+    within : AreWithin (height_in code) (greatest_of code.bodies) (length stack.values.items) stack.frames.items
+    within = subst (λ (kept : FrameRow). AreWithin (height_in code) (greatest_of code.bodies) (length stack.values.items) kept.items) (sym frames)
+        (within_more (height_in code) (greatest_of code.bodies) (length core.stack.values.items) (length stack.values.items) core.stack.frames.items room.filled
+        stands.within)
+
+-- ---- the evaluation
+
+block_at : (o : Option Cell) → IsTrue (is_block_shape (option_map_or shape_of o (new.Mirror Nil))) → IsSome o
+block_at (Some cell) is = refl
+block_at None is = absurd (cc)
+
+pub block_there : (heap : Heap) (block : Value) → IsTrue (is_block heap block) → IsThere heap block
+block_there heap (Ref at) is = block_at (find_cell heap at) is
+block_there heap Nil is = tt
+block_there heap True is = tt
+block_there heap False is = tt
+block_there heap (Int number) is = tt
+block_there heap (Sym sel) is = tt
+block_there heap (Kernel class) is = tt
+
+-- what the laws of evaluations say
+pub record EvaluationsKnown : Type 0 where
+  pub lawful : (code : CodeProgram) (block : Value) (arguments : List Value) (site : Site) (progress : Progress) → LawfulRun code progress
+      → All (IsLiveValue progress.world.cells code) arguments → LawfulControl code (evaluated code block arguments site progress)
+  pub hands : (code : CodeProgram) (action : Action) (progress : Progress) → LawfulRun code progress → Asks code action progress → HandsOn code action progress
+  pub spends : (code : CodeProgram) (action : Action) (progress : Progress) → Spends code action progress
+  pub stays : (code : CodeProgram) (block : Value) (arguments : List Value) (site : Site) (progress : Progress)
+      → GoesOnAt (length arguments ≤ 255) site (home_in (shape_of_value progress.world.cells block)) (evaluated code block arguments site progress)
+
+pub evaluated_goes : EvaluationsKnown → (code : CodeProgram) (core : Core) (at : Registers) (sent : Sent) (block : Value) → IsWaiting code core at sent block
+    → GoesOn code (length core.stack.frames.items) (evaluated_at code core at sent block)
+evaluated_goes known code core at sent block is =
+    let values = arguments_in core at sent in
+    let site = site_shown core.places sent.site in
+    let after = known.lawful code block values site (progress_in core) is.lawful is.live in
+    record {
+      own = block_kind;
+      lawful = after;
+      fits = known.hands code (Evaluates block values site) (progress_in core) is.lawful is.live;
+      room = room_above code (length core.stack.frames.items) 1 (home_in (shape_of_value core.run.world.world.cells block)) (length values ≤ 255) (progress_in core) site
+          (evaluated_at code core at sent block) (known.spends code (Evaluates block values site) (progress_in core)) after
+          (known.stays code block values site (progress_in core)) is.few is.depth;
+    }
+
+-- what it came to, on the values that stand there
+pub evaluated_control : (code : CodeProgram) (core : Core) (at : Registers) (sent : Sent) (block : Value) (world : WorldView) (r : Reached) (values : List Value)
+    → values ≡ arguments_in core at sent
+    → ((site : Site) (rest : Progress) → reached_shown code site values r (in_world rest world.world) ≡ evaluated code block values site (in_world rest core.run.world.world))
+    → control_at code (in_other core world) at sent r ≡ evaluated_at code core at sent block
+evaluated_control code core at sent block world r values same is =
+    subst (λ (vs : List Value). reached_shown code (site_shown core.places sent.site) vs r (in_world (progress_in core) world.world)
+    ≡ evaluated code block vs (site_shown core.places sent.site) (progress_in core)) same
+    (is (site_shown core.places sent.site) (progress_in core))
+
+pub evaluation_goes : (code : CodeProgram) (core : Core) (at : Registers) (sent : Sent) (block : Value) (world : WorldView) (r : Reached)
+    → control_at code (in_other core world) at sent r ≡ evaluated_at code core at sent block
+    → GoesOn code (length core.stack.frames.items) (evaluated_at code core at sent block)
+    → GoesOn code (length core.stack.frames.items) (control_at code (in_other core world) at sent r)
+evaluation_goes code core at sent block world r same goes = subst (λ (c : Control). GoesOn code (length core.stack.frames.items) c) (sym same) goes
+
+pub evaluation_body : (code : CodeProgram) (core : Core) (at : Registers) (sent : Sent) (block : Value) (world : WorldView) (r : Reached)
+    → control_at code (in_other core world) at sent r ≡ evaluated_at code core at sent block → ComesToBody r core.stack.frames.items
+evaluation_body code core at sent block world r same =
+    comes_none code (site_shown core.places sent.site) (arguments_in core at sent) r (progress_in (in_other core world)) core.stack.frames.items
+    (subst GivesNone (sym same) (none_evaluated code block (arguments_in core at sent) (site_shown core.places sent.site) (progress_in core)))
+
+pub evaluation_leads : (code : CodeProgram) (core new : Core) (at : Registers) (sent : Sent) (block : Value) (world : WorldView) (r : Reached) (next : Next)
+    → control_at code (in_other core world) at sent r ≡ evaluated_at code core at sent block → SameRest core.run.world world
+    → Arrives code (in_other core world) at sent.floor (control_at code (in_other core world) at sent r) new next
+    → Leads code core at sent.floor (evaluated_at code core at sent block) new next
+evaluation_leads code core new at sent block world r next same rest is = record {
+  state = is.state
+      ∙ ap (λ (c : Control). arrived code (phase_shown core.phase) c (frames_shown code core.places (stood core.stack (with_top sent.floor at)))) same;
+  stand = is.stand;
+  memo = ap (λ (run : Run). run.memo) is.run;
+  stays = record {
+    world = record {
+      limits = is.stays.world.limits ∙ rest.limits;
+      room = (is.stays.world.room.0 ∙ rest.room.0, is.stays.world.room.1 ∙ rest.room.1);
+    };
+    values = is.stays.values;
+    frames = is.stays.frames;
+    places = is.stays.places;
+  };
+}
+
+-- ---- from where it waited
+
+pub place_left : (code : CodeProgram) (grants : Grants) (core mid : Core) (at : Registers) (sent : Sent) (block : Value) → BlockWaits code grants core at sent block
+    → HasMadePlace code core at sent mid → IsLeft code mid at sent
+place_left code grants core mid at sent block ready made =
+    let is = waiting code grants core at sent block ready in
+    record {
+      sound = is.sound;
+      rooms = rooms_stay code core mid ready.rooms made.stays;
+      depth =
+          let depth = is.depth in
+          let within = is.lawful.within.depth in
+          let limits = ap (λ l. l.depth) made.stays.world.limits in
+          let frames = ap (λ (kept : FrameRow). length kept.items) made.frames in
+          omega (arith, depth, within, limits, frames);
+      stands = made.stands;
+      waits = made.waits;
+      place = made.place;
+    }
+
+pub place_waiting : (code : CodeProgram) (grants : Grants) (core mid : Core) (at : Registers) (sent : Sent) (block : Value) → BlockWaits code grants core at sent block
+    → HasMadePlace code core at sent mid → IsWaiting code mid at sent block
+place_waiting code grants core mid at sent block ready made =
+    let is = waiting code grants core at sent block ready in
+    record {
+      sound = is.sound;
+      lawful = rw made.run is.lawful;
+      depth = ap (λ (run : Run). run.world.world.depth) made.run ∙ (is.depth ∙ ap (λ (kept : FrameRow). length kept.items) (sym made.frames));
+      block_is = rw made.run is.block_is;
+      few = rw made.used is.few;
+      live = rw (made.run, made.used) is.live;
+    }
+
+pub evaluation_moves : (code : CodeProgram) (grants : Grants) (core mid new : Core) (at : Registers) (sent : Sent) (block : Value) (n : Next)
+    → BlockWaits code grants core at sent block → HasMadePlace code core at sent mid
+    → Leads code mid at sent.floor (evaluated_at code mid at sent block) new n
+    → Moves code core (next.Waits (pending.Evaluating block sent.site sent.floor sent.first) at) new n
+evaluation_moves code grants core mid new at sent block n ready made is = record {
+  state = is.state ∙ same;
+  stand = is.stand;
+  stays = record {
+    world = record {
+      limits = is.stays.world.limits ∙ made.stays.world.limits;
+      room = (is.stays.world.room.0 ∙ made.stays.world.room.0, is.stays.world.room.1 ∙ made.stays.world.room.1);
+    };
+    values = is.stays.values ∙ made.stays.values;
+    frames = is.stays.frames ∙ made.stays.frames;
+    places = is.stays.places ∙ made.stays.places;
+  };
+  kept = subst (λ (memo : List (Option Kept)). All (IsRight core.run.world.world.cells code) memo) (sym (is.memo ∙ ap (λ (run : Run). run.memo) made.run)) ready.kept;
+}
+  where
+    same : arrived code (phase_shown mid.phase) (evaluated_at code mid at sent block) (frames_shown code mid.places (stood mid.stack (with_top sent.floor at)))
+        ≡ arrived code (phase_shown core.phase) (evaluated_at code core at sent block) (frames_shown code core.places (stood core.stack (with_top sent.floor at)))
+    same = rw (made.used, made.below, made.phase, made.run, made.stays.places) refl

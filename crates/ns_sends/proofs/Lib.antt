@@ -1,0 +1,13 @@
+pub mod Ended
+pub mod Arrived
+pub mod Entered
+pub mod Placed
+pub mod Leads
+pub mod Numbered
+pub mod Goes
+pub mod Stepped
+pub mod Operands
+pub mod Received
+pub mod Selves
+pub mod Evaluated
+pub mod Resent

@@ -1,0 +1,36 @@
+//! What ends a run at a site.
+
+ghost use Rattle.std.specs.Prelude.{◌≡◌};
+ghost use Rattle.ns_send.specs.declared.control.Reached.TheVariants as reached;
+ghost use Rattle.ns_engine.specs.Arriving.{Arrives};
+ghost use Rattle.ns_sends.specs.Going.{control_at};
+
+use crate::sent::Sent;
+use ns_base::selector::Sel;
+use ns_code::program::CodeProgram;
+use ns_engine::settling::ending_at;
+use ns_engine::state::{Core, Next};
+use ns_frames::frame::KeptSite;
+use ns_frames::registers::Registers;
+use ns_world::ending::{Fault, Kind};
+
+/// Ends the run by a fault.
+#[tactic(auto, using(crate::proofs::Ended::fault_ends))]
+pub fn fail(code: &CodeProgram, core: &mut Core, at: Registers, sent: Sent, fault: Fault) -> Next
+    ensures { Arrives code.now core.old at sent.floor (control_at code.now core.old at sent (reached.Fails fault)) core.new result }
+{
+    let _code = code;
+    let _at = at;
+    Next::Ends(ending_at(&mut core.places, sent.site, fault))
+}
+
+/// Ends the run by the refusal of a Message of that selector.
+#[tactic(auto, using(crate::proofs::Ended::refusal_ends))]
+pub fn refuse(code: &CodeProgram, core: &mut Core, at: Registers, sent: Sent, sel: Sel) -> Next
+    ensures { Arrives code.now core.old at sent.floor (control_at code.now core.old at sent (reached.Refused sel)) core.new result }
+{
+    let _code = code;
+    let _at = at;
+    let site = KeptSite { sel, ..sent.site };
+    Next::Ends(ending_at(&mut core.places, site, Fault::Kind(Kind::NotUnderstood)))
+}

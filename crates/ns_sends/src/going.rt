@@ -1,0 +1,83 @@
+//! Where a send goes on with what its lookup came to.
+
+ghost use Rattle.std.specs.Prelude.{◌≡◌, length};
+ghost use Rattle.ns_send.specs.Rows.{row_at};
+ghost use Rattle.ns_act.specs.declared.sends.Answered.TheVariants as answers;
+ghost use Rattle.ns_engine.specs.Doing.{IsRunning};
+ghost use Rattle.ns_sends.specs.Going.{GoesOn, IsLeft, answered_at, CanAsk, CanAnswer, Leads};
+
+use crate::arriving::arrive;
+use crate::sent::Sent;
+use ns_act::sends::Answered;
+use ns_code::program::CodeProgram;
+use ns_engine::state::{Core, Next};
+use ns_frames::registers::Registers;
+use ns_rows::row::row_reached;
+use ns_send::row::{Row, row_of};
+use ns_world::value::Value;
+
+/// Goes on with what a send came to.
+#[inline(always)]
+#[tactic(auto, using(crate::proofs::Leads::comes_leads, crate::proofs::Leads::plain_given, crate::proofs::Leads::runs_body))]
+pub fn go_on(
+    code: &CodeProgram,
+    core: &mut Core,
+    at: Registers,
+    sent: Sent,
+    receiver: Value,
+    answered: Answered,
+) -> Next
+    requires left { IsLeft code.now core.old at sent }
+    requires goes { GoesOn code.now (length core.old.stack.frames.items) (answered_at code.now core.old at sent receiver answered) }
+    requires can { CanAnswer code.now core.old at sent receiver answered }
+    requires runs { IsRunning core.old.stack.frames.items }
+    ensures { Leads code.now core.old at sent.floor (answered_at code.now core.old at sent receiver answered) core.new result }
+{
+    match answered {
+        Answered::Comes(reached) => arrive(code, core, at, sent, reached),
+        Answered::Row(number) => ask(code, core, at, sent, receiver, number),
+    }
+}
+
+/// Asks a row of the kernel, and goes where that leads.
+#[inline(always)]
+#[tactic(auto, using(crate::proofs::Leads::row_left, crate::proofs::Leads::row_goes, crate::proofs::Leads::row_given, crate::proofs::Leads::runs_body, crate::proofs::Leads::row_leads, crate::proofs::Leads::row_asked))]
+fn ask(
+    code: &CodeProgram,
+    core: &mut Core,
+    at: Registers,
+    sent: Sent,
+    receiver: Value,
+    number: u32,
+) -> Next
+    requires left { IsLeft code.now core.old at sent }
+    requires goes { GoesOn code.now (length core.old.stack.frames.items) (answered_at code.now core.old at sent receiver (answers.Row number)) }
+    requires can { CanAsk code.now core.old at sent receiver number }
+    requires runs { IsRunning core.old.stack.frames.items }
+    ensures { Leads code.now core.old at sent.floor (answered_at code.now core.old at sent receiver (answers.Row number)) core.new result }
+{
+    let row = row_numbered(number);
+    let arguments = core.stack.from(at, sent.first);
+    let reached = row_reached(
+        &mut core.run.world,
+        &mut core.run.board,
+        code,
+        row,
+        sent.site.sel,
+        receiver,
+        arguments,
+    );
+    arrive(code, core, at, sent, reached)
+}
+
+/// The row of a number.
+#[inline(always)]
+#[tactic(auto, using(crate::proofs::Numbered::past_rows))]
+pub fn row_numbered(number: u32) -> Row
+    ensures { result ≡ row_at number }
+{
+    if number < 81 {
+        return row_of(number);
+    }
+    Row::Apply
+}

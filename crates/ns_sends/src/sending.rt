@@ -1,0 +1,82 @@
+//! Sends to a value, from their step on.
+
+ghost use Rattle.std.specs.Prelude.{◌≡◌, length};
+ghost use Rattle.ns_code.specs.declared.own.Own.TheVariants.{DoesNotUnderstand};
+ghost use Rattle.ns_code.specs.Selector.{own_number};
+ghost use Rattle.ns_send.specs.Control.{Activation};
+ghost use Rattle.ns_send.specs.Sends.{To};
+ghost use Rattle.ns_sends.specs.Going.{GoesOn};
+ghost use Rattle.ns_sends.specs.Sending.{CanSend, looked_up, sent_at, Sends};
+
+use crate::going::go_on;
+use crate::sent::Sent;
+use ns_act::laws::a_send_is_its_step_and_its_answer;
+use ns_base::selector::Sel;
+use ns_code::program::CodeProgram;
+use ns_engine::state::{Core, Next};
+use ns_find::found::Sending;
+use ns_frames::registers::Registers;
+use ns_send::laws::{
+    actions_spend_exactly, rows_that_are_found_suit, sends_keep_lawful, sites_stay,
+    what_is_handed_on_fits,
+};
+use ns_world::ending::Ending;
+use ns_world::lawful::charging_keeps_lawful;
+use ns_world::value::Value;
+
+/// Sends to a value.
+#[inline(always)]
+pub fn send_to(
+    code: &CodeProgram,
+    core: &mut Core,
+    at: Registers,
+    sent: Sent,
+    receiver: Value,
+    kind: Sending,
+    own: Sel,
+) -> Next
+    requires can { CanSend code.now core.old at sent receiver }
+    requires own { own.0 ≡ own_number code.now DoesNotUnderstand }
+    ensures { (activation : Activation) → Sends code.now core.old at sent.floor (sent_at code.now core.old at sent activation (To receiver kind)) core.new result }
+{
+    a_send_is_its_step_and_its_answer();
+    charging_keeps_lawful();
+    sends_keep_lawful();
+    what_is_handed_on_fits();
+    actions_spend_exactly();
+    sites_stay();
+    match core.run.world.step() {
+        Ok(()) => look_up(code, core, at, sent, receiver, kind, own),
+        Err(limit) => Next::Ends(Ending::Limit(limit)),
+    }
+}
+
+/// Looks the selector up from the receiver's own start, and goes on with what that comes to.
+#[inline(always)]
+fn look_up(
+    code: &CodeProgram,
+    core: &mut Core,
+    at: Registers,
+    sent: Sent,
+    receiver: Value,
+    kind: Sending,
+    own: Sel,
+) -> Next
+    requires can { CanSend code.now core.old at sent receiver }
+    requires own { own.0 ≡ own_number code.now DoesNotUnderstand }
+    requires goes { (activation : Activation) → GoesOn code.now (length core.old.stack.frames.items) (looked_up code.now core.old at sent activation (To receiver kind)) }
+    ensures { (activation : Activation) → Sends code.now core.old at sent.floor (looked_up code.now core.old at sent activation (To receiver kind)) core.new result }
+{
+    rows_that_are_found_suit();
+    let arguments = core.stack.from(at, sent.first);
+    let answered = ns_act::answering::send(
+        &mut core.run,
+        code,
+        own,
+        receiver,
+        kind,
+        sent.site.sel,
+        arguments,
+    );
+    go_on(code, core, at, sent, receiver, answered)
+}

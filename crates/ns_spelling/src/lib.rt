@@ -1,0 +1,4 @@
+//! How names are spelled.
+#![tactic(auto)]
+
+pub mod spelling;

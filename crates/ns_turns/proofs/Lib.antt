@@ -1,0 +1,4 @@
+pub mod Fetched
+pub mod Charged
+pub mod Turned
+pub mod Resent

@@ -1,0 +1,4 @@
+pub mod Prepared
+pub mod Charging
+pub mod Turning
+pub mod Resending

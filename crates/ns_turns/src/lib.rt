@@ -1,0 +1,10 @@
+//! Turns of the machine that runs code: the next step of the body that runs, whether the next move charges, and so many
+//! moves as the steps of a turn allow.
+#![tactic(auto)]
+
+pub mod charging;
+pub mod fetching;
+mod moving;
+pub mod resending;
+pub mod stepping;
+pub mod turning;

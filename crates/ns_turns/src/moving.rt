@@ -1,0 +1,79 @@
+//! One move of a run.
+
+ghost use Rattle.std.specs.Prelude.{◌≡◌, false};
+ghost use Rattle.ns_moves.specs.Turn.{is_still};
+ghost use Rattle.ns_engine.specs.declared.state.Next.TheVariants as next;
+ghost use Rattle.ns_engine.specs.Ready.{Moves};
+ghost use Rattle.ns_engine.specs.Shown.{shown};
+ghost use Rattle.ns_turns.specs.Turning.{RunsBy};
+
+use crate::resending::{perform_waiting, send_waiting};
+use crate::stepping::go_on;
+use ns_code::program::CodeProgram;
+use ns_engine::own::OwnSends;
+use ns_engine::state::{Core, Next};
+use ns_frames::frame::Pending;
+use ns_frames::registers::Registers;
+use ns_plan::plan::Plan;
+use ns_sends::sent::Sent;
+use ns_sends::waiting::evaluate;
+
+/// One move of a run that goes on: the next step of the body that runs, the next action of a method of the kernel, or
+/// what waits.
+#[inline(always)]
+pub fn step(plan: &Plan, code: &CodeProgram, core: &mut Core, next: Next, own: OwnSends) -> Next
+    requires runs { RunsBy code.now plan.now own core.old next }
+    requires goes { is_still (shown code.now core.old next) ≡ false }
+    ensures { Moves code.now core.old next core.new result }
+{
+    match next {
+        Next::On(at) => go_on(plan, code, core, at, own),
+        Next::Waits { pending, at } => take_up(plan, code, core, pending, at, own),
+        Next::Ends(_) => unreachable!(),
+    }
+}
+
+/// Does what waits, if anything does.
+fn take_up(
+    plan: &Plan,
+    code: &CodeProgram,
+    core: &mut Core,
+    pending: Pending,
+    at: Registers,
+    own: OwnSends,
+) -> Next
+    requires { RunsBy code.now plan.now own core.old (next.Waits pending at) }
+    ensures { Moves code.now core.old (next.Waits pending at) core.new result }
+{
+    match pending {
+        Pending::Nothing => go_on(plan, code, core, at, own),
+        Pending::Evaluating {
+            block,
+            site,
+            floor,
+            first,
+        } => evaluate(code, core, at, Sent { site, floor, first }, block),
+        Pending::Sending {
+            receiver,
+            sel,
+            site,
+            floor,
+            first,
+        } => send_waiting(
+            code,
+            core,
+            at,
+            Sent { site, floor, first },
+            receiver,
+            sel,
+            own,
+        ),
+        Pending::Performing {
+            receiver,
+            sel,
+            array,
+            site,
+            floor,
+        } => perform_waiting(code, core, at, site, floor, receiver, sel, array, own),
+    }
+}

@@ -1,0 +1,86 @@
+//! Turns: so many moves as so many steps allow.
+
+ghost use Rattle.std.specs.Prelude.{◌≡◌, false};
+ghost use Rattle.ns_code.specs.declared.program.CodeProgram.{CodeProgram};
+ghost use Rattle.ns_facets.specs.declared.row.Grants.{Grants};
+ghost use Rattle.ns_moves.specs.Turn.{is_still, Turns};
+ghost use Rattle.ns_engine.specs.declared.state.Core.{Core as AnyCore};
+ghost use Rattle.ns_engine.specs.Shown.{shown};
+ghost use Rattle.ns_engine.specs.Ready.{IsReady, Moves};
+ghost use Rattle.ns_engine.specs.Standing.{Stays};
+ghost use Rattle.ns_turns.specs.Turning.{RunsBy};
+
+use crate::charging::charges;
+use crate::moving::step;
+use ns_code::program::CodeProgram;
+use ns_engine::laws::{moves_keep_machines_ready, turns_go_by_moves};
+use ns_engine::own::OwnSends;
+use ns_engine::state::{Core, Next};
+use ns_falling::laws::moves_lower;
+use ns_moves::laws::{moves_charge_as_told, moves_go_onward};
+use ns_moves::valid_frames::moves_keep_valid;
+use ns_plan::plan::Plan;
+
+/// A turn of so many steps: moves up to the end of the run, or up to the first that would charge a step more.
+///
+/// While steps are left no move is tested before it is made, since none can charge more than one.
+pub fn turn(
+    plan: &Plan,
+    code: &CodeProgram,
+    core: &mut Core,
+    next: Next,
+    steps: u64,
+    own: OwnSends,
+) -> Next
+    requires { RunsBy code.now plan.now own core.old next }
+    ensures turns { Turns code.now steps (shown code.now core.old next) (shown code.now core.new result) }
+    ensures ready { (grants : Grants) → IsReady code.now grants core.old next → IsReady code.now grants core.new result }
+    ensures stays { Stays core.old core.new }
+{
+    turns_go_by_moves();
+    moves_charge_as_told();
+    moves_keep_valid();
+    moves_keep_machines_ready();
+    moves_go_onward();
+    moves_lower();
+    let begun = core.run.world.counters().steps;
+    let mut here = next;
+    'moves: loop {
+        if is_ended(here) {
+            return here;
+        }
+        if steps <= core.run.world.counters().steps - begun {
+            break 'moves;
+        }
+        here = step(plan, code, core, here, own);
+    }
+    'last: loop {
+        if is_ended(here) {
+            return here;
+        }
+        if charges(plan, code, core, here) {
+            return here;
+        }
+        here = step_apart(plan, code, core, here, own);
+    }
+}
+
+/// One move, apart from the loop in which it is made for as long as steps are left.
+fn step_apart(plan: &Plan, code: &CodeProgram, core: &mut Core, next: Next, own: OwnSends) -> Next
+    requires runs { RunsBy code.now plan.now own core.old next }
+    requires goes { is_still (shown code.now core.old next) ≡ false }
+    ensures { Moves code.now core.old next core.new result }
+{
+    step(plan, code, core, next, own)
+}
+
+/// Whether a run has ended.
+#[inline(always)]
+fn is_ended(next: Next) -> bool
+    ensures { (code : CodeProgram) (core : AnyCore) → result ≡ is_still (shown code core next) }
+{
+    match next {
+        Next::On(_) | Next::Waits { .. } => false,
+        Next::Ends(_) => true,
+    }
+}

@@ -1,0 +1,6 @@
+pub mod FormLaws
+pub mod LineLaws
+pub mod NumberLaws
+pub mod PartLaws
+pub mod RangeLaws
+pub mod ReadingLaws

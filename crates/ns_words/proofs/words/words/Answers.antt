@@ -1,0 +1,9 @@
+use Rattle.std.proofs.Common.{map, string_bytes}
+use Rattle.ns_words.proofs.LineLaws.{ranged, spelled}
+use Rattle.ns_words.proofs.words.words.Goals as goal
+
+pub returns-clause-spelled : goal.returns-clause-spelled
+returns-clause-spelled c = spelled (map string_bytes c.args.words.now) c.read.result c.read.ensures
+
+pub returns-clause-range : goal.returns-clause-range
+returns-clause-range c = ranged (map string_bytes c.args.words.now) c.read.result c.read.ensures

@@ -1,0 +1,4 @@
+pub mod Forms
+pub mod Line
+pub mod Table
+pub mod Words

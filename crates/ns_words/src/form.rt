@@ -1,0 +1,91 @@
+//! The forms of a command line as data: a line of the table for each command.
+
+ghost use Rattle.std.specs.Prelude.{◌≡◌, false, None};
+ghost use Rattle.ns_words.specs.Table as spec;
+
+/// A command, which the first word of a line names.
+#[derive(Clone, Copy, Debug, PartialEq, Eq)]
+pub enum Verb {
+    /// Says whether files are a program.
+    Check,
+    /// Writes the canonical source of a file.
+    Show,
+    /// Runs a program.
+    Run,
+    /// Tells how the program is used.
+    Help,
+    /// Tells the version of the program.
+    Version,
+}
+
+/// What may stand behind the first word: options, in any order and each at most once; then names of
+/// files; then `--` and arguments.
+#[derive(Clone, Copy, Debug, PartialEq, Eq)]
+pub struct Form {
+    /// Whether the limits can be given, as `--steps=N` and so on.
+    pub limits: bool,
+    /// Whether `--lib` can be given.
+    pub lib: bool,
+    /// The fewest names.
+    pub least: u64,
+    /// The most names.
+    pub most: u64,
+    /// The most arguments, where `--` is taken.
+    pub arguments: Option<u64>,
+}
+
+/// The form of a command.
+pub fn form_of(verb: Verb) -> Form
+    ensures { result ≡ spec.form_of verb }
+{
+    match verb {
+        Verb::Check => Form {
+            lib: true,
+            ..names(1, 16)
+        },
+        Verb::Show => names(1, 1),
+        Verb::Run => Form {
+            limits: true,
+            lib: true,
+            arguments: Some(255),
+            ..names(1, 16)
+        },
+        Verb::Help => names(0, 0),
+        Verb::Version => names(0, 0),
+    }
+}
+
+/// The form of names alone.
+fn names(least: u64, most: u64) -> Form
+    ensures { result ≡ record { limits = false; lib = false; least = least; most = most; arguments = None } }
+{
+    Form {
+        limits: false,
+        lib: false,
+        least,
+        most,
+        arguments: None,
+    }
+}
+
+/// The command that a first word names.
+pub fn verb_of(word: &[u8]) -> Option<Verb>
+    ensures { result ≡ spec.verb_of word.now }
+{
+    if word == b"check".as_slice() {
+        return Some(Verb::Check);
+    }
+    if word == b"show".as_slice() {
+        return Some(Verb::Show);
+    }
+    if word == b"run".as_slice() {
+        return Some(Verb::Run);
+    }
+    if word == b"--help".as_slice() {
+        return Some(Verb::Help);
+    }
+    if word == b"--version".as_slice() {
+        return Some(Verb::Version);
+    }
+    None
+}

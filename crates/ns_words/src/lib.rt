@@ -1,0 +1,6 @@
+//! The words of a command line: the forms of the commands, and how the words are read.
+#![tactic(auto)]
+
+pub mod form;
+pub mod laws;
+pub mod words;

@@ -1,0 +1,128 @@
+//! The table of names while code is written. It has no limit of its own, so that a program with too
+//! many names is told as such whatever else is wrong with its size.
+
+ghost use Rattle.std.specs.Prelude.{◌≡◌, [], length, false, position, option_map, IfOk, OnOk, OnErr};
+ghost use Rattle.std.specs.Option.{is_some};
+ghost use Rattle.std.specs.Str.{bytes_eq};
+ghost use Rattle.ns_base.specs.Names.{NoRepeats, has, put_in, place_of};
+
+use indexmap::IndexSet;
+use ns_base::items::Items;
+use ns_base::no_memory::NoMemory;
+use ns_base::selector::Sel;
+use ns_base::text::Text;
+use std::alloc::Global;
+use std::marker::Model;
+
+/// Texts without repeats, in the order of first use. A clause sees the list alone.
+#[derive(Drop)]
+pub struct NameTable {
+    alloc: Global,
+    texts: IndexSet<Text>,
+}
+
+impl Model for NameTable {
+    ghost use Rattle.std.specs.Prelude.{List, ℕ, length, ◌<◌, ◌^◌};
+    ghost use Rattle.ns_base.specs.Names.{NoRepeats};
+
+    ghost Value = { List (List ℕ) };
+
+    ghost view = { λ table. table.texts.keys };
+
+    ghost invariant = { λ table. NoRepeats table.texts.keys × (length table.texts.keys < 2 ^ 32) };
+}
+
+impl NameTable {
+    /// A table without names.
+    pub fn new(alloc: Global) -> NameTable
+        ensures { result ≡ [] }
+    {
+        NameTable {
+            alloc,
+            texts: IndexSet::new(alloc),
+        }
+    }
+
+    /// The number of that text, which gets the next number where it is new. More than 4,294,967,295
+    /// texts are taken for want of memory. After a refusal the table is as it was.
+    pub fn intern(&mut self, text: &[u8]) -> Result<Sel, NoMemory>
+        ensures number { IfOk result (λ sel. sel.0 ≡ place_of self.old text.now) }
+        ensures put { OnOk result (self.new ≡ put_in self.old text.now) }
+        ensures unchanged { OnErr result (self.new ≡ self.old) }
+        ensures no_repeats { NoRepeats self.new }
+    {
+        match self.find(text) {
+            Some(number) => Ok(number),
+            None => self.add(text),
+        }
+    }
+
+    /// Gives a new text the next number.
+    fn add(&mut self, text: &[u8]) -> Result<Sel, NoMemory>
+        requires { has self.old text.now ≡ false }
+        ensures number { IfOk result (λ sel. sel.0 ≡ place_of self.old text.now) }
+        ensures put { OnOk result (self.new ≡ put_in self.old text.now) }
+        ensures unchanged { OnErr result (self.new ≡ self.old) }
+        ensures no_repeats { NoRepeats self.new }
+    {
+        if self.texts.len() >= u32::MAX as usize {
+            return Err(NoMemory);
+        }
+        match Text::of(self.alloc, text) {
+            Err(_) => Err(NoMemory),
+            Ok(name) => match self.texts.insert_full(name) {
+                Err(_) => Err(NoMemory),
+                Ok((place, _)) => Ok(Sel(place as u32)),
+            },
+        }
+    }
+
+    /// The number of that text, if the table has it.
+    fn find(&self, text: &[u8]) -> Option<Sel>
+        ensures number { option_map (λ sel. sel.0) result ≡ position (bytes_eq text.now) self.now }
+        ensures found { is_some result ≡ has self.now text.now }
+        ensures no_repeats { NoRepeats self.now }
+    {
+        match self.texts.get_index_of(text) {
+            Some(place) => Some(Sel(place as u32)),
+            None => None,
+        }
+    }
+
+    /// The number of a text of the table. One that isn't there is taken for want of memory.
+    #[tactic(auto, using(crate::proofs::Tables::placed))]
+    pub fn number(&self, text: &[u8]) -> Result<Sel, NoMemory>
+        ensures { IfOk result (λ sel. sel.0 ≡ place_of self.now text.now) }
+    {
+        match self.find(text) {
+            Some(number) => Ok(number),
+            None => Err(NoMemory),
+        }
+    }
+
+    /// Its texts, in memory of their own.
+    pub fn texts(&self) -> Result<Items<Text>, NoMemory>
+        ensures { IfOk result (λ texts. texts ≡ self.now) }
+    {
+        let copies = copies(self.alloc, self.texts.as_slice())?;
+        Ok(Items::from_vec(copies))
+    }
+
+    /// How many names there are.
+    pub fn count(&self) -> usize
+        ensures { result ≡ length self.now }
+    {
+        self.texts.len()
+    }
+}
+
+/// Texts in memory of their own.
+pub fn copies(alloc: Global, texts: &[Text]) -> Result<Vec<Text>, NoMemory>
+    ensures { IfOk result (λ copies. copies.items ≡ texts.now) }
+{
+    let mut copies = Vec::new(alloc);
+    for text in texts {
+        copies.push(Text::of(alloc, text.bytes())?)?;
+    }
+    Ok(copies)
+}
