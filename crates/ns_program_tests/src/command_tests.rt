@@ -23,6 +23,11 @@ public main: p args: a = (p console printLine: 'it''s'.
 )
 ";
 
+const WORDS: &[u8] = b"class Words packageUsing: m = () (
+public main: p args: a = (p console printLine: (a at: 2). ^a size)
+)
+";
+
 const MAIN: &[u8] = b"Newspeak3
 'Bank'
 class App packageUsing: manifest = (
@@ -57,6 +62,7 @@ const FILES: &[(&str, &[u8])] = &[
     ("Lines.ns", LINES),
     ("Main.ns", MAIN),
     ("Bank.ns", BANK),
+    ("Words.ns", WORDS),
     ("Empty.ns", b""),
     ("Super.ns", b"class B = () (a = (^super))"),
     ("Lib.ns", b"class Collections = () ()"),
@@ -90,6 +96,18 @@ const DONE: &[Row] = &[
     ),
     (&["run", "H.ns"], ("Hello\n", "=> object Hello\n", 0)),
     (&["run", "Gaps.ns"], ("Hello\n", "=> object Hello\n", 0)),
+    (
+        &["run", "--lib", "Main.ns", "Bank.ns"],
+        ("Ann 125\nBob 7\n", "=> 'Ann 125'\n", 0),
+    ),
+    (
+        &["run", "--out=6", "--lib", "--depth=9", "H.ns", "--"],
+        ("Hello\n", "=> object Hello\n", 0),
+    ),
+    (
+        &["run", "Words.ns", "--", "", "--steps=1"],
+        ("--steps=1\n", "=> 2\n", 0),
+    ),
 ];
 
 /// Each send is a step.
@@ -138,6 +156,27 @@ const BAD_WORDS: &[Row] = &[
     ),
     (&["run", "H.ns", "--steps=5"], ("", "nspk: bad word 2\n", 2)),
     (&["run", ""], ("", "nspk: bad word 1\n", 2)),
+    (
+        &["run", "--out=16777217", "H.ns"],
+        ("", "nspk: bad word 1\n", 2),
+    ),
+    (
+        &["run", "--lib", "--cells=64000001", "H.ns"],
+        ("", "nspk: bad word 2\n", 2),
+    ),
+    (
+        &["run", "--depth=1", "--out=1", "--depth=2", "H.ns"],
+        ("", "nspk: bad word 3\n", 2),
+    ),
+    (&["run", "--"], ("", "nspk: bad word 1\n", 2)),
+    (&["run", "-", "H.ns"], ("", "nspk: bad word 1\n", 2)),
+    (
+        &["check", "--steps=5", "H.ns"],
+        ("", "nspk: bad word 1\n", 2),
+    ),
+    (&["check", "H.ns", "--"], ("", "nspk: bad word 2\n", 2)),
+    (&["show", "--lib", "H.ns"], ("", "nspk: bad word 1\n", 2)),
+    (&["show", "H.ns", "H.ns"], ("", "nspk: bad word 2\n", 2)),
     (&["--help", "run"], ("", "nspk: bad word 1\n", 2)),
     (&["walk", "H.ns"], ("", "nspk: bad word 0\n", 2)),
     (&["check"], ("", "nspk: bad word 1\n", 2)),
@@ -205,6 +244,18 @@ const REFUSED_FILES: &[Row] = &[
         ("", "lib:Collections:1:7: DuplicateTop\n", 2),
     ),
     (&["run", "Z.ns"], ("", "Z.ns: Missing\n", 2)),
+    (
+        &["run", "--lib", "H.ns", "Z.ns"],
+        ("", "Z.ns: Missing\n", 2),
+    ),
+    (
+        &["run", "H.ns", "Super.ns"],
+        ("", "Super.ns:1:21: BareReceiver\n", 2),
+    ),
+    (
+        &["run", "--lib", "Lib.ns"],
+        ("", "lib:Collections:1:7: DuplicateTop\n", 2),
+    ),
 ];
 
 #[test]

@@ -9,6 +9,8 @@ mod command_tests;
 #[cfg(test)]
 mod limit_tests;
 #[cfg(test)]
+mod run_tests;
+#[cfg(test)]
 mod stream_tests;
 #[cfg(test)]
 mod text_tests;

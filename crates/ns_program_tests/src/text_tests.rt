@@ -106,20 +106,10 @@ const CHECKED_BODIES: &[Row] = &[
     ("^9223372036854775809", "T.ns:2:28: BigNumber\n"),
 ];
 
-/// Bodies that are checked, and that no run takes yet.
-const OTHER_BODIES: &[Row] = &[
-    ("^self", "T.ns: NotYet\n"),
-    ("p console printLine: 'a'.", "T.ns: NotYet\n"),
-    (
-        "p console printLine: 'a'. p console print: 'b'",
-        "T.ns: NotYet\n",
-    ),
-    ("a console printLine: 'a'", "T.ns: NotYet\n"),
-    ("(p console printLine: 'a')", "T.ns: NotYet\n"),
-    ("| x | p console printLine: 'a'", "T.ns: NotYet\n"),
-    ("p console printLine: 3", "T.ns: NotYet\n"),
-    ("p console printLine: 'a'; printLine: 'b'", "T.ns: NotYet\n"),
-    ("", "T.ns: NotYet\n"),
+/// Bodies that are refused before they run.
+const REFUSED_BODIES: &[Row] = &[
+    ("^super", "T.ns:2:28: BareReceiver\n"),
+    ("1 2", "T.ns:2:29: Syntax\n"),
 ];
 
 /// What stands before and behind a text.
@@ -141,7 +131,7 @@ const TABLES: [(&str, Around, &[Row]); 7] = [
     ("check", NOTHING, REFUSED_CLASSES),
     ("check", NOTHING, ACCEPTED_CLASSES),
     ("check", METHOD, CHECKED_BODIES),
-    ("run", METHOD, OTHER_BODIES),
+    ("run", METHOD, REFUSED_BODIES),
 ];
 
 #[test]

@@ -13,7 +13,7 @@ use Rattle.ns_run.specs.Outcome.{IsEnding, IsMissing, IsReadFault, IsRefusal, So
 use Rattle.ns_run.specs.Report.{spelling_name}
 use Rattle.ns_run.specs.declared.report.Report.{Report}
 use Rattle.ns_run.specs.declared.stop.Stop.{Stop}
-use Rattle.ns_run.specs.declared.task.Task.{Task}
+use Rattle.ns_run.specs.Task.{Task}
 
 -- A refusal that is told is what the files are loaded as.
 pub refusal_is : (names : List (List ℕ)) (lib : Bool) (files : Files) (fault : LoadFault) → IsRefusal fault → TellsFault names lib files fault → loaded names lib files ≡ stopped fault
@@ -25,7 +25,7 @@ refusal_is names lib files Memory i t = absurd i
 
 -- The report of a refusal is what the files mean.
 pub refusal_means : (t : Task) (names : List (List ℕ)) (lib : Bool) (files : Files) (fault : LoadFault) (result : Result Report Stop) → TellsFault names lib files fault → IfOk result (λ r. IsRefusal fault) → IfOk result (λ r. r ≡ of_fault names fault) → IfOk result (λ r. r ≡ of_files t names lib files)
-refusal_means t names lib files fault (Ok r) tells i h = h ∙ ap (of_loading t names) (sym (refusal_is names lib files fault i tells))
+refusal_means t names lib files fault (Ok r) tells i h = h ∙ ap (of_loading t names lib) (sym (refusal_is names lib files fault i tells))
 refusal_means t names lib files fault (Err e) tells i h = tt
 
 pub cause_ends : (file : List ℕ) (cause : LoadCause) → IsEnding (of_cause file cause).status

@@ -1,12 +1,5 @@
-pub mod CheckLaws
-pub mod CommandLaws
 pub mod FaultLaws
-pub mod FirstFile
-pub mod FirstLaws
-pub mod FirstReads
-pub mod NameLaws
-pub mod NumberLaws
+pub mod LineLaws
 pub mod PieceLaws
 pub mod ReportLaws
 pub mod TextLaws
-pub mod WordLaws

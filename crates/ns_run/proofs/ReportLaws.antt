@@ -6,27 +6,36 @@ use Rattle.std.specs.Fmt.{decimal}
 use Rattle.std.specs.Str.{bytes_eq}
 use Rattle.std.proofs.lemmas.List.{append_cancel_left, reverse-append}
 use Rattle.ns_base.specs.Sink.{with_bytes}
+use Rattle.ns_base.specs.declared.limits.Limits.{Limits}
 use Rattle.ns_base.specs.declared.no_memory.NoMemory.{NoMemory}
 use Rattle.ns_base.specs.declared.place.Place.{Place}
 use Rattle.ns_base.specs.declared.status.Status.{Status}
 use Rattle.ns_base.specs.declared.status.Status.TheVariants.{Done, ProgramError, Limit, Refused, ReadFault, WriteFault, Memory}
-use Rattle.ns_first.specs.First.{first_run, form_of, is_first, sends_of}
-use Rattle.ns_first.specs.Sends.{all_answered}
-use Rattle.ns_run.specs.Meaning.{name_of, of_check, of_first_run, of_run, of_show, of_units, run_report}
+use Rattle.ns_run.specs.Meaning.{name_of, of_check, of_run, of_show, of_sized, of_units, run_report}
 use Rattle.ns_run.specs.Outcome.{IsDelivered, IsEnding, IsMissing, Leaves, NamesMissing, SomeOf, TellsMissing, Wrote, missing_line}
-use Rattle.ns_run.specs.Report.{many_name, refused_file, refused_text, spelling_name, static_name, told}
-use Rattle.ns_run.specs.Words.{Command, names_of}
+use Rattle.ns_run.specs.Report.{many_name, refused_file, refused_text, spelling_name, size_name, static_name, told}
+use Rattle.ns_launch.specs.Run.{granted, meant_run}
+use Rattle.ns_run.specs.Task.{Task, Checks, Shows, Runs}
 use Rattle.ns_run.specs.declared.report.Report.{Report}
 use Rattle.ns_run.specs.declared.stop.Stop.{Stop}
 use Rattle.ns_run.specs.declared.stop.Stop.TheVariants as stop
-use Rattle.ns_run.specs.declared.task.Task.{Task}
-use Rattle.ns_run.specs.declared.task.Task.TheVariants as task
+use Rattle.ns_gen.specs.Code.{code_of}
+use Rattle.ns_gen.specs.Sizes.{size_fault}
+use Rattle.ns_gen.specs.declared.size.SizeKind.{SizeKind}
+use Rattle.ns_gen.specs.declared.size.SizeKind.TheVariants as size
+use Rattle.ns_meant.specs.Classes.{meant_of}
+use Rattle.ns_meant.specs.Program.{Meant}
+use Rattle.ns_meant.specs.Tables.{tables}
+use Rattle.ns_model.specs.Whole.{ran, status_of}
 use Rattle.ns_rules.specs.declared.fault.Many.{Many}
 use Rattle.ns_rules.specs.declared.fault.Many.TheVariants as many
 use Rattle.ns_rules.specs.declared.fault.Placed.{Placed}
 use Rattle.ns_rules.specs.declared.fault.StaticCause.{StaticCause}
 use Rattle.ns_rules.specs.declared.fault.StaticCause.TheVariants as static
 use Rattle.ns_tree.specs.Plain as p
+use Rattle.ns_words.specs.Words.{Reading, names_of}
+use Rattle.ns_world.specs.declared.ending.Ending.{Ending}
+use Rattle.ns_world.specs.declared.ending.Ending.TheVariants as ending
 
 -- What holds of a report holds of it behind `or_stop`.
 pub stop_keeps : (made : Result Report NoMemory) (res : Result Report Stop) (P : Report → Type 0) → MatchResult made (λ r. res ≡ Ok r) (λ _. res ≡ Err stop.Memory) → IfOk made P → IfOk res P
@@ -115,24 +124,21 @@ text_plain file place cause e =
     let front = file ++ codes ":" ++ decimal place.line ++ codes ":" ++ decimal place.col ++ codes ": " in
     record { ends = tt; says = λ name m. not_this name front cause (e front) m.1 }
 
-pub run_not_refused : (b : Bool) → cond b Done Limit ≡ Refused → ⊥
-run_not_refused true h = cc
-run_not_refused false h = cc
+pub size_ends : (kind : SizeKind) → EndsOtherwise (size_name kind)
+size_ends size.Names = λ front. refl
+size_ends size.Bodies = λ front. refl
+size_ends size.Code = λ front. refl
+size_ends size.Height = λ front. refl
 
-pub run_ends : (b : Bool) → IsEnding (cond b Done Limit)
-run_ends true = tt
-run_ends false = tt
+-- A report with the status of an ending refuses nothing.
+pub ending_plain : (report : Report) (e : Ending) → report.status ≡ status_of e → IsPlain report
+ending_plain report (ending.Done value) h = record { ends = subst IsEnding (sym h) tt; says = λ name m. cc (sym h ∙ m.0) }
+ending_plain report (ending.Error error) h = record { ends = subst IsEnding (sym h) tt; says = λ name m. cc (sym h ∙ m.0) }
+ending_plain report (ending.Limit limit) h = record { ends = subst IsEnding (sym h) tt; says = λ name m. cc (sym h ∙ m.0) }
 
-pub run_plain : (steps : ℕ) (file : List ℕ) (unit : p.SourceUnit) → IsPlain (of_run steps file unit)
-run_plain steps file unit =
-    elim (is_first unit) as (λ b. IsPlain (cond b (run_report (first_run unit steps)) (refused_file file (codes "NotYet")))) [
-      | true ↦ record { ends = run_ends (all_answered (sends_of (form_of unit).texts) steps); says = λ name m. run_not_refused (all_answered (sends_of (form_of unit).texts) steps) m.0 }
-      | false ↦ file_plain file (codes "NotYet") (λ front. refl)
-    ]
-
-pub first_run_plain : (steps : ℕ) (file : List ℕ) (units : List p.SourceUnit) → IsPlain (of_first_run steps file units)
-first_run_plain steps file [] = told_plain []
-first_run_plain steps file (unit ∷ more) = run_plain steps file unit
+pub sized_plain : (limits : Limits) (arguments : List (List ℕ)) (meant : Meant) (kind : Option SizeKind) → IsPlain (of_sized limits arguments meant kind)
+sized_plain limits arguments meant None = ending_plain (run_report (meant_run meant limits arguments)) (ran meant (tables meant) granted arguments limits).ending refl
+sized_plain limits arguments meant (Some kind) = file_plain (codes "nspk") (size_name kind) (size_ends kind)
 
 pub show_plain : (units : List p.SourceUnit) → IsPlain (of_show units)
 show_plain [] = told_plain []
@@ -142,11 +148,15 @@ pub check_plain : (names : List (List ℕ)) (least : Option Placed) → IsPlain 
 check_plain names None = told_plain _
 check_plain names (Some fault) = text_plain (name_of names fault.place.file) fault.place (static_name fault.cause) (static_ends fault.cause)
 
+pub run_plain : (names : List (List ℕ)) (limits : Limits) (arguments files : List (List ℕ)) (trees : List p.SourceUnit) (places : List (List Place)) (least : Option Placed) → IsPlain (of_run names limits arguments files trees places least)
+run_plain names limits arguments files trees places None = sized_plain limits arguments (meant_of files trees places) (size_fault (code_of (meant_of files trees places)))
+run_plain names limits arguments files trees places (Some fault) = check_plain names (Some fault)
+
 -- The report of units is plain.
-pub units_plain : (t : Task) (names : List (List ℕ)) (trees : List p.SourceUnit) (places : List (List Place)) → IsPlain (of_units t names trees places)
-units_plain task.Check names trees places = check_plain names _
-units_plain task.Show names trees places = show_plain trees
-units_plain (task.Run steps) names trees places = first_run_plain steps (name_of names 0) trees
+pub units_plain : (t : Task) (names files : List (List ℕ)) (trees : List p.SourceUnit) (places : List (List Place)) → IsPlain (of_units t names files trees places)
+units_plain Checks names files trees places = check_plain names _
+units_plain Shows names files trees places = show_plain trees
+units_plain (Runs limits arguments) names files trees places = run_plain names limits arguments files trees places _
 
 -- ---- how a command ends
 
@@ -206,6 +216,6 @@ some_other names P Q f (k, s) = (k, some_at (slice_get names k) s)
     some_at (Some name) s = f name s
 
 -- Where a refusal was written, and what was written says that a file isn't there, the refusal says so.
-pub names_missing : (command : Command) (r : Report) (old new : Option (List ℕ)) → r.status ≡ Refused → new ≡ with_bytes r.err old → TellsMissing command old new → NamesMissing command r
-names_missing command r old new s d t =
-    some_other (names_of command) (λ file. Wrote (missing_line file) old new) (λ file. IsMissing file r) (λ file w. names_file file r old new s d w) t
+pub names_missing : (reading : Reading) (r : Report) (old new : Option (List ℕ)) → r.status ≡ Refused → new ≡ with_bytes r.err old → TellsMissing reading old new → NamesMissing reading r
+names_missing reading r old new s d t =
+    some_other (names_of reading) (λ file. Wrote (missing_line file) old new) (λ file. IsMissing file r) (λ file w. names_file file r old new s d w) t

@@ -1,22 +1,27 @@
 -- The texts of which a report tells, and names of files.
-use Rattle.std.proofs.Common.{◌≡◌, ℕ, List, [], ◌∷◌, Bool, true, Option, None, Result, Ok, Err, IfOk, IsUtf8, refl, ap, sym, subst, ◌∙◌, inl, inr, arith}
+use Rattle.std.proofs.Common.{◌≡◌, ℕ, List, [], ◌∷◌, Bool, true, Option, None, Result, Ok, Err, IfOk, IsUtf8, refl, ap, sym, subst, ◌∙◌, arith, map, MatchResult}
 use Rattle.std.specs.Prelude.{All}
 use Rattle.std.proofs.lemmas.Bool.Decides.{nat_tests}
 use Rattle.std.proofs.lemmas.List.Elements.{All-cons, All-head, All-nil, All-tail}
+use Rattle.ns_base.specs.Files.{Files}
+use Rattle.ns_base.specs.declared.no_memory.NoMemory.{NoMemory}
+use Rattle.ns_base.specs.declared.place.Place.{Place}
 use Rattle.ns_load.specs.Answer.{IsFaultOfTexts}
-use Rattle.ns_load.specs.Loaded.{loaded_texts, stopped}
+use Rattle.ns_load.specs.Loaded.{file_names, loaded_texts, stopped, units}
 use Rattle.ns_load.specs.declared.fault.LoadCause.TheVariants.{Missing, TooLong, ReadFault, Spelling}
 use Rattle.ns_load.specs.declared.fault.LoadFault.{LoadFault}
 use Rattle.ns_load.specs.declared.fault.LoadFault.TheVariants.{At, Memory}
-use Rattle.ns_run.specs.Forms.{AreFiles, AreNames, IsCommandOf}
-use Rattle.ns_run.specs.Meaning.{of_command, of_fault, of_loading, of_texts}
+use Rattle.ns_run.specs.Meaning.{meaning, of_fault, of_loading, of_reading, of_texts, of_units}
 use Rattle.ns_run.specs.Outcome.{IsRefusal, OverTexts, SomeTexts}
-use Rattle.ns_run.specs.Words.{Command, Check, Show, Run, command_of, is_file_name, names_of}
+use Rattle.ns_run.specs.Task.{Task}
 use Rattle.ns_run.specs.declared.report.Report.{Report}
 use Rattle.ns_run.specs.declared.stop.Stop.{Stop}
-use Rattle.ns_run.specs.declared.task.Task.{Task}
-use Rattle.ns_run.proofs.CommandLaws.{command_is}
+use Rattle.ns_run.specs.declared.stop.Stop.TheVariants as stop
+use Rattle.ns_run.proofs.ReportLaws.{stop_keeps}
 use Rattle.ns_scope.specs.Whole.{IsFileName}
+use Rattle.ns_tree.specs.Plain as p
+use Rattle.ns_words.specs.Forms.{AreNames}
+use Rattle.ns_words.specs.Words.{Reading, is_file_name, names_of, reading_of}
 
 -- A word that can name a file does so.
 name_is_file : (name : List ℕ) → IsUtf8 name → is_file_name name ≡ true → IsFileName name
@@ -39,7 +44,7 @@ texts_refused texts lib Memory i t = absurd i
 -- The report of a refusal is what the texts mean.
 pub refusal_of_texts : (t : Task) (names : List (List ℕ)) (lib : Bool) (texts : List (Option (List ℕ))) (fault : LoadFault) (result : Result Report Stop) → IsFaultOfTexts texts lib fault
     → IfOk result (λ r. IsRefusal fault) → IfOk result (λ r. r ≡ of_fault names fault) → IfOk result (λ r. r ≡ of_texts t names lib texts)
-refusal_of_texts t names lib texts fault (Ok r) tells i h = h ∙ ap (of_loading t names) (sym (texts_refused texts lib fault i tells))
+refusal_of_texts t names lib texts fault (Ok r) tells i h = h ∙ ap (of_loading t names lib) (sym (texts_refused texts lib fault i tells))
 refusal_of_texts t names lib texts fault (Err e) tells i h = tt
 
 -- ---- the command's texts
@@ -50,28 +55,33 @@ empty_texts [] = ([], refl, tt)
 empty_texts (name ∷ names) = let t : SomeTexts names (λ texts. Unit {0}) = empty_texts names in (None ∷ t.0, omega (arith, t.1), tt)
 
 -- Texts of the files of the command that is read.
-pub over_command : (command : Command) (words : List (List ℕ)) (result : Result Report Stop) → command ≡ command_of words
-    → SomeTexts (names_of command) (λ texts. IfOk result (λ r. r ≡ of_command command texts)) → OverTexts words (λ report. IfOk result (λ r. r ≡ report))
-over_command command words result e h = subst (λ k. SomeTexts (names_of k) (λ texts. IfOk result (λ r. r ≡ of_command k texts))) e h
+pub over_reading : (reading : Reading) (words : List (List ℕ)) (result : Result Report Stop) → reading ≡ reading_of words
+    → SomeTexts (names_of reading) (λ texts. IfOk result (λ r. r ≡ of_reading reading texts)) → OverTexts words (λ report. IfOk result (λ r. r ≡ report))
+over_reading reading words result e h = subst (λ k. SomeTexts (names_of k) (λ texts. IfOk result (λ r. r ≡ of_reading k texts))) e h
+
+-- Where the texts decide nothing, none need be there.
+pub whatever_texts : (names : List (List ℕ)) (P : Type 0) → P → SomeTexts names (λ texts. P)
+whatever_texts names P h = let t : SomeTexts names (λ texts. Unit {0}) = empty_texts names in (t.0, t.1, h)
+
+-- The report of a command that was read is what its words mean.
+pub told_reading : (reading : Reading) (words : List (List ℕ)) (files : Files) (result : Result Report Stop) → reading ≡ reading_of words → IfOk result (λ r. r ≡ of_reading reading (map files (names_of reading)))
+    → IfOk result (λ r. r ≡ meaning words files)
+told_reading reading words files result e h = subst (λ k. IfOk result (λ r. r ≡ of_reading k (map files (names_of k)))) e h
+
+-- The report of units is what the texts mean of which they are.
+pub units_of_texts : (t : Task) (own names : List (List ℕ)) (lib : Bool) (texts : List (Option (List ℕ))) (files : List (List ℕ)) (trees : List p.SourceUnit) (places : List (List Place)) (made : Result Report NoMemory) (result : Result Report Stop)
+    → MatchResult made (λ r. result ≡ Ok r) (λ _. result ≡ Err stop.Memory) → names ≡ own → files ≡ file_names names lib → loaded_texts texts lib ≡ units trees places
+    → IfOk made (λ r. r ≡ of_units t own files trees places) → IfOk result (λ r. r ≡ of_texts t names lib texts)
+units_of_texts t own names lib texts files trees places made result kept same named loaded h =
+    stop_keeps made result (λ r. r ≡ of_texts t names lib texts) kept (each made h)
+  where
+    is : of_units t own files trees places ≡ of_texts t names lib texts
+    is = ap (λ n. of_units t n files trees places) (sym same) ∙ ap (λ f. of_units t names f trees places) named ∙ ap (of_loading t names lib) (sym loaded)
+
+    each : (made : Result Report NoMemory) → IfOk made (λ r. r ≡ of_units t own files trees places) → IfOk made (λ r. r ≡ of_texts t names lib texts)
+    each (Ok r) k = k ∙ is
+    each (Err e) k = tt
 
 -- What follows of the meaning over any texts.
 pub over_other : (words : List (List ℕ)) (P Q : Report → Type 0) → ((report : Report) → P report → Q report) → OverTexts words P → OverTexts words Q
 over_other words P Q f (texts, count, h) = (texts, count, f _ h)
-
--- ---- the names of a command that was read
-
-pub check_files_are : (words : List (List ℕ)) (lib : Bool) (names : List (List ℕ)) → Check lib names ≡ command_of words → AreFiles names
-check_files_are words lib names e = (subst (IsCommandOf words) (sym e) (command_is words)).1
-
-one_file_is_files : (file : List ℕ) → is_file_name file ≡ true → AreFiles (file ∷ [])
-one_file_is_files file h = (omega arith, omega arith, (h, tt))
-
-pub show_file_is : (words : List (List ℕ)) (file : List ℕ) → Show file ≡ command_of words → AreFiles (file ∷ [])
-show_file_is words file e = one_file_is_files file (subst (IsCommandOf words) (sym e) (command_is words)).1
-
-pub run_file_is : (words : List (List ℕ)) (steps : ℕ) (file : List ℕ) → Run steps file ≡ command_of words → AreFiles (file ∷ [])
-run_file_is words steps file e = one_file_is_files file (either (subst (IsCommandOf words) (sym e) (command_is words)))
-  where
-    either : IsCommandOf words (Run steps file) → is_file_name file ≡ true
-    either (inl f) = f.2
-    either (inr f) = f.3

@@ -1,7 +1,4 @@
-pub mod FirstSource
-pub mod Forms
-pub mod Job
 pub mod Meaning
 pub mod Outcome
 pub mod Report
-pub mod Words
+pub mod Task

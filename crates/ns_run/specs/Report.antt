@@ -4,6 +4,8 @@ use Rattle.std.specs.Fmt.{decimal}
 use Rattle.ns_base.specs.declared.place.Place.{Place}
 use Rattle.ns_base.specs.declared.status.Status.TheVariants as status
 use Rattle.ns_run.specs.declared.report.Report.{Report}
+use Rattle.ns_gen.specs.declared.size.SizeKind.{SizeKind}
+use Rattle.ns_gen.specs.declared.size.SizeKind.TheVariants as size
 use Rattle.ns_rules.specs.declared.fault.Many.{Many}
 use Rattle.ns_rules.specs.declared.fault.Many.TheVariants.{Parameters, Locals, Elements, Members, Classes}
 use Rattle.ns_rules.specs.declared.fault.StaticCause.{StaticCause}
@@ -39,6 +41,12 @@ static_name (TooMany kind) = many_name kind
 static_name TopSuper = codes "TopSuper"
 static_name DuplicateTop = codes "DuplicateTop"
 
+abbrev pub size_name : SizeKind → List ℕ
+size_name size.Names = codes "TooLarge(Names)"
+size_name size.Bodies = codes "TooLarge(Bodies)"
+size_name size.Code = codes "TooLarge(Code)"
+size_name size.Height = codes "TooLarge(Height)"
+
 -- A refusal writes its line alone.
 abbrev pub refused : List ℕ → Report
 refused line = record { out = []; err = line; status = status.Refused }
@@ -50,6 +58,10 @@ bad_word word = refused (codes "nspk: bad word " ++ decimal word ++ 10 ∷ [])
 -- the refusal of a file: its name and the cause
 abbrev pub refused_file : List ℕ → List ℕ → Report
 refused_file file cause = refused (file ++ codes ": " ++ cause ++ 10 ∷ [])
+
+-- the refusal of a program of which a size passes its limit
+abbrev pub too_large : SizeKind → Report
+too_large kind = refused_file (codes "nspk") (size_name kind)
 
 -- the refusal of a text: where it is wrong, and the cause
 abbrev pub refused_text : List ℕ → Place → List ℕ → Report

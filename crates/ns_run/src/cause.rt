@@ -3,6 +3,7 @@
 ghost use Rattle.std.specs.Prelude.{◌≡◌};
 ghost use Rattle.ns_run.specs.Report as spec;
 
+use ns_gen::size::SizeKind;
 use ns_rules::fault::{Many, StaticCause};
 
 /// What is wrong with a text, by the number that the loader gives.
@@ -47,5 +48,17 @@ fn many_name(kind: Many) -> &'static str
         Many::Elements => "TooMany(Elements)",
         Many::Members => "TooMany(Members)",
         Many::Classes => "TooMany(Classes)",
+    }
+}
+
+/// A size that passes its limit.
+pub fn size_name(kind: SizeKind) -> &'static str
+    ensures { result.now ≡ spec.size_name kind }
+{
+    match kind {
+        SizeKind::Names => "TooLarge(Names)",
+        SizeKind::Bodies => "TooLarge(Bodies)",
+        SizeKind::Code => "TooLarge(Code)",
+        SizeKind::Height => "TooLarge(Height)",
     }
 }

@@ -3,33 +3,38 @@
 ghost use Rattle.std.specs.Prelude.{◌≡◌, ◌≤◌, map, ℕ, List, Some, All, IfOk, IsErrOf, IsSome, IsUtf8, length, string_bytes};
 ghost use Rattle.ns_base.specs.Count.{Rose};
 ghost use Rattle.ns_base.specs.Files.{Files};
+ghost use Rattle.ns_base.specs.Limits.{InRange};
 ghost use Rattle.ns_base.specs.Shelf.{OnlyRead};
 ghost use Rattle.ns_load.specs.declared.fault.LoadCause.TheVariants.{ReadFault};
+ghost use Rattle.ns_meant.specs.Classes.{meant};
 ghost use Rattle.ns_print.specs.Printed.{printed};
-ghost use Rattle.ns_run.specs.Forms.{AreFiles};
 ghost use Rattle.ns_run.specs.Meaning as spec;
 ghost use Rattle.ns_run.specs.Outcome.{IsEnding, IsMissing, IsReadFault, IsRefusal, IsRefusedFor, SomeOf, SomeTexts};
 ghost use Rattle.ns_run.specs.Report.{told as told_lem};
+ghost use Rattle.ns_run.specs.Task.{RunsInRange, task_of};
 ghost use Rattle.ns_scope.specs.Whole.{IsFileName, IsWhole};
 ghost use Rattle.ns_static.specs.Check.{fault_of};
 ghost use Rattle.ns_tree.specs.Flat.{flat};
 ghost use Rattle.ns_tree.specs.PlainOf.{unit_of};
+ghost use Rattle.ns_words.specs.Forms.{AreFiles};
 
-use crate::cause::{spelling_name, static_name};
+use crate::cause::{size_name, spelling_name, static_name};
 use crate::report::{Report, refused_file, refused_text, told, told_text};
 use crate::stop::{Stop, or_stop};
 use crate::task::Task;
+use ns_base::limits::Limits;
 use ns_base::no_memory::NoMemory;
+use ns_base::place::Place;
 use ns_base::shelf::Shelf;
 use ns_base::text::Text;
-use ns_first::first::{FirstRun, run_first};
-use ns_first::form::is_first;
+use ns_launch::run::{Ran, RunFault, run_source};
 use ns_load::fault::{LoadCause, LoadFault};
 use ns_load::load::load;
 use ns_load::names::names_of;
 use ns_print::print::print;
+use ns_rules::fault::StaticCause;
 use ns_scope::program::Program;
-use ns_static::check::check;
+use ns_static::check::{Checked, check};
 use ns_static::fault::StaticFault;
 use ns_tree::tree::Unit;
 use std::alloc::Global;
@@ -37,14 +42,15 @@ use std::alloc::Global;
 /// The report of what is done with the files of these names.
 pub fn on_files<S: Shelf>(
     alloc: Global,
-    task: Task,
+    task: Task<'_>,
     lib: bool,
     names: &[String],
     shelf: &mut S,
 ) -> Result<Report, Stop>
-    requires { AreFiles (map string_bytes names.now) }
-    ensures told { (files : Files) → S.holds shelf.old ≡ Some files → IfOk result (λ r. r ≡ spec.of_files task (map string_bytes names.now) lib files) }
-    ensures texts { SomeTexts (map string_bytes names.now) (λ read. IfOk result (λ r. r ≡ spec.of_texts task (map string_bytes names.now) lib read)) }
+    requires files { AreFiles (map string_bytes names.now) }
+    requires range { RunsInRange (task_of task) }
+    ensures told { (files : Files) → S.holds shelf.old ≡ Some files → IfOk result (λ r. r ≡ spec.of_files (task_of task.entry) (map string_bytes names.now) lib files) }
+    ensures texts { SomeTexts (map string_bytes names.now) (λ read. IfOk result (λ r. r ≡ spec.of_texts (task_of task.entry) (map string_bytes names.now) lib read)) }
     ensures ending { IfOk result (λ r. IsEnding r.status) }
     ensures only_read { OnlyRead S.holds S.misses S.faults S.store_faults shelf.old shelf.new }
     ensures read_fault { IsErrOf result Stop.ReadFault → Rose (S.faults shelf.old) (S.faults shelf.new) }
@@ -60,7 +66,7 @@ pub fn on_files<S: Shelf>(
 /// The report of what is done with the files of these names, which are texts too.
 fn on_texts<S: Shelf>(
     alloc: Global,
-    task: Task,
+    task: Task<'_>,
     lib: bool,
     names: &[String],
     texts: &[Text],
@@ -70,8 +76,9 @@ fn on_texts<S: Shelf>(
     requires few { length texts.now ≤ 16 }
     requires named { All IsFileName texts.now }
     requires same { texts.now ≡ map string_bytes names.now }
-    ensures told { (files : Files) → S.holds shelf.old ≡ Some files → IfOk result (λ r. r ≡ spec.of_files task texts.now lib files) }
-    ensures texts { SomeTexts texts.now (λ read. IfOk result (λ r. r ≡ spec.of_texts task texts.now lib read)) }
+    requires range { RunsInRange (task_of task) }
+    ensures told { (files : Files) → S.holds shelf.old ≡ Some files → IfOk result (λ r. r ≡ spec.of_files (task_of task.entry) texts.now lib files) }
+    ensures texts { SomeTexts texts.now (λ read. IfOk result (λ r. r ≡ spec.of_texts (task_of task.entry) texts.now lib read)) }
     ensures ending { IfOk result (λ r. IsEnding r.status) }
     ensures only_read { OnlyRead S.holds S.misses S.faults S.store_faults shelf.old shelf.new }
     ensures read_fault { IsErrOf result Stop.ReadFault → Rose (S.faults shelf.old) (S.faults shelf.new) }
@@ -125,17 +132,18 @@ fn name_of(names: &[String], file: usize) -> &str
 /// The report of what is done with a program.
 fn on_program(
     alloc: Global,
-    task: Task,
+    task: Task<'_>,
     names: &[String],
     program: Program,
 ) -> Result<Report, NoMemory>
-    requires { IsWhole program }
-    ensures { IfOk result (λ r. r ≡ spec.of_units task (map string_bytes names.now) (map unit_of program.units) program.marks) }
+    requires whole { IsWhole program }
+    requires range { RunsInRange (task_of task) }
+    ensures { IfOk result (λ r. r ≡ spec.of_units (task_of task.entry) (map string_bytes names.now) program.files (map unit_of program.units) program.marks) }
 {
     match task {
         Task::Check => on_check(alloc, names, program),
         Task::Show => on_show(alloc, program.units.as_slice()),
-        Task::Run { steps } => on_run(alloc, steps, name_of(names, 0), program.units.as_slice()),
+        Task::Run { limits, arguments } => on_run(alloc, names, limits, arguments, program),
     }
 }
 
@@ -146,12 +154,22 @@ fn on_check(alloc: Global, names: &[String], program: Program) -> Result<Report,
 {
     match check(alloc, program) {
         Ok(_) => told_text(alloc, "ok\n"),
-        Err(StaticFault::At { cause, place }) => {
-            let file = name_of(names, place.file as usize);
-            refused_text(alloc, file, place, static_name(cause))
-        }
+        Err(StaticFault::At { cause, place }) => on_static_fault(alloc, names, place, cause),
         Err(StaticFault::Memory) => Err(NoMemory),
     }
+}
+
+/// The report of a program with that fault at that place.
+fn on_static_fault(
+    alloc: Global,
+    names: &[String],
+    place: Place,
+    cause: StaticCause,
+) -> Result<Report, NoMemory>
+    ensures { IfOk result (λ r. r ≡ spec.of_check (map string_bytes names.now) (Some (record { place = place; cause = cause }))) }
+{
+    let file = name_of(names, place.file as usize);
+    refused_text(alloc, file, place, static_name(cause))
 }
 
 /// The report that tells the canonical source of the first unit.
@@ -164,38 +182,55 @@ fn on_show(alloc: Global, units: &[Unit]) -> Result<Report, NoMemory>
     }
 }
 
-/// The report of the run of the first unit, which is in that file.
-fn on_run(alloc: Global, steps: u64, file: &str, units: &[Unit]) -> Result<Report, NoMemory>
-    ensures { IfOk result (λ r. r ≡ spec.of_first_run steps file.now (map unit_of units.now)) }
+/// The report of the run of a program.
+fn on_run(
+    alloc: Global,
+    names: &[String],
+    limits: Limits,
+    arguments: &[String],
+    program: Program,
+) -> Result<Report, NoMemory>
+    requires whole { IsWhole program }
+    requires range { InRange limits }
+    ensures { IfOk result (λ r. r ≡ spec.of_run (map string_bytes names.now) limits (map string_bytes arguments.now) program.files (map unit_of program.units) program.marks (fault_of program)) }
 {
-    match units {
-        [] => told_text(alloc, ""),
-        [unit, ..] => run(alloc, steps, file, unit),
+    match check(alloc, program) {
+        Ok(checked) => {
+            let arguments = names_of(alloc, arguments)?;
+            run(alloc, limits, arguments.as_slice(), &checked)
+        }
+        Err(StaticFault::At { cause, place }) => on_static_fault(alloc, names, place, cause),
+        Err(StaticFault::Memory) => Err(NoMemory),
     }
 }
 
-/// The report of the run of a unit.
-fn run(alloc: Global, steps: u64, file: &str, unit: &Unit) -> Result<Report, NoMemory>
-    ensures { IfOk result (λ r. r ≡ spec.of_run steps file.now (unit_of unit.now)) }
+/// The report of the run of a program without static faults.
+fn run(
+    alloc: Global,
+    limits: Limits,
+    arguments: &[Text],
+    checked: &Checked,
+) -> Result<Report, NoMemory>
+    requires { InRange limits }
+    ensures { IfOk result (λ r. r ≡ spec.of_meant limits arguments.now (meant checked.now)) }
 {
-    if !is_first(unit) {
-        return refused_file(alloc, file, "NotYet");
-    }
-    match run_first(alloc, unit, steps) {
-        Ok(run) => Ok(run_report(run)),
-        Err(NoMemory) => Err(NoMemory),
+    match run_source(alloc, checked, limits, arguments) {
+        Ok(ran) => Ok(run_report(ran)),
+        Err(RunFault::TooLarge(kind)) => refused_file(alloc, "nspk", size_name(kind)),
+        Err(RunFault::Memory) => Err(NoMemory),
     }
 }
 
 /// The report of a run.
-fn run_report(run: FirstRun) -> Report
-    ensures { result ≡ spec.run_report run }
+fn run_report(ran: Ran) -> Report
+    ensures { result ≡ spec.run_report ran }
 {
-    let FirstRun {
+    let Ran {
         output,
         line,
         status,
-    } = run;
+        ..
+    } = ran;
     Report {
         out: output,
         err: line,

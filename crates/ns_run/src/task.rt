@@ -1,12 +1,17 @@
 //! What a command does with its files.
 
+use ns_base::limits::Limits;
+
 /// What is done with a program.
-#[derive(Clone, Copy, Debug, PartialEq, Eq)]
-pub enum Task {
+#[derive(Drop)]
+pub enum Task<'a> {
     /// It is checked for static faults.
     Check,
     /// The canonical source of its first file is written.
     Show,
-    /// Its first file is run within so many steps.
-    Run { steps: u64 },
+    /// It is run within these limits, with these arguments.
+    Run {
+        limits: Limits,
+        arguments: &'a [String],
+    },
 }

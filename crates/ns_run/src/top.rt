@@ -1,12 +1,16 @@
 //! The top call: from the words of a command to what is written.
 
-ghost use Rattle.std.specs.Prelude.{◌≡◌, ◌⊎◌, ◌≤◌, map, ℕ, List, Some, IfOk, IsErrOf, string_bytes};
+ghost use Rattle.std.specs.Prelude.{◌≡◌, ◌⊎◌, ◌≤◌, map, ℕ, List, Some, IfOk, IsErrOf, IsSome, string_bytes};
 ghost use Rattle.ns_base.specs.Count.{Rose};
 ghost use Rattle.ns_base.specs.Files.{Files};
+ghost use Rattle.ns_base.specs.Limits.{InRange};
 ghost use Rattle.ns_base.specs.Shelf.{OnlyRead};
 ghost use Rattle.ns_run.specs.Meaning as spec;
-ghost use Rattle.ns_run.specs.Outcome.{HasAFile, IsEnding, Leaves, NamesMissing, OverTexts, TellsMissing};
-ghost use Rattle.ns_run.specs.Words.{command_of};
+ghost use Rattle.ns_run.specs.Outcome.{HasAFile, IsEnding, IsMissing, Leaves, NamesMissing, OverTexts, SomeOf, SomeTexts, TellsMissing};
+ghost use Rattle.ns_run.specs.Report.{bad_word as bad_word_lem};
+ghost use Rattle.ns_words.specs.Forms.{IsSpelled};
+ghost use Rattle.ns_words.specs.Line.{line_seen};
+ghost use Rattle.ns_words.specs.Words.{first_bad, limits_of, reading_of};
 
 use crate::deliver::deliver;
 use crate::files::on_files;
@@ -14,12 +18,13 @@ use crate::report::{Report, bad_word, told_text};
 use crate::stop::{Stop, or_stop};
 use crate::task::Task;
 use crate::usage::{HELP, VERSION};
-use crate::words::{BadWord, Job, words};
+use ns_base::no_memory::NoMemory;
 use ns_base::shelf::Shelf;
 use ns_base::sink::Sink;
 use ns_base::status::Status;
+use ns_words::form::Verb;
+use ns_words::words::{BadWord, Line, first_bad, words};
 use std::alloc::Global;
-use std::slice::from_ref;
 
 /// Carries out the command of these words: reads from the shelf, and writes what the command means
 /// to `out`, and then to `err`. No file is changed.
@@ -38,13 +43,36 @@ pub fn nspk<S: Shelf, O: Sink, E: Sink>(
 
     // Each fault has its cause.
     ensures read_fault { result ≡ Status.ReadFault → Rose (S.faults shelf.old) (S.faults shelf.new) }
-    ensures read_fault_there { (files : Files) → S.holds shelf.old ≡ Some files → result ≡ Status.ReadFault → HasAFile (command_of (map string_bytes words.now)) files }
+    ensures read_fault_there { (files : Files) → S.holds shelf.old ≡ Some files → result ≡ Status.ReadFault → HasAFile (reading_of (map string_bytes words.now)) files }
     ensures write_fault { result ≡ Status.WriteFault → (Rose (O.faults out.old) (O.faults out.new)) ⊎ (Rose (E.faults err.old) (E.faults err.new)) }
-    ensures missing { result ≡ Status.Refused → TellsMissing (command_of (map string_bytes words.now)) (E.written err.old) (E.written err.new) → Rose (S.misses shelf.old) (S.misses shelf.new) }
+    ensures missing { result ≡ Status.Refused → TellsMissing (reading_of (map string_bytes words.now)) (E.written err.old) (E.written err.new) → Rose (S.misses shelf.old) (S.misses shelf.new) }
 {
     match work(alloc, words, shelf) {
         Err(Stop::ReadFault) => Status::ReadFault,
         Err(Stop::Memory) => Status::Memory,
+        Ok(report) => {
+            if deliver(&report, out, err) {
+                report.status
+            } else {
+                Status::WriteFault
+            }
+        }
+    }
+}
+
+/// Refuses the command line on which a word that is no text stands behind these: writes which word
+/// is the first bad one.
+pub fn refuse_cut<O: Sink, E: Sink>(
+    alloc: Global,
+    words: &[String],
+    out: &mut O,
+    err: &mut E,
+) -> Status
+    ensures told { Leaves (bad_word_lem (first_bad (map string_bytes words.now))) result (O.written out.old) (O.written out.new) (E.written err.old) (E.written err.new) }
+    ensures write_fault { result ≡ Status.WriteFault → (Rose (O.faults out.old) (O.faults out.new)) ⊎ (Rose (E.faults err.old) (E.faults err.new)) }
+{
+    match bad_word(alloc, first_bad(words)) {
+        Err(NoMemory) => Status::Memory,
         Ok(report) => {
             if deliver(&report, out, err) {
                 report.status
@@ -62,17 +90,42 @@ fn work<S: Shelf>(alloc: Global, line: &[String], shelf: &mut S) -> Result<Repor
     ensures ending { IfOk result (λ r. IsEnding r.status) }
     ensures only_read { OnlyRead S.holds S.misses S.faults S.store_faults shelf.old shelf.new }
     ensures read_fault { IsErrOf result Stop.ReadFault → Rose (S.faults shelf.old) (S.faults shelf.new) }
-    ensures read_fault_there { (files : Files) → S.holds shelf.old ≡ Some files → IsErrOf result Stop.ReadFault → HasAFile (command_of (map string_bytes line.now)) files }
-    ensures missing { IfOk result (λ r. NamesMissing (command_of (map string_bytes line.now)) r → Rose (S.misses shelf.old) (S.misses shelf.new)) }
+    ensures read_fault_there { (files : Files) → S.holds shelf.old ≡ Some files → IsErrOf result Stop.ReadFault → HasAFile (reading_of (map string_bytes line.now)) files }
+    ensures missing { IfOk result (λ r. NamesMissing (reading_of (map string_bytes line.now)) r → Rose (S.misses shelf.old) (S.misses shelf.new)) }
 {
     match words(line) {
-        Ok(Job::Check { lib, files }) => on_files(alloc, Task::Check, lib, files, shelf),
-        Ok(Job::Show { file }) => on_files(alloc, Task::Show, false, from_ref(file), shelf),
-        Ok(Job::Run { steps, file }) => {
-            on_files(alloc, Task::Run { steps }, false, from_ref(file), shelf)
-        }
-        Ok(Job::Help) => or_stop(told_text(alloc, HELP)),
-        Ok(Job::Version) => or_stop(told_text(alloc, VERSION)),
+        Ok(line) => on_line(alloc, line, shelf),
         Err(BadWord(word)) => or_stop(bad_word(alloc, word)),
+    }
+}
+
+/// The report of the command of a line.
+fn on_line<S: Shelf>(alloc: Global, line: Line<'_>, shelf: &mut S) -> Result<Report, Stop>
+    requires form { IsSpelled (line_seen line) }
+    requires range { InRange (limits_of line.given) }
+    ensures told { (files : Files) → S.holds shelf.old ≡ Some files → IfOk result (λ r. r ≡ spec.of_line line.entry.verb (line_seen line.entry) (map files (line_seen line.entry).names)) }
+    ensures texts { SomeTexts (line_seen line.entry).names (λ texts. IfOk result (λ r. r ≡ spec.of_line line.entry.verb (line_seen line.entry) texts)) }
+    ensures ending { IfOk result (λ r. IsEnding r.status) }
+    ensures only_read { OnlyRead S.holds S.misses S.faults S.store_faults shelf.old shelf.new }
+    ensures read_fault { IsErrOf result Stop.ReadFault → Rose (S.faults shelf.old) (S.faults shelf.new) }
+    ensures read_fault_there { (files : Files) → S.holds shelf.old ≡ Some files → IsErrOf result Stop.ReadFault → SomeOf (line_seen line.entry).names (λ file. IsSome (files file)) }
+    ensures missing { IfOk result (λ r. (name : List ℕ) → IsMissing name r → Rose (S.misses shelf.old) (S.misses shelf.new)) }
+{
+    let Line {
+        verb,
+        given,
+        names,
+        arguments,
+    } = line;
+    match verb {
+        Verb::Check => on_files(alloc, Task::Check, given.lib, names, shelf),
+        Verb::Show => on_files(alloc, Task::Show, given.lib, names, shelf),
+        Verb::Run => {
+            let limits = given.limits();
+            let task = Task::Run { limits, arguments };
+            on_files(alloc, task, given.lib, names, shelf)
+        }
+        Verb::Help => or_stop(told_text(alloc, HELP)),
+        Verb::Version => or_stop(told_text(alloc, VERSION)),
     }
 }

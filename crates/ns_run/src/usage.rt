@@ -4,19 +4,25 @@
 pub const HELP: &str = "nspk runs Newspeak, in a profile with 64-bit integers
 
 usage:
-  nspk check [--lib] FILE ..  says whether the files, 16 at most, are a program
-  nspk show FILE              writes the canonical source of FILE
-  nspk run [--steps=N] FILE   runs the class in FILE, within N steps
-  nspk --help                 tells this
-  nspk --version              tells the version
+  nspk check [--lib] FILE ..                says whether the files are a program
+  nspk show FILE                            writes the canonical source of FILE
+  nspk run [OPTION ..] FILE .. [-- ARG ..]  runs the class of the first FILE
+  nspk --help                               tells this
+  nspk --version                            tells the version
 
-With --lib the library is the last of the files.
-N is a decimal number from 1 to 1000000000000; without it, 10000000.
+There are at most 16 files and 255 arguments. Options stand before the files,
+in any order, and each at most once:
+  --lib      the library is the last of the files
+  --steps=N  within N steps: 1 to 1000000000000, without it 10000000
+  --cells=N  within N cells of the heap: 1 to 64000000, without it 4000000
+  --depth=N  with at most N live frames: 1 to 100000, without it 10000
+  --out=N    with at most N bytes of output: 1 to 16777216, without it 1048576
+N is a decimal number without a zero in front.
 
 exit status:
   0  done
   1  the program ended in an error
-  2  the words or the file were refused
+  2  the words, a file, or a size of the program were refused
   3  a limit was reached
   4  the file could not be read
   5  a stream could not be written

@@ -8,11 +8,11 @@ mod stream;
 #[cfg(test)]
 mod stream_tests;
 
-use crate::arguments::arguments;
+use crate::arguments::{CommandLine, arguments};
 use crate::files::Disk;
 use crate::stream::Stream;
 use ns_base::status::Status;
-use ns_run::top::nspk;
+use ns_run::top::{nspk, refuse_cut};
 use std::process::ExitCode;
 
 fn main(rt: HostRuntime) -> ExitCode {
@@ -20,7 +20,10 @@ fn main(rt: HostRuntime) -> ExitCode {
     let mut out = Stream::new(rt.stdout());
     let mut err = Stream::new(rt.stderr());
     let status = match arguments(&rt, alloc) {
-        Ok(words) => {
+        Ok(CommandLine { words, cut: true }) => {
+            refuse_cut(alloc, words.as_slice(), &mut out, &mut err)
+        }
+        Ok(CommandLine { words, cut: false }) => {
             let mut disk = Disk::new(rt);
             nspk(alloc, words.as_slice(), &mut disk, &mut out, &mut err)
         }

@@ -1,0 +1,66 @@
+//! The compiler: it generates code, and has it admitted.
+
+ghost use Rattle.std.specs.Prelude.{◌≡◌, None, Some, IfOk, OnOk, IsErrOf};
+ghost use Rattle.ns_code.specs.Fits.{Fits};
+ghost use Rattle.ns_verify.specs.Verify.{IsSound};
+ghost use Rattle.ns_meant.specs.Classes.{meant};
+ghost use Rattle.ns_gen.specs.declared.size.SizeKind.{SizeKind};
+ghost use Rattle.ns_gen.specs.Code.{code_of};
+ghost use Rattle.ns_gen.specs.Sizes.{size_fault};
+ghost use Rattle.ns_compile.specs.declared.fault.LinkFault.TheVariants.{TooLarge};
+
+use crate::fault::LinkFault;
+use ns_base::no_memory::NoMemory;
+use ns_code::program::CodeProgram;
+use ns_fits::code::fits;
+use ns_generate::fault::GenFault;
+use ns_generate::generate::generate;
+use ns_static::check::Checked;
+use ns_verify::fault::VerifyFault;
+use ns_verify::verify::{Verified, verify};
+use std::alloc::Global;
+
+/// The code of a program, admitted; or the first size of it that passes its limit.
+pub fn compile(alloc: Global, checked: &Checked) -> Result<Verified, LinkFault>
+    ensures code { IfOk result (λ verified. verified ≡ code_of (meant checked.now)) }
+    ensures fits { OnOk result (Fits (code_of (meant checked.now))) }
+    ensures sound { OnOk result (IsSound (code_of (meant checked.now))) }
+    ensures small { OnOk result (size_fault (code_of (meant checked.now)) ≡ None) }
+    ensures large { (kind : SizeKind) → IsErrOf result (TooLarge kind) → size_fault (code_of (meant checked.now)) ≡ Some kind }
+{
+    match generate(alloc, checked.program()) {
+        Ok(code) => {
+            let verified = admit(alloc, code)?;
+            Ok(verified)
+        }
+        Err(GenFault::TooLarge(kind)) => Err(LinkFault::TooLarge(kind)),
+        Err(GenFault::Memory) => Err(LinkFault::Memory),
+    }
+}
+
+/// Generated code, admitted. That it always fits its fields and is sound isn't a law yet, so both are
+/// tested; code that weren't so would be taken for want of memory.
+fn admit(alloc: Global, code: CodeProgram) -> Result<Verified, NoMemory>
+    ensures code { IfOk result (λ verified. verified ≡ code) }
+    ensures fits { OnOk result (Fits code) }
+    ensures sound { OnOk result (IsSound code) }
+{
+    let fit = fits(alloc, &code)?;
+    if !fit {
+        return Err(NoMemory);
+    }
+    verified(alloc, code)
+}
+
+/// Code that fits its fields, admitted where it is sound.
+fn verified(alloc: Global, code: CodeProgram) -> Result<Verified, NoMemory>
+    requires { Fits code }
+    ensures code { IfOk result (λ verified. verified ≡ code) }
+    ensures sound { OnOk result (IsSound code) }
+{
+    match verify(alloc, code) {
+        Ok(verified) => Ok(verified),
+        Err(VerifyFault::Memory) => Err(NoMemory),
+        Err(VerifyFault::At { .. }) => Err(NoMemory),
+    }
+}

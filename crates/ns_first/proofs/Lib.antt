@@ -1,3 +1,0 @@
-pub mod FormLaws
-pub mod SendLaws
-pub mod TokenLaws

@@ -1,8 +1,0 @@
-use Rattle.std.proofs.Common.{arith}
-use Rattle.std.proofs.lemmas.Grind.{common_steps}
-use Rattle.ns_first.proofs.FormLaws.{received_text}
-use Rattle.ns_tree.proofs.Nodes.{key_expr_out}
-use Rattle.ns_first.proofs.first.key_text.Goals as goal
-
-pub returns : goal.returns
-returns c = rw (key_expr_out c.args.expr.now, received_text) (grind (arith, common_steps))

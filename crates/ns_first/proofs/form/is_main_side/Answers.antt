@@ -1,7 +1,0 @@
-use Rattle.std.proofs.Common.{arith}
-use Rattle.std.proofs.lemmas.Grind.{common_steps}
-use Rattle.ns_tree.proofs.Nodes.{side_out}
-use Rattle.ns_first.proofs.form.is_main_side.Goals as goal
-
-pub returns : goal.returns
-returns c = rw (side_out c.args.side.now) (grind (arith, common_steps))

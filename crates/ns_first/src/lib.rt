@@ -1,6 +1,0 @@
-//! The run of a program.
-#![tactic(auto)]
-
-pub mod first;
-pub mod form;
-pub mod laws;

@@ -1,0 +1,4 @@
+pub mod Different
+pub mod OneMore
+pub mod Ordered
+pub mod Records

@@ -1,0 +1,11 @@
+use Rattle.ns_code.specs.Fits.{IsName}
+use Rattle.ns_fits.proofs.OneMore.{one_more, whole}
+use Rattle.ns_fits.proofs.texts.are_names.Goals as goal
+
+pub names-preserved : goal.names-preserved
+names-preserved c =
+    one_more IsName c.args.names.now c.names.name-index c.name-item.result c.names-test.true c.names.invariant c.name-item.is
+    (c.is_name.ensures c.if-not-is_name.false)
+
+pub returns : goal.returns
+returns c e = whole IsName c.args.names.now c.names.name-index c.names.invariant c.names-test.false

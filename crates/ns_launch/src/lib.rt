@@ -1,0 +1,4 @@
+//! The run of a source: compiled, and run by a machine to its end.
+#![tactic(auto)]
+
+pub mod run;

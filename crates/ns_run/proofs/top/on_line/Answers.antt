@@ -1,0 +1,10 @@
+use Rattle.ns_run.proofs.LineLaws.{help_texts, run_told}
+use Rattle.ns_run.proofs.ReportLaws.{stop_keeps}
+use Rattle.ns_run.proofs.top.on_line.Goals as goal
+use Rattle.ns_words.specs.Line.{line_seen}
+
+pub returns-in-Run-clause-told : goal.returns-in-Run-clause-told
+returns-in-Run-clause-told g c = λ files e. run_told (line_seen c.args.line) c.limits-limits.result files c.on_files-in-Run.result c.in-Run.is c.limits-limits.ensures (c.on_files-in-Run.ensures.told files e)
+
+pub returns-in-Help-clause-texts : goal.returns-in-Help-clause-texts
+returns-in-Help-clause-texts g c = help_texts (line_seen c.args.line) c.or_stop.result c.in-Help.is (stop_keeps c.told_text.result c.or_stop.result _ c.or_stop.ensures c.told_text.ensures)
