@@ -1,11 +1,10 @@
 -- The bodies that a class's record names are there: its clause, its initialiser and its methods.
-use Rattle.std.proofs.Common.{◌≡◌, ℕ, ◌+◌, List, [], ◌∷◌, ◌++◌, length, refl, sym}
+use Rattle.std.proofs.Common.{◌≡◌, ℕ, ◌+◌, List, [], ◌∷◌, ◌++◌, length, refl}
 use Rattle.std.specs.Prelude.{Option, Some, None}
 use Rattle.std.specs.Option.{option_map_or}
 use Rattle.ns_tree.specs.declared.tree.Access.{Access}
 use Rattle.ns_tree.specs.declared.tree.Access.TheVariants as a
 use Rattle.ns_tree.specs.Plain as p
-use Rattle.ns_scope.specs.declared.scope.ClassScope.{ClassScope}
 use Rattle.ns_scope.specs.declared.scope.CodeSide.{CodeSide}
 use Rattle.ns_scope.specs.declared.scope.CodeSide.TheVariants as side
 use Rattle.ns_scope.specs.Names.{access_or}
@@ -14,12 +13,12 @@ use Rattle.ns_scope.specs.Bodies as b
 use Rattle.ns_meant.specs.Program as m
 use Rattle.ns_meant.specs.Statements.{bars_values, statements_steps, routine, routine_bodies}
 use Rattle.ns_meant.specs.Classes.{Around, within, standing, in_method, head_node, clause_body, clause_bodies, clause_number, initialiser_of, initialiser_body}
-use Rattle.ns_meant.specs.Classes.{initialiser_inside, method_bodies, what_methods, members_methods, side_methods, class_side_methods, what_listed}
-use Rattle.ns_meant.specs.Classes.{methods_listed, side_listed, class_side_listed, own_bodies, nested_bodies, class_bodies, declaration_of}
-use Rattle.ns_meant.specs.Right.{HasInitialiser, HasClause, HasMethod, HaveMethods}
-use Rattle.ns_meant.proofs.Counting.{HasNumber, clause_counted, what_methods_counted, side_counted}
+use Rattle.ns_meant.specs.Classes.{method_bodies, what_methods, members_methods, side_methods, class_side_methods, what_listed}
+use Rattle.ns_meant.specs.Classes.{methods_listed, side_listed, class_side_listed, class_bodies, declaration_of}
+use Rattle.ns_meant.specs.Right.{HasInitialiser, HasClause, HaveMethods}
+use Rattle.ns_meant.proofs.Counting.{HasNumber, clause_counted, what_methods_counted}
 use Rattle.ns_right.specs.Spelled.{WhatTakes, MembersTake, SideTakes, ClassSideTakes}
-use Rattle.ns_right.proofs.Sits.{Sits, sits_left, sits_right, sits_first, sits_behind}
+use Rattle.ns_right.proofs.Sits.{Sits, sits_left, sits_right, sits_first}
 
 module _ (meant : m.Meant) where
   pub clause_there : (class : m.Declaration) (clause : Option p.SuperClause) (around : Around) (next : ℕ) → class.outer ≡ around.outer →

@@ -1,6 +1,6 @@
 -- In a program without faults the parameters of a class are few, and its members are different.
-use Rattle.std.proofs.Common.{◌≡◌, ◌<◌, ◌≤◌, ℕ, suc, ◌+◌, List, [], ◌∷◌, ◌++◌, length, refl, sym, ap, ◌∙◌, subst, arith}
-use Rattle.std.specs.Prelude.{true, Option, Some, None, map, flat_map, slice_get}
+use Rattle.std.proofs.Common.{◌≡◌, ◌<◌, ℕ, ◌+◌, List, [], ◌∷◌, ◌++◌, length, refl, ap, ◌∙◌, subst, arith}
+use Rattle.std.specs.Prelude.{true, Some, None, map, flat_map, slice_get}
 use Rattle.std.specs.Option.{option_map_or}
 use Rattle.std.proofs.lemmas.List.{length-map, map-append}
 use Rattle.ns_base.specs.declared.place.Place.{Place}
@@ -9,22 +9,20 @@ use Rattle.ns_tree.specs.declared.tree.Access.TheVariants as a
 use Rattle.ns_tree.specs.declared.tree.Named.{Named}
 use Rattle.ns_tree.specs.Plain as p
 use Rattle.ns_scope.specs.declared.names.Declared.{Declared}
-use Rattle.ns_scope.specs.declared.scope.ClassScope.{ClassScope}
 use Rattle.ns_scope.specs.declared.scope.CodeSide.{CodeSide}
 use Rattle.ns_scope.specs.declared.scope.CodeSide.TheVariants as side
-use Rattle.ns_scope.specs.Names.{slot_members, bars_members, members_named, side_members, instance_members, class_members, locals_of}
-use Rattle.ns_scope.specs.Scopes.{class_scope, factory_params, initialiser_scope}
+use Rattle.ns_scope.specs.Names.{slot_members, bars_members, members_named, instance_members, class_members}
+use Rattle.ns_scope.specs.Scopes.{factory_params}
 use Rattle.ns_scope.specs.Bodies as b
 use Rattle.ns_scope.specs.Whole.{AreWholeUnits}
 use Rattle.ns_code.specs.Soundness.{are_different}
 use Rattle.ns_rules.specs.declared.fault.StaticCause.TheVariants as c
 use Rattle.ns_rules.specs.declared.fault.Many.TheVariants as many
-use Rattle.ns_rules.specs.Rules.{found_repeated, found_past, members_found, params_found, locals_found}
-use Rattle.ns_rules.specs.Faults.{head_faults, super_faults, bars_faults, statements_faults, initialiser_faults, class_members_found, class_found, side_faults, class_side_faults}
+use Rattle.ns_rules.specs.Rules.{found_repeated, members_found, params_found}
+use Rattle.ns_rules.specs.Faults.{head_faults, initialiser_faults, class_members_found, class_found, side_faults, class_side_faults}
 use Rattle.ns_rules.specs.Least.{least, faults}
 use Rattle.ns_meant.specs.Program as m
 use Rattle.ns_meant.specs.There.{slot_selectors, nested_names}
-use Rattle.ns_meant.specs.Right.{members_of}
 use Rattle.ns_meant.specs.Classes.{Around, within, slots_of, bars_slots, members_nested, side_nested, methods_listed, side_listed, class_side_listed}
 use Rattle.ns_meant.specs.Classes.{class_declared, side_declared, members_declared, declaration_of, class_count, meant_of}
 use Rattle.ns_meant.proofs.Counting.{class_listed}

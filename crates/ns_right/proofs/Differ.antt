@@ -1,9 +1,8 @@
 -- Names that are declared once are different, in whatever order they stand.
-use Rattle.std.proofs.Common.{◌≡◌, ◌≤◌, ℕ, zero, suc, ◌+◌, List, [], ◌∷◌, ◌++◌, length, refl, sym, ap, ◌∙◌, arith}
+use Rattle.std.proofs.Common.{◌≡◌, ◌≤◌, ℕ, zero, suc, List, [], ◌∷◌, ◌++◌, length, refl, sym, ap, ◌∙◌, arith}
 use Rattle.std.specs.Prelude.{Bool, true, false, not, ◌&&◌, ◌||◌, Option, Some, None, map, slice_get, if◌then◌else◌}
 use Rattle.std.specs.List.{list_any}
 use Rattle.std.specs.Option.{is_some}
-use Rattle.std.specs.Map.{lookup}
 use Rattle.std.specs.Str.{bytes_eq}
 use Rattle.std.proofs.lemmas.Slice.Eq.{bytes_eq-Decides}
 use Rattle.std.specs.Bool.{Decides}
@@ -13,7 +12,7 @@ use Rattle.ns_code.specs.Soundness.{are_different}
 use Rattle.ns_rules.specs.declared.fault.StaticCause.{StaticCause}
 use Rattle.ns_rules.specs.declared.fault.StaticCause.TheVariants as c
 use Rattle.ns_rules.specs.declared.fault.Many.{Many}
-use Rattle.ns_rules.specs.Rules.{Found, found_if, found_at, found_past, found_repeated}
+use Rattle.ns_rules.specs.Rules.{found_if, found_at, found_past, found_repeated}
 use Rattle.ns_right.proofs.Faults.{empty_left, empty_right}
 
 -- ---- not too many

@@ -1,25 +1,18 @@
 -- What an expression without faults uses.
-use Rattle.std.proofs.Common.{◌≡◌, ◌<◌, ◌≤◌, ℕ, suc, ◌+◌, List, [], ◌∷◌, ◌++◌, length, ◌^◌, refl, sym, ap, ◌∙◌, subst, arith}
-use Rattle.std.specs.Prelude.{Bool, true, false, not, ◌&&◌, nat_eq, ℤ, pos, neg_ℤ, FitsSigned, flat_map, map, if◌then◌else◌, codes}
-use Rattle.std.specs.Int.{w64}
-use Rattle.std.specs.List.{list_any}
-use Rattle.std.specs.Str.{bytes_eq}
-use Rattle.ns_tree.specs.declared.token.Kind.{Kind}
+use Rattle.std.proofs.Common.{◌≡◌, ◌<◌, ℕ, ◌+◌, [], ◌∷◌, ◌++◌, length, ◌^◌, refl, arith}
+use Rattle.std.specs.Prelude.{flat_map, map, if◌then◌else◌, codes}
 use Rattle.ns_tree.specs.declared.token.Kind.TheVariants as k
-use Rattle.ns_tree.specs.declared.tree.Named.{Named}
 use Rattle.ns_tree.specs.Flat.{ident, set_key, flat_expr, flat_cascade, flat_message, flat_key_expr, flat_keys, flat_bin, flat_opers, flat_un, flat_primary}
-use Rattle.ns_tree.specs.Flat.{flat_items, flat_more_items, stop_if}
+use Rattle.ns_tree.specs.Flat.{flat_items, flat_more_items}
 use Rattle.ns_tree.specs.Plain as p
 use Rattle.ns_tree.specs.Tree.{AllHaveText}
-use Rattle.ns_scope.specs.Resolve.{resolve}
 use Rattle.ns_scope.specs.Bodies as b
 use Rattle.ns_rules.specs.declared.fault.Role.{Role}
 use Rattle.ns_rules.specs.declared.fault.Many.TheVariants as many
-use Rattle.ns_rules.specs.Rules.{set_found, cascade_found, number_found, bare_found, outer_found}
+use Rattle.ns_rules.specs.Rules.{set_found, cascade_found, bare_found, outer_found}
 use Rattle.ns_rules.specs.Faults as f
-use Rattle.ns_meant.specs.Program as m
 use Rattle.ns_meant.specs.Uses.{Use, how_many, NodeHas, NodesHave}
-use Rattle.ns_meant.specs.Expressions.{Standing, Said, nothing, said, message_with, as_receiver, as_value, names_said, name_sent, keys_sent, sent_at, integer_of}
+use Rattle.ns_meant.specs.Expressions.{Standing, Said, nothing, said, message_with, as_receiver, names_said, name_sent, keys_sent, sent_at, integer_of}
 use Rattle.ns_meant.specs.Expressions.{expr_node, cascade_messages, message_said, key_expr_said, keys_nodes, bin_said, opers_said, un_node, un_said}
 use Rattle.ns_meant.specs.Expressions.{primary_receiver, items_nodes, one}
 use Rattle.ns_right.specs.Reaching.{Reaches}

@@ -1,6 +1,6 @@
 -- Where a program has no least fault, none of its classes has a fault.
-use Rattle.std.proofs.Common.{◌≡◌, ℕ, suc, ◌+◌, List, [], ◌∷◌, ◌++◌, length, refl}
-use Rattle.std.specs.Prelude.{Bool, true, false, Option, Some, None, map, fold, zip, if◌then◌else◌}
+use Rattle.std.proofs.Common.{◌≡◌, ℕ, ◌+◌, List, [], ◌∷◌, ◌++◌, length, refl}
+use Rattle.std.specs.Prelude.{Bool, true, false, Some, None, map, fold, zip, if◌then◌else◌}
 use Rattle.ns_base.specs.declared.place.Place.{Place}
 use Rattle.ns_tree.specs.Plain as p
 use Rattle.ns_scope.specs.declared.scope.ClassScope.{ClassScope}
@@ -10,8 +10,8 @@ use Rattle.ns_scope.specs.Table.{TableOf}
 use Rattle.ns_scope.specs.Whole.{AreWholeUnits}
 use Rattle.ns_rules.specs.declared.fault.Placed.{Placed}
 use Rattle.ns_rules.specs.Rules.{top_name_found}
-use Rattle.ns_rules.specs.Faults.{class_found, initialiser_faults, side_faults, class_side_faults, members_faults, member_faults, what_faults, class_faults}
-use Rattle.ns_rules.specs.Faults.{classes_found, class_name, class_names, unit_faults, unit_class}
+use Rattle.ns_rules.specs.Faults.{class_found, initialiser_faults, side_faults, class_side_faults, members_faults, what_faults, class_faults}
+use Rattle.ns_rules.specs.Faults.{classes_found, class_name, class_names, unit_faults}
 use Rattle.ns_rules.specs.Least.{earlier, least, comes_before, order_of, placed, with_top, faults_behind, faults}
 use Rattle.ns_right.specs.Each.{EachClass, EachSide, EachMember, EachWhat, EachUnit}
 use Rattle.ns_right.specs.Faultless.{Faultless}

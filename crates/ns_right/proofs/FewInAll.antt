@@ -5,11 +5,10 @@ use Rattle.std.specs.Option.{option_map_or}
 use Rattle.std.proofs.lemmas.Option.{same_Some}
 use Rattle.ns_base.specs.declared.place.Place.{Place}
 use Rattle.ns_tree.specs.Plain as p
-use Rattle.ns_scope.specs.declared.scope.ClassScope.{ClassScope}
 use Rattle.ns_scope.specs.declared.scope.CodeSide.{CodeSide}
 use Rattle.ns_scope.specs.declared.scope.CodeSide.TheVariants as side
 use Rattle.ns_scope.specs.Names.{locals_of}
-use Rattle.ns_scope.specs.Scopes.{class_scope, clause_scope, initialiser_scope, factory_params}
+use Rattle.ns_scope.specs.Scopes.{clause_scope, initialiser_scope, factory_params}
 use Rattle.ns_scope.specs.Bodies as b
 use Rattle.ns_scope.specs.Whole.{AreWholeUnits}
 use Rattle.ns_rules.specs.Rules.{params_found, locals_found}
@@ -19,7 +18,7 @@ use Rattle.ns_meant.specs.Program as m
 use Rattle.ns_meant.specs.Expressions.{Standing}
 use Rattle.ns_meant.specs.Classes.{Around, in_file, within, standing, in_method, clause_body, clause_bodies, super_bodies, method_bodies, what_methods, members_methods}
 use Rattle.ns_meant.specs.Classes.{side_methods, class_side_methods, own_bodies, class_bodies, nested_bodies, members_bodies, what_bodies, units_bodies}
-use Rattle.ns_meant.specs.Classes.{member_count, what_count, class_count, unit_class, meant_of}
+use Rattle.ns_meant.specs.Classes.{what_count, class_count, meant_of}
 use Rattle.ns_right.specs.Each.{EachUnit}
 use Rattle.ns_right.specs.Faultless.{Faultless}
 use Rattle.ns_right.proofs.Faults.{empty_left, empty_right, program_faultless, class_alone}

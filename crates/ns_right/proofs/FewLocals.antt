@@ -1,6 +1,6 @@
 -- In a program without faults the locals of a body are few: those of blocks.
 use Rattle.std.proofs.Common.{◌≡◌, ◌<◌, ℕ, ◌+◌, List, [], ◌∷◌, ◌++◌, length, ◌^◌, arith}
-use Rattle.std.specs.Prelude.{map, None}
+use Rattle.std.specs.Prelude.{map}
 use Rattle.std.proofs.lemmas.List.{length-map}
 use Rattle.ns_tree.specs.declared.tree.Named.{Named}
 use Rattle.ns_tree.specs.Plain as p

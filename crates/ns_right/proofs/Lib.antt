@@ -19,3 +19,14 @@ mod Integers
 mod Merged
 mod Whole
 mod Statements
+mod Tokens
+mod Balance
+mod Around
+mod Reach
+mod Tables
+mod PrivateNames
+mod Routines
+mod Inside
+mod OwnUse
+mod InitialiserUse
+mod ProgramUse

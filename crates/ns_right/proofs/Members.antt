@@ -1,6 +1,6 @@
 -- The names of members that differ still differ where nested classes stand before methods.
 use Rattle.std.proofs.Common.{◌≡◌, ℕ, List, [], ◌∷◌, ◌++◌, refl, sym, ap, ◌∙◌}
-use Rattle.std.specs.Prelude.{Bool, true, false, not, ◌&&◌, ◌||◌}
+use Rattle.std.specs.Prelude.{Bool, true, false, not, ◌||◌}
 use Rattle.std.specs.List.{list_any}
 use Rattle.std.specs.Str.{bytes_eq}
 use Rattle.ns_tree.specs.declared.tree.Access.{Access}
@@ -11,7 +11,7 @@ use Rattle.ns_right.proofs.Differ.{or_left, or_right, or_none, and_left, and_rig
 
 -- ---- lists in which an item moves
 
-any_both : (test : List ℕ → Bool) (xs ys : List (List ℕ)) → list_any test (xs ++ ys) ≡ (list_any test xs || list_any test ys)
+pub any_both : (test : List ℕ → Bool) (xs ys : List (List ℕ)) → list_any test (xs ++ ys) ≡ (list_any test xs || list_any test ys)
 any_both test [] ys = refl
 any_both test (x ∷ xs) ys = ap (λ b. test x || b) (any_both test xs ys) ∙ or_assoc (test x) (list_any test xs) (list_any test ys) where
   or_assoc : (x y z : Bool) → (x || (y || z)) ≡ ((x || y) || z)

@@ -1,5 +1,5 @@
 -- What the record of a class names is there.
-use Rattle.std.proofs.Common.{◌≡◌, ℕ, suc, ◌+◌, List, [], ◌∷◌, ◌++◌, length, refl, ap}
+use Rattle.std.proofs.Common.{◌≡◌, ℕ, suc, ◌+◌, List, ◌∷◌, ◌++◌, length, refl, ap}
 use Rattle.std.specs.Prelude.{Option, Some, None, slice_get}
 use Rattle.ns_base.specs.declared.place.Place.{Place}
 use Rattle.ns_tree.specs.declared.tree.Access.TheVariants as a
@@ -12,11 +12,11 @@ use Rattle.ns_code.specs.Selector.{text_arity}
 use Rattle.ns_meant.specs.Program as m
 use Rattle.ns_meant.specs.Expressions.{Standing}
 use Rattle.ns_meant.specs.Statements.{bars_bodies, statements_bodies}
-use Rattle.ns_meant.specs.Classes.{Around, within, standing, clause_bodies, initialiser_body, initialiser_inside, super_bodies, side_methods}
-use Rattle.ns_meant.specs.Classes.{class_side_methods, own_bodies, nested_bodies, class_bodies, declaration_of, factory_selector, bars_slots, slots_of, meant_of}
-use Rattle.ns_meant.specs.Right.{AreIdentifiers, HaveMethods}
+use Rattle.ns_meant.specs.Classes.{within, standing, clause_bodies, initialiser_body, initialiser_inside, super_bodies, side_methods}
+use Rattle.ns_meant.specs.Classes.{class_side_methods, own_bodies, nested_bodies, declaration_of, factory_selector, bars_slots, slots_of, meant_of}
+use Rattle.ns_meant.specs.Right.{AreIdentifiers}
 use Rattle.ns_meant.proofs.Numbering.{both, bars_counted, statements_counted}
-use Rattle.ns_meant.proofs.Counting.{super_counted, clause_counted, own_counted, side_counted}
+use Rattle.ns_meant.proofs.Counting.{super_counted, clause_counted, side_counted}
 use Rattle.ns_right.specs.Named.{NamesWhatIsThere, SpelledIn}
 use Rattle.ns_right.specs.Spelled.{FactoryTakes, SlotsNamed, BarsNamed}
 use Rattle.ns_right.proofs.Sits.{Sits, sits_left, sits_right}
@@ -41,7 +41,7 @@ bars_named (p.bars_around slots) h = slots_named slots h
 -- ---- where the methods sit
 
 -- an initialiser and the blocks in it are as many bodies as scopes
-initialiser_counted : (clause : Option p.SuperClause) (bars : p.Bars) (body : p.Statements) (here : Standing) →
+pub initialiser_counted : (clause : Option p.SuperClause) (bars : p.Bars) (body : p.Statements) (here : Standing) →
     length (super_bodies here (here.body + 1) clause
     ++ (bars_bodies here (here.body + 1 + length (b.super_blocks here.scope clause)) bars
     ++ statements_bodies here (here.body + 1 + length (b.super_blocks here.scope clause) + length (b.bars_blocks here.scope bars)) body))

@@ -1,17 +1,17 @@
 -- Patterns of a tree have as many parameters as their selectors take arguments.
-use Rattle.std.proofs.Common.{◌≡◌, ℕ, suc, List, [], ◌∷◌, ◌++◌, length, refl, sym, ap, ◌∙◌, subst, arith}
-use Rattle.std.specs.Prelude.{Bool, true, false, ◌⊎◌, Option, Some, None, option_map, flat_map, map, zip, if◌then◌else◌}
-use Rattle.std.proofs.Common.{inl, inr}
+use Rattle.std.proofs.Common.{◌≡◌, ℕ, suc, List, [], ◌∷◌, ◌++◌, length, refl, sym, ap, ◌∙◌}
+use Rattle.std.specs.Prelude.{Bool, true, false, ◌⊎◌, Option, Some, None, option_map, flat_map, zip, if◌then◌else◌}
+use Rattle.std.proofs.Common.{inr}
 use Rattle.std.proofs.lemmas.List.{append-nil}
 use Rattle.ns_tree.specs.declared.token.Kind.{Kind}
 use Rattle.ns_tree.specs.declared.token.Kind.TheVariants as k
 use Rattle.ns_tree.specs.declared.tree.Named.{Named}
 use Rattle.ns_tree.specs.Bytes as t
 use Rattle.ns_tree.specs.Flat.{ident, part_before, flat_pattern}
-use Rattle.ns_tree.specs.Forms.{ParamsForm, paired, operator_form, name_form, params_form, pattern_form, no_operator, factory_by, factory_form}
+use Rattle.ns_tree.specs.Forms.{ParamsForm, paired, operator_form, params_form, pattern_form, factory_by}
 use Rattle.ns_tree.specs.Plain as p
 use Rattle.ns_tree.specs.Rule.{Rule, GoodFrom}
-use Rattle.ns_tree.specs.Tree.{HasText, AllHaveText}
+use Rattle.ns_tree.specs.Tree.{AllHaveText}
 use Rattle.ns_code.specs.Selector.{text_arity}
 use Rattle.ns_right.specs.Spelled.{Takes}
 use Rattle.ns_right.proofs.Texts.{AreKeys, identifier_arity, operator_arity, keys_arity}

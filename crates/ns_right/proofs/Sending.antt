@@ -1,7 +1,6 @@
 -- What a message, a name and a value that is set use.
-use Rattle.std.proofs.Common.{◌≡◌, ◌<◌, ℕ, ◌+◌, List, [], ◌∷◌, ◌++◌, ◌^◌, refl, sym, arith}
+use Rattle.std.proofs.Common.{◌≡◌, ℕ, List, [], ◌∷◌, ◌++◌, sym, arith}
 use Rattle.std.specs.Prelude.{true, map, codes}
-use Rattle.ns_tree.specs.declared.token.Kind.{Kind}
 use Rattle.ns_tree.specs.declared.tree.Named.{Named}
 use Rattle.ns_tree.specs.Bytes as t
 use Rattle.ns_tree.specs.Flat.{ident, set_key}
@@ -10,12 +9,11 @@ use Rattle.ns_tree.specs.Tree.{AllHaveText}
 use Rattle.ns_scope.specs.declared.resolve.Target.{Target}
 use Rattle.ns_scope.specs.declared.resolve.Target.TheVariants as target
 use Rattle.ns_scope.specs.Resolve.{resolve}
-use Rattle.ns_code.specs.Selector.{text_arity}
 use Rattle.ns_meant.specs.Program as m
 use Rattle.ns_meant.specs.Uses.{Use, a_message, how_many, ReachHas, NodeHas, NodesHave, MessagesHave}
 use Rattle.ns_meant.specs.Expressions.{Standing, Receiver, to_value, to_self, to_super, to_outer, Said, nothing, said, Message, message_with, send_node}
 use Rattle.ns_meant.specs.Expressions.{value_of, as_receiver, as_value, names_said, keys_said, messages_of, turns_of, with_cascade, named, set, sets_of}
-use Rattle.ns_meant.specs.Expressions.{reach_of, reach_outer, name_sent, keys_sent, sent_at}
+use Rattle.ns_meant.specs.Expressions.{reach_of, reach_outer, name_sent, keys_sent}
 use Rattle.ns_right.specs.Reaching.{LocalHas, Reaches}
 use Rattle.ns_right.proofs.Texts.{identifier_arity}
 use Rattle.ns_right.proofs.Arities.{setter_arity}

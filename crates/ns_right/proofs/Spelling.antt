@@ -1,13 +1,12 @@
 -- The names and patterns of each class of a tree are spelled as the grammar has them.
-use Rattle.std.proofs.Common.{◌≡◌, ℕ, zero, suc, ◌+◌, List, [], ◌∷◌, ◌++◌}
-use Rattle.std.specs.Prelude.{true, Option, Some, None, map, ◌⊎◌}
+use Rattle.std.proofs.Common.{ℕ, zero, suc, ◌+◌, List, [], ◌∷◌, ◌++◌}
+use Rattle.std.specs.Prelude.{Option, Some, None, map, ◌⊎◌}
 use Rattle.ns_base.specs.declared.place.Place.{Place}
 use Rattle.ns_tree.specs.declared.token.Kind.TheVariants as k
-use Rattle.ns_tree.specs.declared.token.Reserved.TheVariants as r
 use Rattle.ns_tree.specs.declared.tree.Named.{Named}
-use Rattle.ns_tree.specs.Flat.{equals, bar, ident, flat_access, flat_init, flat_slot, flat_slots, flat_bars, flat_statements, flat_factory, flat_super}
-use Rattle.ns_tree.specs.Flat.{flat_method, flat_pattern, head, flat_class, flat_class_side, flat_side, flat_members, flat_member, flat_what}
-use Rattle.ns_tree.specs.Flat.{flat, flat_marker, flat_category}
+use Rattle.ns_tree.specs.Flat.{equals, bar, ident, flat_access, flat_init, flat_slots, flat_bars, flat_statements, flat_factory, flat_super}
+use Rattle.ns_tree.specs.Flat.{flat_method, flat_pattern, head, flat_class, flat_class_side, flat_side, flat_members, flat_what}
+use Rattle.ns_tree.specs.Flat.{flat_marker, flat_category}
 use Rattle.ns_tree.specs.Forms.{pattern_form, factory_form, ParamsForm, class_side_form}
 use Rattle.ns_tree.specs.Lists.{member_list}
 use Rattle.ns_tree.specs.Grammar as g
@@ -20,7 +19,7 @@ use Rattle.ns_scope.specs.Whole.{AreWholeUnits}
 use Rattle.ns_meant.specs.Classes.{unit_class}
 use Rattle.ns_right.specs.Each.{EachClass, EachSide, EachMember, EachWhat, EachUnit}
 use Rattle.ns_right.specs.Named.{SpelledIn}
-use Rattle.ns_right.specs.Spelled.{IsSpelled, FactoryTakes, MethodTakes, MembersTake, SideTakes, ClassSideTakes, SlotsNamed, BarsNamed}
+use Rattle.ns_right.specs.Spelled.{IsSpelled, FactoryTakes, MethodTakes, MembersTake, SideTakes, ClassSideTakes, AreMethods, HasMethodsAlone, SlotsNamed, BarsNamed}
 use Rattle.ns_right.proofs.Texts.{name_is}
 use Rattle.ns_right.proofs.Patterns.{texts_left, texts_right, form_there, factory_there, pattern_takes}
 
@@ -82,6 +81,17 @@ module _ (primary : Rule p.Primary) where
   class_side_takes p.no_class_side n good texts = tt
   class_side_takes (p.class_side_with others) n good texts = side_takes zero others _ good.1 texts.1
 
+  -- no class stands on a class side
+  methods_alone : (members : p.Members) (n : ℕ) → GoodAll (g.member primary (g.method_member primary)) n (member_list members) → AreMethods members
+  methods_alone p.no_members n good = tt
+  methods_alone (p.more_members (p.member_with categories access (p.class_member class)) rest) n good = absurd good.0.1.1
+  methods_alone (p.more_members (p.member_with categories access (p.method_member method)) rest) n good = (tt, methods_alone rest _ good.1)
+
+  class_side_methods : (others : p.ClassSide) (n : ℕ) → GoodOption (k.Colon ▸ g.side primary (g.method_member primary)) n (class_side_form others) →
+      HasMethodsAlone others
+  class_side_methods p.no_class_side n good = tt
+  class_side_methods (p.class_side_with (p.side_with members tail)) n good = methods_alone members _ good.1.1.0
+
   -- ---- classes
 
   own_spelled : (class : p.Class) (depth n : ℕ) → (g.class primary (g.what primary depth)).Good n class → AllHaveText (flat_class class) → IsSpelled class
@@ -98,6 +108,7 @@ module _ (primary : Rule p.Primary) where
         bars_named bars (texts_left (flat_bars bars) (flat_statements body ++ k.Close ∷ []) inner.1),
         side_takes depth members _ good.1.1.1.1.1.1.0 (texts_left (flat_side members) (flat_class_side others) further),
         class_side_takes others _ good.1.1.1.1.1.1.1 (texts_right (flat_side members) (flat_class_side others) further),
+        class_side_methods others _ good.1.1.1.1.1.1.1,
       )
 
   mutual

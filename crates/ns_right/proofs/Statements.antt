@@ -1,9 +1,8 @@
 -- What the slots and statements of a body without faults use.
 use Rattle.std.proofs.Common.{◌≡◌, ◌<◌, ◌≤◌, ℕ, ◌+◌, List, [], ◌∷◌, ◌++◌, length, arith}
-use Rattle.std.specs.Prelude.{map, not, Option, Some, None}
-use Rattle.ns_tree.specs.declared.token.Kind.{Kind}
+use Rattle.std.specs.Prelude.{map, Option, Some, None}
 use Rattle.ns_tree.specs.declared.token.Kind.TheVariants as k
-use Rattle.ns_tree.specs.Flat.{bar, ident, flat_access, flat_caret, flat_expr, flat_init, flat_slot, flat_slots, flat_bars, flat_statement, flat_list, flat_more_list}
+use Rattle.ns_tree.specs.Flat.{bar, ident, flat_access, flat_caret, flat_expr, flat_init, flat_slots, flat_bars, flat_statement, flat_list, flat_more_list}
 use Rattle.ns_tree.specs.Flat.{flat_statements, stop_if}
 use Rattle.ns_tree.specs.Plain as p
 use Rattle.ns_tree.specs.Tree.{AllHaveText}

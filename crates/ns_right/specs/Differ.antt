@@ -1,5 +1,5 @@
 -- What the rules on names give of a class's record.
-use Rattle.std.specs.Prelude.{◌≡◌, ◌<◌, true, List, ℕ, map}
+use Rattle.std.specs.Prelude.{◌≡◌, ◌<◌, true, ℕ, map}
 use Rattle.ns_code.specs.Soundness.{are_different}
 use Rattle.ns_meant.specs.Program as m
 use Rattle.ns_meant.specs.Right.{members_of}

@@ -1,5 +1,5 @@
 -- What a class's record names is there.
-use Rattle.std.specs.Prelude.{◌≡◌, true, ℕ, List, length}
+use Rattle.std.specs.Prelude.{◌≡◌, true, ℕ, List}
 use Rattle.ns_tree.specs.Plain as p
 use Rattle.ns_scope.specs.declared.scope.ClassScope.{ClassScope}
 use Rattle.ns_scope.specs.declared.scope.CodeSide.TheVariants as side

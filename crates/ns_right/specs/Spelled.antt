@@ -1,5 +1,5 @@
 -- What the spelling of a class's names gives: identifiers, and patterns with as many parameters as their selectors take.
-use Rattle.std.specs.Prelude.{◌≡◌, true, List, length, Option, Some, None}
+use Rattle.std.specs.Prelude.{◌≡◌, true, length, Option, Some, None}
 use Rattle.ns_tree.specs.Plain as p
 use Rattle.ns_scope.specs.Names.{selector_of}
 use Rattle.ns_code.specs.Selector.{text_arity}
@@ -31,6 +31,19 @@ abbrev pub ClassSideTakes : p.ClassSide → Type 0
 ClassSideTakes p.no_class_side = Unit {0}
 ClassSideTakes (p.class_side_with others) = SideTakes others
 
+-- A class side declares methods alone.
+abbrev pub IsMethod : p.What → Type 0
+IsMethod (p.class_member class) = ⊥
+IsMethod (p.method_member method) = Unit {0}
+
+abbrev pub AreMethods : p.Members → Type 0
+AreMethods p.no_members = Unit {0}
+AreMethods (p.more_members (p.member_with categories access what) rest) = IsMethod what × AreMethods rest
+
+abbrev pub HasMethodsAlone : p.ClassSide → Type 0
+HasMethodsAlone p.no_class_side = Unit {0}
+HasMethodsAlone (p.class_side_with (p.side_with members tail)) = AreMethods members
+
 -- The names of slots are identifiers.
 abbrev pub SlotsNamed : p.Slots → Type 0
 SlotsNamed p.no_slots = Unit {0}
@@ -40,7 +53,9 @@ abbrev pub BarsNamed : p.Bars → Type 0
 BarsNamed p.no_bars = Unit {0}
 BarsNamed (p.bars_around slots) = SlotsNamed slots
 
--- The names of a class and of its slots are identifiers, and its patterns take what their selectors say.
+-- The names of a class and of its slots are identifiers, its patterns take what their selectors say, and its class side
+-- declares methods alone.
 abbrev pub IsSpelled : p.Class → Type 0
 IsSpelled (p.class_with name factory clause bars body members others) =
     (is_identifier name.text ≡ true) × FactoryTakes factory × BarsNamed bars × SideTakes members × ClassSideTakes others
+    × HasMethodsAlone others

@@ -42,20 +42,27 @@ pub fn bodies_have_few_locals()
         slice_get (meant program).bodies number ≡ Some body → length body.locals < 2 ^ 8 }
 {}
 
-/// A whole program without static faults whose bodies use what is there means what is right.
-pub fn programs_are_right()
-    ensures { (program : Program) → IsWhole program → least (faults (map unit_of program.units) program.marks) ≡ None → UseWhatIsThere (meant program) →
-        IsRight (meant program) }
-{
-    ns_meant::laws::bodies_are_placed();
-    classes_name_what_is_there();
-    classes_are_right();
-    bodies_have_few_locals();
-}
-
 /// What an expression without faults uses is there, where what names mean in its scope is. Its
 /// messages have as many arguments as their selectors take, and these are few.
 pub fn expressions_use_what_is_reached()
     ensures { (program : Meant) (number : ℕ) (body : Body) (here : Standing) (next : ℕ) (expr : Expr) → Reaches (IsReached program number body) here.scope → expr_faults here.scope expr ≡ [] →
         AllHaveText (flat_expr expr) → NodeHas (IsReached program number body) (expr_node here next expr) }
 {}
+
+/// What the bodies of a whole program without static faults use is there: each local that an
+/// expression names is one of a body around, each member that is reached is one of a declaration
+/// around, and their numbers fit; a return leaves a method.
+pub fn bodies_use_what_is_there()
+    ensures { (program : Program) → IsWhole program → least (faults (map unit_of program.units) program.marks) ≡ None → UseWhatIsThere (meant program) }
+{}
+
+/// A whole program without static faults means what is right.
+pub fn whole_programs_are_right()
+    ensures { (program : Program) → IsWhole program → least (faults (map unit_of program.units) program.marks) ≡ None → IsRight (meant program) }
+{
+    ns_meant::laws::bodies_are_placed();
+    classes_name_what_is_there();
+    classes_are_right();
+    bodies_have_few_locals();
+    bodies_use_what_is_there();
+}

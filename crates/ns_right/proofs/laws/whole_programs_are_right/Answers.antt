@@ -3,10 +3,11 @@ use Rattle.ns_tree.specs.PlainOf.{unit_of}
 use Rattle.ns_meant.specs.Classes.{meant}
 use Rattle.ns_right.proofs.Classes.{as_many_marks}
 use Rattle.ns_right.proofs.Whole.{uses_there}
-use Rattle.ns_right.proofs.laws.programs_are_right.Goals as goal
+use Rattle.ns_right.proofs.laws.whole_programs_are_right.Goals as goal
 
 pub returns : goal.returns
-returns c program whole e used =
+returns c program whole e =
+    let used = c.bodies_use_what_is_there.ensures program whole e in
     let units = map unit_of program.units in
     record {
       some_class = c.classes_name_what_is_there.ensures.some program whole;
