@@ -32,6 +32,7 @@ use Rattle.ns_right.proofs.Sits.{Sits, sits_left, sits_right, sits_first, sits_b
 use Rattle.ns_right.proofs.Walk.{Gives, classes_are}
 use Rattle.ns_right.proofs.Faults.{empty_left, empty_right, program_faultless}
 use Rattle.ns_right.proofs.Differ.{not_past, names_of, declared_differ}
+use Rattle.ns_right.proofs.FewMembers.{as_many_slots, few_slots, few_nested, few_methods, few_side_methods}
 use Rattle.ns_right.proofs.Members.{nested_of, methods_of, differ_apart, differ_further, side_differs}
 
 -- ---- the names of slots, of nested classes and of methods
@@ -129,6 +130,15 @@ module _ (meant : m.Meant) where
             (sits_behind meant.classes number (declaration_of around number next class) (side_declared inner (number + 1) inner_next members) classes);
         side_members_differ = class_side_differs others inner (methods_next + length (b.side_bodies inner.classes side.Instance members))
             (empty_left (found_repeated c.DuplicateMember [] sides_members) _ second);
+        few =
+            let slots = few_slots bars members first in
+            let same = as_many_slots bars in
+            record {
+              few_slots = omega (slots, same, arith);
+              few_nested = few_nested bars members inner (number + 1) methods_next first;
+              few_methods = few_methods bars members inner (number + 1) methods_next first;
+              few_side_methods = few_side_methods others inner (methods_next + length (b.side_bodies inner.classes side.Instance members)) second;
+            };
       }
 
 pub members_of_classes_differ : (files : List (List ℕ)) (units : List p.SourceUnit) (marks : List (List Place)) → AreWholeUnits 0 units marks →

@@ -40,7 +40,7 @@ some_stays (other ∷ found) fault e = by (comes_before (order_of other) (order_
   by true further e = further other e
   by false further e = further fault e
 
-none_found : (found : List Placed) → least found ≡ None → found ≡ []
+pub none_found : (found : List Placed) → least found ≡ None → found ≡ []
 none_found [] e = refl
 none_found (fault ∷ found) e = absurd (some_stays found fault e)
 

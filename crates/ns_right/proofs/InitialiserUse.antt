@@ -30,6 +30,7 @@ use Rattle.ns_right.proofs.Balance as balance
 use Rattle.ns_right.proofs.Differ.{not_past}
 use Rattle.ns_right.proofs.Faults.{empty_left, empty_right}
 use Rattle.ns_right.proofs.FewLocals.{few_locals}
+use Rattle.ns_right.proofs.FewMembers.{as_many_slots, few_slots}
 use Rattle.ns_right.proofs.Inside.{AllUse, Part, two, enter, left_tokens, bars_use, statements_use}
 use Rattle.ns_right.proofs.Named.{initialiser_counted}
 use Rattle.ns_right.proofs.OwnUse.{Surrounds, side_use, class_side_use, super_use, super_arguments_have}
@@ -41,33 +42,6 @@ use Rattle.ns_right.proofs.Statements.{bars_count, slots_count, statements_expre
 use Rattle.ns_right.proofs.Statements as statements
 use Rattle.ns_right.proofs.Tables.{has_locals}
 use Rattle.ns_right.proofs.Tokens.{Lawful, lawful_left, lawful_right, lawful_texts}
-
--- ---- slots are few
-
-slots_few : (slots : p.Slots) → slots_count slots ≤ length (slot_members slots)
-slots_few p.no_slots = omega arith
-slots_few (p.more_slots (p.slot_with access name (p.bare stop)) rest) = let h = slots_few rest in omega (h, arith)
-slots_few (p.more_slots (p.slot_with access name (p.fixed value)) rest) = let h = slots_few rest in omega (h, arith)
-slots_few (p.more_slots (p.slot_with access name (p.mutable value)) rest) = let h = slots_few rest in omega (h, arith)
-
-bars_few : (bars : p.Bars) → bars_count bars ≤ length (bars_members bars)
-bars_few p.no_bars = omega arith
-bars_few (p.bars_around slots) = slots_few slots
-
-slots_same : (slots : p.Slots) → length (slots_of slots) ≡ slots_count slots
-slots_same p.no_slots = refl
-slots_same (p.more_slots (p.slot_with access name init) rest) = let h = slots_same rest in omega (h, arith)
-
-pub bars_same : (bars : p.Bars) → length (bars_slots bars) ≡ bars_count bars
-bars_same p.no_bars = refl
-bars_same (p.bars_around slots) = slots_same slots
-
-pub few_slots : (bars : p.Bars) (members : p.Side) → members_found (instance_members bars members) ≡ [] → bars_count bars ≤ 1023
-few_slots bars members e =
-    let declared = instance_members bars members in
-    let few = not_past 1023 many.Members (map (λ (d : Declared Access). d.at) declared) (empty_right (found_repeated c.DuplicateMember [] declared) _ e) in
-    let slots = bars_few bars in
-    omega (few, slots, length-map declared (λ (d : Declared Access). d.at), length-append (bars_members bars) (side_members a.Protected members), arith)
 
 -- The record is one of the class: its slots, and the selector of its superclass message.
 abbrev pub IsOf : p.Class → m.Declaration → Type 0
@@ -125,7 +99,7 @@ module _ (meant : m.Meant) where
       let start = super_arguments_have meant Has here reached (λ selector count h. h) clause (next + 1) (empty_left (f.super_faults here.scope clause) steps none)
       (lawful_texts (t.flat_super clause) depth (lawful_left (t.flat_super clause) (k.Open ∷ block) depth lawful)) in
       let slots_length = ap length slots in
-      let same = bars_same bars in
+      let same = as_many_slots bars in
       let whole : Part meant depth here (next + 1) faults all_tokens inner =
       record { holder = first; stands = stands; none = none; lawful = lawful; sits = sits_behind meant.bodies next first inner sits } in (
         (

@@ -30,3 +30,5 @@ mod Inside
 mod OwnUse
 mod InitialiserUse
 mod ProgramUse
+mod FewMembers
+mod FewClasses

@@ -14,6 +14,7 @@ ghost use Rattle.ns_meant.specs.Expressions.{Standing, expr_node};
 ghost use Rattle.ns_meant.specs.Classes.{meant};
 ghost use Rattle.ns_meant.specs.Right.{IsRightClass, IsRight};
 ghost use Rattle.ns_meant.specs.Uses.{NodeHas};
+ghost use Rattle.ns_right.specs.Differ.{HasFewMembers};
 ghost use Rattle.ns_right.specs.Named.{NamesWhatIsThere};
 ghost use Rattle.ns_right.specs.Reached.{IsReached};
 ghost use Rattle.ns_right.specs.Reaching.{Reaches};
@@ -35,6 +36,14 @@ pub fn classes_are_right()
 {
     ns_meant::laws::classes_are_nested();
 }
+
+/// The classes of a whole program without static faults are few, and so are the members of each.
+pub fn classes_and_members_are_few()
+    ensures classes { (program : Program) → IsWhole program → least (faults (map unit_of program.units) program.marks) ≡ None →
+        length (meant program).classes ≤ 4096 }
+    ensures members { (program : Program) → IsWhole program → least (faults (map unit_of program.units) program.marks) ≡ None →
+        (number : ℕ) (class : Declaration) → slice_get (meant program).classes number ≡ Some class → HasFewMembers class }
+{}
 
 /// The locals of a body of a whole program without static faults are few.
 pub fn bodies_have_few_locals()
