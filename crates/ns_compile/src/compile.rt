@@ -1,4 +1,4 @@
-//! The compiler: it generates code, and has it admitted.
+//! The compiler: it generates code, which is sound, and tests that it fits its fields.
 
 ghost use Rattle.std.specs.Prelude.{◌≡◌, None, Some, IfOk, OnOk, IsErrOf};
 ghost use Rattle.ns_code.specs.Fits.{Fits};
@@ -15,9 +15,9 @@ use ns_code::program::CodeProgram;
 use ns_fits::code::fits;
 use ns_generate::fault::GenFault;
 use ns_generate::generate::generate;
+use ns_sound::laws::code_is_sound;
 use ns_static::check::Checked;
-use ns_verify::fault::VerifyFault;
-use ns_verify::verify::{Verified, verify};
+use ns_verify::verify::Verified;
 use std::alloc::Global;
 
 /// The code of a program, admitted; or the first size of it that passes its limit.
@@ -28,6 +28,7 @@ pub fn compile(alloc: Global, checked: &Checked) -> Result<Verified, LinkFault>
     ensures small { OnOk result (size_fault (code_of (meant checked.now)) ≡ None) }
     ensures large { (kind : SizeKind) → IsErrOf result (TooLarge kind) → size_fault (code_of (meant checked.now)) ≡ Some kind }
 {
+    code_is_sound();
     match generate(alloc, checked.program()) {
         Ok(code) => {
             let verified = admit(alloc, code)?;
@@ -38,29 +39,16 @@ pub fn compile(alloc: Global, checked: &Checked) -> Result<Verified, LinkFault>
     }
 }
 
-/// Generated code, admitted. That it always fits its fields and is sound isn't a law yet, so both are
-/// tested; code that weren't so would be taken for want of memory.
+/// Generated code, which is sound, admitted. That its names and places always fit their fields too
+/// isn't a law yet, so all of it is tested; code that didn't fit would be taken for want of memory.
 fn admit(alloc: Global, code: CodeProgram) -> Result<Verified, NoMemory>
+    requires { IsSound code }
     ensures code { IfOk result (λ verified. verified ≡ code) }
     ensures fits { OnOk result (Fits code) }
-    ensures sound { OnOk result (IsSound code) }
 {
     let fit = fits(alloc, &code)?;
     if !fit {
         return Err(NoMemory);
     }
-    verified(alloc, code)
-}
-
-/// Code that fits its fields, admitted where it is sound.
-fn verified(alloc: Global, code: CodeProgram) -> Result<Verified, NoMemory>
-    requires { Fits code }
-    ensures code { IfOk result (λ verified. verified ≡ code) }
-    ensures sound { OnOk result (IsSound code) }
-{
-    match verify(alloc, code) {
-        Ok(verified) => Ok(verified),
-        Err(VerifyFault::Memory) => Err(NoMemory),
-        Err(VerifyFault::At { .. }) => Err(NoMemory),
-    }
+    Ok(Verified::known(code))
 }

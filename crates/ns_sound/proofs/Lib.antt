@@ -1,0 +1,6 @@
+mod Small
+mod Records
+mod TextCount
+mod PlacesStand
+mod Instructions
+mod Whole

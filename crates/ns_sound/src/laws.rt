@@ -1,14 +1,18 @@
 //! Laws of the code of programs. Each function does nothing, and its contract is the law.
 
-ghost use Rattle.std.specs.Prelude.{◌≡◌, None, map};
+ghost use Rattle.std.specs.Prelude.{◌≡◌, ◌≢◌, ◌≤◌, None, All, map, length};
+ghost use Rattle.std.specs.List.{AllPairs};
 ghost use Rattle.ns_tree.specs.PlainOf.{unit_of};
 ghost use Rattle.ns_scope.specs.declared.program.Program.{Program};
 ghost use Rattle.ns_scope.specs.Whole.{IsWhole};
 ghost use Rattle.ns_rules.specs.Least.{least, faults};
+ghost use Rattle.ns_code.specs.Fits.{IsWord, IsFileName, ClassFits};
 ghost use Rattle.ns_meant.specs.Classes.{meant};
 ghost use Rattle.ns_gen.specs.Code.{code_of};
 ghost use Rattle.ns_gen.specs.Sizes.{size_fault};
 ghost use Rattle.ns_verify.specs.Verify.{IsSound};
+ghost use Rattle.ns_sound.specs.Accepted.{IsAccepted};
+ghost use Rattle.ns_sound.specs.Numbers.{NumbersFit};
 
 /// The code of a whole program without static faults whose sizes are within their limits is sound.
 pub fn code_is_sound()
@@ -17,4 +21,33 @@ pub fn code_is_sound()
 {
     ns_right::laws::whole_programs_are_right();
     ns_gen::laws::right_programs_have_sound_code();
+}
+
+/// The tables of an accepted program's code are within their limits; the names of its files are
+/// text, and its names are different.
+pub fn tables_are_small()
+    ensures file_count { (program : Program) → IsAccepted program → length (code_of (meant program)).files ≤ 17 }
+    ensures files { (program : Program) → IsAccepted program → All IsFileName (code_of (meant program)).files }
+    ensures name_count { (program : Program) → IsAccepted program → length (code_of (meant program)).names ≤ 65536 }
+    ensures names_differ { (program : Program) → IsAccepted program → AllPairs (λ a b. a ≢ b) (code_of (meant program)).names }
+    ensures class_count { (program : Program) → IsAccepted program → length (code_of (meant program)).classes ≤ 4096 }
+    ensures body_count { (program : Program) → IsAccepted program → length (code_of (meant program)).bodies ≤ 65536 }
+{
+    ns_meant::laws::used_names_have_numbers();
+    ns_right::laws::classes_and_members_are_few();
+}
+
+/// The records of the classes of an accepted program fit their fields, and so do the numbers of its
+/// bodies and of their instructions; its literal texts are fewer than instructions.
+pub fn numbers_fit()
+    ensures text_count { (program : Program) → IsAccepted program → IsWord (length (code_of (meant program)).texts) }
+    ensures classes { (program : Program) → IsAccepted program → All ClassFits (code_of (meant program)).classes }
+    ensures bodies { (program : Program) → IsAccepted program → All NumbersFit (code_of (meant program)).bodies }
+{
+    ns_right::laws::whole_programs_are_right();
+    ns_right::laws::classes_and_members_are_few();
+    ns_gen::laws::bodies_have_their_code();
+    ns_gen::laws::names_and_texts_stand_in_order();
+    ns_gen::laws::bodies_end();
+    ns_gen::laws::lines_use_what_is_there();
 }

@@ -29,6 +29,15 @@ impl Model for Verified {
 }
 
 impl Verified {
+    /// Code that is known to be sound and to fit its fields.
+    pub fn known(code: CodeProgram) -> Verified
+        requires fits { Fits code }
+        requires sound { IsSound code }
+        ensures { result ≡ code }
+    {
+        Verified { code }
+    }
+
     /// The code.
     pub fn code(&self) -> &CodeProgram
         ensures code { result.now ≡ self.now }
