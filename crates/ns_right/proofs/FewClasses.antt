@@ -1,7 +1,6 @@
 -- A program without faults has few classes.
-use Rattle.std.proofs.Common.{◌≡◌, ◌≤◌, ℕ, suc, ◌+◌, List, [], ◌∷◌, ◌++◌, length, refl, ap, ◌∙◌, arith, length-append}
-use Rattle.std.specs.Prelude.{Bool, true, false, None, map, zip, nat_eq}
-use Rattle.std.proofs.lemmas.List.{length-map}
+use Rattle.std.proofs.Common.{◌≡◌, ◌≤◌, ℕ, ◌+◌, List, [], ◌∷◌, ◌++◌, length, refl, arith, length-append}
+use Rattle.std.specs.Prelude.{None, map, zip, nat_eq}
 use Rattle.ns_base.specs.declared.place.Place.{Place}
 use Rattle.ns_tree.specs.Plain as p
 use Rattle.ns_scope.specs.Table.{TableOf}
@@ -9,7 +8,7 @@ use Rattle.ns_scope.specs.Whole.{AreWholeUnits}
 use Rattle.ns_rules.specs.declared.fault.StaticCause.TheVariants as c
 use Rattle.ns_rules.specs.declared.fault.Many.TheVariants as many
 use Rattle.ns_rules.specs.Rules.{found_if, top_name_found}
-use Rattle.ns_rules.specs.Faults.{class_names, side_names, members_names, what_names, classes_found, class_name, class_faults, unit_faults, unit_class}
+use Rattle.ns_rules.specs.Faults.{class_names, side_names, members_names, what_names, classes_found, class_name, class_faults, unit_faults}
 use Rattle.ns_rules.specs.Least.{least, faults, faults_behind, placed, with_top}
 use Rattle.ns_meant.specs.Classes.{class_count, side_count, members_count, what_count, units_count, meant_of}
 use Rattle.ns_meant.proofs.Counting.{units_listed}

@@ -1,6 +1,6 @@
 -- In a program without faults the members of a class are few: those of each kind.
-use Rattle.std.proofs.Common.{◌≡◌, ◌≤◌, ℕ, suc, ◌+◌, List, [], ◌∷◌, ◌++◌, length, refl, ap, arith, length-append}
-use Rattle.std.specs.Prelude.{map, Option, Some, None}
+use Rattle.std.proofs.Common.{◌≡◌, ◌≤◌, ℕ, ◌+◌, List, [], length, refl, arith, length-append}
+use Rattle.std.specs.Prelude.{map}
 use Rattle.std.proofs.lemmas.List.{length-map}
 use Rattle.ns_tree.specs.declared.tree.Access.{Access}
 use Rattle.ns_tree.specs.declared.tree.Access.TheVariants as a
@@ -13,8 +13,7 @@ use Rattle.ns_scope.specs.Names.{slot_members, bars_members, members_named, side
 use Rattle.ns_rules.specs.declared.fault.StaticCause.TheVariants as c
 use Rattle.ns_rules.specs.declared.fault.Many.TheVariants as many
 use Rattle.ns_rules.specs.Rules.{members_found, found_repeated}
-use Rattle.ns_meant.specs.Program as m
-use Rattle.ns_meant.specs.Classes.{Around, bars_slots, slots_of, members_nested, side_nested, methods_listed, side_listed, class_side_listed, class_count, what_count}
+use Rattle.ns_meant.specs.Classes.{Around, bars_slots, slots_of, members_nested, side_nested, methods_listed, side_listed, class_side_listed, class_count}
 use Rattle.ns_right.proofs.Differ.{not_past}
 use Rattle.ns_right.proofs.Faults.{empty_right}
 use Rattle.ns_right.proofs.Statements.{bars_count, slots_count}

@@ -1,39 +1,33 @@
 -- The initialiser of a class and its methods use what is there, and so do the blocks in them.
 use Rattle.std.proofs.Common.{◌≡◌, ◌≤◌, ℕ, suc, ◌+◌, [], ◌∷◌, ◌++◌, length, refl, sym, ap, ◌∙◌, arith}
-use Rattle.std.specs.Prelude.{true, false, map, Option, Some, slice_get}
-use Rattle.std.proofs.lemmas.List.{length-map}
-use Rattle.std.proofs.Common.{length-append}
+use Rattle.std.specs.Prelude.{true, false, Option, Some, slice_get}
 use Rattle.ns_tree.specs.declared.token.Kind.TheVariants as k
-use Rattle.ns_tree.specs.declared.tree.Access.{Access}
-use Rattle.ns_tree.specs.declared.tree.Access.TheVariants as a
 use Rattle.ns_tree.specs.declared.tree.Named.{Named}
 use Rattle.ns_tree.specs.Flat as t
 use Rattle.ns_tree.specs.Plain as p
-use Rattle.ns_scope.specs.declared.names.Declared.{Declared}
 use Rattle.ns_scope.specs.declared.scope.CodeSide.TheVariants as side
-use Rattle.ns_scope.specs.Names.{locals_of, slot_members, bars_members, side_members, instance_members, class_members}
+use Rattle.ns_scope.specs.Names.{locals_of, instance_members, class_members}
 use Rattle.ns_scope.specs.Scopes.{initialiser_scope, factory_params}
 use Rattle.ns_scope.specs.Bodies as b
-use Rattle.ns_rules.specs.declared.fault.StaticCause.TheVariants as c
-use Rattle.ns_rules.specs.declared.fault.Many.TheVariants as many
-use Rattle.ns_rules.specs.Rules.{params_found, locals_found, members_found, found_repeated}
+use Rattle.ns_rules.specs.Rules.{params_found, locals_found, members_found}
 use Rattle.ns_rules.specs.Faults as f
 use Rattle.ns_code.specs.Selector.{text_arity}
 use Rattle.ns_meant.specs.Program as m
 use Rattle.ns_meant.specs.Classes.{Around, standing, super_selector, side_methods, class_side_methods, initialiser_body, initialiser_inside, own_bodies}
-use Rattle.ns_meant.specs.Classes.{bars_slots, slots_of}
+use Rattle.ns_meant.specs.Classes.{bars_slots}
 use Rattle.ns_meant.proofs.Numbering.{bars_counted}
 use Rattle.ns_meant.proofs.Counting.{super_counted, side_counted}
 use Rattle.ns_right.specs.Reached.{IsReached}
 use Rattle.ns_right.proofs.Around.{Stands}
 use Rattle.ns_right.proofs.Balance as balance
-use Rattle.ns_right.proofs.Differ.{not_past}
+use Rattle.ns_right.proofs.ClassBalance as class_balance
+use Rattle.ns_right.proofs.ClauseUse.{super_use, super_arguments_have}
 use Rattle.ns_right.proofs.Faults.{empty_left, empty_right}
 use Rattle.ns_right.proofs.FewLocals.{few_locals}
 use Rattle.ns_right.proofs.FewMembers.{as_many_slots, few_slots}
 use Rattle.ns_right.proofs.Inside.{AllUse, Part, two, enter, left_tokens, bars_use, statements_use}
 use Rattle.ns_right.proofs.Named.{initialiser_counted}
-use Rattle.ns_right.proofs.OwnUse.{Surrounds, side_use, class_side_use, super_use, super_arguments_have}
+use Rattle.ns_right.proofs.OwnUse.{Surrounds, side_use, class_side_use}
 use Rattle.ns_right.proofs.Patterns.{texts_left, texts_right}
 use Rattle.ns_right.proofs.Reach.{reaches}
 use Rattle.ns_right.proofs.Routines.{Uses}
@@ -80,7 +74,7 @@ module _ (meant : m.Meant) where
       let closing = t.flat_statements body ++ k.Close ∷ [] in
       let block = t.flat_bars bars ++ closing in
       let all_tokens = t.flat_super clause ++ k.Open ∷ block in
-      let opened = lawful_right (t.flat_super clause) (k.Open ∷ block) depth (balance.super_balanced clause) lawful in
+      let opened = lawful_right (t.flat_super clause) (k.Open ∷ block) depth (class_balance.super_balanced clause) lawful in
       let texts = lawful_texts block (depth + 1) opened.2 in
       let stands : Stands meant depth here first =
       record {
@@ -112,7 +106,7 @@ module _ (meant : m.Meant) where
               (empty_right (f.bars_faults here.scope bars) (f.statements_faults here.scope body) none_steps)
               (texts_left (t.flat_statements body) (k.Close ∷ []) (texts_right (t.flat_bars bars) closing texts)),
         ),
-        two meant depth here (next + 1) supers _ _ _ _ _ _ (super_counted clause here (next + 1)) (balance.super_balanced clause) whole
+        two meant depth here (next + 1) supers _ _ _ _ _ _ (super_counted clause here (next + 1)) (class_balance.super_balanced clause) whole
             (super_use meant clause depth here (next + 1))
             (λ behind. two meant (depth + 1) here (next + 1 + supers) count _ _ _ _ _ _ (bars_counted bars here (next + 1 + supers)) (balance.bars_balanced bars)
             (enter meant block behind behind.lawful.1 behind.lawful.2)
@@ -142,8 +136,8 @@ module _ (meant : m.Meant) where
       let block = t.flat_bars bars ++ (t.flat_statements body ++ k.Close ∷ []) in
       let sides_tokens = t.flat_side members ++ t.flat_class_side others in
       let heads = lawful_left (t.head class) sides_tokens depth lawful in
-      let named = lawful_right (t.flat_factory factory) (t.equals ∷ (t.flat_super clause ++ k.Open ∷ block)) depth (balance.factory_balanced factory) heads.2.2 in
-      let behind = lawful_right (t.head class) sides_tokens depth (balance.head_balanced class) lawful in
+      let named = lawful_right (t.flat_factory factory) (t.equals ∷ (t.flat_super clause ++ k.Open ∷ block)) depth (class_balance.factory_balanced factory) heads.2.2 in
+      let behind = lawful_right (t.head class) sides_tokens depth (class_balance.head_balanced class) lawful in
       let started : length (first ∷ inner) ≡ starts = ap suc (initialiser_counted clause bars body here) in
       let all_methods = sits_right meant.bodies next starts (first ∷ inner) (methods ++ others_methods) started sits in
       let counted = side_counted members around side.Instance number methods_next in
@@ -156,5 +150,5 @@ module _ (meant : m.Meant) where
       (lawful_left (t.flat_side members) (t.flat_class_side others) depth behind) (sits_left meant.bodies methods_next methods others_methods all_methods))
       (class_side_use meant others around number (methods_next + sides_count) depth s
       (empty_right instances (f.class_side_faults around.classes others) (empty_right start sides none))
-      (lawful_right (t.flat_side members) (t.flat_class_side others) depth (balance.side_balanced members) behind)
+      (lawful_right (t.flat_side members) (t.flat_class_side others) depth (class_balance.side_balanced members) behind)
       (sits_right meant.bodies methods_next sides_count methods others_methods counted all_methods)))

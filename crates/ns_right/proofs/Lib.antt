@@ -21,13 +21,16 @@ mod Whole
 mod Statements
 mod Tokens
 mod Balance
+mod ClassBalance
 mod Around
 mod Reach
 mod Tables
+mod AmongNames
 mod PrivateNames
 mod Routines
 mod Inside
 mod OwnUse
+mod ClauseUse
 mod InitialiserUse
 mod ProgramUse
 mod FewMembers

@@ -4,8 +4,6 @@ use Rattle.std.specs.Prelude.{Bool, true, false, cond, ◌||◌, Some, map, flat
 use Rattle.std.specs.List.{list_any}
 use Rattle.std.specs.Option.{option_map_or}
 use Rattle.std.specs.Str.{bytes_eq}
-use Rattle.std.proofs.lemmas.Slice.Eq.{bytes_eq-Decides}
-use Rattle.std.specs.Bool.{Decides}
 use Rattle.ns_tree.specs.declared.tree.Access.TheVariants as a
 use Rattle.ns_tree.specs.Plain as p
 use Rattle.ns_scope.specs.declared.scope.CodeSide.TheVariants as side
@@ -19,60 +17,11 @@ use Rattle.ns_meant.specs.Classes.{Around, within, slots_of, bars_slots, members
 use Rattle.ns_meant.specs.Classes.{class_declared, side_declared, members_declared, declaration_of, class_count}
 use Rattle.ns_meant.proofs.Counting.{class_listed}
 use Rattle.ns_right.specs.Spelled.{AreMethods, HasMethodsAlone, IsSpelled}
+use Rattle.ns_right.proofs.AmongNames.{Among, Either, If, or_else, first_one, left_first, left_more, right_first, right_more}
 use Rattle.ns_right.proofs.Around.{TellsPrivate}
 use Rattle.ns_right.proofs.Members.{any_both}
 use Rattle.ns_right.proofs.Sits.{Sits, sits_left, sits_right, sits_first, sits_behind}
 use Rattle.ns_right.proofs.Tables.{AllAre, IsHidden, all_both, private_told, hidden_moved}
-
--- ---- names among others
-
-bytes_same : (text : List ℕ) → bytes_eq text text ≡ true
-bytes_same text = by (bytes_eq text text) (bytes_eq-Decides text text) where
-  by : (same : Bool) → Decides same (text ≡ text) → same ≡ true
-  by true d = refl
-  by false d = d.1 refl
-
-or_else : (x y : Bool) → y ≡ true → (x || y) ≡ true
-or_else true y h = refl
-or_else false y h = h
-
--- the name is one of these
-abbrev Among : List (List ℕ) → List ℕ → Type 0
-Among names name = list_any (bytes_eq name) names ≡ true
-
--- the name is one of the first or of the second
-abbrev Either : List (List ℕ) → List (List ℕ) → List ℕ → Type 0
-Either first second name = (list_any (bytes_eq name) first || list_any (bytes_eq name) second) ≡ true
-
-first_one : (name : List ℕ) (names : List (List ℕ)) → Among (name ∷ names) name
-first_one name names = ap (λ x. x || list_any (bytes_eq name) names) (bytes_same name)
-
--- a name that may stand before others
-abbrev If : Bool → List ℕ → List (List ℕ) → List (List ℕ)
-If there name names = cond there (name ∷ names) names
-
-left_first : (there : Bool) (name : List ℕ) (first second : List (List ℕ)) → there ≡ true → Either (If there name first) second name
-left_first true name first second e = ap (λ x. (x || list_any (bytes_eq name) first) || list_any (bytes_eq name) second) (bytes_same name)
-left_first false name first second e = absurd (let f : false ≡ true = e in cc)
-
-left_more : (there : Bool) (name : List ℕ) (first second : List (List ℕ)) (text : List ℕ) → Either first second text → Either (If there name first) second text
-left_more false name first second text h = h
-left_more true name first second text h = by (bytes_eq text name) (list_any (bytes_eq text) first) (list_any (bytes_eq text) second) h where
-  by : (x y z : Bool) → (y || z) ≡ true → ((x || y) || z) ≡ true
-  by true y z h = refl
-  by false y z h = h
-
-right_first : (there : Bool) (name : List ℕ) (first second : List (List ℕ)) → there ≡ true → Either first (If there name second) name
-right_first true name first second e = or_else (list_any (bytes_eq name) first) (list_any (bytes_eq name) (name ∷ second)) (first_one name second)
-right_first false name first second e = absurd (let f : false ≡ true = e in cc)
-
-right_more : (there : Bool) (name : List ℕ) (first second : List (List ℕ)) (text : List ℕ) → Either first second text → Either first (If there name second) text
-right_more false name first second text h = h
-right_more true name first second text h = by (bytes_eq text name) (list_any (bytes_eq text) first) (list_any (bytes_eq text) second) h where
-  by : (x y z : Bool) → (y || z) ≡ true → (y || (x || z)) ≡ true
-  by x true z h = refl
-  by true false z h = refl
-  by false false z h = h
 
 -- ---- slots
 

@@ -20,10 +20,12 @@ use Rattle.ns_right.specs.Faultless.{Faultless}
 use Rattle.ns_right.specs.Named.{SpelledIn}
 use Rattle.ns_right.specs.Using.{UseWhatIsThere}
 use Rattle.ns_right.proofs.Balance as balance
+use Rattle.ns_right.proofs.ClassBalance as class_balance
 use Rattle.ns_right.proofs.Faults.{empty_left, empty_right, program_faultless, class_alone}
 use Rattle.ns_right.proofs.InitialiserUse.{own_use}
 use Rattle.ns_right.proofs.Inside.{AllUse}
-use Rattle.ns_right.proofs.OwnUse.{Surrounds, clause_use}
+use Rattle.ns_right.proofs.OwnUse.{Surrounds}
+use Rattle.ns_right.proofs.ClauseUse.{clause_use}
 use Rattle.ns_right.proofs.PrivateNames.{class_tells}
 use Rattle.ns_right.proofs.Routines.{Uses}
 use Rattle.ns_right.proofs.Sits.{Sits, sits_left, sits_right, sits_first, sits_behind, sits_itself, all_both, all_at}
@@ -59,9 +61,9 @@ module _ (meant : m.Meant) where
         let sides_tokens = t.flat_side members ++ t.flat_class_side others in
         let block = t.flat_bars bars ++ (t.flat_statements body ++ k.Close ∷ []) in
         let heads = lawful_left (t.head class) sides_tokens depth lawful in
-        let named = lawful_right (t.flat_factory factory) (t.equals ∷ (t.flat_super clause ++ k.Open ∷ block)) depth (balance.factory_balanced factory) heads.2.2 in
-        let behind = lawful_right (t.head class) sides_tokens depth (balance.head_balanced class) lawful in
-        let opened = lawful_right (t.flat_super clause) (k.Open ∷ block) depth (balance.super_balanced clause) named.2 in
+        let named = lawful_right (t.flat_factory factory) (t.equals ∷ (t.flat_super clause ++ k.Open ∷ block)) depth (class_balance.factory_balanced factory) heads.2.2 in
+        let behind = lawful_right (t.head class) sides_tokens depth (class_balance.head_balanced class) lawful in
+        let opened = lawful_right (t.flat_super clause) (k.Open ∷ block) depth (class_balance.super_balanced clause) named.2 in
         let open_few = few_open depth opened.1 in
         let few = s.few in
         let known = sits_first meant.classes number declared further classes in
@@ -109,7 +111,7 @@ module _ (meant : m.Meant) where
         (member_use member around number next depth h s (empty_left found further e) spelled.0 (lawful_left (t.flat_member member) (t.flat_members rest) depth lawful)
         (sits_left meant.classes number here behind classes) (sits_left meant.bodies next bodies_here bodies_behind bodies))
         (members_use rest around (number + count) (next + bodies_count) depth h s (empty_right found further e) spelled.1
-        (lawful_right (t.flat_member member) (t.flat_members rest) depth (balance.member_balanced member) lawful)
+        (lawful_right (t.flat_member member) (t.flat_members rest) depth (class_balance.member_balanced member) lawful)
         (sits_right meant.classes number count here behind (member_listed member around number next) classes)
         (sits_right meant.bodies next bodies_count bodies_here bodies_behind counted bodies))
 
@@ -119,7 +121,7 @@ module _ (meant : m.Meant) where
         Sits meant.classes number (member_declared around number next member) → Sits meant.bodies next (member_bodies around number next member) →
         AllUse meant next (member_bodies around number next member)
     member_use (p.member_with categories access what) around number next depth h s e spelled lawful classes bodies =
-        let worded = lawful_right (map k.Str categories) (t.flat_access access ++ t.flat_what what) depth (balance.categories_balanced categories) lawful in
+        let worded = lawful_right (map k.Str categories) (t.flat_access access ++ t.flat_what what) depth (class_balance.categories_balanced categories) lawful in
         what_use what around number next depth h s e spelled (lawful_right (t.flat_access access) (t.flat_what what) depth (balance.access_balanced access) worded) classes bodies
 
     what_use : (what : p.What) (around : Around) (number next depth : ℕ) → HasNumber around.outer around.classes → Surrounds meant depth around around.outer →
@@ -146,10 +148,10 @@ module _ (meant : m.Meant) where
       let bodies_behind = units_bodies (number + count) (next + bodies_count) units marks in
       let counted = class_counted class (in_file places) number next tt in
       let tokens = lawful_source (t.flat unit) 0 0 whole.0.tree.told whole.0.shallow in
-      let marked = lawful_right (t.flat_marker marker) (t.flat_category category ++ t.flat_class class) 0 (balance.marker_balanced marker) tokens in
+      let marked = lawful_right (t.flat_marker marker) (t.flat_category category ++ t.flat_class class) 0 (class_balance.marker_balanced marker) tokens in
       all_both (Uses meant) next bodies_count bodies_here bodies_behind counted
       (class_use class (in_file places) number next 0 tt (record { tell = tt; few = omega arith; shallow = omega arith }) (class_alone class [] none.0) spelled.0
-      (lawful_right (t.flat_category category) (t.flat_class class) 0 (balance.category_balanced category) marked)
+      (lawful_right (t.flat_category category) (t.flat_class class) 0 (class_balance.category_balanced category) marked)
       (sits_left meant.classes number here behind classes) (sits_left meant.bodies next bodies_here bodies_behind bodies))
       (units_use (file + 1) units marks (number + count) (next + bodies_count) whole.1 none.1 spelled.1
       (sits_right meant.classes number count here behind (class_listed class (in_file places) number next) classes)
