@@ -1,20 +1,19 @@
 -- The numbers of instructions fit their fields.
-use Rattle.std.proofs.Common.{◌≡◌, ◌≤◌, ◌<◌, ℕ, zero, suc, ◌+◌, ◌-◌, ◌*◌, List, [], ◌∷◌, length, ◌^◌, refl, sym, ap, ◌∙◌, subst, arith}
-use Rattle.std.specs.Prelude.{Bool, false, Option, Some, None, All, map, option_map, slice_get}
+use Rattle.std.proofs.Common.{◌≡◌, ◌≤◌, ◌<◌, ℕ, ◌+◌, ◌-◌, List, [], ◌∷◌, length, ◌^◌, refl, sym, ◌∙◌, arith}
+use Rattle.std.specs.Prelude.{Bool, false, Option, Some, None, All, map, slice_get}
 use Rattle.std.specs.Option.{ForSome}
 use Rattle.std.proofs.lemmas.List.{length-map}
 use Rattle.std.proofs.lemmas.List.Elements.{All-nil, All-cons, All-weaker}
 use Rattle.std.proofs.lemmas.Option.{same_Some, slice_get_within}
 use Rattle.ns_scope.specs.declared.scope.CodeSide.{CodeSide}
 use Rattle.ns_scope.specs.declared.scope.CodeSide.TheVariants as side
-use Rattle.ns_code.specs.declared.body.BodyCode.{BodyCode}
 use Rattle.ns_code.specs.declared.instruction.Instr.{Instr}
 use Rattle.ns_code.specs.declared.instruction.Instr.TheVariants as i
 use Rattle.ns_code.specs.Fits.{InstrFits}
 use Rattle.ns_meant.specs.Program as m
-use Rattle.ns_meant.specs.Tables.{names_of, texts_of, body_texts, kind_of, side_number}
+use Rattle.ns_meant.specs.Tables.{names_of, texts_of, kind_of, side_number}
 use Rattle.ns_meant.specs.There.{IsThere, StandsAs, IsRightBody}
-use Rattle.ns_gen.specs.Code.{Line, Way, does, symbol, sends, starts, plain, inner, private_at, super, instr_of, send_instr, places_from, body_lines, body_code, code_of}
+use Rattle.ns_gen.specs.Code.{Line, does, symbol, sends, starts, plain, inner, private_at, super, instr_of, places_from, body_lines, body_code, code_of}
 use Rattle.ns_gen.specs.Laws.{first_text}
 use Rattle.ns_gen.specs.Uses.{InstrHas, LinesHave}
 use Rattle.ns_sound.specs.Numbers.{PlaceStands, NumbersFit}

@@ -12,7 +12,7 @@ use Rattle.ns_code.specs.declared.body.BodyCode.{BodyCode}
 use Rattle.ns_meant.specs.Program as m
 use Rattle.ns_meant.specs.Tables.{body_texts}
 use Rattle.ns_gen.specs.Code.{bodies_code}
-use Rattle.ns_gen.specs.Sizes.{size_fault, most, most_height, is_too_long, is_too_high}
+use Rattle.ns_gen.specs.Sizes.{size_fault, most, is_too_long, is_too_high}
 use Rattle.ns_gen.specs.declared.size.SizeKind.TheVariants.{Names, Bodies, Code, Height}
 
 pub all_got : {A : Type 0} → (Is : A → Type 0) (items : List A) → ((n : ℕ) (item : A) → slice_get items n ≡ Some item → Is item) → All Is items

@@ -1,5 +1,5 @@
 -- Literal texts are fewer than instructions.
-use Rattle.std.proofs.Common.{◌≡◌, ◌≤◌, ◌<◌, ℕ, zero, suc, ◌+◌, ◌*◌, List, [], ◌∷◌, ◌++◌, length, refl, ap, ◌∙◌, arith, length-append}
+use Rattle.std.proofs.Common.{◌≡◌, ◌≤◌, ℕ, zero, suc, ◌+◌, ◌*◌, List, [], ◌∷◌, ◌++◌, length, refl, ap, arith, length-append}
 use Rattle.std.specs.Prelude.{true, false, flat_map, Some, slice_get}
 use Rattle.ns_code.specs.declared.instruction.Instr.{Instr}
 use Rattle.ns_code.specs.declared.instruction.Instr.TheVariants as i
