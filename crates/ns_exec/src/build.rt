@@ -6,7 +6,7 @@ ghost use Rattle.ns_gen.specs.Code.{code_of};
 ghost use Rattle.ns_gen.specs.declared.size.SizeKind.{SizeKind};
 ghost use Rattle.ns_meant.specs.Classes.{meant};
 ghost use Rattle.ns_verify.specs.Verify.{IsSound};
-ghost use Rattle.ns_exec.specs.Build.{built_of, image, too_large, image_too_large};
+ghost use Rattle.ns_exec.specs.Build.{built_of, of_bytes, image, too_large, image_too_large};
 ghost use Rattle.ns_exec.specs.declared.build.BuildFault.TheVariants.{TooLarge, Image};
 
 use ns_base::no_memory::NoMemory;
@@ -60,7 +60,9 @@ pub fn build(alloc: Global, checked: &Checked) -> Result<Vec<u8>, BuildFault>
 
 /// An image that isn't too large.
 fn measured(bytes: Vec<u8>) -> Result<Vec<u8>, BuildFault>
-    ensures image { IfOk result (λ image. of_bytes bytes.items ≡ image image.items) }
+    ensures image { IfOk result (λ same. of_bytes bytes.items ≡ image same.items) }
+    ensures large_image { IsErrOf result Image → of_bytes bytes.items ≡ image_too_large }
+    ensures no_size { (kind : SizeKind) → IsErrOf result (TooLarge kind) → ⊥ }
 {
     if bytes.len() > MOST_BYTES {
         return Err(BuildFault::Image);

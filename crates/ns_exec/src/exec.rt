@@ -10,12 +10,12 @@ ghost use Rattle.ns_verify.specs.Verify.{fault_of};
 ghost use Rattle.ns_verify.specs.declared.fault.VerifyCause.{VerifyCause};
 ghost use Rattle.ns_verify.specs.declared.fault.Where.{Where};
 
+use crate::listing::{ListFault, read_code};
 use ns_base::limits::Limits;
 use ns_base::no_memory::NoMemory;
 use ns_base::text::Text;
 use ns_code::program::CodeProgram;
 use ns_image::fault::ImageFault;
-use ns_image::read::read;
 use ns_launch::code::run_code;
 use ns_launch::run::Ran;
 use ns_verify::fault::{VerifyCause, VerifyFault, Where};
@@ -54,10 +54,10 @@ pub fn exec(
     ensures image { (fault : ImageFault) → IsErrOf result (Image fault) → executed bytes.now limits arguments.now ≡ refused_image fault }
     ensures unsound { (cause : VerifyCause) (at : Where) → IsErrOf result (Unsound cause at) → executed bytes.now limits arguments.now ≡ refused_code cause at }
 {
-    match read(alloc, bytes) {
+    match read_code(alloc, bytes) {
         Ok(code) => exec_code(alloc, code, limits, arguments),
-        Err(ImageFault::Memory) => Err(ExecFault::Memory),
-        Err(fault) => Err(ExecFault::Image(fault)),
+        Err(ListFault::Image(fault)) => Err(ExecFault::Image(fault)),
+        Err(ListFault::Memory) => Err(ExecFault::Memory),
     }
 }
 
@@ -72,6 +72,7 @@ fn exec_code(
     requires fits { Fits code }
     ensures ran { IfOk result (λ ran. of_code limits arguments.now code (fault_of code) ≡ has_run ran) }
     ensures unsound { (cause : VerifyCause) (at : Where) → IsErrOf result (Unsound cause at) → of_code limits arguments.now code (fault_of code) ≡ refused_code cause at }
+    ensures no_image { (fault : ImageFault) → IsErrOf result (Image fault) → ⊥ }
 {
     match verify(alloc, code) {
         Ok(verified) => {

@@ -10,7 +10,7 @@ ghost use Rattle.ns_report.specs.Ending.{IsLiveEnding};
 ghost use Rattle.ns_world.specs.declared.ending.Ending.{Ending as AnyEnding};
 
 use crate::laws::code_comes_to_its_end;
-use crate::ran::Ran;
+use crate::run::Ran;
 use ns_base::limits::Limits;
 use ns_base::no_memory::NoMemory;
 use ns_base::status::Status;
@@ -45,7 +45,44 @@ pub fn run_code(
     moves_add();
     ended_runs_stay();
     let mut machine = Machine::new(alloc, code, limits, GRANTED, arguments)?;
-    let _ending = machine.run();
+    machine.run();
     let ran = finished(alloc, &machine)?;
     Ok(ran)
+}
+
+/// What is told of a machine whose run has ended.
+fn finished(alloc: Global, machine: &Machine) -> Result<Ran, NoMemory>
+    requires { HasAnEnd machine.now.state }
+    ensures { (ending : AnyEnding) → ending_of machine.now.state ≡ Some ending → IfOk result (λ ran. ran ≡ told_of machine.now.code machine.now.state ending) }
+{
+    match machine.ending() {
+        Some(ending) => told(alloc, machine, ending),
+        None => unreachable!(),
+    }
+}
+
+/// What a machine tells of its run, which ended so.
+fn told(alloc: Global, machine: &Machine, ending: Ending) -> Result<Ran, NoMemory>
+    requires { IsLiveEnding (world_of machine.now.state).cells machine.now.code ending }
+    ensures { IfOk result (λ ran. ran ≡ told_of machine.now.code machine.now.state ending) }
+{
+    let line = machine.report(alloc, &ending, machine.code().files.as_slice())?;
+    let output = Text::of(alloc, machine.output())?;
+    Ok(Ran {
+        output,
+        line: Text::from_vec(line),
+        status: status_of(ending),
+        counters: machine.counters(),
+    })
+}
+
+/// The status of an ending.
+fn status_of(ending: Ending) -> Status
+    ensures { result ≡ whole.status_of ending }
+{
+    match ending {
+        Ending::Done(_) => Status::Done,
+        Ending::Error(_) => Status::ProgramError,
+        Ending::Limit(_) => Status::Limit,
+    }
 }
