@@ -3,7 +3,7 @@ use Rattle.std.proofs.Common.{◌≡◌, ℕ, List, length, Option, Some, None, 
 use Rattle.std.specs.Prelude.{nat_lt}
 use Rattle.ns_base.specs.declared.limits.Limits.{Limits}
 use Rattle.ns_code.specs.declared.program.CodeProgram.{CodeProgram}
-use Rattle.ns_exec.specs.Build.{Built, image, too_large, image_too_large, most_bytes, of_size}
+use Rattle.ns_exec.specs.Build.{image, image_too_large, most_bytes, of_size}
 use Rattle.ns_exec.specs.Exec.{of_code, of_read, executed, has_run}
 use Rattle.ns_exec.specs.Laws.{WasBuilt, HoldsCode}
 use Rattle.ns_gen.specs.Code.{code_of}

@@ -1,5 +1,5 @@
 -- The run of a program's code is the run that its source means.
-use Rattle.std.proofs.Common.{◌≡◌, ℕ, List, refl, ap, sym, subst, ◌∙◌}
+use Rattle.std.proofs.Common.{◌≡◌, refl, ap, sym, subst, ◌∙◌}
 use Rattle.ns_base.specs.Limits.{InRange}
 use Rattle.ns_base.specs.declared.limits.Limits.{Limits}
 use Rattle.ns_code.specs.Fits.{Fits}
@@ -8,7 +8,7 @@ use Rattle.ns_link.specs.Laws.{HasFirst, WholeHasFirst, EndsAs, begins, MayRun, 
 use Rattle.ns_meant.specs.Classes.{meant}
 use Rattle.ns_meant.specs.Program.{Meant}
 use Rattle.ns_meant.specs.Tables.{tables}
-use Rattle.ns_model.specs.Whole.{ran, report_of}
+use Rattle.ns_model.specs.Whole.{ran}
 use Rattle.ns_moves.specs.Laws.{MovesAdd, StaysStill}
 use Rattle.ns_moves.specs.State.{State, Ended}
 use Rattle.ns_scope.specs.Whole.{IsWhole}
