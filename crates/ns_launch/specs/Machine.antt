@@ -20,18 +20,18 @@ begins_with code limits arguments = started code (new_machine code limits grante
 
 -- ---- moves until the run moves no more
 
--- two moves to the power of that number
+-- as many moves as two to that power
 abbrev pub doubled : CodeProgram → ℕ → State → State
 doubled code zero state = move code state
 doubled code (suc power) state = doubled code power (doubled code power state)
 
--- Moves until the run moves no more: from so many on twice as many each time, at most so many times. One that moves no
--- more stays as it is, so it doesn't matter when that is noticed.
+-- Moves until the run moves no more: as many as two to that power, then twice as many, and so on, in at most so many
+-- rounds. A run that moves no more stays as it is, so it doesn't matter how many moves later that is seen.
 abbrev pub at_rest : CodeProgram → ℕ → ℕ → State → State
 at_rest code power zero state = state
 at_rest code power (suc more) state = if is_still state then state else at_rest code (power + 1) more (doubled code power state)
 
--- how many times are always enough: twice so often doubled is more than all that a run within its limits can do
+-- how many rounds are always enough: they are more moves than a run within these limits can make (by a law)
 abbrev pub enough : CodeProgram → Limits → ℕ
 enough code limits = limits.steps + limits.depth + (2 + longest code.bodies) * (limits.cells + 1)
 
