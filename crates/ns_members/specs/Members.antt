@@ -1,7 +1,5 @@
 -- The private members of a declaration.
-use Rattle.std.specs.Prelude.{ℕ, List, [], ◌++◌, ◌==◌, filter, fold, map, if◌then◌else◌}
-use Rattle.ns_base.specs.Names.{put_in}
-use Rattle.ns_members.specs.declared.privates.Privates.{Privates}
+use Rattle.std.specs.Prelude.{ℕ, List, ◌++◌, ◌==◌, filter, map, if◌then◌else◌}
 use Rattle.ns_code.specs.declared.program.CodeProgram.{CodeProgram}
 use Rattle.ns_code.specs.declared.class.ClassCode.{ClassCode}
 use Rattle.ns_code.specs.declared.class.SlotCode.{SlotCode}
@@ -35,16 +33,3 @@ private_side_selectors code class =
 abbrev pub private_selectors : CodeProgram → ℕ → ClassCode → List (List ℕ)
 private_selectors code side class =
     if side == instance_side then private_instance_selectors code class else private_side_selectors code class
-
--- the texts of a list, each once
-abbrev pub set_of : List (List ℕ) → List (List ℕ)
-set_of texts = fold put_in [] texts
-
--- the sets of the selectors of a declaration's private members, of both sides
-abbrev pub privates_of : CodeProgram → ClassCode → Privates
-privates_of code class =
-    record { instance = set_of (private_instance_selectors code class); side = set_of (private_side_selectors code class) }
-
--- the same of all declarations, by number
-abbrev pub all_privates : CodeProgram → List Privates
-all_privates code = map (privates_of code) code.classes

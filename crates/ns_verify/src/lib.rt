@@ -1,6 +1,7 @@
 //! The verifier: which code can be run without ever missing what an instruction needs.
 #![tactic(auto)]
 
+mod around;
 mod chains;
 mod classes;
 pub mod fault;
@@ -8,4 +9,5 @@ pub mod faults;
 mod heights;
 mod instructions;
 pub mod laws;
+mod tables;
 pub mod verify;
