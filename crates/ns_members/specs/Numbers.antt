@@ -91,7 +91,8 @@ abbrev pub have_no_twins : Option ℕ → List ℕ → Bool
 have_no_twins last [] = true
 have_no_twins last (number ∷ numbers) = not (is_last last number) && have_no_twins (Some number) numbers
 
--- The numbers of a declaration's private members, of both sides, each in some order.
+-- The numbers of a declaration's private members, of both sides, each in some order, in code whose names differ.
 pub record IsPrivatesOf (code : CodeProgram) (class : ClassCode) (privates : Privates) : Type 0 where
+  pub differ : NoRepeats code.names
   pub instance : IsPermutation (private_instance_numbers code class) privates.instance
   pub side : IsPermutation (private_side_numbers code class) privates.side

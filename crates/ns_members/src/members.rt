@@ -1,11 +1,12 @@
 //! The members of a declaration: the numbers of their selectors, and whether one comes twice.
 
-ghost use Rattle.std.specs.Prelude.{◌≡◌, ◌<◌, [], ◌∷◌, ◌++◌, ◌==◌, ◌&&◌, length, IfOk, OnOk, filter, option_map, slice_get};
+ghost use Rattle.std.specs.Prelude.{◌≡◌, ◌<◌, [], ◌∷◌, ◌++◌, ◌==◌, length, IfOk, OnOk, filter, option_map, slice_get};
 ghost use Rattle.ns_code.specs.declared.class.ClassCode.{ClassCode};
 ghost use Rattle.ns_code.specs.declared.class.MethodCode.{MethodCode};
 ghost use Rattle.ns_code.specs.declared.class.NestedCode.{NestedCode};
 ghost use Rattle.ns_code.specs.declared.class.SlotCode.{SlotCode};
 ghost use Rattle.ns_code.specs.Soundness as sound;
+ghost use Rattle.ns_members.specs.Members.{has_different_members};
 ghost use Rattle.ns_members.specs.Numbers as spec;
 
 use crate::kinds::PRIVATE;
@@ -25,7 +26,7 @@ pub fn has_different_members(
     class: &ClassCode,
 ) -> Result<bool, NoMemory>
     requires { spec.IsNameTable code.now names.now }
-    ensures { IfOk result (λ different. different ≡ (sound.are_different (sound.instance_selectors code.now class.now) && sound.are_different (sound.side_selectors code.now class.now))) }
+    ensures { IfOk result (λ different. different ≡ has_different_members code.now class.now) }
 {
     if !has_different_instance_members(alloc, code, names, class)? {
         return Ok(false);

@@ -1,14 +1,10 @@
 //! The private members of all declarations.
 
 ghost use Rattle.std.specs.Prelude.{◌≡◌, ◌<◌, IfOk, length};
-ghost use Rattle.std.specs.List.{list_any, AllZip};
-ghost use Rattle.std.specs.List.Sorted.{IsPermutation};
-ghost use Rattle.std.specs.Str.{bytes_eq};
-ghost use Rattle.ns_base.specs.Names.{NoRepeats};
-ghost use Rattle.ns_code.specs.Selector.{selector_text};
+ghost use Rattle.std.specs.List.{AllZip};
 ghost use Rattle.ns_code.specs.declared.class.ClassCode.{ClassCode};
 ghost use Rattle.ns_code.specs.declared.program.CodeProgram.{CodeProgram};
-ghost use Rattle.ns_members.specs.Members.{private_selectors};
+ghost use Rattle.ns_members.specs.Members.{has_private};
 ghost use Rattle.ns_members.specs.Numbers as spec;
 
 use crate::kinds::INSTANCES;
@@ -49,8 +45,8 @@ impl Privates {
 
     /// Whether a name is the selector of a private member of a side.
     pub fn has(&self, side: u8, name: Sel) -> bool
-        ensures { (code : CodeProgram) (class : ClassCode) → NoRepeats code.names → spec.IsPrivatesOf code class self.now → name.0 < length code.names →
-            result ≡ list_any (bytes_eq (selector_text code name.0)) (private_selectors code side class) }
+        ensures { (code : CodeProgram) (class : ClassCode) → spec.IsPrivatesOf code class self.now → name.0 < length code.names →
+            result ≡ has_private code side class name.0 }
     {
         if side == INSTANCES {
             self.instance.has(name.0)

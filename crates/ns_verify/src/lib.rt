@@ -5,7 +5,7 @@ mod around;
 mod chains;
 mod classes;
 pub mod fault;
-pub mod faults;
+mod faults;
 mod heights;
 mod instructions;
 pub mod laws;
