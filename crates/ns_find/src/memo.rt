@@ -18,6 +18,11 @@ use std::marker::Model;
 /// How many lookups are kept at most.
 const PLACES: usize = 1024;
 
+/// Two odd numbers: the highest ten bits of a product with one hang on all bits of the other factor.
+const STARTED: u32 = 2_246_822_507;
+
+const SENT: u32 = 2_654_435_769;
+
 /// A lookup and its answer.
 #[derive(Clone, Copy)]
 pub struct Kept {
@@ -134,16 +139,14 @@ fn answer_of(kept: Kept, start: Start, sel: Sel, kind: Sending) -> Option<Found>
 fn place_of(start: Start, sel: Sel, kind: Sending) -> usize
     ensures { result < 1024 }
 {
-    let key = start_key(start)
-        .wrapping_mul(37)
-        .wrapping_add(sel.0.wrapping_mul(101));
-    (key.wrapping_add(kind_key(kind)) % 1024) as usize
+    let sent = sel.0.wrapping_add(kind_key(kind)).wrapping_mul(SENT);
+    ((start_key(start).wrapping_mul(STARTED) ^ sent) >> 22) as usize
 }
 
 fn kind_key(kind: Sending) -> u32 {
     match kind {
         Sending::Plain => 0,
-        Sending::Inner => 1,
+        Sending::Inner => 65_536,
     }
 }
 
