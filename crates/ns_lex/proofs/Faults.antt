@@ -78,11 +78,11 @@ name_no_digit b h = grind (arith, nat_tests)
 stop_no_digit : (b : ℕ) → b ≡ 46 → is_digit b ≡ false
 stop_no_digit b e = ap is_digit e
 
-run_ends : (q : Text) → is_digit (get_or q 0 0) ≡ false → prefix_len is_digit q ≡ 0
+pub run_ends : (q : Text) → is_digit (get_or q 0 0) ≡ false → prefix_len is_digit q ≡ 0
 run_ends [] h = refl
 run_ends (c ∷ q) h = ap (λ v. cond v (1 + prefix_len is_digit q) 0) h
 
-bad_no_digit : (q : Text) → BeginsName q ⊎ BeginsFraction q → is_digit (get_or q 0 0) ≡ false
+pub bad_no_digit : (q : Text) → BeginsName q ⊎ BeginsFraction q → is_digit (get_or q 0 0) ≡ false
 bad_no_digit q (inl h) = name_no_digit (get_or q 0 0) h
 bad_no_digit q (inr h) = stop_no_digit (get_or q 0 0) h.0
 

@@ -7,6 +7,7 @@ pub mod Numbers
 pub mod OneCut
 pub mod OneGap
 pub mod OneKind
+pub mod OneStop
 pub mod Operators
 pub mod Pieces
 pub mod Refused

@@ -34,7 +34,7 @@ pub record Steps (g w q g' v r : Text) : Type 0 where
   pub text : w ≡ v
   pub rest : q ≡ r
 
-step_same : (z g w q g' v r : Text) (t u : Kind) → IsGap g → IsGap g' → z ≡ g ++ (w ++ q) → z ≡ g' ++ (v ++ r) → BeginsNoGap (w ++ q) → BeginsNoGap (v ++ r) → IsNext w q t → IsNext v r u → Steps g w q g' v r
+pub step_same : (z g w q g' v r : Text) (t u : Kind) → IsGap g → IsGap g' → z ≡ g ++ (w ++ q) → z ≡ g' ++ (v ++ r) → BeginsNoGap (w ++ q) → BeginsNoGap (v ++ r) → IsNext w q t → IsNext v r u → Steps g w q g' v r
 step_same z g w q g' v r t u gap gap' cut cut' none none' next next' =
     let x = gap_cut g g' (w ++ q) (v ++ r) gap gap' none none' (sym cut ∙ cut') in
     let y = token_cut w q v r t u next next' x.back in
@@ -47,7 +47,7 @@ not_ended z g g' w q t gap gap' cut cut' none none' next =
     omega (arith, ap length x.back, length-append w q, spelled_some w t (stands_spells w q t next.0))
 
 -- what is cut behind such a step
-after_step : (at : ℕ) (g w q g' v r : Text) (us : List Token) (c : ℕ) (rest : Text) → Steps g w q g' v r → Cuts (at + length g' + length v) r us c rest → Cuts (at + length g + length w) q us c rest
+pub after_step : (at : ℕ) (g w q g' v r : Text) (us : List Token) (c : ℕ) (rest : Text) → Steps g w q g' v r → Cuts (at + length g' + length v) r us c rest → Cuts (at + length g + length w) q us c rest
 after_step at g w q g' v r us c rest s x =
     subst (λ z. Cuts (at + length g + length w) z us c rest) (sym s.rest)
     (subst (λ i. Cuts i r us c rest) (ap (λ z. at + length z + length v) (sym s.gap) ∙ ap (λ z. at + length g + length z) (sym s.text)) x)

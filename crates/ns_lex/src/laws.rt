@@ -1,6 +1,7 @@
 //! Laws on how sources are cut, each as the contract of a function that does nothing.
 
-ghost use Rattle.std.specs.Prelude.{◌≡◌, ℕ, List, Ok};
+ghost use Rattle.std.specs.Prelude.{◌≡◌, ◌⊎◌, ℕ, List, Ok, Err};
+ghost use Rattle.ns_lex.specs.Fault.{fault_at};
 ghost use Rattle.ns_lex.specs.Lexes.{LexStops, Lexes};
 ghost use Rattle.ns_lex.specs.Scan.{scan};
 ghost use Rattle.ns_lex.specs.declared.piece.Cause.{Cause};
@@ -8,11 +9,15 @@ ghost use Rattle.ns_tree.specs.Tokens.{kinds};
 ghost use Rattle.ns_tree.specs.Tree.{AllHaveText};
 ghost use Rattle.ns_tree.specs.declared.token.Token.{Token};
 
-/// One list of tokens at most cuts a source. Then it is the list that is scanned, and so no fault is.
+/// For each source exactly one of these: one list of tokens cuts it, or one fault stops it, at one
+/// byte. Its scan says which.
 pub fn sources_are_cut_one_way()
+    ensures some { (source : List ℕ) → ((tokens : List Token) × Lexes source tokens) ⊎ ((at : ℕ) × (cause : Cause) × LexStops source at cause) }
     ensures one { (source : List ℕ) (ts us : List Token) → Lexes source ts → Lexes source us → ts ≡ us }
-    ensures scanned { (source : List ℕ) (tokens : List Token) → Lexes source tokens → scan source ≡ Ok tokens }
+    ensures one_stop { (source : List ℕ) (n m : ℕ) (c d : Cause) → LexStops source n c → LexStops source m d → (n ≡ m) × (c ≡ d) }
     ensures no_stop { (source : List ℕ) (tokens : List Token) (at : ℕ) (cause : Cause) → Lexes source tokens → LexStops source at cause → ⊥ }
+    ensures scanned { (source : List ℕ) (tokens : List Token) → Lexes source tokens → scan source ≡ Ok tokens }
+    ensures stopped { (source : List ℕ) (at : ℕ) (cause : Cause) → LexStops source at cause → scan source ≡ Err (fault_at cause at) }
 {}
 
 /// The tokens that cut a source have texts.
