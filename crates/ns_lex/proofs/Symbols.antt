@@ -85,7 +85,7 @@ says far false at (b ∷ z) m e = outside_by far at b z m (starts_name b) refl (
 
 -- ---- how far it goes
 
-no_colon : (b : ℕ) → is_in_name b ≡ true → (b == 58) ≡ false
+pub no_colon : (b : ℕ) → is_in_name b ≡ true → (b == 58) ≡ false
 no_colon b h = grind (arith, nat_tests)
 
 -- through a name and a colon
@@ -95,7 +95,7 @@ name_then far at (b ∷ n) q h =
     ap (λ v. if v then keys_from (at + 1) false (at + 1) (n ++ 58 ∷ q) else (if is_in_name b then keys_from far true (at + 1) (n ++ 58 ∷ q) else far)) (no_colon b h.0)
     ∙ ap (λ v. if v then keys_from far true (at + 1) (n ++ 58 ∷ q) else far) h.0 ∙ name_then far (at + 1) n q h.1 ∙ ap (λ i. keys_from i false i q) (omega arith)
 
-key_then : (far at : ℕ) (n q : Text) → IsName n → keys_from far false at (n ++ 58 ∷ q) ≡ keys_from (at + length n + 1) false (at + length n + 1) q
+pub key_then : (far at : ℕ) (n q : Text) → IsName n → keys_from far false at (n ++ 58 ∷ q) ≡ keys_from (at + length n + 1) false (at + length n + 1) q
 key_then far at [] q h = absurd h
 key_then far at (b ∷ n) q h = ap (λ v. if v then keys_from far true (at + 1) (n ++ 58 ∷ q) else far) h.0 ∙ name_then far (at + 1) n q h.1 ∙ ap (λ i. keys_from i false i q) (omega arith)
 
@@ -197,19 +197,19 @@ name_or_keys b y false m h s (inl low) =
       | inr far ↦ omega (arith, far, begins, size, low)
     ]
 
-no_oper : (b : ℕ) → starts_name b ≡ true → is_operator b ≡ false
+pub no_oper : (b : ℕ) → starts_name b ≡ true → is_operator b ≡ false
 no_oper b h = grind (arith, nat_tests)
 
-name_start : (b : ℕ) (s n u : Text) → IsName n → b ∷ s ≡ n ++ u → starts_name b ≡ true
+pub name_start : (b : ℕ) (s n u : Text) → IsName n → b ∷ s ≡ n ++ u → starts_name b ≡ true
 name_start b s [] u h e = absurd h
 name_start b s (c ∷ n) u h e = ap starts_name (same_first b c s (n ++ u) e) ∙ h.0
 
-keys_start : (b : ℕ) (s : Text) (ks : List Text) → IsKeys (b ∷ s) ks → starts_name b ≡ true
+pub keys_start : (b : ℕ) (s : Text) (ks : List Text) → IsKeys (b ∷ s) ks → starts_name b ≡ true
 keys_start b s [] x = absurd x
 keys_start b s (m ∷ []) ((n, name, e), f) = name_start b s n (58 ∷ []) name (f ∙ e)
 keys_start b s (m ∷ l ∷ ks) ((n, name, e), (u, f, x)) = name_start b s n (58 ∷ u) name (f ∙ ap (λ w. w ++ u) e ∙ append_assoc n (58 ∷ []) u)
 
-oper_start : (b : ℕ) (s : Text) → IsOperator (b ∷ s) → is_operator b ≡ true
+pub oper_start : (b : ℕ) (s : Text) → IsOperator (b ∷ s) → is_operator b ≡ true
 oper_start b s (inl o) = o.1.0
 oper_start b s (inr e) = ap is_operator (same_first b 60 s (58 ∷ []) e)
 
