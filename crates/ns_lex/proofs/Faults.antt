@@ -1,5 +1,6 @@
 -- Where a token stands, no gap begins and no fault is named.
 use Rattle.std.proofs.Common.{◌≡◌, ℕ, zero, suc, ◌+◌, ◌<◌, ◌⊎◌, inl, inr, Bool, true, false, ◌==◌, ◌&&◌, cond, [], ◌∷◌, ◌++◌, length, take, drop, get_or, refl, ap, subst, ◌∙◌, arith}
+use Rattle.std.proofs.Math.Seq.{take-append_seam}
 use Rattle.std.proofs.lemmas.Bool.{eq-eqb}
 use Rattle.std.proofs.lemmas.Bool.Decides.{nat_tests}
 use Rattle.std.specs.List.{prefix_len}
@@ -86,10 +87,6 @@ pub bad_no_digit : (q : Text) → BeginsName q ⊎ BeginsFraction q → is_digit
 bad_no_digit q (inl h) = name_no_digit (get_or q 0 0) h
 bad_no_digit q (inr h) = stop_no_digit (get_or q 0 0) h.0
 
-taken_front : (w r : Text) → take (length w) (w ++ r) ≡ w
-taken_front [] r = refl
-taken_front (b ∷ w) r = ap (λ v. b ∷ v) (taken_front w r)
-
 -- the run of the digits is all of them
 digits_run : (b : ℕ) (y d q : Text) → b ∷ y ≡ d ++ q → IsDigits d → is_digit (get_or q 0 0) ≡ false → run (b ∷ y) ≡ length d
 digits_run b y d q cut (some, all) stop = ap (prefix_len is_digit) cut ∙ run_all is_digit d q all ∙ ap (λ n. length d + n) (run_ends q stop) ∙ omega arith
@@ -115,7 +112,7 @@ number_digits b y t m f d q cut digits = (
   λ bad. no_bad_end b y d q t m f cut (digits_run b y d q cut digits (bad_no_digit q bad)) bad,
   λ stop big.
       let size : run (b ∷ y) ≡ length d = digits_run b y d q cut digits stop in
-      let whole : take (run (b ∷ y)) (b ∷ y) ≡ d = ap (λ i. take i (b ∷ y)) size ∙ ap (take (length d)) cut ∙ taken_front d q in
+      let whole : take (run (b ∷ y)) (b ∷ y) ≡ d = ap (λ i. take i (b ∷ y)) size ∙ ap (take (length d)) cut ∙ take-append_seam d q in
       absurd (omega (arith, (number_says b y t m f).2, ap value whole, big)),
 )
 

@@ -1,5 +1,6 @@
 -- At most one fault stops a source.
 use Rattle.std.proofs.Common.{◌≡◌, ℕ, ◌+◌, ◌≤◌, ◌⊎◌, inl, inr, Bool, true, false, ◌==◌, ◌&&◌, ◌||◌, if◌then◌else◌, List, [], ◌∷◌, ◌++◌, length, drop, get_or, refl, sym, ap, subst, ◌∙◌, arith}
+use Rattle.std.proofs.Math.Seq.{drop-append_seam}
 use Rattle.std.proofs.lemmas.Bool.{eqb-true, eq-eqb}
 use Rattle.std.proofs.lemmas.Bool.Decides.{nat_tests}
 use Rattle.std.specs.List.{prefix_len}
@@ -45,15 +46,11 @@ first_digit : (d q : Text) → IsDigits d → is_digit (get_or (d ++ q) 0 0) ≡
 first_digit [] q h = absurd (omega (arith, h.0))
 first_digit (b ∷ d) q h = h.1.0
 
-behind : (d q : Text) → drop (length d) (d ++ q) ≡ q
-behind [] q = refl
-behind (b ∷ d) q = behind d q
-
 by_digits : (d q : Text) → IsDigits d → is_digit (get_or q 0 0) ≡ false → fault_of (d ++ q) ≡ at_digits (length d) q
 by_digits d q h stop =
     let size : digits (d ++ q) ≡ length d = run_all is_digit d q h.1 ∙ ap (λ n. length d + n) (run_ends q stop) ∙ omega arith in
     ap (λ v. fault_by v (get_or (d ++ q) 0 0 == 39) (get_or (d ++ q) 0 0 == 34 || get_or (d ++ q) 0 0 == 40) (d ++ q)) (first_digit d q h)
-    ∙ ap (λ n. at_digits n (drop n (d ++ q))) size ∙ ap (at_digits (length d)) (behind d q)
+    ∙ ap (λ n. at_digits n (drop n (d ++ q))) size ∙ ap (at_digits (length d)) (drop-append_seam d q)
 
 bad_by : (x y w : Bool) → (x ≡ true) ⊎ ((y ≡ true) × (w ≡ true)) → (x || (y && w)) ≡ true
 bad_by true y w h = refl

@@ -1,5 +1,6 @@
 -- The piece at `#` is the next token.
 use Rattle.std.proofs.Common.{◌≡◌, ◌≢◌, ℕ, suc, ◌+◌, ◌≤◌, ◌⊎◌, inl, inr, Bool, true, false, not, ◌==◌, cond, if◌then◌else◌, List, [], ◌∷◌, ◌++◌, length, take, refl, sym, ap, subst, ◌∙◌, append_assoc, length-append, arith}
+use Rattle.std.proofs.Math.Seq.{take-append_seam}
 use Rattle.std.proofs.lemmas.Bool.{eqb-true, eq-eqb}
 use Rattle.std.proofs.lemmas.Bool.Decides.{nat_tests}
 use Rattle.std.proofs.lemmas.List.{append-nil}
@@ -154,15 +155,11 @@ record IsFound (y : Text) (n : ℕ) : Type 0 where
   fits : n ≤ length y
   form : IsSelector (take n y)
 
-taken_front : (w r : Text) → take (length w) (w ++ r) ≡ w
-taken_front [] r = refl
-taken_front (b ∷ w) r = ap (λ v. b ∷ v) (taken_front w r)
-
 keys_found : (y : Text) (m : ℕ) → (m ≡ 0) ⊎ Says false 0 y m → (m == 0) ≡ false → IsFound y m
 keys_found y m (inl e) h = absurd (let f : (m == 0) ≡ true = eq-eqb m 0 e in clash (m == 0) h f)
 keys_found y m (inr x) h =
     let size : m ≡ length x.text = omega (arith, x.place) in
-    let front : take m y ≡ x.text = ap (λ i. take i y) size ∙ ap (take (length x.text)) x.cut ∙ taken_front x.text x.rest in
+    let front : take m y ≡ x.text = ap (λ i. take i y) size ∙ ap (take (length x.text)) x.cut ∙ take-append_seam x.text x.rest in
     record {
       fits = omega (arith, size, ap length x.cut, length-append x.text x.rest);
       form = inr (inl (x.keys.0, subst (λ u. IsKeys u x.keys.0) (sym front) x.keys.1));
