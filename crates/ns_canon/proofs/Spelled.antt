@@ -1,9 +1,8 @@
 -- The canonical text of a token that some text spells spells it.
-use Rattle.std.proofs.Common.{◌≡◌, ◌≢◌, ℕ, ◌⊎◌, inl, inr, Bool, true, false, ◌==◌, ◌||◌, ◌&&◌, cond, if◌then◌else◌, IsTrue, List, [], ◌∷◌, ◌++◌, Some, None, nat_le, nat_eq, refl, sym, ap, subst, ◌∙◌, arith, codes}
+use Rattle.std.proofs.Common.{◌≡◌, ◌≢◌, ℕ, ◌⊎◌, inl, inr, Bool, true, false, ◌==◌, ◌||◌, ◌&&◌, cond, if◌then◌else◌, IsTrue, List, [], ◌∷◌, ◌++◌, Some, None, refl, sym, ap, subst, ◌∙◌, arith, codes}
 use Rattle.std.specs.Prelude.{flat_map}
 use Rattle.std.specs.List.{list_all}
 use Rattle.std.specs.Str.{bytes_eq}
-use Rattle.std.proofs.lemmas.Bool.Decides.{nat_tests}
 use Rattle.std.proofs.lemmas.List.{append-nil}
 use Rattle.std.proofs.lemmas.Slice.Eq.{bytes_eq-Decides}
 use Rattle.ns_tree.specs.Bytes as bytes
@@ -22,27 +21,17 @@ use Rattle.ns_canon.proofs.Numerals.{number_spelled}
 
 -- ---- names
 
-or_swap : (x y z : Bool) → ((x || y) || z) ≡ (x || (z || y))
-or_swap true y z = refl
-or_swap false true true = refl
-or_swap false true false = refl
-or_swap false false true = refl
-or_swap false false false = refl
-
-begins : (b : ℕ) → lexed.starts_name b ≡ bytes.begins_name b
-begins b = or_swap (nat_le 65 b && nat_le b 90) (nat_le 97 b && nat_le b 122) (nat_eq b 95)
-
 parts : (x y : Bool) → (x && y) ≡ true → (x ≡ true) × (y ≡ true)
 parts true y h = (refl, h)
 parts false y h = absurd cc
 
 in_name : (t : Text) → list_all (λ c. bytes.begins_name c || bytes.is_digit c) t ≡ true → AllOf lexed.is_in_name t
 in_name [] h = tt
-in_name (b ∷ t) h = let x = parts _ _ h in (ap (λ v. v || bytes.is_digit b) (begins b) ∙ x.0, in_name t x.1)
+in_name (b ∷ t) h = let x = parts _ _ h in (x.0, in_name t x.1)
 
 name_of : (t : Text) → IsTrue (bytes.is_name t) → IsName t
 name_of [] h = absurd cc
-name_of (b ∷ t) h = let x = parts _ _ h in (begins b ∙ x.0, in_name t x.1)
+name_of (b ∷ t) h = let x = parts _ _ h in (x.0, in_name t x.1)
 
 -- what is none of the reserved words
 none_of : (a b c d e f g h i j : Bool) → (a || (b || (c || (d || (e || (f || (g || (h || (i || (j || false)))))))))) ≡ false
@@ -96,12 +85,9 @@ keys_of (n ∷ m ∷ ns) all some =
 
 -- ---- operators
 
-operator_byte : (b : ℕ) → bytes.is_operator_byte b ≡ true → lexed.is_operator b ≡ true
-operator_byte b h = grind (arith, nat_tests)
-
 all_operators : (t : Text) → list_all bytes.is_operator_byte t ≡ true → AllOf lexed.is_operator t
 all_operators [] h = tt
-all_operators (b ∷ t) h = let x = parts _ _ h in (operator_byte b x.0, all_operators t x.1)
+all_operators (b ∷ t) h = let x = parts _ _ h in (x.0, all_operators t x.1)
 
 operator_by : (b : ℕ) (t : Text) (run : Bool) → list_all bytes.is_operator_byte (b ∷ t) ≡ run → (run || bytes_eq (b ∷ t) (codes "<:")) ≡ true → IsOperator (b ∷ t)
 operator_by b t true e h = inl (omega arith, all_operators (b ∷ t) e)

@@ -1,7 +1,7 @@
 //! Laws of the canonical source. Each function does nothing but name the laws that it rests on, and its contract is the
 //! law.
 
-ghost use Rattle.std.specs.Prelude.{◌≡◌, List, Ok};
+ghost use Rattle.std.specs.Prelude.{◌≡◌, ◌↔◌, List, Ok};
 ghost use Rattle.ns_lex.specs.Scan.{scan};
 ghost use Rattle.ns_lex.specs.Spaced.{LexesTo};
 ghost use Rattle.ns_lex.specs.Spells.{Spells};
@@ -13,10 +13,12 @@ ghost use Rattle.ns_tree.specs.Tree.{AllHaveText, HasText, Tree};
 ghost use Rattle.ns_tree.specs.declared.token.Kind.{Kind};
 ghost use Rattle.ns_tree.specs.declared.token.Token.{Token};
 
-/// The canonical text of a token that some text spells spells it.
+/// A token has a text exactly where its canonical text spells it.
 pub fn kinds_are_spelled()
-    ensures { (kind : Kind) → HasText kind → Spells (spell kind) kind }
-{}
+    ensures { (kind : Kind) → HasText kind ↔ Spells (spell kind) kind }
+{
+    ns_lex::laws::tokens_have_texts();
+}
 
 /// The canonical source of tokens that have texts is cut into these tokens.
 pub fn printed_kinds_are_cut()

@@ -134,7 +134,7 @@ pub no_fault : (b : ℕ) (y : Text) (t : Kind) → ((u : Text) × Spells (b ∷ 
 no_fault b y t spelled remark comment digits mark quote cause.BadByte n (inl (d, q, cut, h, bad, e)) = (digits d q cut h).0 bad
 no_fault b y t spelled remark comment digits mark quote cause.BadByte n (inr (inl (q, cut, none, e))) = by_mark b y (mark (same_first b 35 y q cut)) none
 no_fault b y t spelled remark comment digits mark quote cause.BadByte n (inr (inr (c, q, cut, nothing, e))) = nothing.0 spelled.0 t (subst (λ i. Spells (i ∷ spelled.0) t) (same_first b c y q cut) spelled.1)
-no_fault b y t spelled remark comment digits mark quote cause.BigNumber n (d, q, cut, h, stop, name, fraction, big, e) = (digits d q cut h).1 stop big
+no_fault b y t spelled remark comment digits mark quote cause.BigNumber n (d, q, cut, h, (stop, name, fraction), big, e) = (digits d q cut h).1 stop big
 no_fault b y t spelled remark comment digits mark quote cause.UnclosedComment n ((q, inl e), f) = clash (is_comment (b ∷ y)) comment (ap is_comment e)
 no_fault b y t spelled remark comment digits mark quote cause.UnclosedComment n ((q, inr e), f) = clash (is_remark (b ∷ y)) remark (ap is_remark e)
 no_fault b y t spelled remark comment digits mark quote cause.UnclosedString n ((q, cut), none, e) = by_quote b y (quote (same_first b 39 y q cut)) none

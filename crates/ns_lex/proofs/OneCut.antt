@@ -76,7 +76,7 @@ fault_some : (z : Text) (c : Cause) (n : ℕ) → IsFault z c n → 0 < length z
 fault_some z cause.BadByte n (inl (d, q, e, digits, more, place)) = omega (arith, ap length e, length-append d q, digits.0)
 fault_some z cause.BadByte n (inr (inl (q, e, none, place))) = omega (arith, ap length e)
 fault_some z cause.BadByte n (inr (inr (b, q, e, none, place))) = omega (arith, ap length e)
-fault_some z cause.BigNumber n (d, q, e, digits, more, name, fraction, great, place) = omega (arith, ap length e, length-append d q, digits.0)
+fault_some z cause.BigNumber n (d, q, e, digits, last, great, place) = omega (arith, ap length e, length-append d q, digits.0)
 fault_some z cause.UnclosedComment n ((q, inl e), place) = omega (arith, ap length e)
 fault_some z cause.UnclosedComment n ((q, inr e), place) = omega (arith, ap length e)
 fault_some z cause.UnclosedString n ((q, e), none, place) = omega (arith, ap length e)

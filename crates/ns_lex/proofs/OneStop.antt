@@ -113,7 +113,7 @@ fault_is z cause.BadByte n (inl (d, q, cut, h, bad, e)) =
     ap fault_of cut ∙ by_digits d q h (bad_no_digit q bad) ∙ ap (λ v. if v then (cause.BadByte, length d) else (cause.BigNumber, 0)) (is_bad q bad) ∙ here cause.BadByte n (length d) e
 fault_is z cause.BadByte n (inr (inl (q, cut, none, e))) = ap fault_of cut ∙ here cause.BadByte n 0 e
 fault_is z cause.BadByte n (inr (inr (b, q, cut, none, e))) = ap fault_of cut ∙ by_nothing b q none ∙ here cause.BadByte n 0 e
-fault_is z cause.BigNumber n (d, q, cut, h, stop, name, fraction, great, e) =
+fault_is z cause.BigNumber n (d, q, cut, h, (stop, name, fraction), great, e) =
     ap fault_of cut ∙ by_digits d q h stop ∙ ap (λ v. if v then (cause.BadByte, length d) else (cause.BigNumber, 0)) (is_good q name fraction) ∙ here cause.BigNumber n 0 e
 fault_is z cause.UnclosedComment n ((q, inl cut), e) = ap fault_of cut ∙ here cause.UnclosedComment n 0 e
 fault_is z cause.UnclosedComment n ((q, inr cut), e) = ap fault_of cut ∙ here cause.UnclosedComment n 0 e

@@ -42,6 +42,10 @@ BeginsName q = starts_name (slice_index q 0) ≡ true
 abbrev pub BeginsFraction : Text → Type 0
 BeginsFraction q = (slice_index q 0 ≡ 46) × (is_digit (slice_index q 1) ≡ true)
 
+-- A run of digits may end here: no digit stands first, no letter or _, and no full stop and a digit.
+abbrev pub EndsDigits : Text → Type 0
+EndsDigits q = (is_digit (slice_index q 0) ≡ false) × (BeginsName q → ⊥) × (BeginsFraction q → ⊥)
+
 -- The byte begins no token and no gap.
 abbrev pub BeginsNothing : ℕ → Type 0
 BeginsNothing b = ((u : Text) (t : Kind) → Spells (b ∷ u) t → ⊥) × ((u : Text) → IsGapPart (b ∷ u) → ⊥)
@@ -52,8 +56,7 @@ IsFault z cause.BadByte n =
     ((d q : Text) × (z ≡ d ++ q) × IsDigits d × (BeginsName q ⊎ BeginsFraction q) × (n ≡ length d))
     ⊎ ((q : Text) × (z ≡ 35 ∷ q) × ((p r s : Text) → z ≡ p ++ r → Spells p (k.Symbol s) → ⊥) × (n ≡ 0))
     ⊎ ((b : ℕ) × (q : Text) × (z ≡ b ∷ q) × BeginsNothing b × (n ≡ 0))
-IsFault z cause.BigNumber n =
-    (d q : Text) × (z ≡ d ++ q) × IsDigits d × (is_digit (slice_index q 0) ≡ false) × (BeginsName q → ⊥) × (BeginsFraction q → ⊥) × (greatest < value d) × (n ≡ 0)
+IsFault z cause.BigNumber n = (d q : Text) × (z ≡ d ++ q) × IsDigits d × EndsDigits q × (greatest < value d) × (n ≡ 0)
 IsFault z cause.UnclosedComment n = ((q : Text) × ((z ≡ 40 ∷ 42 ∷ q) ⊎ (z ≡ 34 ∷ q))) × (n ≡ 0)
 IsFault z cause.UnclosedString n = ((q : Text) × (z ≡ 39 ∷ q)) × ((p r s : Text) → z ≡ p ++ r → Stands p r (k.Str s) → ⊥) × (n ≡ 0)
 

@@ -11,7 +11,7 @@ ghost use Rattle.ns_lex.specs.Spells.{Spells};
 ghost use Rattle.ns_lex.specs.declared.piece.Cause.{Cause};
 ghost use Rattle.ns_lex.specs.declared.piece.Piece.TheVariants as piece;
 ghost use Rattle.ns_tree.specs.Tokens.{kinds};
-ghost use Rattle.ns_tree.specs.Tree.{AllHaveText};
+ghost use Rattle.ns_tree.specs.Tree.{AllHaveText, HasText};
 ghost use Rattle.ns_tree.specs.declared.token.Kind.{Kind};
 ghost use Rattle.ns_tree.specs.declared.token.Token.{Token};
 
@@ -26,9 +26,10 @@ pub fn sources_are_cut_one_way()
     ensures stopped { (source : List ℕ) (at : ℕ) (cause : Cause) → LexStops source at cause → scan source ≡ Err (fault_at cause at) }
 {}
 
-/// The tokens that cut a source have texts.
+/// A token that some text spells has a text, and so have the tokens that cut a source.
 pub fn tokens_have_texts()
-    ensures { (source : List ℕ) (tokens : List Token) → Lexes source tokens → AllHaveText (kinds tokens) }
+    ensures each { (w : List ℕ) (kind : Kind) → Spells w kind → HasText kind }
+    ensures all { (source : List ℕ) (tokens : List Token) → Lexes source tokens → AllHaveText (kinds tokens) }
 {}
 
 /// A text that spells a token is read as that token again, where a blank stands behind it.
