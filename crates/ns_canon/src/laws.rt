@@ -1,17 +1,15 @@
 //! Laws of the canonical source. Each function does nothing but name the laws that it rests on, and its contract is the
 //! law.
 
-ghost use Rattle.std.specs.Prelude.{◌≡◌, ◌↔◌, List, Ok};
-ghost use Rattle.ns_lex.specs.Scan.{scan};
+ghost use Rattle.std.specs.Prelude.{◌≡◌, ◌↔◌, List};
+ghost use Rattle.ns_canon.specs.Canonical.{IsSourceOf, ScansTo, canonical};
 ghost use Rattle.ns_lex.specs.Spaced.{LexesTo};
 ghost use Rattle.ns_lex.specs.Spells.{Spells};
 ghost use Rattle.ns_print.specs.Printed.{printed, spell};
 ghost use Rattle.ns_tree.specs.Flat.{flat};
 ghost use Rattle.ns_tree.specs.Plain.{SourceUnit};
-ghost use Rattle.ns_tree.specs.Tokens.{kinds};
 ghost use Rattle.ns_tree.specs.Tree.{AllHaveText, HasText, Tree};
 ghost use Rattle.ns_tree.specs.declared.token.Kind.{Kind};
-ghost use Rattle.ns_tree.specs.declared.token.Token.{Token};
 
 /// A token has a text exactly where its canonical text spells it.
 pub fn kinds_are_spelled()
@@ -28,11 +26,19 @@ pub fn printed_kinds_are_cut()
     ns_lex::laws::spaced_texts_are_cut();
 }
 
-/// So the canonical source of a tree is cut into the tree's tokens, and its scan gives them.
+/// So the canonical source of a tree is a source of this tree, and its scan gives the tree's tokens.
 pub fn printed_trees_are_cut()
-    ensures cut { (unit : SourceUnit) → Tree unit → LexesTo (printed (flat unit)) (flat unit) }
-    ensures scanned { (unit : SourceUnit) → Tree unit → (tokens : List Token) × (scan (printed (flat unit)) ≡ Ok tokens) × (kinds tokens ≡ flat unit) }
+    ensures cut { (unit : SourceUnit) → Tree unit → IsSourceOf (canonical unit) unit }
+    ensures scanned { (unit : SourceUnit) → Tree unit → ScansTo (canonical unit) (flat unit) }
 {
     printed_kinds_are_cut();
+    ns_lex::laws::sources_are_cut_one_way();
+}
+
+/// And each tree of which it is a source has the same canonical source.
+pub fn canonical_sources_stay()
+    ensures { (unit other : SourceUnit) → Tree unit → IsSourceOf (canonical unit) other → canonical other ≡ canonical unit }
+{
+    printed_trees_are_cut();
     ns_lex::laws::sources_are_cut_one_way();
 }
