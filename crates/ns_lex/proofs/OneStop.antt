@@ -14,8 +14,7 @@ use Rattle.ns_lex.specs.declared.piece.Cause.{Cause}
 use Rattle.ns_lex.specs.declared.piece.Cause.TheVariants as cause
 use Rattle.ns_lex.proofs.Words.{run_all}
 use Rattle.ns_lex.proofs.Faults.{run_ends, bad_no_digit}
-use Rattle.ns_lex.proofs.OneGap.{gap_cut}
-use Rattle.ns_lex.proofs.OneCut.{step_same, after_step}
+use Rattle.ns_lex.proofs.OneCut.{gapped_cut, step_same, after_step}
 
 -- ---- the fault that a text can only have
 
@@ -127,18 +126,15 @@ record SameStop (rest other : Text) (n m : ℕ) : Type 0 where
   place : n ≡ m
 
 stops_same : (at : ℕ) (z : Text) (ts us : List Token) (b c : ℕ) (rest other : Text) (why cause : Cause) (n m : ℕ) → Cuts at z ts b rest → Cuts at z us c other → IsFault rest why n → IsFault other cause m → SameStop rest other b c
-stops_same at z [] [] b c rest other why cause n m (g, gap, cut, none, place) (g', gap', cut', none', place') told told' =
-    let x = gap_cut g g' rest other gap gap' none none' (sym cut ∙ cut') in
-    record { text = x.back; place = place ∙ ap (λ y. at + length y) x.front ∙ sym place' }
-stops_same at z [] (u ∷ us) b c rest other why cause n m (g, gap, cut, none, place) (g', w, q, gap', cut', none', fault', next', start', stop', more') told told' =
-    let x = gap_cut g g' rest (w ++ q) gap gap' none none' (sym cut ∙ cut') in
-    absurd (fault' why n (subst (λ y. IsFault y why n) x.back told))
-stops_same at z (t ∷ ts) [] b c rest other why cause n m (g, w, q, gap, cut, none, fault, next, start, stop, more) (g', gap', cut', none', place') told told' =
-    let x = gap_cut g g' (w ++ q) other gap gap' none none' (sym cut ∙ cut') in
-    absurd (fault cause m (subst (λ y. IsFault y cause m) (sym x.back) told'))
-stops_same at z (t ∷ ts) (u ∷ us) b c rest other why cause n m (g, w, q, gap, cut, none, fault, next, start, stop, more) (g', v, r, gap', cut', none', fault', next', start', stop', more') told told' =
-    let s = step_same z g w q g' v r t.kind u.kind gap gap' cut cut' none none' next next' in
-    stops_same (at + length g + length w) q ts us b c rest other why cause n m more (after_step at g w q g' v r us c other s more') told told'
+stops_same at z [] [] b c rest other why cause n m (g, x, place) (g', x', place') told told' =
+    let y = gapped_cut z g g' rest other x x' in
+    record { text = y.back; place = place ∙ ap (λ i. at + length i) y.front ∙ sym place' }
+stops_same at z [] (u ∷ us) b c rest other why cause n m (g, x, place) (g', w, q, s', more') told told' = absurd (s'.fault why n (subst (λ y. IsFault y why n) (gapped_cut z g g' rest (w ++ q) x s'.front).back told))
+stops_same at z (t ∷ ts) [] b c rest other why cause n m (g, w, q, s, more) (g', x', place') told told' =
+    absurd (s.fault cause m (subst (λ y. IsFault y cause m) (sym (gapped_cut z g g' (w ++ q) other s.front x').back) told'))
+stops_same at z (t ∷ ts) (u ∷ us) b c rest other why cause n m (g, w, q, s, more) (g', v, r, s', more') told told' =
+    let x = step_same at at z g w q g' v r t u s s' in
+    stops_same (at + length g + length w) q ts us b c rest other why cause n m more (after_step at g w q g' v r us c other x more') told told'
 
 -- At most one fault stops a source.
 pub one_stop : (source : Text) (n m : ℕ) (c d : Cause) → LexStops source n c → LexStops source m d → (n ≡ m) × (c ≡ d)

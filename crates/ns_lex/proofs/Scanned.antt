@@ -75,6 +75,12 @@ stop_by_scan source n c (Err fault.Memory) x e = absurd (no_memory 0 0 source e)
 pub stop_scanned : (source : Text) (n : ℕ) (c : Cause) → LexStops source n c → scan source ≡ Err (fault_at c n)
 stop_scanned source n c x = stop_by_scan source n c (scan source) x refl
 
+pub scanned_stop : (source : Text) (n : ℕ) (c : Cause) → scan source ≡ Err (fault_at c n) → LexStops source n c
+scanned_stop source n cause.BadByte e = scan_stops source (fault.BadByte n) e
+scanned_stop source n cause.UnclosedComment e = scan_stops source (fault.UnclosedComment n) e
+scanned_stop source n cause.UnclosedString e = scan_stops source (fault.UnclosedString n) e
+scanned_stop source n cause.BigNumber e = scan_stops source (fault.BigNumber n) e
+
 -- ---- each source
 
 -- Tokens cut the source, or a fault stops it.

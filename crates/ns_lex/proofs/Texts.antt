@@ -101,5 +101,5 @@ token_told w _ h = tt
 -- The tokens that cut a text have texts.
 pub cuts_told : (at : ℕ) (z : Text) (ts : List Token) (behind : ℕ) (rest : Text) → Cuts at z ts behind rest → tree.AllHaveText (kinds ts)
 cuts_told at z [] behind rest x = tt
-cuts_told at z (t ∷ ts) behind rest (g, w, q, gap, cut, none, fault, next, start, end_at, more) =
-    (token_told w t.kind (stands_spells w q t.kind next.0), cuts_told (at + length g + length w) q ts behind rest more)
+cuts_told at z (t ∷ ts) behind rest (g, w, q, s, more) =
+    (token_told w t.kind (stands_spells w q t.kind s.next.0), cuts_told (at + length g + length w) q ts behind rest more)

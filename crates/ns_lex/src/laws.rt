@@ -1,6 +1,6 @@
 //! Laws on how sources are cut, each as the contract of a function that does nothing.
 
-ghost use Rattle.std.specs.Prelude.{◌≡◌, ◌⊎◌, ◌∷◌, ◌++◌, ℕ, true, length, List, Ok, Err};
+ghost use Rattle.std.specs.Prelude.{◌≡◌, ◌↔◌, ◌⊎◌, ◌∷◌, ◌++◌, ℕ, true, length, List, Ok, Err};
 ghost use Rattle.ns_lex.specs.Bytes.{is_blank};
 ghost use Rattle.ns_lex.specs.Fault.{fault_at};
 ghost use Rattle.ns_lex.specs.Lexes.{LexStops, Lexes};
@@ -22,8 +22,8 @@ pub fn sources_are_cut_one_way()
     ensures one { (source : List ℕ) (ts us : List Token) → Lexes source ts → Lexes source us → ts ≡ us }
     ensures one_stop { (source : List ℕ) (n m : ℕ) (c d : Cause) → LexStops source n c → LexStops source m d → (n ≡ m) × (c ≡ d) }
     ensures no_stop { (source : List ℕ) (tokens : List Token) (at : ℕ) (cause : Cause) → Lexes source tokens → LexStops source at cause → ⊥ }
-    ensures scanned { (source : List ℕ) (tokens : List Token) → Lexes source tokens → scan source ≡ Ok tokens }
-    ensures stopped { (source : List ℕ) (at : ℕ) (cause : Cause) → LexStops source at cause → scan source ≡ Err (fault_at cause at) }
+    ensures scanned { (source : List ℕ) (tokens : List Token) → Lexes source tokens ↔ (scan source ≡ Ok tokens) }
+    ensures stopped { (source : List ℕ) (at : ℕ) (cause : Cause) → LexStops source at cause ↔ (scan source ≡ Err (fault_at cause at)) }
 {}
 
 /// A token that some text spells has a text, and so have the tokens that cut a source.

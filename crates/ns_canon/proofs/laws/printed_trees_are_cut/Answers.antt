@@ -10,4 +10,4 @@ returns-clause-cut c = λ unit tree.
 pub returns-clause-scanned : goal.returns-clause-scanned
 returns-clause-scanned c = λ unit tree.
     let x = c.printed_kinds_are_cut.ensures (flat unit) tree.told in
-    (x.0, c.sources_are_cut_one_way.ensures.scanned (canonical unit) x.0 x.1, x.2)
+    (x.0, (c.sources_are_cut_one_way.ensures.scanned (canonical unit) x.0).0 x.1, x.2)
