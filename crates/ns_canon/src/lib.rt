@@ -1,0 +1,4 @@
+//! That the canonical source of tokens is cut into these tokens again.
+#![tactic(auto)]
+
+pub mod laws;
