@@ -1,11 +1,12 @@
 //! Laws of the canonical source. Each function does nothing but name the laws that it rests on, and its contract is the
 //! law.
 
-ghost use Rattle.std.specs.Prelude.{◌≡◌, ◌↔◌, List};
-ghost use Rattle.ns_canon.specs.Canonical.{IsSourceOf, ScansTo, canonical};
+ghost use Rattle.std.specs.Prelude.{◌≡◌, ◌↔◌, ℕ, List, None};
+ghost use Rattle.ns_canon.specs.Canonical.{IsParsedTo, IsSourceOf, ScansTo, canonical};
 ghost use Rattle.ns_lex.specs.Spaced.{LexesTo};
 ghost use Rattle.ns_lex.specs.Spells.{Spells};
 ghost use Rattle.ns_print.specs.Printed.{printed, spell};
+ghost use Rattle.ns_tree.specs.Deep.{deep};
 ghost use Rattle.ns_tree.specs.Flat.{flat};
 ghost use Rattle.ns_tree.specs.Plain.{SourceUnit};
 ghost use Rattle.ns_tree.specs.Tree.{AllHaveText, HasText, Tree};
@@ -41,4 +42,21 @@ pub fn canonical_sources_stay()
 {
     printed_trees_are_cut();
     ns_lex::laws::sources_are_cut_one_way();
+}
+
+/// A tree with at most 100 brackets open at once is parsed of its canonical source again.
+pub fn canonical_sources_are_parsed()
+    ensures { (unit : SourceUnit) → Tree unit → deep (flat unit) ≡ None → IsParsedTo (canonical unit) unit }
+{
+    printed_trees_are_cut();
+    ns_lex::laws::sources_are_cut_one_way();
+    ns_grammar::laws::what_is_spelled_is_parsed();
+}
+
+/// A source is a source of one tree at most.
+pub fn sources_have_one_tree()
+    ensures { (source : List ℕ) (unit other : SourceUnit) → IsSourceOf source unit → IsSourceOf source other → unit ≡ other }
+{
+    ns_lex::laws::sources_are_cut_one_way();
+    ns_grammar::laws::one_tree_is_spelled();
 }
