@@ -31,7 +31,7 @@ pub enum Row {
 }
 
 /// The rows in the order of the kernel's table, class by class.
-const ROWS: [Row; 81] = [
+static ROWS: [Row; 81] = [
     // all values
     Row::Data(DataRow::Identical),
     Row::Data(DataRow::Equal),
