@@ -66,6 +66,7 @@ impl Memo {
     }
 
     /// The answer that is kept at a place for a lookup, if it is this lookup that is kept there.
+    #[inline(always)]
     fn kept(&self, place: usize, start: Start, sel: Sel, kind: Sending) -> Option<Found>
         requires { place < 1024 }
         ensures { IfSome result (λ found. IsKept self.now (record { start = start; sel = sel; kind = kind; found = found })) }
@@ -87,6 +88,7 @@ impl Memo {
 
 /// What `find` answers, from the place of this lookup where it is kept there; else it is made and
 /// kept. Takes no memory.
+#[inline(always)]
 pub fn find_kept(
     world: &World,
     code: &CodeProgram,
@@ -121,6 +123,7 @@ pub fn find_kept(
 }
 
 /// The answer of a lookup that is kept, if it is this lookup.
+#[inline(always)]
 fn answer_of(kept: Kept, start: Start, sel: Sel, kind: Sending) -> Option<Found>
     ensures { IfSome result (λ found. kept ≡ record { start = start; sel = sel; kind = kind; found = found }) }
 {
@@ -131,6 +134,7 @@ fn answer_of(kept: Kept, start: Start, sel: Sel, kind: Sending) -> Option<Found>
 }
 
 /// The place of a lookup, by its start, its selector and its kind.
+#[inline(always)]
 fn place_of(start: Start, sel: Sel, kind: Sending) -> usize
     ensures { result < 1024 }
 {
@@ -140,6 +144,7 @@ fn place_of(start: Start, sel: Sel, kind: Sending) -> usize
     (key.wrapping_add(kind_key(kind)) % 1024) as usize
 }
 
+#[inline(always)]
 fn kind_key(kind: Sending) -> u32 {
     match kind {
         Sending::Plain => 0,
@@ -147,6 +152,7 @@ fn kind_key(kind: Sending) -> u32 {
     }
 }
 
+#[inline(always)]
 fn start_key(start: Start) -> u32 {
     match start {
         Start::Instance(class) => class,
@@ -155,6 +161,7 @@ fn start_key(start: Start) -> u32 {
     }
 }
 
+#[inline(always)]
 fn row_key(row: KernelRow) -> u32 {
     match row {
         KernelRow::Object => 2,

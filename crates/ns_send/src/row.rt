@@ -128,6 +128,7 @@ static ROWS: [Row; 81] = [
 ];
 
 /// The row of a number, counted from 0 in the order of the kernel's table.
+#[inline(always)]
 pub fn row_of(number: u32) -> Row
     requires { number < 81 }
     ensures { result ≡ row_at number }
