@@ -71,6 +71,7 @@ impl Memo {
     }
 
     /// The answer that is kept at a place for a lookup, if it is this lookup that is kept there.
+    #[inline(always)]
     fn kept(&self, place: usize, start: Start, sel: Sel, kind: Sending) -> Option<Found>
         requires { place < 1024 }
         ensures { IfSome result (λ found. IsKept self.now (record { start = start; sel = sel; kind = kind; found = found })) }
@@ -92,6 +93,7 @@ impl Memo {
 
 /// What `find` answers, from the place of this lookup where it is kept there; else it is made and
 /// kept. Takes no memory.
+#[inline(always)]
 pub fn find_kept(
     world: &World,
     code: &CodeProgram,
@@ -126,6 +128,7 @@ pub fn find_kept(
 }
 
 /// The answer of a lookup that is kept, if it is this lookup.
+#[inline(always)]
 fn answer_of(kept: Kept, start: Start, sel: Sel, kind: Sending) -> Option<Found>
     ensures { IfSome result (λ found. kept ≡ record { start = start; sel = sel; kind = kind; found = found }) }
 {
@@ -136,6 +139,7 @@ fn answer_of(kept: Kept, start: Start, sel: Sel, kind: Sending) -> Option<Found>
 }
 
 /// The place of a lookup, by its start, its selector and its kind.
+#[inline(always)]
 fn place_of(start: Start, sel: Sel, kind: Sending) -> usize
     ensures { result < 1024 }
 {
@@ -143,6 +147,7 @@ fn place_of(start: Start, sel: Sel, kind: Sending) -> usize
     ((start_key(start).wrapping_mul(STARTED) ^ sent) >> 22) as usize
 }
 
+#[inline(always)]
 fn kind_key(kind: Sending) -> u32 {
     match kind {
         Sending::Plain => 0,
@@ -150,6 +155,7 @@ fn kind_key(kind: Sending) -> u32 {
     }
 }
 
+#[inline(always)]
 fn start_key(start: Start) -> u32 {
     match start {
         Start::Instance(class) => class,
@@ -158,6 +164,7 @@ fn start_key(start: Start) -> u32 {
     }
 }
 
+#[inline(always)]
 fn row_key(row: KernelRow) -> u32 {
     match row {
         KernelRow::Object => 2,
