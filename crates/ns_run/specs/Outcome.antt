@@ -8,10 +8,10 @@ use Rattle.ns_load.specs.declared.fault.LoadCause.{LoadCause}
 use Rattle.ns_load.specs.declared.fault.LoadCause.TheVariants as cause
 use Rattle.ns_load.specs.declared.fault.LoadFault.{LoadFault}
 use Rattle.ns_load.specs.declared.fault.LoadFault.TheVariants as fault
-use Rattle.ns_run.specs.Meaning.{meaning_of_texts}
+use Rattle.ns_run.specs.Meaning.{files_read, meaning_of_texts}
 use Rattle.ns_run.specs.Report.{refused_file}
 use Rattle.ns_run.specs.declared.report.Report.{Report}
-use Rattle.ns_words.specs.Words.{Reading, names_of, reading_of}
+use Rattle.ns_words.specs.Words.{Reading, reading_of}
 
 -- The status is the report's, and both streams have all of its bytes.
 pub record IsDelivered (report : Report) (status : Status) (out out' err err' : Option (List ℕ)) : Type 0 where
@@ -59,11 +59,11 @@ SomeTexts names P = (texts : List (Option (List ℕ))) × (length texts ≡ leng
 
 -- There is a text, or none, for each file of the command of these words, and over these its meaning is so.
 abbrev pub OverTexts : List (List ℕ) → (Report → Type 0) → Type 0
-OverTexts words P = SomeTexts (names_of (reading_of words)) (λ texts. P (meaning_of_texts words texts))
+OverTexts words P = SomeTexts (files_read (reading_of words)) (λ texts. P (meaning_of_texts words texts))
 
 -- Some file of the command is there.
 abbrev pub HasAFile : Reading → Files → Type 0
-HasAFile reading files = SomeOf (names_of reading) (λ file. IsSome (files file))
+HasAFile reading files = SomeOf (files_read reading) (λ file. IsSome (files file))
 
 -- These bytes were written, to a stream that tells its bytes.
 abbrev pub Wrote : List ℕ → (old new : Option (List ℕ)) → Type 0
@@ -79,11 +79,11 @@ IsMissing file report = (report.status ≡ Refused) × (report.err ≡ missing_l
 
 -- The report refuses some file of the command as one that isn't there.
 abbrev pub NamesMissing : Reading → Report → Type 0
-NamesMissing reading report = SomeOf (names_of reading) (λ file. IsMissing file report)
+NamesMissing reading report = SomeOf (files_read reading) (λ file. IsMissing file report)
 
 -- The line was written that tells of some file of the command that it isn't there.
 abbrev pub TellsMissing : Reading → (err err' : Option (List ℕ)) → Type 0
-TellsMissing reading err err' = SomeOf (names_of reading) (λ file. Wrote (missing_line file) err err')
+TellsMissing reading err err' = SomeOf (files_read reading) (λ file. Wrote (missing_line file) err err')
 
 -- The cause refuses a file: it isn't that the file couldn't be read.
 abbrev pub IsRefusedFor : LoadCause → Type 0

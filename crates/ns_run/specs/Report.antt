@@ -68,6 +68,10 @@ abbrev pub refused_text : List ℕ → Place → List ℕ → Report
 refused_text file place cause =
     refused (file ++ codes ":" ++ decimal place.line ++ codes ":" ++ decimal place.col ++ codes ": " ++ cause ++ 10 ∷ [])
 
+-- the line that tells of a run how many classes its program has and how many steps it used
+abbrev pub summary : (classes steps : ℕ) → List ℕ
+summary classes steps = codes "classes " ++ decimal classes ++ codes " steps " ++ decimal steps ++ 10 ∷ []
+
 -- A command that only tells a text writes it, and is done.
 abbrev pub told : List ℕ → Report
 told text = record { out = text; err = []; status = status.Done }

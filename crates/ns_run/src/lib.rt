@@ -5,6 +5,8 @@ mod cause;
 mod deliver;
 pub mod files;
 pub mod report;
+mod run;
+mod sample;
 pub mod stop;
 pub mod task;
 pub mod top;

@@ -9,9 +9,11 @@ pub enum Task<'a> {
     Check,
     /// The canonical source of its first file is written.
     Show,
-    /// It is run within these limits, with these arguments.
+    /// It is run within these limits, with these arguments. Where its classes are counted, their
+    /// number and the steps are told behind its output.
     Run {
         limits: Limits,
         arguments: &'a [String],
+        classes: Option<u32>,
     },
 }

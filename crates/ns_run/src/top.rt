@@ -15,6 +15,7 @@ ghost use Rattle.ns_words.specs.Words.{first_bad, limits_of, reading_of};
 use crate::deliver::deliver;
 use crate::files::on_files;
 use crate::report::{Report, bad_word, told_text};
+use crate::sample::on_sample;
 use crate::stop::{Stop, or_stop};
 use crate::task::Task;
 use crate::usage::{HELP, VERSION};
@@ -23,7 +24,7 @@ use ns_base::shelf::Shelf;
 use ns_base::sink::Sink;
 use ns_base::status::Status;
 use ns_words::form::Verb;
-use ns_words::words::{BadWord, Line, first_bad, words};
+use ns_words::words::{BadWord, Line, first_bad, sample_number, words};
 use std::alloc::Global;
 
 /// Carries out the command of these words: reads from the shelf, and writes what the command means
@@ -103,13 +104,13 @@ fn work<S: Shelf>(alloc: Global, line: &[String], shelf: &mut S) -> Result<Repor
 fn on_line<S: Shelf>(alloc: Global, line: Line<'_>, shelf: &mut S) -> Result<Report, Stop>
     requires form { IsSpelled (line_seen line) }
     requires range { InRange (limits_of line.given) }
-    ensures told { (files : Files) → S.holds shelf.old ≡ Some files → IfOk result (λ r. r ≡ spec.of_line line.entry.verb (line_seen line.entry) (map files (line_seen line.entry).names)) }
-    ensures texts { SomeTexts (line_seen line.entry).names (λ texts. IfOk result (λ r. r ≡ spec.of_line line.entry.verb (line_seen line.entry) texts)) }
+    ensures told { (files : Files) → S.holds shelf.old ≡ Some files → IfOk result (λ r. r ≡ spec.of_line line.entry.verb (line_seen line.entry) (map files (spec.files_of line.entry.verb (line_seen line.entry).names))) }
+    ensures texts { SomeTexts (spec.files_of line.entry.verb (line_seen line.entry).names) (λ texts. IfOk result (λ r. r ≡ spec.of_line line.entry.verb (line_seen line.entry) texts)) }
     ensures ending { IfOk result (λ r. IsEnding r.status) }
     ensures only_read { OnlyRead S.holds S.misses S.faults S.store_faults shelf.old shelf.new }
     ensures read_fault { IsErrOf result Stop.ReadFault → Rose (S.faults shelf.old) (S.faults shelf.new) }
-    ensures read_fault_there { (files : Files) → S.holds shelf.old ≡ Some files → IsErrOf result Stop.ReadFault → SomeOf (line_seen line.entry).names (λ file. IsSome (files file)) }
-    ensures missing { IfOk result (λ r. (name : List ℕ) → IsMissing name r → Rose (S.misses shelf.old) (S.misses shelf.new)) }
+    ensures read_fault_there { (files : Files) → S.holds shelf.old ≡ Some files → IsErrOf result Stop.ReadFault → SomeOf (spec.files_of line.entry.verb (line_seen line.entry).names) (λ file. IsSome (files file)) }
+    ensures missing { IfOk result (λ r. SomeOf (spec.files_of line.entry.verb (line_seen line.entry).names) (λ file. IsMissing file r) → Rose (S.misses shelf.old) (S.misses shelf.new)) }
 {
     let Line {
         verb,
@@ -122,9 +123,17 @@ fn on_line<S: Shelf>(alloc: Global, line: Line<'_>, shelf: &mut S) -> Result<Rep
         Verb::Show => on_files(alloc, Task::Show, given.lib, names, shelf),
         Verb::Run => {
             let limits = given.limits();
-            let task = Task::Run { limits, arguments };
+            let task = Task::Run {
+                limits,
+                arguments,
+                classes: None,
+            };
             on_files(alloc, task, given.lib, names, shelf)
         }
+        Verb::Sample => match sample_number(names) {
+            Some(n) => on_sample(alloc, n),
+            None => or_stop(bad_word(alloc, 1)),
+        },
         Verb::Help => or_stop(told_text(alloc, HELP)),
         Verb::Version => or_stop(told_text(alloc, VERSION)),
     }

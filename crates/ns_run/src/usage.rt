@@ -7,6 +7,7 @@ usage:
   nspk check [--lib] FILE ..                says whether the files are a program
   nspk show FILE                            writes the canonical source of FILE
   nspk run [OPTION ..] FILE .. [-- ARG ..]  runs the class of the first FILE
+  nspk sample N                             runs a program of N classes: 1 to 1000
   nspk --help                               tells this
   nspk --version                            tells the version
 

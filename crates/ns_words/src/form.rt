@@ -12,20 +12,33 @@ pub enum Verb {
     Show,
     /// Runs a program.
     Run,
+    /// Runs the sample of a number.
+    Sample,
     /// Tells how the program is used.
     Help,
     /// Tells the version of the program.
     Version,
 }
 
-/// What may stand behind the first word: options, in any order and each at most once; then names of
-/// files; then `--` and arguments.
+/// What each name of a command is.
+#[derive(Clone, Copy, Debug, PartialEq, Eq)]
+pub enum Item {
+    /// The name of a file.
+    File,
+    /// A number from 1 to this one.
+    Number(u32),
+}
+
+/// What may stand behind the first word: options, in any order and each at most once; then names;
+/// then `--` and arguments.
 #[derive(Clone, Copy, Debug, PartialEq, Eq)]
 pub struct Form {
     /// Whether the limits can be given, as `--steps=N` and so on.
     pub limits: bool,
     /// Whether `--lib` can be given.
     pub lib: bool,
+    /// What each name is.
+    pub item: Item,
     /// The fewest names.
     pub least: u64,
     /// The most names.
@@ -50,18 +63,23 @@ pub fn form_of(verb: Verb) -> Form
             arguments: Some(255),
             ..names(1, 16)
         },
+        Verb::Sample => Form {
+            item: Item::Number(1_000),
+            ..names(1, 1)
+        },
         Verb::Help => names(0, 0),
         Verb::Version => names(0, 0),
     }
 }
 
-/// The form of names alone.
+/// The form of names of files alone.
 fn names(least: u64, most: u64) -> Form
-    ensures { result ≡ record { limits = false; lib = false; least = least; most = most; arguments = None } }
+    ensures { result ≡ record { limits = false; lib = false; item = Item.File; least = least; most = most; arguments = None } }
 {
     Form {
         limits: false,
         lib: false,
+        item: Item::File,
         least,
         most,
         arguments: None,
@@ -80,6 +98,9 @@ pub fn verb_of(word: &[u8]) -> Option<Verb>
     }
     if word == b"run".as_slice() {
         return Some(Verb::Run);
+    }
+    if word == b"sample".as_slice() {
+        return Some(Verb::Sample);
     }
     if word == b"--help".as_slice() {
         return Some(Verb::Help);

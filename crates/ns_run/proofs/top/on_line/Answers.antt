@@ -7,4 +7,4 @@ pub returns-in-Run-clause-told : goal.returns-in-Run-clause-told
 returns-in-Run-clause-told g c = λ files e. run_told (line_seen c.args.line) c.limits-limits.result files c.on_files-in-Run.result c.in-Run.is c.limits-limits.ensures (c.on_files-in-Run.ensures.told files e)
 
 pub returns-in-Help-clause-texts : goal.returns-in-Help-clause-texts
-returns-in-Help-clause-texts g c = help_texts (line_seen c.args.line) c.or_stop.result c.in-Help.is (stop_keeps c.told_text.result c.or_stop.result _ c.or_stop.ensures c.told_text.ensures)
+returns-in-Help-clause-texts g c = help_texts (line_seen c.args.line) c.or_stop-in-Help.result c.in-Help.is (stop_keeps c.told_text.result c.or_stop-in-Help.result _ c.or_stop-in-Help.ensures c.told_text.ensures)
