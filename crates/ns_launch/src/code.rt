@@ -44,6 +44,7 @@ pub fn run_code(
     code_comes_to_its_end();
     moves_add();
     ended_runs_stay();
+    let _admitted = code.code();
     let mut machine = Machine::new(alloc, code, limits, GRANTED, arguments)?;
     machine.run();
     let ran = finished(alloc, &machine)?;
