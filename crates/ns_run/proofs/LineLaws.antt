@@ -3,6 +3,7 @@ use Rattle.std.proofs.Common.{◌≡◌, ◌≤◌, [], None, Result, IfOk, arit
 use Rattle.ns_base.specs.Files.{Files}
 use Rattle.ns_base.specs.declared.limits.Limits.{Limits}
 use Rattle.ns_run.proofs.TextLaws.{whatever_texts}
+use Rattle.ns_run.specs.Image.{Executes, of_image}
 use Rattle.ns_run.specs.Meaning.{files_of, of_files, of_line}
 use Rattle.ns_run.specs.Outcome.{SomeTexts}
 use Rattle.ns_run.specs.Report.{told}
@@ -15,13 +16,16 @@ use Rattle.ns_words.specs.declared.form.Item.TheVariants.{File}
 use Rattle.ns_words.specs.Table.{form_of}
 use Rattle.ns_words.specs.Words.{Line, limits_of}
 use Rattle.ns_words.specs.declared.form.Verb.{Verb}
-use Rattle.ns_words.specs.declared.form.Verb.TheVariants.{Check, Show, Run, Sample, Help, Version}
+use Rattle.ns_words.specs.declared.form.Verb.TheVariants.{Check, Show, Run, Build, Exec, Listing, Sample, Help, Version}
 
 -- The command works on files.
 abbrev pub TakesFiles : Verb → Type 0
 TakesFiles Check = Unit {0}
 TakesFiles Show = Unit {0}
 TakesFiles Run = Unit {0}
+TakesFiles Build = ⊥
+TakesFiles Exec = Unit {0}
+TakesFiles Listing = Unit {0}
 TakesFiles Sample = ⊥
 TakesFiles Help = ⊥
 TakesFiles Version = ⊥
@@ -34,6 +38,9 @@ pub within : (verb : Verb) → TakesFiles verb → NamesFiles verb
 within Check t = (omega arith, omega arith, refl)
 within Show t = (omega arith, omega arith, refl)
 within Run t = (omega arith, omega arith, refl)
+within Build t = absurd t
+within Exec t = (omega arith, omega arith, refl)
+within Listing t = (omega arith, omega arith, refl)
 within Sample t = absurd t
 within Help t = absurd t
 within Version t = absurd t
@@ -51,6 +58,12 @@ pub run_told : (line : Line) (limits : Limits) (files : Files) (result : Result 
 run_told line limits files result e l h =
     subst (λ v. IfOk result (λ r. r ≡ of_line v line (map files (files_of v line.names)))) (sym e)
     (subst (λ l. IfOk result (λ r. r ≡ of_files (Runs l line.arguments None) line.names line.given.lib files)) l h)
+
+pub exec_told : (line : Line) (limits : Limits) (files : Files) (result : Result Report Stop) → line.verb ≡ Exec → limits ≡ limits_of line.given
+    → IfOk result (λ r. r ≡ of_image (Executes limits line.arguments) line.names (map files line.names)) → IfOk result (λ r. r ≡ of_line line.verb line (map files (files_of line.verb line.names)))
+exec_told line limits files result e l h =
+    subst (λ v. IfOk result (λ r. r ≡ of_line v line (map files (files_of v line.names)))) (sym e)
+    (subst (λ l. IfOk result (λ r. r ≡ of_image (Executes l line.arguments) line.names (map files line.names))) l h)
 
 pub help_texts : (line : Line) (result : Result Report Stop) → line.verb ≡ Help → IfOk result (λ r. r ≡ told HELP.now) → SomeTexts (files_of line.verb line.names) (λ texts. IfOk result (λ r. r ≡ of_line line.verb line texts))
 help_texts line result e h =

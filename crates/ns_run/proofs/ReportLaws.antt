@@ -11,11 +11,13 @@ use Rattle.ns_base.specs.declared.no_memory.NoMemory.{NoMemory}
 use Rattle.ns_base.specs.declared.place.Place.{Place}
 use Rattle.ns_base.specs.declared.status.Status.{Status}
 use Rattle.ns_base.specs.declared.status.Status.TheVariants.{Done, ProgramError, Limit, Refused, ReadFault, WriteFault, Memory}
-use Rattle.ns_run.specs.Meaning.{files_read, name_of, of_check, of_run, of_show, of_sized, of_units, run_report}
-use Rattle.ns_run.specs.Outcome.{IsDelivered, IsEnding, IsMissing, Leaves, NamesMissing, SomeOf, TellsMissing, Wrote, missing_line}
+use Rattle.ns_run.specs.Meaning.{files_read, name_of, of_build, of_built, of_check, of_run, of_show, of_sized, of_units}
+use Rattle.ns_run.specs.Run.{run_report}
+use Rattle.ns_exec.specs.Build.{Built, built_of, image, image_too_large, too_large}
+use Rattle.ns_run.specs.Outcome.{IsDelivered, IsEnding, IsMissing, LeavesStreams, NamesMissing, SomeOf, TellsMissing, Wrote, missing_line}
 use Rattle.ns_run.specs.Report.{many_name, refused_file, refused_text, spelling_name, size_name, static_name, told}
 use Rattle.ns_launch.specs.Run.{granted, meant_run}
-use Rattle.ns_run.specs.Task.{Task, Checks, Shows, Runs}
+use Rattle.ns_run.specs.Task.{Task, Checks, Shows, Builds, Runs}
 use Rattle.ns_run.specs.declared.report.Report.{Report}
 use Rattle.ns_run.specs.declared.stop.Stop.{Stop}
 use Rattle.ns_run.specs.declared.stop.Stop.TheVariants as stop
@@ -152,16 +154,26 @@ pub run_plain : (names : List (List ℕ)) (limits : Limits) (arguments : List (L
 run_plain names limits arguments classes files trees places None = sized_plain limits arguments classes (meant_of files trees places) (size_fault (code_of (meant_of files trees places)))
 run_plain names limits arguments classes files trees places (Some fault) = check_plain names (Some fault)
 
+pub built_plain : (name : List ℕ) (made : Built) → IsPlain (of_built name made)
+built_plain name (image bytes) = record { ends = tt; says = λ file m. cc (m.0) }
+built_plain name (too_large kind) = file_plain (codes "nspk") (size_name kind) (size_ends kind)
+built_plain name image_too_large = file_plain (codes "nspk") (codes "TooLarge(Image)") (λ front. refl)
+
+pub build_plain : (names : List (List ℕ)) (name : List ℕ) (files : List (List ℕ)) (trees : List p.SourceUnit) (places : List (List Place)) (least : Option Placed) → IsPlain (of_build names name files trees places least)
+build_plain names name files trees places None = built_plain name (built_of (meant_of files trees places))
+build_plain names name files trees places (Some fault) = check_plain names (Some fault)
+
 -- The report of units is plain.
 pub units_plain : (t : Task) (names files : List (List ℕ)) (trees : List p.SourceUnit) (places : List (List Place)) → IsPlain (of_units t names files trees places)
 units_plain Checks names files trees places = check_plain names _
 units_plain Shows names files trees places = show_plain trees
+units_plain (Builds name) names files trees places = build_plain names name files trees places _
 units_plain (Runs limits arguments classes) names files trees places = run_plain names limits arguments classes files trees places _
 
 -- ---- how a command ends
 
 -- With a status that a report may have, all is written.
-pub leaves_delivered : (r : Report) (s : Status) (o o' e e' : Option (List ℕ)) → IsEnding s → IsDelivered r s o o' e e' → Leaves r s o o' e e'
+pub leaves_delivered : (r : Report) (s : Status) (o o' e e' : Option (List ℕ)) → IsEnding s → IsDelivered r s o o' e e' → LeavesStreams r s o o' e e'
 leaves_delivered r Done o o' e e' i d = d
 leaves_delivered r ProgramError o o' e e' i d = d
 leaves_delivered r Refused o o' e e' i d = d

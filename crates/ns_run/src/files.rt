@@ -16,6 +16,7 @@ ghost use Rattle.ns_tree.specs.Flat.{flat};
 ghost use Rattle.ns_tree.specs.PlainOf.{unit_of};
 ghost use Rattle.ns_words.specs.Forms.{AreFiles};
 
+use crate::build::on_build;
 use crate::cause::{spelling_name, static_name};
 use crate::report::{Report, refused_file, refused_text, told, told_text};
 use crate::run::on_run;
@@ -140,6 +141,7 @@ fn on_program(
     match task {
         Task::Check => on_check(alloc, names, program),
         Task::Show => on_show(alloc, program.units.as_slice()),
+        Task::Build { image } => on_build(alloc, names, image, program),
         Task::Run {
             limits,
             arguments,

@@ -4,6 +4,7 @@ ghost use Rattle.std.specs.Prelude.{◌≡◌, map, IfOk, string_bytes};
 ghost use Rattle.ns_base.specs.Limits.{InRange};
 ghost use Rattle.ns_meant.specs.Classes.{meant};
 ghost use Rattle.ns_run.specs.Meaning as spec;
+ghost use Rattle.ns_run.specs.Run.{run_report as run_report_lem};
 ghost use Rattle.ns_scope.specs.Whole.{IsWhole};
 ghost use Rattle.ns_static.specs.Check.{fault_of};
 ghost use Rattle.ns_tree.specs.PlainOf.{unit_of};
@@ -64,7 +65,7 @@ fn run(
 
 /// The report of a run. Where the classes of its program are counted, it tells their number.
 fn told_run(alloc: Global, classes: Option<u32>, ran: Ran) -> Result<Report, NoMemory>
-    ensures { IfOk result (λ r. r ≡ spec.run_report classes ran) }
+    ensures { IfOk result (λ r. r ≡ run_report_lem classes ran) }
 {
     match classes {
         None => Ok(run_report(ran)),
@@ -73,8 +74,8 @@ fn told_run(alloc: Global, classes: Option<u32>, ran: Ran) -> Result<Report, NoM
 }
 
 /// The report of a run whose classes aren't counted.
-fn run_report(ran: Ran) -> Report
-    ensures { result ≡ spec.run_report None ran }
+pub fn run_report(ran: Ran) -> Report
+    ensures { result ≡ run_report_lem None ran }
 {
     let Ran {
         output,
@@ -86,12 +87,13 @@ fn run_report(ran: Ran) -> Report
         out: output,
         err: line,
         status,
+        stored: None,
     }
 }
 
 /// The report of a run of a program of so many classes.
 fn counted(alloc: Global, classes: u32, ran: Ran) -> Result<Report, NoMemory>
-    ensures { IfOk result (λ r. r ≡ spec.run_report (Some classes) ran) }
+    ensures { IfOk result (λ r. r ≡ run_report_lem (Some classes) ran) }
 {
     let steps = ran.counters.steps;
     let summary = format!(in alloc; "classes {classes} steps {steps}\n")?;
@@ -102,5 +104,6 @@ fn counted(alloc: Global, classes: u32, ran: Ran) -> Result<Report, NoMemory>
         out: Text::from_vec(out),
         err: report.err,
         status: report.status,
+        stored: None,
     })
 }

@@ -14,7 +14,7 @@ use Rattle.ns_words.specs.Words.{Line, Part, Options, Names, Arguments, Reading,
 use Rattle.ns_words.specs.declared.form.Form.{Form}
 use Rattle.ns_words.specs.declared.form.Item.{Item}
 use Rattle.ns_words.specs.declared.form.Verb.{Verb}
-use Rattle.ns_words.specs.declared.form.Verb.TheVariants.{Check, Show, Run, Sample, Help, Version}
+use Rattle.ns_words.specs.declared.form.Verb.TheVariants.{Check, Show, Run, Build, Exec, Listing, Sample, Help, Version}
 use Rattle.ns_words.specs.declared.words.Given.{Given}
 
 -- ---- what was read so far
@@ -134,6 +134,9 @@ pub fill_item : (verb : Verb) → is_item (form_of verb).item (codes "1") ≡ tr
 fill_item Check = refl
 fill_item Show = refl
 fill_item Run = refl
+fill_item Build = refl
+fill_item Exec = refl
+fill_item Listing = refl
 fill_item Sample = refl
 fill_item Help = refl
 fill_item Version = refl
@@ -150,6 +153,9 @@ pub least_is_less : (verb : Verb) → (form_of verb).least ≤ (form_of verb).mo
 least_is_less Check = omega arith
 least_is_less Show = omega arith
 least_is_less Run = omega arith
+least_is_less Build = omega arith
+least_is_less Exec = omega arith
+least_is_less Listing = omega arith
 least_is_less Sample = omega arith
 least_is_less Help = omega arith
 least_is_less Version = omega arith
@@ -275,10 +281,13 @@ by_verb w P some none =
     test (codes "check") _ _ (some Check) λ a.
     test (codes "show") _ _ (some Show) λ b.
     test (codes "run") _ _ (some Run) λ c.
-    test (codes "sample") _ _ (some Sample) λ d.
-    test (codes "--help") _ _ (some Help) λ e.
-    test (codes "--version") _ _ (some Version) λ f.
-    none (all a b c d e f)
+    test (codes "build") _ _ (some Build) λ d.
+    test (codes "exec") _ _ (some Exec) λ e.
+    test (codes "list") _ _ (some Listing) λ f.
+    test (codes "sample") _ _ (some Sample) λ g.
+    test (codes "--help") _ _ (some Help) λ h.
+    test (codes "--version") _ _ (some Version) λ i.
+    none (all a b c d e f g h i)
   where
     test : (text : List ℕ) (x y : Option Verb) → (w ≡ text → P x) → (bytes_eq w text ≡ false → P y) → P (cond (bytes_eq w text) x y)
     test text x y f g =
@@ -287,13 +296,16 @@ by_verb w P some none =
           | false ↦ g
         ] refl
 
-    all : bytes_eq w (codes "check") ≡ false → bytes_eq w (codes "show") ≡ false → bytes_eq w (codes "run") ≡ false → bytes_eq w (codes "sample") ≡ false → bytes_eq w (codes "--help") ≡ false → bytes_eq w (codes "--version") ≡ false → (verb : Verb) → w ≡ word_of verb → ⊥
-    all a b c d e f Check h = apart w (codes "check") a h
-    all a b c d e f Show h = apart w (codes "show") b h
-    all a b c d e f Run h = apart w (codes "run") c h
-    all a b c d e f Sample h = apart w (codes "sample") d h
-    all a b c d e f Help h = apart w (codes "--help") e h
-    all a b c d e f Version h = apart w (codes "--version") f h
+    all : bytes_eq w (codes "check") ≡ false → bytes_eq w (codes "show") ≡ false → bytes_eq w (codes "run") ≡ false → bytes_eq w (codes "build") ≡ false → bytes_eq w (codes "exec") ≡ false → bytes_eq w (codes "list") ≡ false → bytes_eq w (codes "sample") ≡ false → bytes_eq w (codes "--help") ≡ false → bytes_eq w (codes "--version") ≡ false → (verb : Verb) → w ≡ word_of verb → ⊥
+    all a b c d e f g h i Check is = apart w (codes "check") a is
+    all a b c d e f g h i Show is = apart w (codes "show") b is
+    all a b c d e f g h i Run is = apart w (codes "run") c is
+    all a b c d e f g h i Build is = apart w (codes "build") d is
+    all a b c d e f g h i Exec is = apart w (codes "exec") e is
+    all a b c d e f g h i Listing is = apart w (codes "list") f is
+    all a b c d e f g h i Sample is = apart w (codes "sample") g is
+    all a b c d e f g h i Help is = apart w (codes "--help") h is
+    all a b c d e f g h i Version is = apart w (codes "--version") i is
 
 pub begins_nothing : Begins []
 begins_nothing = let b : Begins (word_of Help ∷ []) = part_begins Help [] (Options nothing_given) refl in (word_of Help ∷ b.0, b.1, b.2)

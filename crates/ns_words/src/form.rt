@@ -12,6 +12,12 @@ pub enum Verb {
     Show,
     /// Runs a program.
     Run,
+    /// Stores the image of a program.
+    Build,
+    /// Runs an image.
+    Exec,
+    /// Lists the code of an image.
+    Listing,
     /// Runs the sample of a number.
     Sample,
     /// Tells how the program is used.
@@ -63,6 +69,17 @@ pub fn form_of(verb: Verb) -> Form
             arguments: Some(255),
             ..names(1, 16)
         },
+        // The image, and 1 to 16 files behind it.
+        Verb::Build => Form {
+            lib: true,
+            ..names(2, 17)
+        },
+        Verb::Exec => Form {
+            limits: true,
+            arguments: Some(255),
+            ..names(1, 1)
+        },
+        Verb::Listing => names(1, 1),
         Verb::Sample => Form {
             item: Item::Number(1_000),
             ..names(1, 1)
@@ -98,6 +115,15 @@ pub fn verb_of(word: &[u8]) -> Option<Verb>
     }
     if word == b"run".as_slice() {
         return Some(Verb::Run);
+    }
+    if word == b"build".as_slice() {
+        return Some(Verb::Build);
+    }
+    if word == b"exec".as_slice() {
+        return Some(Verb::Exec);
+    }
+    if word == b"list".as_slice() {
+        return Some(Verb::Listing);
     }
     if word == b"sample".as_slice() {
         return Some(Verb::Sample);
