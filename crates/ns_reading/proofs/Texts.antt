@@ -8,7 +8,7 @@ use Rattle.ns_load.specs.Source.{Reading, spells, refused, read, read_file}
 use Rattle.ns_load.specs.declared.fault.LoadCause.TheVariants.{TooLong}
 use Rattle.ns_load.specs.declared.fault.LoadFault.{LoadFault}
 use Rattle.ns_load.specs.declared.fault.LoadFault.TheVariants.{At}
-use Rattle.ns_reading.specs.Loads.{AreSourcesOf, LoadAs, TextReadsAs}
+use Rattle.ns_reading.specs.Loads.{AreSourcesOf, LoadAs, TextReadsAs, Texts}
 use Rattle.ns_reading.specs.Reads.{ReadsAs}
 use Rattle.ns_tree.specs.Plain as p
 
@@ -43,7 +43,7 @@ text_is file text reading are = (λ e. subst (TextReadsAs file text) e (reads_te
 -- ---- all texts
 
 -- A text before the others.
-first_loads : (k : ℕ) (text : Option (List ℕ)) (texts : List (Option (List ℕ))) (reading : Reading) (loading : Loading) → TextReadsAs k text reading → LoadAs (k + 1) texts loading → LoadAs k (text ∷ texts) (with_file reading loading)
+first_loads : (k : ℕ) (text : Option (List ℕ)) (texts : Texts) (reading : Reading) (loading : Loading) → TextReadsAs k text reading → LoadAs (k + 1) texts loading → LoadAs k (text ∷ texts) (with_file reading loading)
 first_loads k text texts (spells unit places) (units trees others) h x = (h, x)
 first_loads k text texts (spells unit places) (stopped fault) h x =
     let e : k + 1 + length x.before ≡ k + length (text ∷ x.before) = omega arith in
@@ -70,12 +70,12 @@ first_loads k text texts (refused fault) loading h x =
       refusal = subst (λ j. TextReadsAs j text (refused fault)) e h;
     }
 
-loads : (k : ℕ) (texts : List (Option (List ℕ))) → AreRead → LoadAs k texts (load_from k texts)
+loads : (k : ℕ) (texts : Texts) → AreRead → LoadAs k texts (load_from k texts)
 loads k [] are = tt
 loads k (text ∷ texts) are = first_loads k text texts (read_file k text) (load_from (k + 1) texts) (reads_text k text are) (loads (k + 1) texts are)
 
 -- Files that are read as units are loaded as these.
-units_load : (k : ℕ) (texts : List (Option (List ℕ))) (trees : List p.SourceUnit) (places : List (List Place)) → AreRead → AreSourcesOf k texts trees places → load_from k texts ≡ units trees places
+units_load : (k : ℕ) (texts : Texts) (trees : List p.SourceUnit) (places : List (List Place)) → AreRead → AreSourcesOf k texts trees places → load_from k texts ≡ units trees places
 units_load k [] [] [] are h = refl
 units_load k [] [] (m ∷ ms) are h = absurd h
 units_load k [] (u ∷ us) ms are h = absurd h
@@ -85,7 +85,7 @@ units_load k (text ∷ texts) (u ∷ us) (m ∷ ms) are h =
     ap (λ r. with_file r (load_from (k + 1) texts)) (text_is_read k text (spells u m) are h.0) ∙ ap (with_file (spells u m)) (units_load (k + 1) texts us ms are h.1)
 
 -- Behind files that are read as units, one that is refused stops the loading.
-refusal_stops : (k : ℕ) (before : List (Option (List ℕ))) (text : Option (List ℕ)) (rest : List (Option (List ℕ))) (trees : List p.SourceUnit) (places : List (List Place)) (fault : LoadFault) → AreRead → AreSourcesOf k before trees places → read_file (k + length before) text ≡ refused fault → load_from k (before ++ text ∷ rest) ≡ stopped fault
+refusal_stops : (k : ℕ) (before : Texts) (text : Option (List ℕ)) (rest : Texts) (trees : List p.SourceUnit) (places : List (List Place)) (fault : LoadFault) → AreRead → AreSourcesOf k before trees places → read_file (k + length before) text ≡ refused fault → load_from k (before ++ text ∷ rest) ≡ stopped fault
 refusal_stops k [] text rest us ms fault are h e =
     let same : k ≡ k + length {A = Option (List ℕ)} [] = omega arith in
     ap (λ r. with_file r (load_from (k + 1) rest)) (ap (λ j. read_file j text) same ∙ e)
@@ -96,10 +96,10 @@ refusal_stops k (first ∷ before) text rest (u ∷ us) (m ∷ ms) fault are h e
     ap (λ r. with_file r (load_from (k + 1) (before ++ text ∷ rest))) (text_is_read k first (spells u m) are h.0)
     ∙ ap (with_file (spells u m)) (refusal_stops (k + 1) before text rest us ms fault are h.1 (ap (λ j. read_file j text) same ∙ e))
 
-is_loaded : (k : ℕ) (texts : List (Option (List ℕ))) (loading : Loading) → AreRead → LoadAs k texts loading → load_from k texts ≡ loading
+is_loaded : (k : ℕ) (texts : Texts) (loading : Loading) → AreRead → LoadAs k texts loading → load_from k texts ≡ loading
 is_loaded k texts (units trees places) are h = units_load k texts trees places are h
 is_loaded k texts (stopped fault) are h =
     ap (load_from k) h.cut ∙ refusal_stops k h.before h.text h.rest h.trees h.places fault are h.are_sources (text_is_read (k + length h.before) h.text (refused fault) are h.refusal)
 
-pub loaded_is : (k : ℕ) (texts : List (Option (List ℕ))) (loading : Loading) → AreRead → load_from k texts ≡ loading ↔ LoadAs k texts loading
+pub loaded_is : (k : ℕ) (texts : Texts) (loading : Loading) → AreRead → load_from k texts ≡ loading ↔ LoadAs k texts loading
 loaded_is k texts loading are = (λ e. subst (LoadAs k texts) e (loads k texts are), is_loaded k texts loading are)

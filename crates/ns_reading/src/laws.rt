@@ -4,7 +4,7 @@
 ghost use Rattle.std.specs.Prelude.{◌≡◌, ◌↔◌, ◌++◌, ℕ, Bool, List, Option};
 ghost use Rattle.ns_load.specs.Loaded.{Loading, library, load_from, loaded_texts};
 ghost use Rattle.ns_load.specs.Source.{Reading, read, read_file};
-ghost use Rattle.ns_reading.specs.Loads.{LoadAs, TextReadsAs};
+ghost use Rattle.ns_reading.specs.Loads.{LoadAs, TextReadsAs, Texts};
 ghost use Rattle.ns_reading.specs.Reads.{ReadsAs};
 
 /// What a source is read as is exactly what its tokens and the grammar say.
@@ -28,8 +28,8 @@ pub fn sources_are_read_one_way()
 /// library comes last, where it is asked for.
 pub fn texts_are_loaded_by_the_grammar()
     ensures text { (file : ℕ) (text : Option (List ℕ)) (reading : Reading) → read_file file text ≡ reading ↔ TextReadsAs file text reading }
-    ensures texts { (k : ℕ) (texts : List (Option (List ℕ))) (loading : Loading) → load_from k texts ≡ loading ↔ LoadAs k texts loading }
-    ensures with_library { (texts : List (Option (List ℕ))) (lib : Bool) (loading : Loading) → loaded_texts texts lib ≡ loading ↔ LoadAs 0 (texts ++ library lib) loading }
+    ensures texts { (k : ℕ) (texts : Texts) (loading : Loading) → load_from k texts ≡ loading ↔ LoadAs k texts loading }
+    ensures with_library { (texts : Texts) (lib : Bool) (loading : Loading) → loaded_texts texts lib ≡ loading ↔ LoadAs 0 (texts ++ library lib) loading }
 {
     sources_are_read_by_the_grammar();
 }
