@@ -16,7 +16,7 @@ use Rattle.ns_tree.specs.Tree.{Spells}
 use Rattle.ns_tree.specs.declared.token.Token.{Token}
 
 -- Tokens that cut the source spell the unit, with no bracket too deep, and the places are theirs and last that of the end.
-pub record IsSourceOf (file : ℕ) (source : List ℕ) (unit : p.SourceUnit) (places : List Place) : Type 0 where
+pub record SpellsWith (file : ℕ) (source : List ℕ) (unit : p.SourceUnit) (places : List Place) : Type 0 where
   pub tokens : List Token
   pub cut : Lexes source tokens
   pub spelled : Spells (kinds tokens) unit
@@ -38,7 +38,7 @@ pub record FailsWith (file : ℕ) (source : List ℕ) (fault : LoadFault) : Type
   pub answer : Answers (kinds tokens) (Err found)
   pub named : fault ≡ grammatical file source tokens found
 
--- The source is that of a unit with its places; or it is refused for its tokens, or by the grammar.
+-- The source spells a unit with its places; or it is refused where it stops to be cut, or by the grammar.
 abbrev pub ReadsAs : ℕ → List ℕ → Reading → Type 0
-ReadsAs file source (spells unit places) = IsSourceOf file source unit places
+ReadsAs file source (spells unit places) = SpellsWith file source unit places
 ReadsAs file source (refused fault) = StopsWith file source fault ⊎ FailsWith file source fault
