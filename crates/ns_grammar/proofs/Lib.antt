@@ -21,3 +21,4 @@ pub mod HaltsPhrases
 pub mod HaltsClasses
 pub mod StopsAt
 pub mod Answered
+pub mod Called

@@ -1,0 +1,4 @@
+//! That what a program's files are read as is what their tokens and the grammar say.
+#![tactic(auto)]
+
+pub mod laws;
