@@ -37,7 +37,7 @@ use ns_world::value::Value;
 use ns_world::world::World;
 
 /// What a selector finds from the start of a receiver, by the kept lookups.
-#[inline]
+#[inline(always)]
 pub fn found_of(
     run: &mut Run,
     code: &CodeProgram,
@@ -56,7 +56,7 @@ pub fn found_of(
 }
 
 /// The same, in a world and with a memo.
-#[inline]
+#[inline(always)]
 fn look(
     world: &mut World,
     code: &CodeProgram,
@@ -78,7 +78,7 @@ fn look(
 }
 
 /// What is done with a member that was found, with the arguments as they stand.
-#[inline]
+#[inline(always)]
 pub fn done_with(
     run: &mut Run,
     code: &CodeProgram,
@@ -118,6 +118,7 @@ pub fn done_with(
 
 /// How a send goes on that found nothing: as `doesNotUnderstand:` with a Message, by what that
 /// finds; it isn't understood where that is the kernel's row.
+#[inline(never)]
 fn not_found(
     run: &mut Run,
     code: &CodeProgram,
@@ -158,6 +159,7 @@ fn not_found(
 }
 
 /// The same from its lookup on, by the number of `doesNotUnderstand:`.
+#[inline(never)]
 fn not_understood(
     run: &mut Run,
     code: &CodeProgram,
@@ -182,7 +184,7 @@ fn not_understood(
 }
 
 /// What a send comes to with what it found, by the number of `doesNotUnderstand:`.
-#[inline]
+#[inline(always)]
 pub fn answered_by(
     run: &mut Run,
     code: &CodeProgram,
@@ -210,7 +212,7 @@ pub fn answered_by(
 }
 
 /// A send to a value whose step is charged: its lookup, and what it comes to.
-#[inline]
+#[inline(always)]
 pub fn send(
     run: &mut Run,
     code: &CodeProgram,

@@ -40,7 +40,7 @@ fn make_environment(
 }
 
 /// The body as it is entered, with its environment.
-#[inline]
+#[inline(always)]
 fn with_environment(running: Running, env: Value, given: Given) -> Entered
     ensures { result ≡ record { me = running.me; holder = running.holder; body = running.body; home = running.home; env = env; given = given } }
 {
@@ -56,7 +56,7 @@ fn with_environment(running: Running, env: Value, given: Given) -> Entered
 
 /// Enters a body whose frame is charged; the limit on cells exactly where its environment doesn't
 /// fit.
-#[inline]
+#[inline(always)]
 pub fn open_body(
     world: &mut World,
     code: &CodeProgram,
@@ -87,7 +87,7 @@ pub fn open_body(
 
 /// Charges the frame of a body and enters it; the limit on depth exactly where the frame doesn't
 /// fit, and that on cells where its environment doesn't.
-#[inline]
+#[inline(always)]
 pub fn enter_body(
     world: &mut World,
     code: &CodeProgram,

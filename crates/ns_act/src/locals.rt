@@ -20,7 +20,7 @@ use ns_world::world::World;
 
 /// Whether a local stands beside running code: whether it is one of its own body, which has no
 /// environment.
-#[inline]
+#[inline(always)]
 pub fn is_beside(code: &CodeProgram, running: Running, hops: u8) -> bool
     ensures { (site : Site) → result ≡ spec.is_beside code.now (activation_at site running) hops }
 {
@@ -31,7 +31,7 @@ pub fn is_beside(code: &CodeProgram, running: Running, hops: u8) -> bool
 }
 
 /// The environment so many bodies out from one.
-#[inline]
+#[inline(always)]
 pub fn environment_out(world: &World, env: Value, hops: u8) -> Value
     requires { HasEnvironments world.now.world.cells env hops }
     ensures { result ≡ spec.environment_out world.now.world.cells env hops }
@@ -44,7 +44,7 @@ pub fn environment_out(world: &World, env: Value, hops: u8) -> Value
 }
 
 /// The environment around another.
-#[inline]
+#[inline(always)]
 fn parent(world: &World, at: u32) -> Value
     requires { IsTrue (is_environment (find_cell world.now.world.cells at)) }
     ensures { result ≡ spec.parent_in (shape_at world.now.world.cells at) }
@@ -56,7 +56,7 @@ fn parent(world: &World, at: u32) -> Value
 }
 
 /// The number of the environment in which a local stands that doesn't stand beside running code.
-#[inline]
+#[inline(always)]
 fn environment_at(world: &World, code: &CodeProgram, running: Running, hops: u8) -> u32
     requires { HasEnvironments world.now.world.cells running.env (environments_out code.now running.body hops) }
     ensures { (site : Site) → result ≡ spec.environment_at world.now.world.cells code.now (activation_at site running) hops }
@@ -69,7 +69,7 @@ fn environment_at(world: &World, code: &CodeProgram, running: Running, hops: u8)
 
 /// The local of that place, of the body so many out, of running code that has these locals beside
 /// it.
-#[inline]
+#[inline(always)]
 pub fn local_at(
     world: &World,
     code: &CodeProgram,
@@ -88,7 +88,7 @@ pub fn local_at(
 }
 
 /// A local beside running code, nil where there are fewer.
-#[inline]
+#[inline(always)]
 fn local_beside(locals: &[Value], place: u8) -> Value
     ensures { result ≡ slice_index_or locals.now place Nil }
 {
@@ -100,7 +100,7 @@ fn local_beside(locals: &[Value], place: u8) -> Value
 
 /// Stores a local that doesn't stand beside running code. One that does is its caller's to store,
 /// and nothing is done here.
-#[inline]
+#[inline(always)]
 pub fn store_local(
     world: &mut World,
     code: &CodeProgram,

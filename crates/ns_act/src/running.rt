@@ -24,7 +24,7 @@ pub struct Running {
 pub const NO_HOME: u64 = 18_446_744_073_709_551_615;
 
 /// Whether the locals of a body stand in an environment.
-#[inline]
+#[inline(always)]
 pub fn has_environment(code: &CodeProgram, body: u32) -> bool
     ensures { result ≡ bodies.has_environment code.now body }
 {
@@ -35,7 +35,7 @@ pub fn has_environment(code: &CodeProgram, body: u32) -> bool
 }
 
 /// How many parameters a body has.
-#[inline]
+#[inline(always)]
 pub fn parameters(code: &CodeProgram, body: u32) -> u8
     ensures { result ≡ bodies.parameters_of code.now body }
 {
@@ -46,7 +46,7 @@ pub fn parameters(code: &CodeProgram, body: u32) -> u8
 }
 
 /// How many locals a body has beside its parameters.
-#[inline]
+#[inline(always)]
 pub fn own_locals(code: &CodeProgram, body: u32) -> u32
     ensures { result ≡ bodies.locals_of code.now body - bodies.parameters_of code.now body }
 {
@@ -57,7 +57,7 @@ pub fn own_locals(code: &CodeProgram, body: u32) -> u32
 }
 
 /// Whether a body stands on the class side.
-#[inline]
+#[inline(always)]
 pub fn is_on_class_side(code: &CodeProgram, body: u32) -> bool
     ensures { bodies.side_of_body code.now body ≡ side_of result }
 {
@@ -68,7 +68,7 @@ pub fn is_on_class_side(code: &CodeProgram, body: u32) -> bool
 }
 
 /// The initialiser of a declaration.
-#[inline]
+#[inline(always)]
 pub fn initialiser(code: &CodeProgram, decl: u32) -> u32
     ensures { result ≡ bodies.initialiser_of code.now decl }
 {
@@ -79,7 +79,7 @@ pub fn initialiser(code: &CodeProgram, decl: u32) -> u32
 }
 
 /// The clause of a declaration, where it has one.
-#[inline]
+#[inline(always)]
 pub fn clause(code: &CodeProgram, decl: u32) -> Option<u32>
     ensures { result ≡ bodies.clause_of code.now decl }
 {
@@ -90,7 +90,7 @@ pub fn clause(code: &CodeProgram, decl: u32) -> Option<u32>
 }
 
 /// The number of the cell that a value refers to, 0 where it refers to none.
-#[inline]
+#[inline(always)]
 pub fn cell_number(value: Value) -> u32
     ensures { result ≡ cell_number value }
 {

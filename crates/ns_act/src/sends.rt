@@ -46,7 +46,7 @@ pub enum Answered {
 }
 
 /// How many methods begin by what an action comes to: one where a method is entered.
-#[inline]
+#[inline(always)]
 fn begins(reached: Reached) -> u64
     ensures begins { result ≡ counting.begins reached }
     ensures one { result ≤ 1 }
@@ -61,7 +61,7 @@ fn begins(reached: Reached) -> u64
 }
 
 /// Enters a method, which has begun then: its frame, and its environment where it has one.
-#[inline]
+#[inline(always)]
 pub fn enter_method(
     run: &mut Run,
     code: &CodeProgram,
@@ -92,6 +92,7 @@ pub fn enter_method(
 
 /// Enters a method with the Message of a selector and these arguments, which is charged between its
 /// frame and its environment.
+#[inline(never)]
 pub fn enter_method_with_message(
     run: &mut Run,
     code: &CodeProgram,
@@ -160,7 +161,7 @@ fn open_with_message(
 }
 
 /// A method's body as it begins: its home is its own activation, and nothing is around it.
-#[inline]
+#[inline(always)]
 fn method_running(home: u64, body: u32, holder: u32, receiver: Value) -> Running
     ensures { result ≡ record { me = receiver; holder = holder; body = body; home = home; env = Nil } }
 {
@@ -174,7 +175,7 @@ fn method_running(home: u64, body: u32, holder: u32, receiver: Value) -> Running
 }
 
 /// A factory: its frame, the object, and the environment of its initialiser.
-#[inline]
+#[inline(never)]
 pub fn enter_factory(world: &mut World, code: &CodeProgram, class: u32, values: &[Value]) -> Reached
     requires lawful { IsLawful world.old.world code.now }
     requires room { HasRoom world.old }
@@ -191,7 +192,7 @@ pub fn enter_factory(world: &mut World, code: &CodeProgram, class: u32, values: 
 }
 
 /// A setter stores its argument, nil where there is none, and answers its receiver.
-#[inline]
+#[inline(always)]
 pub fn set(world: &mut World, receiver: Value, word: u32, values: &[Value]) -> Reached
     requires { (at : ℕ) → receiver ≡ Ref at → word < length (open_words_at world.old.world.cells at) }
     ensures reached { (code : CodeProgram) (site : Site) (rest : Progress) → reached_shown code site values.now result (in_world rest world.new.world) ≡ spec.set word receiver (spec.Listed values.now) (in_world rest world.old.world) }
@@ -203,7 +204,7 @@ pub fn set(world: &mut World, receiver: Value, word: u32, values: &[Value]) -> R
 }
 
 /// The first argument, nil where there is none.
-#[inline]
+#[inline(always)]
 fn first_of(values: &[Value]) -> Value
     ensures { result ≡ spec.first_of values.now }
 {
@@ -214,7 +215,7 @@ fn first_of(values: &[Value]) -> Value
 }
 
 /// A getter answers a word of its receiver.
-#[inline]
+#[inline(always)]
 pub fn get(world: &mut World, receiver: Value, word: u32) -> Reached
     requires { (at : ℕ) → receiver ≡ Ref at → word < length (words_at world.old.world.cells at) }
     ensures reached { result ≡ reached.Gives (slots.word_of_object world.old.world.cells receiver word) }
@@ -225,7 +226,7 @@ pub fn get(world: &mut World, receiver: Value, word: u32) -> Reached
 }
 
 /// A nested class of an object; no other value has one.
-#[inline]
+#[inline(never)]
 pub fn nested_in(
     world: &mut World,
     code: &CodeProgram,

@@ -34,7 +34,7 @@ use ns_world::value::Value;
 use ns_world::world::World;
 
 /// The class of a receiver, by which the site of its send names it.
-#[inline]
+#[inline(always)]
 pub fn class_of(world: &World, code: &CodeProgram, receiver: Value) -> ClassName
     requires lawful { IsLawful world.now.world code.now }
     requires live { IsLiveValue world.now.world.cells code.now receiver }

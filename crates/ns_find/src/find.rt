@@ -23,6 +23,7 @@ use ns_world::world::World;
 
 /// What a selector finds from a start: the first member of that name that isn't private, or a
 /// row of the kernel, or nothing.
+#[inline(never)]
 pub fn find(world: &World, code: &CodeProgram, start: Start, sel: Sel, kind: Sending) -> Found
     requires lawful { IsLawful world.now.world code.now }
     requires start { IsTrue (is_start world.now.world.cells start) }
@@ -37,6 +38,7 @@ pub fn find(world: &World, code: &CodeProgram, start: Start, sel: Sel, kind: Sen
 }
 
 /// The private member of that name of a holder's declaration, on one of its sides.
+#[inline(never)]
 pub fn find_private(
     world: &World,
     code: &CodeProgram,
@@ -58,6 +60,7 @@ pub fn find_private(
 
 /// Where a send to `super` starts: above the holder of the running code, on its side, and on a class
 /// side without a factory.
+#[inline(never)]
 pub fn super_start(world: &World, holder: u32, class_side: bool) -> Start
     requires { IsTrue (is_class (find_cell world.now.world.cells holder)) }
     ensures above { result ≡ super_start world.now.world.cells holder (side_of class_side) }
@@ -73,6 +76,7 @@ pub fn super_start(world: &World, holder: u32, class_side: bool) -> Start
     }
 }
 
+#[inline(never)]
 fn side_of(class_side: bool) -> Side
     ensures { result ≡ side_of class_side }
 {
@@ -83,6 +87,7 @@ fn side_of(class_side: bool) -> Side
     }
 }
 
+#[inline(never)]
 fn from(world: &World, code: &CodeProgram, start: Start, asked: Asked) -> Option<Found>
     requires lawful { IsLawful world.now.world code.now }
     requires start { IsTrue (is_start world.now.world.cells start) }
@@ -96,6 +101,7 @@ fn from(world: &World, code: &CodeProgram, start: Start, asked: Asked) -> Option
     }
 }
 
+#[inline(never)]
 #[tactic(auto, using(crate::proofs::Parts::search_append))]
 fn from_instance(world: &World, code: &CodeProgram, class: u32, asked: Asked) -> Option<Found>
     requires lawful { IsLawful world.now.world code.now }
@@ -109,6 +115,7 @@ fn from_instance(world: &World, code: &CodeProgram, class: u32, asked: Asked) ->
     }
 }
 
+#[inline(never)]
 #[tactic(auto, using(crate::proofs::Parts::search_append))]
 fn from_class(
     world: &World,
@@ -129,6 +136,7 @@ fn from_class(
     }
 }
 
+#[inline(never)]
 #[tactic(auto, using(crate::proofs::Parts::search_append))]
 fn from_side(world: &World, code: &CodeProgram, class: u32, asked: Asked) -> Option<Found>
     requires lawful { IsLawful world.now.world code.now }
@@ -142,6 +150,7 @@ fn from_side(world: &World, code: &CodeProgram, class: u32, asked: Asked) -> Opt
     }
 }
 
+#[inline(never)]
 #[tactic(auto, using(crate::proofs::Parts::search_append))]
 fn from_kernel(world: &World, code: &CodeProgram, row: KernelRow, asked: Asked) -> Option<Found>
     requires { length code.now.classes ≤ 4096 }
@@ -154,6 +163,7 @@ fn from_kernel(world: &World, code: &CodeProgram, row: KernelRow, asked: Asked) 
 }
 
 /// The factory of a class, where the start says so.
+#[inline(never)]
 fn factory_of(
     world: &World,
     code: &CodeProgram,
@@ -183,6 +193,7 @@ fn factory_of(
 }
 
 /// The member of that name along a chain.
+#[inline(never)]
 fn along(world: &World, code: &CodeProgram, class: u32, side: Side, asked: Asked) -> Option<Found>
     requires lawful { IsLawful world.now.world code.now }
     requires class { IsTrue (is_chain_start world.now.world.cells class) }
@@ -200,6 +211,7 @@ fn along(world: &World, code: &CodeProgram, class: u32, side: Side, asked: Asked
 }
 
 /// The member of that name of a holder's declaration.
+#[inline(never)]
 fn of_holder(
     world: &World,
     code: &CodeProgram,
@@ -221,6 +233,7 @@ fn of_holder(
     }
 }
 
+#[inline(never)]
 fn of_side(
     world: &World,
     code: &CodeProgram,
@@ -240,6 +253,7 @@ fn of_side(
     }
 }
 
+#[inline(never)]
 #[tactic(auto, using(crate::proofs::Parts::search_append))]
 fn of_instance_side(
     world: &World,
@@ -259,6 +273,7 @@ fn of_instance_side(
     }
 }
 
+#[inline(never)]
 #[tactic(auto, using(crate::proofs::Parts::search_append))]
 fn nested_or_method(
     code: &CodeProgram,

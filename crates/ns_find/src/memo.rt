@@ -18,6 +18,11 @@ use std::marker::Model;
 /// How many lookups are kept at most.
 const PLACES: usize = 1024;
 
+/// Two odd numbers: the highest ten bits of a product with one hang on all bits of the other factor.
+const STARTED: u32 = 2_246_822_507;
+
+const SENT: u32 = 2_654_435_769;
+
 /// A lookup and its answer.
 #[derive(Clone, Copy)]
 pub struct Kept {
@@ -66,6 +71,7 @@ impl Memo {
     }
 
     /// The answer that is kept at a place for a lookup, if it is this lookup that is kept there.
+    #[inline(always)]
     fn kept(&self, place: usize, start: Start, sel: Sel, kind: Sending) -> Option<Found>
         requires { place < 1024 }
         ensures { IfSome result (λ found. IsKept self.now (record { start = start; sel = sel; kind = kind; found = found })) }
@@ -87,6 +93,7 @@ impl Memo {
 
 /// What `find` answers, from the place of this lookup where it is kept there; else it is made and
 /// kept. Takes no memory.
+#[inline(always)]
 pub fn find_kept(
     world: &World,
     code: &CodeProgram,
@@ -121,6 +128,7 @@ pub fn find_kept(
 }
 
 /// The answer of a lookup that is kept, if it is this lookup.
+#[inline(always)]
 fn answer_of(kept: Kept, start: Start, sel: Sel, kind: Sending) -> Option<Found>
     ensures { IfSome result (λ found. kept ≡ record { start = start; sel = sel; kind = kind; found = found }) }
 {
@@ -131,22 +139,23 @@ fn answer_of(kept: Kept, start: Start, sel: Sel, kind: Sending) -> Option<Found>
 }
 
 /// The place of a lookup, by its start, its selector and its kind.
+#[inline(always)]
 fn place_of(start: Start, sel: Sel, kind: Sending) -> usize
     ensures { result < 1024 }
 {
-    let key = start_key(start)
-        .wrapping_mul(37)
-        .wrapping_add(sel.0.wrapping_mul(101));
-    (key.wrapping_add(kind_key(kind)) % 1024) as usize
+    let sent = sel.0.wrapping_add(kind_key(kind)).wrapping_mul(SENT);
+    ((start_key(start).wrapping_mul(STARTED) ^ sent) >> 22) as usize
 }
 
+#[inline(always)]
 fn kind_key(kind: Sending) -> u32 {
     match kind {
         Sending::Plain => 0,
-        Sending::Inner => 1,
+        Sending::Inner => 65_536,
     }
 }
 
+#[inline(always)]
 fn start_key(start: Start) -> u32 {
     match start {
         Start::Instance(class) => class,
@@ -155,6 +164,7 @@ fn start_key(start: Start) -> u32 {
     }
 }
 
+#[inline(always)]
 fn row_key(row: KernelRow) -> u32 {
     match row {
         KernelRow::Object => 2,

@@ -23,6 +23,7 @@ pub struct Part {
 }
 
 /// The argument of that place from 0, nil where there is none.
+#[inline(always)]
 pub fn argument(args: &[Value], place: usize) -> Value
     ensures { result ≡ spec.argument args.now place }
 {
@@ -33,6 +34,7 @@ pub fn argument(args: &[Value], place: usize) -> Value
 }
 
 /// A test as a boolean of the language.
+#[inline(always)]
 pub fn truth(test: bool) -> Value
     ensures { result ≡ spec.truth test }
 {
@@ -212,6 +214,7 @@ pub fn symbol_text(code: &CodeProgram, symbol: Value) -> &[u8]
 }
 
 /// The number of an Integer.
+#[inline(always)]
 pub fn number_of(value: Value) -> i64
     ensures { result ≡ spec.number_of value }
 {

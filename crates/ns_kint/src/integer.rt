@@ -11,6 +11,7 @@ use ns_world::value::Value;
 
 /// The answer of a row of Integer, or its first fault. `negated` doesn't look at `right`, and `=`
 /// has no fault.
+#[inline(always)]
 pub fn integer(row: IntRow, left: i64, right: Value) -> Result<Value, Fault>
     ensures { result ≡ integer row left right }
 {
@@ -33,6 +34,7 @@ pub fn integer(row: IntRow, left: i64, right: Value) -> Result<Value, Fault>
 }
 
 /// The Integer that an argument is; WrongKind where it is none.
+#[inline(always)]
 fn integer_of(value: Value) -> Result<i64, Fault>
     ensures { result ≡ integer_of value }
 {
@@ -43,6 +45,7 @@ fn integer_of(value: Value) -> Result<i64, Fault>
 }
 
 /// The divisor that an argument is; WrongKind where it is no Integer, ZeroDivide at 0.
+#[inline(always)]
 fn divisor_of(value: Value) -> Result<i64, Fault>
     ensures { result ≡ divisor_of value }
 {
@@ -54,6 +57,7 @@ fn divisor_of(value: Value) -> Result<i64, Fault>
 }
 
 /// The answer of an operation that is none where its number is no Integer.
+#[inline(always)]
 fn fitting(number: Option<i64>) -> Result<Value, Fault>
     ensures { (z : ℤ) → SomeIff number (FitsSigned w64 z) z → result ≡ fitting z }
 {
@@ -64,6 +68,7 @@ fn fitting(number: Option<i64>) -> Result<Value, Fault>
 }
 
 /// A test as a boolean of the language.
+#[inline(always)]
 fn truth(test: bool) -> Value
     ensures { result ≡ truth test }
 {
@@ -71,6 +76,7 @@ fn truth(test: bool) -> Value
 }
 
 /// Whether the argument is the same Integer.
+#[inline(always)]
 fn same_integer(left: i64, right: Value) -> bool
     ensures { result ≡ same_integer left right }
 {

@@ -1,1 +1,5 @@
+pub mod Powers
+pub mod Resting
+pub mod Begun
+pub mod Ends
 pub mod Meant

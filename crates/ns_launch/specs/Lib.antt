@@ -1,2 +1,4 @@
 pub mod Run
 pub mod Running
+pub mod Machine
+pub mod Laws

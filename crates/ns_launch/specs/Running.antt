@@ -1,22 +1,12 @@
--- A machine that has run to its end.
-use Rattle.std.specs.Prelude.{◌≡◌, ◌+◌, ℕ, List, Some}
-use Rattle.ns_base.specs.declared.limits.Limits.{Limits}
+-- What is told of a run that has ended.
+use Rattle.std.specs.Prelude.{◌≡◌, Some}
 use Rattle.ns_code.specs.declared.program.CodeProgram.{CodeProgram}
 use Rattle.ns_world.specs.declared.ending.Ending.{Ending}
 use Rattle.ns_world.specs.World.{counters_of}
 use Rattle.ns_send.specs.Report.{report_line}
 use Rattle.ns_moves.specs.State.{State, ending_of, world_of}
-use Rattle.ns_moves.specs.Starts.{new_machine, started}
-use Rattle.ns_moves.specs.Turn.{Turns}
 use Rattle.ns_model.specs.Whole.{status_of}
-use Rattle.ns_machine.specs.Machine.{MachineView}
 use Rattle.ns_launch.specs.declared.run.Ran.{Ran}
-use Rattle.ns_launch.specs.Run.{granted}
-
--- The machine of the code was started, and had a turn of one step more than the limit.
-pub record HasRun (code : CodeProgram) (limits : Limits) (arguments : List (List ℕ)) (machine : MachineView) : Type 0 where
-  pub code_is : machine.code ≡ code
-  pub turns : Turns code (limits.steps + 1) (started code (new_machine code limits granted arguments)) machine.state
 
 -- The run has ended.
 abbrev pub HasAnEnd : State → Type 0

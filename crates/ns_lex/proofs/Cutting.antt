@@ -13,7 +13,7 @@ use Rattle.ns_lex.specs.Next.{next_piece}
 use Rattle.ns_lex.specs.Piece.{Text}
 use Rattle.ns_lex.specs.Scan.{Tokens, scan, scan_from, before}
 use Rattle.ns_lex.specs.Gap.{IsGap, IsGapPart, BeginsNoGap}
-use Rattle.ns_lex.specs.Lexes.{Cuts, Lexes, BeginsNoFault, IsFault, StopsAt}
+use Rattle.ns_lex.specs.Lexes.{Gapped, Cuts, Lexes, BeginsNoFault, IsFault, StopsAt}
 use Rattle.ns_lex.proofs.Steps.{gap_goes, token_goes, fault_goes, ends}
 use Rattle.ns_lex.proofs.Words.{length_taken}
 use Rattle.ns_lex.proofs.Gaps.{IsPart}
@@ -24,33 +24,29 @@ use Rattle.ns_lex.proofs.Stops.{IsStop}
 gap_more : (p g : Text) → IsGapPart p → IsGap g → IsGap (p ++ g)
 gap_more p g h (ps, x) = (p ∷ ps, (h, (g, refl, x)))
 
+gapped_more : (n : ℕ) (z g y : Text) → IsPart z n → Gapped (drop n z) g y → Gapped z (take n z ++ g) y
+gapped_more n z g y part x = record {
+  gap = gap_more (take n z) g part.part x.gap;
+  cut = sym (take-append-drop n z) ∙ ap (λ w. take n z ++ w) x.cut ∙ sym (append_assoc (take n z) g y);
+  most = x.most;
+}
+
+longer_gap : (n : ℕ) (z g : Text) → IsPart z n → length (take n z ++ g) ≡ n + length g
+longer_gap n z g part = omega (arith, length_taken z n part.size, length-append (take n z) g)
+
 -- tokens from a place on, from another that is equal to it
 at_place : (at to : ℕ) (z : Text) (ts : List Token) (behind : ℕ) (rest : Text) → at ≡ to → Cuts at z ts behind rest → Cuts to z ts behind rest
 at_place at to z ts behind rest e x = subst (λ i. Cuts i z ts behind rest) e x
 
 -- A part of a gap may stand before.
 pub cuts_gap : (at n : ℕ) (z : Text) (ts : List Token) (behind : ℕ) (rest : Text) → IsPart z n → Cuts (at + n) (drop n z) ts behind rest → Cuts at z ts behind rest
-cuts_gap at n z [] behind rest part (g, gap, cut, none, place) =
-    let size : length (take n z) ≡ n = length_taken z n part.size in (
-      take n z ++ g,
-      gap_more (take n z) g part.part gap,
-      sym (take-append-drop n z) ∙ ap (λ w. take n z ++ w) cut ∙ sym (append_assoc (take n z) g rest),
-      none,
-      omega (arith, place, size, length-append (take n z) g),
-    )
-cuts_gap at n z (t ∷ ts) behind rest part (g, w, q, gap, cut, none, fault, next, start, end_at, more) =
-    let size : length (take n z) ≡ n = length_taken z n part.size in
-    let long : length (take n z ++ g) ≡ n + length g = omega (arith, size, length-append (take n z) g) in (
+cuts_gap at n z [] behind rest part (g, x, place) = (take n z ++ g, gapped_more n z g rest part x, omega (arith, place, longer_gap n z g part))
+cuts_gap at n z (t ∷ ts) behind rest part (g, w, q, s, more) =
+    let long : length (take n z ++ g) ≡ n + length g = longer_gap n z g part in (
       take n z ++ g,
       w,
       q,
-      gap_more (take n z) g part.part gap,
-      sym (take-append-drop n z) ∙ ap (λ v. take n z ++ v) cut ∙ sym (append_assoc (take n z) g (w ++ q)),
-      none,
-      fault,
-      next,
-      omega (arith, start, long),
-      omega (arith, end_at, long),
+      record { front = gapped_more n z g (w ++ q) part s.front; fault = s.fault; next = s.next; start = omega (arith, s.start, long); stop = omega (arith, s.stop, long) },
       at_place (at + n + length g + length w) (at + length (take n z ++ g) + length w) q ts behind rest (omega (arith, long)) more,
     )
 
@@ -65,13 +61,13 @@ cuts_token at n z kind ts behind rest x more =
       [],
       take n z,
       drop n z,
-      ([], refl),
-      whole,
-      subst BeginsNoGap whole x.gap,
-      subst BeginsNoFault whole x.fault,
-      x.token.next,
-      omega arith,
-      omega (arith, size),
+      record {
+        front = record { gap = ([], refl); cut = whole; most = subst BeginsNoGap whole x.gap };
+        fault = subst BeginsNoFault whole x.fault;
+        next = x.token.next;
+        start = omega arith;
+        stop = omega (arith, size);
+      },
       at_place (at + n) (at + 0 + length (take n z)) (drop n z) ts behind rest (omega (arith, size)) more,
     )
 
@@ -121,7 +117,7 @@ step_cuts l at b y (piece.Fault cause n) ts h is after e = let f : Err (fault_at
 end_cuts : (at : ℕ) (ts : List Token) → scan_from 0 at [] ≡ Ok ts → Cuts at [] ts (at + 0) []
 end_cuts at ts e =
     let f : [] ≡ ts = same_ok [] ts (sym (ends at) ∙ e) in
-    subst (λ v. Cuts at [] v (at + 0) []) f ([], ([], refl), refl, nothing, refl)
+    subst (λ v. Cuts at [] v (at + 0) []) f ([], record { gap = ([], refl); cut = refl; most = nothing }, refl)
 
 scan_cuts : (l at : ℕ) (z : Text) (ts : List Token) → length z ≤ l → scan_from 0 at z ≡ Ok ts → Cuts at z ts (at + length z) []
 scan_cuts l at [] ts h e = end_cuts at ts e
@@ -175,7 +171,7 @@ step_stops l at b y (piece.Fault cause n) f h is after e =
       rest = b ∷ y;
       cause = cause;
       place = n;
-      cuts = ([], ([], refl), refl, stop.gap, omega arith);
+      cuts = ([], record { gap = ([], refl); cut = refl; most = stop.gap }, omega arith);
       named = stop.fault;
       is = same_err f (fault_at cause (at + n)) (sym e ∙ fault_goes (b ∷ y) cause n at (omega arith) (sym is));
     }

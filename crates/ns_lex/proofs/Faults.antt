@@ -1,5 +1,6 @@
 -- Where a token stands, no gap begins and no fault is named.
 use Rattle.std.proofs.Common.{◌≡◌, ℕ, zero, suc, ◌+◌, ◌<◌, ◌⊎◌, inl, inr, Bool, true, false, ◌==◌, ◌&&◌, cond, [], ◌∷◌, ◌++◌, length, take, drop, get_or, refl, ap, subst, ◌∙◌, arith}
+use Rattle.std.proofs.Math.Seq.{take-append_seam}
 use Rattle.std.proofs.lemmas.Bool.{eq-eqb}
 use Rattle.std.proofs.lemmas.Bool.Decides.{nat_tests}
 use Rattle.std.specs.List.{prefix_len}
@@ -78,17 +79,13 @@ name_no_digit b h = grind (arith, nat_tests)
 stop_no_digit : (b : ℕ) → b ≡ 46 → is_digit b ≡ false
 stop_no_digit b e = ap is_digit e
 
-run_ends : (q : Text) → is_digit (get_or q 0 0) ≡ false → prefix_len is_digit q ≡ 0
+pub run_ends : (q : Text) → is_digit (get_or q 0 0) ≡ false → prefix_len is_digit q ≡ 0
 run_ends [] h = refl
 run_ends (c ∷ q) h = ap (λ v. cond v (1 + prefix_len is_digit q) 0) h
 
-bad_no_digit : (q : Text) → BeginsName q ⊎ BeginsFraction q → is_digit (get_or q 0 0) ≡ false
+pub bad_no_digit : (q : Text) → BeginsName q ⊎ BeginsFraction q → is_digit (get_or q 0 0) ≡ false
 bad_no_digit q (inl h) = name_no_digit (get_or q 0 0) h
 bad_no_digit q (inr h) = stop_no_digit (get_or q 0 0) h.0
-
-taken_front : (w r : Text) → take (length w) (w ++ r) ≡ w
-taken_front [] r = refl
-taken_front (b ∷ w) r = ap (λ v. b ∷ v) (taken_front w r)
 
 -- the run of the digits is all of them
 digits_run : (b : ℕ) (y d q : Text) → b ∷ y ≡ d ++ q → IsDigits d → is_digit (get_or q 0 0) ≡ false → run (b ∷ y) ≡ length d
@@ -115,7 +112,7 @@ number_digits b y t m f d q cut digits = (
   λ bad. no_bad_end b y d q t m f cut (digits_run b y d q cut digits (bad_no_digit q bad)) bad,
   λ stop big.
       let size : run (b ∷ y) ≡ length d = digits_run b y d q cut digits stop in
-      let whole : take (run (b ∷ y)) (b ∷ y) ≡ d = ap (λ i. take i (b ∷ y)) size ∙ ap (take (length d)) cut ∙ taken_front d q in
+      let whole : take (run (b ∷ y)) (b ∷ y) ≡ d = ap (λ i. take i (b ∷ y)) size ∙ ap (take (length d)) cut ∙ take-append_seam d q in
       absurd (omega (arith, (number_says b y t m f).2, ap value whole, big)),
 )
 
@@ -137,7 +134,7 @@ pub no_fault : (b : ℕ) (y : Text) (t : Kind) → ((u : Text) × Spells (b ∷ 
 no_fault b y t spelled remark comment digits mark quote cause.BadByte n (inl (d, q, cut, h, bad, e)) = (digits d q cut h).0 bad
 no_fault b y t spelled remark comment digits mark quote cause.BadByte n (inr (inl (q, cut, none, e))) = by_mark b y (mark (same_first b 35 y q cut)) none
 no_fault b y t spelled remark comment digits mark quote cause.BadByte n (inr (inr (c, q, cut, nothing, e))) = nothing.0 spelled.0 t (subst (λ i. Spells (i ∷ spelled.0) t) (same_first b c y q cut) spelled.1)
-no_fault b y t spelled remark comment digits mark quote cause.BigNumber n (d, q, cut, h, stop, name, fraction, big, e) = (digits d q cut h).1 stop big
+no_fault b y t spelled remark comment digits mark quote cause.BigNumber n (d, q, cut, h, (stop, name, fraction), big, e) = (digits d q cut h).1 stop big
 no_fault b y t spelled remark comment digits mark quote cause.UnclosedComment n ((q, inl e), f) = clash (is_comment (b ∷ y)) comment (ap is_comment e)
 no_fault b y t spelled remark comment digits mark quote cause.UnclosedComment n ((q, inr e), f) = clash (is_remark (b ∷ y)) remark (ap is_remark e)
 no_fault b y t spelled remark comment digits mark quote cause.UnclosedString n ((q, cut), none, e) = by_quote b y (quote (same_first b 39 y q cut)) none

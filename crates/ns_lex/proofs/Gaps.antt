@@ -1,5 +1,6 @@
 -- A piece of a gap is a blank, a comment or a remark.
 use Rattle.std.proofs.Common.{◌≡◌, ℕ, zero, suc, ◌+◌, ◌-◌, ◌≤◌, ◌<◌, inl, inr, Bool, true, false, not, ◌==◌, if◌then◌else◌, [], ◌∷◌, ◌++◌, length, take, get_or, Option, Some, None, refl, sym, ap, subst, ◌∙◌, append_assoc, length-append, arith}
+use Rattle.std.proofs.Math.Seq.{take-append_seam}
 use Rattle.std.proofs.lemmas.Bool.{eqb-true, eq-eqb}
 use Rattle.std.proofs.lemmas.Bool.Decides.{nat_tests}
 use Rattle.std.proofs.lemmas.List.{take_more, get_or_past}
@@ -141,14 +142,10 @@ says d last.Plain at (b ∷ z) m e = plain_goes d b at z m (says d (after b) (at
 says d last.Paren at (b ∷ z) m e = paren_by d b at z m (b == 42) refl (says (d + 1) last.Plain (at + 1) z m) (says d (after b) (at + 1) z m) e
 says d last.Star at (b ∷ z) m e = star_by d b at z m (b == 41) refl (says (d - 1) last.Plain (at + 1) z m) (says d (after b) (at + 1) z m) e
 
-front_of : (w r : Text) → take (length w) (w ++ r) ≡ w
-front_of [] r = refl
-front_of (b ∷ w) r = ap (λ v. b ∷ v) (front_of w r)
-
 comment_is : (y : Text) (m : ℕ) → Says 0 last.Plain 2 y m → IsPart (40 ∷ 42 ∷ y) m
 comment_is y m x =
     let steps : m ≡ suc (suc (length x.text)) = omega (arith, x.place) in
-    let front : take m (40 ∷ 42 ∷ y) ≡ 40 ∷ 42 ∷ x.text = ap (λ i. take i (40 ∷ 42 ∷ y)) steps ∙ ap (λ w. 40 ∷ 42 ∷ w) (ap (take (length x.text)) x.cut ∙ front_of x.text x.rest) in
+    let front : take m (40 ∷ 42 ∷ y) ≡ 40 ∷ 42 ∷ x.text = ap (λ i. take i (40 ∷ 42 ∷ y)) steps ∙ ap (λ w. 40 ∷ 42 ∷ w) (ap (take (length x.text)) x.cut ∙ take-append_seam x.text x.rest) in
     record {
       size = omega (arith, steps, ap length x.cut, length-append x.text x.rest);
       some = omega (arith, steps);

@@ -1,3 +1,4 @@
+pub mod Blanks
 pub mod Cutting
 pub mod Digits
 pub mod Examples
@@ -7,11 +8,17 @@ pub mod Numbers
 pub mod OneCut
 pub mod OneGap
 pub mod OneKind
+pub mod OneStop
 pub mod Operators
 pub mod Pieces
+pub mod ReadAgain
+pub mod ReadNames
+pub mod ReadRuns
+pub mod ReadSymbols
 pub mod Refused
 pub mod Scanned
 pub mod Singles
+pub mod SpacedScan
 pub mod Steps
 pub mod Stops
 pub mod Strings

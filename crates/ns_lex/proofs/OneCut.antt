@@ -4,8 +4,7 @@ use Rattle.ns_tree.specs.declared.token.Kind.{Kind}
 use Rattle.ns_tree.specs.declared.token.Token.{Token}
 use Rattle.ns_lex.specs.Bytes.{is_in_name}
 use Rattle.ns_lex.specs.Piece.{Text}
-use Rattle.ns_lex.specs.Gap.{IsGap, BeginsNoGap}
-use Rattle.ns_lex.specs.Lexes.{Stands, IsNext, IsFault, Cuts, Lexes, LexStops}
+use Rattle.ns_lex.specs.Lexes.{Stands, IsNext, IsFault, Gapped, IsStep, Cuts, Lexes, LexStops}
 use Rattle.ns_lex.specs.Spells.{Spells}
 use Rattle.ns_lex.specs.declared.piece.Cause.{Cause}
 use Rattle.ns_lex.specs.declared.piece.Cause.TheVariants as cause
@@ -13,7 +12,11 @@ use Rattle.ns_lex.proofs.Words.{stands_spells}
 use Rattle.ns_lex.proofs.OneKind.{all_in, spelled_kind, spelled_some}
 use Rattle.ns_lex.proofs.OneGap.{Same, equal_cut, gap_cut, run_cut}
 
--- ---- tokens
+-- ---- gaps and tokens
+
+-- a text begins with one gap that can't be longer
+pub gapped_cut : (z g g' y y' : Text) → Gapped z g y → Gapped z g' y' → Same g y g' y'
+gapped_cut z g g' y y' x x' = gap_cut g g' y y' x.gap x'.gap x.most x'.most (sym x.cut ∙ x'.cut)
 
 token_cut : (w q v r : Text) (t u : Kind) → IsNext w q t → IsNext v r u → w ++ q ≡ v ++ r → Same w q v r
 token_cut w q v r t u (s, inl (name, (rest, e))) (s', inl (name', (rest', e'))) cut =
@@ -34,20 +37,20 @@ pub record Steps (g w q g' v r : Text) : Type 0 where
   pub text : w ≡ v
   pub rest : q ≡ r
 
-step_same : (z g w q g' v r : Text) (t u : Kind) → IsGap g → IsGap g' → z ≡ g ++ (w ++ q) → z ≡ g' ++ (v ++ r) → BeginsNoGap (w ++ q) → BeginsNoGap (v ++ r) → IsNext w q t → IsNext v r u → Steps g w q g' v r
-step_same z g w q g' v r t u gap gap' cut cut' none none' next next' =
-    let x = gap_cut g g' (w ++ q) (v ++ r) gap gap' none none' (sym cut ∙ cut') in
-    let y = token_cut w q v r t u next next' x.back in
+pub step_same : (at to : ℕ) (z g w q g' v r : Text) (t u : Token) → IsStep at z g w q t → IsStep to z g' v r u → Steps g w q g' v r
+step_same at to z g w q g' v r t u s s' =
+    let x = gapped_cut z g g' (w ++ q) (v ++ r) s.front s'.front in
+    let y = token_cut w q v r t.kind u.kind s.next s'.next x.back in
     record { gap = x.front; text = y.front; rest = y.back }
 
 -- a text can't be a gap, and a gap with a token behind it
-not_ended : (z g g' w q : Text) (t : Kind) → IsGap g → IsGap g' → z ≡ g ++ [] → z ≡ g' ++ (w ++ q) → BeginsNoGap [] → BeginsNoGap (w ++ q) → IsNext w q t → ⊥
-not_ended z g g' w q t gap gap' cut cut' none none' next =
-    let x = gap_cut g g' [] (w ++ q) gap gap' none none' (sym cut ∙ cut') in
-    omega (arith, ap length x.back, length-append w q, spelled_some w t (stands_spells w q t next.0))
+not_ended : (at : ℕ) (z g g' w q : Text) (t : Token) → Gapped z g [] → IsStep at z g' w q t → ⊥
+not_ended at z g g' w q t x s =
+    let y = gapped_cut z g g' [] (w ++ q) x s.front in
+    omega (arith, ap length y.back, length-append w q, spelled_some w t.kind (stands_spells w q t.kind s.next.0))
 
 -- what is cut behind such a step
-after_step : (at : ℕ) (g w q g' v r : Text) (us : List Token) (c : ℕ) (rest : Text) → Steps g w q g' v r → Cuts (at + length g' + length v) r us c rest → Cuts (at + length g + length w) q us c rest
+pub after_step : (at : ℕ) (g w q g' v r : Text) (us : List Token) (c : ℕ) (rest : Text) → Steps g w q g' v r → Cuts (at + length g' + length v) r us c rest → Cuts (at + length g + length w) q us c rest
 after_step at g w q g' v r us c rest s x =
     subst (λ z. Cuts (at + length g + length w) z us c rest) (sym s.rest)
     (subst (λ i. Cuts i r us c rest) (ap (λ z. at + length z + length v) (sym s.gap) ∙ ap (λ z. at + length g + length z) (sym s.text)) x)
@@ -63,35 +66,31 @@ token_same t u a b c = ap (λ x. token_at x t.start t.«end») a ∙ ap (λ x. t
 
 cuts_one : (at : ℕ) (z : Text) (ts us : List Token) (b c : ℕ) → Cuts at z ts b [] → Cuts at z us c [] → ts ≡ us
 cuts_one at z [] [] b c x y = refl
-cuts_one at z [] (u ∷ us) b c (g, gap, cut, none, place) (g', w, q, gap', cut', none', fault', next', start', end', more') = absurd (not_ended z g g' w q u.kind gap gap' cut cut' none none' next')
-cuts_one at z (t ∷ ts) [] b c (g, w, q, gap, cut, none, fault, next, start, stop, more) (g', gap', cut', none', place) = absurd (not_ended z g' g w q t.kind gap' gap cut' cut none' none next)
-cuts_one at z (t ∷ ts) (u ∷ us) b c (g, w, q, gap, cut, none, fault, next, start, stop, more) (g', v, r, gap', cut', none', fault', next', start', stop', more') =
-    let s = step_same z g w q g' v r t.kind u.kind gap gap' cut cut' none none' next next' in
-    let first : t ≡ u = token_same t u (one_kind w v q r t.kind u.kind s.text next.0 next'.0) (start ∙ ap (λ x. at + length x) s.gap ∙ sym start')
-    (stop ∙ ap (λ x. at + length x + length w) s.gap ∙ ap (λ x. at + length g' + length x) s.text ∙ sym stop') in
-    ap (λ x. x ∷ ts) first ∙ ap (λ xs. u ∷ xs) (cuts_one (at + length g + length w) q ts us b c more (after_step at g w q g' v r us c [] s more'))
+cuts_one at z [] (u ∷ us) b c (g, x, place) (g', w, q, s', more') = absurd (not_ended at z g g' w q u x s')
+cuts_one at z (t ∷ ts) [] b c (g, w, q, s, more) (g', x, place) = absurd (not_ended at z g' g w q t x s)
+cuts_one at z (t ∷ ts) (u ∷ us) b c (g, w, q, s, more) (g', v, r, s', more') =
+    let x = step_same at at z g w q g' v r t u s s' in
+    let first : t ≡ u = token_same t u (one_kind w v q r t.kind u.kind x.text s.next.0 s'.next.0) (s.start ∙ ap (λ y. at + length y) x.gap ∙ sym s'.start)
+    (s.stop ∙ ap (λ y. at + length y + length w) x.gap ∙ ap (λ y. at + length g' + length y) x.text ∙ sym s'.stop) in
+    ap (λ y. y ∷ ts) first ∙ ap (λ ys. u ∷ ys) (cuts_one (at + length g + length w) q ts us b c more (after_step at g w q g' v r us c [] x more'))
 
 -- a fault isn't named where a text ends
 fault_some : (z : Text) (c : Cause) (n : ℕ) → IsFault z c n → 0 < length z
 fault_some z cause.BadByte n (inl (d, q, e, digits, more, place)) = omega (arith, ap length e, length-append d q, digits.0)
 fault_some z cause.BadByte n (inr (inl (q, e, none, place))) = omega (arith, ap length e)
 fault_some z cause.BadByte n (inr (inr (b, q, e, none, place))) = omega (arith, ap length e)
-fault_some z cause.BigNumber n (d, q, e, digits, more, name, fraction, great, place) = omega (arith, ap length e, length-append d q, digits.0)
+fault_some z cause.BigNumber n (d, q, e, digits, last, great, place) = omega (arith, ap length e, length-append d q, digits.0)
 fault_some z cause.UnclosedComment n ((q, inl e), place) = omega (arith, ap length e)
 fault_some z cause.UnclosedComment n ((q, inr e), place) = omega (arith, ap length e)
 fault_some z cause.UnclosedString n ((q, e), none, place) = omega (arith, ap length e)
 
 cuts_stop : (at : ℕ) (z : Text) (ts us : List Token) (b c : ℕ) (rest : Text) (why : Cause) (n : ℕ) → Cuts at z ts b [] → Cuts at z us c rest → IsFault rest why n → ⊥
-cuts_stop at z [] [] b c rest why n (g, gap, cut, none, place) (g', gap', cut', none', place') named =
-    let x = gap_cut g g' [] rest gap gap' none none' (sym cut ∙ cut') in
-    omega (arith, ap length x.back, fault_some rest why n named)
-cuts_stop at z [] (u ∷ us) b c rest why n (g, gap, cut, none, place) (g', w, q, gap', cut', none', fault', next', start', stop', more') named = not_ended z g g' w q u.kind gap gap' cut cut' none none' next'
-cuts_stop at z (t ∷ ts) [] b c rest why n (g, w, q, gap, cut, none, fault, next, start, stop, more) (g', gap', cut', none', place') named =
-    let x = gap_cut g g' (w ++ q) rest gap gap' none none' (sym cut ∙ cut') in
-    fault why n (subst (λ y. IsFault y why n) (sym x.back) named)
-cuts_stop at z (t ∷ ts) (u ∷ us) b c rest why n (g, w, q, gap, cut, none, fault, next, start, stop, more) (g', v, r, gap', cut', none', fault', next', start', stop', more') named =
-    let s = step_same z g w q g' v r t.kind u.kind gap gap' cut cut' none none' next next' in
-    cuts_stop (at + length g + length w) q ts us b c rest why n more (after_step at g w q g' v r us c rest s more') named
+cuts_stop at z [] [] b c rest why n (g, x, place) (g', y, place') told = omega (arith, ap length (gapped_cut z g g' [] rest x y).back, fault_some rest why n told)
+cuts_stop at z [] (u ∷ us) b c rest why n (g, x, place) (g', w, q, s', more') told = not_ended at z g g' w q u x s'
+cuts_stop at z (t ∷ ts) [] b c rest why n (g, w, q, s, more) (g', y, place') told = s.fault why n (subst (λ i. IsFault i why n) (sym (gapped_cut z g g' (w ++ q) rest s.front y).back) told)
+cuts_stop at z (t ∷ ts) (u ∷ us) b c rest why n (g, w, q, s, more) (g', v, r, s', more') told =
+    let x = step_same at at z g w q g' v r t u s s' in
+    cuts_stop (at + length g + length w) q ts us b c rest why n more (after_step at g w q g' v r us c rest x more') told
 
 -- One list of tokens at most cuts a source.
 pub one_lexes : (source : Text) (ts us : List Token) → Lexes source ts → Lexes source us → ts ≡ us

@@ -90,10 +90,12 @@ module _ (b : ℕ) (y : Text) (h : is_digit b ≡ true) where
     behind,
     cut,
     is_digits,
-    no_more,
-    (λ g. clash (starts_name (get_or (b ∷ y) (run (b ∷ y)) 0)) e (ap starts_name first ∙ g)),
-    (λ g. clash (get_or (b ∷ y) (run (b ∷ y)) 0 == 46 && is_digit (get_or (b ∷ y) (run (b ∷ y) + 1) 0)) f
-        (ap (λ v. v && is_digit (get_or (b ∷ y) (run (b ∷ y) + 1) 0)) (eq-eqb (get_or (b ∷ y) (run (b ∷ y)) 0) 46 (first ∙ g.0)) ∙ ap is_digit (first_behind 1) ∙ g.1)),
+    (
+      no_more,
+      λ g. clash (starts_name (get_or (b ∷ y) (run (b ∷ y)) 0)) e (ap starts_name first ∙ g),
+      λ g. clash (get_or (b ∷ y) (run (b ∷ y)) 0 == 46 && is_digit (get_or (b ∷ y) (run (b ∷ y) + 1) 0)) f
+          (ap (λ v. v && is_digit (get_or (b ∷ y) (run (b ∷ y) + 1) 0)) (eq-eqb (get_or (b ∷ y) (run (b ∷ y)) 0) 46 (first ∙ g.0)) ∙ ap is_digit (first_behind 1) ∙ g.1),
+    ),
     big,
     refl,
   )

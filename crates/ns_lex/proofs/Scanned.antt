@@ -1,8 +1,8 @@
--- The tokens that cut a source are those of its scan.
-use Rattle.std.proofs.Common.{◌≡◌, ℕ, zero, suc, ◌+◌, ◌-◌, List, [], ◌∷◌, Ok, Err, refl, ap}
+-- What becomes of a source is what its scan says.
+use Rattle.std.proofs.Common.{◌≡◌, ℕ, zero, suc, ◌+◌, ◌-◌, ◌⊎◌, inl, inr, List, [], ◌∷◌, Ok, Err, refl, ap, ◌∙◌}
 use Rattle.ns_tree.specs.declared.token.Token.{Token}
 use Rattle.ns_lex.specs.Fault.{fault_at}
-use Rattle.ns_lex.specs.Lexes.{Lexes}
+use Rattle.ns_lex.specs.Lexes.{Lexes, LexStops}
 use Rattle.ns_lex.specs.Next.{next_piece}
 use Rattle.ns_lex.specs.Piece.{Text}
 use Rattle.ns_lex.specs.Scan.{Tokens, scan, scan_from, before, step}
@@ -13,6 +13,7 @@ use Rattle.ns_lex.specs.declared.piece.Cause.{Cause}
 use Rattle.ns_lex.specs.declared.piece.Cause.TheVariants as cause
 use Rattle.ns_lex.proofs.Cutting.{scan_lexes, scan_stops}
 use Rattle.ns_lex.proofs.OneCut.{one_lexes, lexes_whole}
+use Rattle.ns_lex.proofs.OneStop.{one_stop}
 
 -- ---- no scan wants memory
 
@@ -53,3 +54,47 @@ by_scan source ts (Err fault.Memory) x e = absurd (no_memory 0 0 source e)
 -- The tokens that cut a source are those of its scan.
 pub lexes_scanned : (source : Text) (ts : List Token) → Lexes source ts → scan source ≡ Ok ts
 lexes_scanned source ts x = by_scan source ts (scan source) x refl
+
+-- ---- a source that stops is scanned
+
+abbrev err_of : Cause → ℕ → Tokens
+err_of c n = Err (fault_at c n)
+
+fault_same : (source : Text) (n m : ℕ) (c d : Cause) → LexStops source n c → LexStops source m d → err_of d m ≡ err_of c n
+fault_same source n m c d x y = let e = one_stop source m n d c y x in ap (err_of d) e.0 ∙ ap (λ i. err_of i n) e.1
+
+stop_by_scan : (source : Text) (n : ℕ) (c : Cause) (r : Tokens) → LexStops source n c → scan source ≡ r → r ≡ Err (fault_at c n)
+stop_by_scan source n c (Ok ts) x e = absurd (lexes_whole source ts n c (scan_lexes source ts e) x)
+stop_by_scan source n c (Err (fault.BadByte m)) x e = fault_same source n m c cause.BadByte x (scan_stops source (fault.BadByte m) e)
+stop_by_scan source n c (Err (fault.UnclosedComment m)) x e = fault_same source n m c cause.UnclosedComment x (scan_stops source (fault.UnclosedComment m) e)
+stop_by_scan source n c (Err (fault.UnclosedString m)) x e = fault_same source n m c cause.UnclosedString x (scan_stops source (fault.UnclosedString m) e)
+stop_by_scan source n c (Err (fault.BigNumber m)) x e = fault_same source n m c cause.BigNumber x (scan_stops source (fault.BigNumber m) e)
+stop_by_scan source n c (Err fault.Memory) x e = absurd (no_memory 0 0 source e)
+
+-- The fault that stops a source is that of its scan.
+pub stop_scanned : (source : Text) (n : ℕ) (c : Cause) → LexStops source n c → scan source ≡ Err (fault_at c n)
+stop_scanned source n c x = stop_by_scan source n c (scan source) x refl
+
+pub scanned_stop : (source : Text) (n : ℕ) (c : Cause) → scan source ≡ Err (fault_at c n) → LexStops source n c
+scanned_stop source n cause.BadByte e = scan_stops source (fault.BadByte n) e
+scanned_stop source n cause.UnclosedComment e = scan_stops source (fault.UnclosedComment n) e
+scanned_stop source n cause.UnclosedString e = scan_stops source (fault.UnclosedString n) e
+scanned_stop source n cause.BigNumber e = scan_stops source (fault.BigNumber n) e
+
+-- ---- each source
+
+-- Tokens cut the source, or a fault stops it.
+abbrev CutOrStopped : Text → Type 0
+CutOrStopped source = ((tokens : List Token) × Lexes source tokens) ⊎ ((at : ℕ) × (why : Cause) × LexStops source at why)
+
+some_by_scan : (source : Text) (r : Tokens) → scan source ≡ r → CutOrStopped source
+some_by_scan source (Ok ts) e = inl (ts, scan_lexes source ts e)
+some_by_scan source (Err (fault.BadByte n)) e = inr (n, cause.BadByte, scan_stops source (fault.BadByte n) e)
+some_by_scan source (Err (fault.UnclosedComment n)) e = inr (n, cause.UnclosedComment, scan_stops source (fault.UnclosedComment n) e)
+some_by_scan source (Err (fault.UnclosedString n)) e = inr (n, cause.UnclosedString, scan_stops source (fault.UnclosedString n) e)
+some_by_scan source (Err (fault.BigNumber n)) e = inr (n, cause.BigNumber, scan_stops source (fault.BigNumber n) e)
+some_by_scan source (Err fault.Memory) e = absurd (no_memory 0 0 source e)
+
+-- Tokens cut each source, or a fault stops it.
+pub cut_or_stopped : (source : Text) → CutOrStopped source
+cut_or_stopped source = some_by_scan source (scan source) refl

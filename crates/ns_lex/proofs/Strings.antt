@@ -1,5 +1,6 @@
 -- The piece at a quote is the next token.
 use Rattle.std.proofs.Common.{◌≡◌, ◌≢◌, ℕ, suc, ◌+◌, ◌≤◌, Bool, true, false, not, ◌==◌, cond, if◌then◌else◌, [], ◌∷◌, ◌++◌, length, take, drop, get_or, Option, Some, None, inr, refl, sym, ap, subst, ◌∙◌, append_assoc, length-append, arith}
+use Rattle.std.proofs.Math.Seq.{take-append_seam, drop-append_seam}
 use Rattle.std.proofs.lemmas.Bool.{eqb-true, eq-eqb}
 use Rattle.std.proofs.lemmas.List.{append-nil, take-append-drop}
 use Rattle.ns_tree.specs.declared.token.Kind.{Kind}
@@ -162,14 +163,6 @@ longest_string b y q h e (c ∷ p) r t cut x =
     let same_byte : b ≡ c = same_first b c y (p ++ r) cut in
     at_quote c p r t (sym same_byte ∙ h) x (λ s spelled other. found_length b y q e c p r s cut spelled other)
 
-take_front : (w r : Text) → take (length w) (w ++ r) ≡ w
-take_front [] r = refl
-take_front (b ∷ w) r = ap (λ v. b ∷ v) (take_front w r)
-
-drop_front : (w r : Text) → drop (length w) (w ++ r) ≡ r
-drop_front [] r = refl
-drop_front (b ∷ w) r = drop_front w r
-
 -- the longest of a text, for the text that is cut off
 longest_of : (z : Text) (n : ℕ) → n ≤ length z → ((p r : Text) (t : Kind) → z ≡ p ++ r → Stands p r t → length p ≤ n) → Longest (take n z) (drop n z)
 longest_of z n fits none p r t cut x =
@@ -182,8 +175,8 @@ string_at b y q h e x =
     let size : q.1 ≡ 1 + length x.text = x.place in
     let steps : q.1 ≡ suc (length x.text) = omega (arith, size) in
     let fits : q.1 ≤ length (b ∷ y) = omega (arith, size, ap length x.cut, length-append x.text x.rest) in
-    let front : take q.1 (b ∷ y) ≡ b ∷ x.text = ap (λ n. take n (b ∷ y)) steps ∙ ap (λ w. b ∷ w) (ap (take (length x.text)) x.cut ∙ take_front x.text x.rest) in
-    let behind : drop q.1 (b ∷ y) ≡ x.rest = ap (λ n. drop n (b ∷ y)) steps ∙ ap (drop (length x.text)) x.cut ∙ drop_front x.text x.rest in
+    let front : take q.1 (b ∷ y) ≡ b ∷ x.text = ap (λ n. take n (b ∷ y)) steps ∙ ap (λ w. b ∷ w) (ap (take (length x.text)) x.cut ∙ take-append_seam x.text x.rest) in
+    let behind : drop q.1 (b ∷ y) ≡ x.rest = ap (λ n. drop n (b ∷ y)) steps ∙ ap (drop (length x.text)) x.cut ∙ drop-append_seam x.text x.rest in
     let spelled : b ∷ x.text ≡ 39 ∷ (doubled q.0 ++ 39 ∷ []) = ap (λ c. c ∷ x.text) h ∙ ap (λ w. 39 ∷ w) (x.reads ∙ ap (λ s. doubled s ++ 39 ∷ []) (sym x.whole)) in
     record {
       size = fits;

@@ -1,5 +1,6 @@
 -- The piece at `#` is the next token.
 use Rattle.std.proofs.Common.{◌≡◌, ◌≢◌, ℕ, suc, ◌+◌, ◌≤◌, ◌⊎◌, inl, inr, Bool, true, false, not, ◌==◌, cond, if◌then◌else◌, List, [], ◌∷◌, ◌++◌, length, take, refl, sym, ap, subst, ◌∙◌, append_assoc, length-append, arith}
+use Rattle.std.proofs.Math.Seq.{take-append_seam}
 use Rattle.std.proofs.lemmas.Bool.{eqb-true, eq-eqb}
 use Rattle.std.proofs.lemmas.Bool.Decides.{nat_tests}
 use Rattle.std.proofs.lemmas.List.{append-nil}
@@ -85,7 +86,7 @@ says far false at (b ∷ z) m e = outside_by far at b z m (starts_name b) refl (
 
 -- ---- how far it goes
 
-no_colon : (b : ℕ) → is_in_name b ≡ true → (b == 58) ≡ false
+pub no_colon : (b : ℕ) → is_in_name b ≡ true → (b == 58) ≡ false
 no_colon b h = grind (arith, nat_tests)
 
 -- through a name and a colon
@@ -95,7 +96,7 @@ name_then far at (b ∷ n) q h =
     ap (λ v. if v then keys_from (at + 1) false (at + 1) (n ++ 58 ∷ q) else (if is_in_name b then keys_from far true (at + 1) (n ++ 58 ∷ q) else far)) (no_colon b h.0)
     ∙ ap (λ v. if v then keys_from far true (at + 1) (n ++ 58 ∷ q) else far) h.0 ∙ name_then far (at + 1) n q h.1 ∙ ap (λ i. keys_from i false i q) (omega arith)
 
-key_then : (far at : ℕ) (n q : Text) → IsName n → keys_from far false at (n ++ 58 ∷ q) ≡ keys_from (at + length n + 1) false (at + length n + 1) q
+pub key_then : (far at : ℕ) (n q : Text) → IsName n → keys_from far false at (n ++ 58 ∷ q) ≡ keys_from (at + length n + 1) false (at + length n + 1) q
 key_then far at [] q h = absurd h
 key_then far at (b ∷ n) q h = ap (λ v. if v then keys_from far true (at + 1) (n ++ 58 ∷ q) else far) h.0 ∙ name_then far (at + 1) n q h.1 ∙ ap (λ i. keys_from i false i q) (omega arith)
 
@@ -154,15 +155,11 @@ record IsFound (y : Text) (n : ℕ) : Type 0 where
   fits : n ≤ length y
   form : IsSelector (take n y)
 
-taken_front : (w r : Text) → take (length w) (w ++ r) ≡ w
-taken_front [] r = refl
-taken_front (b ∷ w) r = ap (λ v. b ∷ v) (taken_front w r)
-
 keys_found : (y : Text) (m : ℕ) → (m ≡ 0) ⊎ Says false 0 y m → (m == 0) ≡ false → IsFound y m
 keys_found y m (inl e) h = absurd (let f : (m == 0) ≡ true = eq-eqb m 0 e in clash (m == 0) h f)
 keys_found y m (inr x) h =
     let size : m ≡ length x.text = omega (arith, x.place) in
-    let front : take m y ≡ x.text = ap (λ i. take i y) size ∙ ap (take (length x.text)) x.cut ∙ taken_front x.text x.rest in
+    let front : take m y ≡ x.text = ap (λ i. take i y) size ∙ ap (take (length x.text)) x.cut ∙ take-append_seam x.text x.rest in
     record {
       fits = omega (arith, size, ap length x.cut, length-append x.text x.rest);
       form = inr (inl (x.keys.0, subst (λ u. IsKeys u x.keys.0) (sym front) x.keys.1));
@@ -197,19 +194,19 @@ name_or_keys b y false m h s (inl low) =
       | inr far ↦ omega (arith, far, begins, size, low)
     ]
 
-no_oper : (b : ℕ) → starts_name b ≡ true → is_operator b ≡ false
+pub no_oper : (b : ℕ) → starts_name b ≡ true → is_operator b ≡ false
 no_oper b h = grind (arith, nat_tests)
 
-name_start : (b : ℕ) (s n u : Text) → IsName n → b ∷ s ≡ n ++ u → starts_name b ≡ true
+pub name_start : (b : ℕ) (s n u : Text) → IsName n → b ∷ s ≡ n ++ u → starts_name b ≡ true
 name_start b s [] u h e = absurd h
 name_start b s (c ∷ n) u h e = ap starts_name (same_first b c s (n ++ u) e) ∙ h.0
 
-keys_start : (b : ℕ) (s : Text) (ks : List Text) → IsKeys (b ∷ s) ks → starts_name b ≡ true
+pub keys_start : (b : ℕ) (s : Text) (ks : List Text) → IsKeys (b ∷ s) ks → starts_name b ≡ true
 keys_start b s [] x = absurd x
 keys_start b s (m ∷ []) ((n, name, e), f) = name_start b s n (58 ∷ []) name (f ∙ e)
 keys_start b s (m ∷ l ∷ ks) ((n, name, e), (u, f, x)) = name_start b s n (58 ∷ u) name (f ∙ ap (λ w. w ++ u) e ∙ append_assoc n (58 ∷ []) u)
 
-oper_start : (b : ℕ) (s : Text) → IsOperator (b ∷ s) → is_operator b ≡ true
+pub oper_start : (b : ℕ) (s : Text) → IsOperator (b ∷ s) → is_operator b ≡ true
 oper_start b s (inl o) = o.1.0
 oper_start b s (inr e) = ap is_operator (same_first b 60 s (58 ∷ []) e)
 

@@ -1,7 +1,6 @@
 -- The tokens that cut a source have texts.
-use Rattle.std.proofs.Common.{◌≡◌, ℕ, ◌+◌, ◌⊎◌, inl, inr, List, [], ◌∷◌, ◌++◌, length, Some, None, Bool, true, false, ◌&&◌, ◌||◌, if◌then◌else◌, IsTrue, nat_le, nat_eq, refl, sym, ap, subst, ◌∙◌, arith, codes}
+use Rattle.std.proofs.Common.{◌≡◌, ℕ, ◌+◌, ◌⊎◌, inl, inr, List, [], ◌∷◌, ◌++◌, length, Some, None, Bool, true, false, ◌&&◌, ◌||◌, if◌then◌else◌, IsTrue, refl, sym, ap, subst, ◌∙◌, arith, codes}
 use Rattle.std.proofs.lemmas.List.{append-nil}
-use Rattle.std.proofs.lemmas.Bool.Decides.{nat_tests}
 use Rattle.std.specs.List.{list_all}
 use Rattle.std.specs.Str.{bytes_eq}
 use Rattle.ns_tree.specs.declared.token.Kind.{Kind}
@@ -20,27 +19,17 @@ use Rattle.ns_lex.proofs.Words.{stands_spells}
 
 -- ---- names
 
-or_swap : (x y z : Bool) → ((x || y) || z) ≡ (x || (z || y))
-or_swap true y z = refl
-or_swap false true true = refl
-or_swap false true false = refl
-or_swap false false true = refl
-or_swap false false false = refl
-
-begins : (b : ℕ) → lexed.starts_name b ≡ bytes.begins_name b
-begins b = or_swap (nat_le 65 b && nat_le b 90) (nat_le 97 b && nat_le b 122) (nat_eq b 95)
-
 both : (x y : Bool) → x ≡ true → y ≡ true → (x && y) ≡ true
 both true y e h = h
 both false y e h = absurd cc
 
 all_in_name : (t : Text) → AllOf lexed.is_in_name t → list_all (λ c. bytes.begins_name c || bytes.is_digit c) t ≡ true
 all_in_name [] h = refl
-all_in_name (b ∷ t) h = both _ _ (ap (λ v. v || bytes.is_digit b) (sym (begins b)) ∙ h.0) (all_in_name t h.1)
+all_in_name (b ∷ t) h = both _ _ h.0 (all_in_name t h.1)
 
 name_told : (t : Text) → IsName t → IsTrue (bytes.is_name t)
 name_told [] h = absurd h
-name_told (b ∷ t) h = both _ _ (sym (begins b) ∙ h.0) (all_in_name t h.1)
+name_told (b ∷ t) h = both _ _ h.0 (all_in_name t h.1)
 
 -- what is none of the reserved words
 none_of : (a b c d e f g h i j : Bool) → (if a then Some words.Class else (if b then Some words.Public else (if c then Some words.Protected else (if d then Some words.Private else (if e then Some words.SelfWord else (if f then Some words.Super else (if g then Some words.Outer else (if h then Some words.True else (if i then Some words.False else (if j then Some words.Nil else None)))))))))) ≡ None → (a || (b || (c || (d || (e || (f || (g || (h || (i || (j || false)))))))))) ≡ false
@@ -78,12 +67,9 @@ keys_told t (n ∷ m ∷ ns) (key, (u, cut, more)) = keys_more n t u key cut (ke
 
 -- ---- operators
 
-operator_byte : (b : ℕ) → lexed.is_operator b ≡ true → bytes.is_operator_byte b ≡ true
-operator_byte b h = grind (arith, nat_tests)
-
 all_operators : (t : Text) → AllOf lexed.is_operator t → list_all bytes.is_operator_byte t ≡ true
 all_operators [] h = refl
-all_operators (b ∷ t) h = both _ _ (operator_byte b h.0) (all_operators t h.1)
+all_operators (b ∷ t) h = both _ _ h.0 (all_operators t h.1)
 
 or_first : (x y : Bool) → x ≡ true → (x || y) ≡ true
 or_first true y e = refl
@@ -115,5 +101,5 @@ token_told w _ h = tt
 -- The tokens that cut a text have texts.
 pub cuts_told : (at : ℕ) (z : Text) (ts : List Token) (behind : ℕ) (rest : Text) → Cuts at z ts behind rest → tree.AllHaveText (kinds ts)
 cuts_told at z [] behind rest x = tt
-cuts_told at z (t ∷ ts) behind rest (g, w, q, gap, cut, none, fault, next, start, end_at, more) =
-    (token_told w t.kind (stands_spells w q t.kind next.0), cuts_told (at + length g + length w) q ts behind rest more)
+cuts_told at z (t ∷ ts) behind rest (g, w, q, s, more) =
+    (token_told w t.kind (stands_spells w q t.kind s.next.0), cuts_told (at + length g + length w) q ts behind rest more)

@@ -17,7 +17,9 @@ after b = if b == 40 then last.Paren else (if b == 42 then last.Star else last.P
 abbrev pub comment_from : ℕ → Last → ℕ → Text → Option ℕ
 comment_from depth l at [] = None
 comment_from depth last.Paren at (b ∷ z) = if b == 42 then comment_from (depth + 1) last.Plain (at + 1) z else comment_from depth (after b) (at + 1) z
-comment_from depth last.Star at (b ∷ z) = if b == 41 then (if depth == 0 then Some (at + 1) else comment_from (depth - 1) last.Plain (at + 1) z) else comment_from depth (after b) (at + 1) z
+comment_from depth last.Star at (b ∷ z) =
+    if b == 41 then (if depth == 0 then Some (at + 1) else comment_from (depth - 1) last.Plain (at + 1) z)
+    else comment_from depth (after b) (at + 1) z
 comment_from depth last.Plain at (b ∷ z) = comment_from depth (after b) (at + 1) z
 
 -- a part of a gap, or that the comment has no end

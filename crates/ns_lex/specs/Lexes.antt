@@ -42,6 +42,10 @@ BeginsName q = starts_name (slice_index q 0) ≡ true
 abbrev pub BeginsFraction : Text → Type 0
 BeginsFraction q = (slice_index q 0 ≡ 46) × (is_digit (slice_index q 1) ≡ true)
 
+-- A run of digits may end here: no digit stands first, no letter or _, and no full stop and a digit.
+abbrev pub EndsDigits : Text → Type 0
+EndsDigits q = (is_digit (slice_index q 0) ≡ false) × (BeginsName q → ⊥) × (BeginsFraction q → ⊥)
+
 -- The byte begins no token and no gap.
 abbrev pub BeginsNothing : ℕ → Type 0
 BeginsNothing b = ((u : Text) (t : Kind) → Spells (b ∷ u) t → ⊥) × ((u : Text) → IsGapPart (b ∷ u) → ⊥)
@@ -52,8 +56,7 @@ IsFault z cause.BadByte n =
     ((d q : Text) × (z ≡ d ++ q) × IsDigits d × (BeginsName q ⊎ BeginsFraction q) × (n ≡ length d))
     ⊎ ((q : Text) × (z ≡ 35 ∷ q) × ((p r s : Text) → z ≡ p ++ r → Spells p (k.Symbol s) → ⊥) × (n ≡ 0))
     ⊎ ((b : ℕ) × (q : Text) × (z ≡ b ∷ q) × BeginsNothing b × (n ≡ 0))
-IsFault z cause.BigNumber n =
-    (d q : Text) × (z ≡ d ++ q) × IsDigits d × (is_digit (slice_index q 0) ≡ false) × (BeginsName q → ⊥) × (BeginsFraction q → ⊥) × (greatest < value d) × (n ≡ 0)
+IsFault z cause.BigNumber n = (d q : Text) × (z ≡ d ++ q) × IsDigits d × EndsDigits q × (greatest < value d) × (n ≡ 0)
 IsFault z cause.UnclosedComment n = ((q : Text) × ((z ≡ 40 ∷ 42 ∷ q) ⊎ (z ≡ 34 ∷ q))) × (n ≡ 0)
 IsFault z cause.UnclosedString n = ((q : Text) × (z ≡ 39 ∷ q)) × ((p r s : Text) → z ≡ p ++ r → Stands p r (k.Str s) → ⊥) × (n ≡ 0)
 
@@ -61,13 +64,26 @@ IsFault z cause.UnclosedString n = ((q : Text) × (z ≡ 39 ∷ q)) × ((p r s :
 abbrev pub BeginsNoFault : Text → Type 0
 BeginsNoFault z = (c : Cause) (n : ℕ) → IsFault z c n → ⊥
 
+-- The text z is the gap g, which can't be longer, and then y.
+pub record Gapped (z g y : Text) : Type 0 where
+  pub gap : IsGap g
+  pub cut : z ≡ g ++ y
+  pub most : BeginsNoGap y
+
+-- The text z, which stands at a place of the source, is the gap g and then w, the text of the token t, with q behind it. No
+-- fault is named for what follows the gap.
+pub record IsStep (at : ℕ) (z g w q : Text) (t : Token) : Type 0 where
+  pub front : Gapped z g (w ++ q)
+  pub fault : BeginsNoFault (w ++ q)
+  pub next : IsNext w q t.kind
+  pub start : t.start ≡ at + length g
+  pub stop : t.«end» ≡ at + length g + length w
+
 -- The text z, which stands at a place of the source, is a gap, then each token's text followed by a gap, and then the rest,
 -- which stands at its own place. No gap can be longer, and no fault is named for what follows one.
 abbrev pub Cuts : ℕ → Text → List Token → ℕ → Text → Type 0
-Cuts at z [] behind rest = (g : Text) × IsGap g × (z ≡ g ++ rest) × BeginsNoGap rest × (behind ≡ at + length g)
-Cuts at z (t ∷ ts) behind rest =
-    (g w q : Text) × IsGap g × (z ≡ g ++ (w ++ q)) × BeginsNoGap (w ++ q) × BeginsNoFault (w ++ q) × IsNext w q t.kind
-    × (t.start ≡ at + length g) × (t.«end» ≡ at + length g + length w) × Cuts (at + length g + length w) q ts behind rest
+Cuts at z [] behind rest = (g : Text) × Gapped z g rest × (behind ≡ at + length g)
+Cuts at z (t ∷ ts) behind rest = (g w q : Text) × IsStep at z g w q t × Cuts (at + length g + length w) q ts behind rest
 
 -- The source is cut into these tokens.
 abbrev pub Lexes : Text → List Token → Type 0

@@ -13,3 +13,4 @@ pub mod Scan
 pub mod Spells
 pub mod Gap
 pub mod Lexes
+pub mod Spaced

@@ -80,12 +80,12 @@ parts g w q z e = ap length e ∙ (length-append g (w ++ q) ∙ ap (λ n. length
 -- The texts of the tokens that cut a text are no longer than it, and there are no more than it has bytes.
 pub cut_within : (n at : ℕ) (z : Text) (ts : List Token) (behind : ℕ) (rest : Text) → length z ≤ n → Cuts at z ts behind rest → AllWithin n (kinds ts)
 cut_within n at z [] behind rest h c = tt
-cut_within n at z (t ∷ ts) behind rest h (g, w, q, gap, e, none, fault, next, start, end_, more) = (
-  omega (arith, h, parts g w q z e, text_within w t.kind (stands_spells w q t.kind next.0)),
-  cut_within n (at + length g + length w) q ts behind rest (omega (arith, h, parts g w q z e)) more,
+cut_within n at z (t ∷ ts) behind rest h (g, w, q, s, more) = (
+  omega (arith, h, parts g w q z s.front.cut, text_within w t.kind (stands_spells w q t.kind s.next.0)),
+  cut_within n (at + length g + length w) q ts behind rest (omega (arith, h, parts g w q z s.front.cut)) more,
 )
 
 pub cut_count : (at : ℕ) (z : Text) (ts : List Token) (behind : ℕ) (rest : Text) → Cuts at z ts behind rest → length ts ≤ length z
 cut_count at z [] behind rest c = omega arith
-cut_count at z (t ∷ ts) behind rest (g, w, q, gap, e, none, fault, next, start, end_, more) =
-    omega (arith, parts g w q z e, text_some w t.kind (stands_spells w q t.kind next.0), cut_count (at + length g + length w) q ts behind rest more)
+cut_count at z (t ∷ ts) behind rest (g, w, q, s, more) =
+    omega (arith, parts g w q z s.front.cut, text_some w t.kind (stands_spells w q t.kind s.next.0), cut_count (at + length g + length w) q ts behind rest more)

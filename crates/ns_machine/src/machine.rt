@@ -180,6 +180,22 @@ impl Machine {
         ending
     }
 
+    /// A run from its start to its end, which the limit on steps bounds; one that was begun goes on to its end.
+    pub fn run(&mut self) -> Ending
+        ensures ran { Ran self.old.code (started self.old.code self.old.state) result self.new.state }
+        ensures rest { self.new ≡ record self.old { state = self.new.state } }
+    {
+        self.start();
+        match self.stage {
+            Stage::Unbegun { .. } => unreachable!(),
+            Stage::Begun(from) => {
+                let ending = run_out(&self.plan, self.code.code(), &mut self.core, from, self.own);
+                self.stage = Stage::Begun(Next::Ends(ending));
+                ending
+            }
+        }
+    }
+
     /// How the run has ended, if it has.
     pub fn ending(&self) -> Option<Ending>
         ensures ending { result ≡ ending_of self.now.state }

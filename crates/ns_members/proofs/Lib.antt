@@ -1,3 +1,6 @@
-mod Selectors
 mod Different
-mod Sets
+mod Colons
+mod Selectors
+mod Sorted
+mod Apart
+mod Added

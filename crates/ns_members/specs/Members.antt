@@ -1,13 +1,14 @@
 -- The private members of a declaration.
-use Rattle.std.specs.Prelude.{ℕ, List, [], ◌++◌, ◌==◌, filter, fold, map, if◌then◌else◌}
-use Rattle.ns_base.specs.Names.{put_in}
-use Rattle.ns_members.specs.declared.privates.Privates.{Privates}
+use Rattle.std.specs.Prelude.{ℕ, List, ◌++◌, ◌==◌, ◌&&◌, Bool, filter, map, if◌then◌else◌}
+use Rattle.std.specs.List.{list_any}
+use Rattle.std.specs.Str.{bytes_eq}
+use Rattle.ns_code.specs.Selector.{selector_text}
 use Rattle.ns_code.specs.declared.program.CodeProgram.{CodeProgram}
 use Rattle.ns_code.specs.declared.class.ClassCode.{ClassCode}
 use Rattle.ns_code.specs.declared.class.SlotCode.{SlotCode}
 use Rattle.ns_code.specs.declared.class.NestedCode.{NestedCode}
 use Rattle.ns_code.specs.declared.class.MethodCode.{MethodCode}
-use Rattle.ns_code.specs.Soundness.{instance_side, all_slot_selectors, texts_of, nested_names}
+use Rattle.ns_code.specs.Soundness.{instance_side, all_slot_selectors, texts_of, nested_names, are_different, instance_selectors, side_selectors}
 
 abbrev pub private_access : ℕ
 private_access = 2
@@ -36,15 +37,10 @@ abbrev pub private_selectors : CodeProgram → ℕ → ClassCode → List (List 
 private_selectors code side class =
     if side == instance_side then private_instance_selectors code class else private_side_selectors code class
 
--- the texts of a list, each once
-abbrev pub set_of : List (List ℕ) → List (List ℕ)
-set_of texts = fold put_in [] texts
+-- whether a selector is that of a private member of a side
+abbrev pub has_private : CodeProgram → ℕ → ClassCode → ℕ → Bool
+has_private code side class number = list_any (bytes_eq (selector_text code number)) (private_selectors code side class)
 
--- the sets of the selectors of a declaration's private members, of both sides
-abbrev pub privates_of : CodeProgram → ClassCode → Privates
-privates_of code class =
-    record { instance = set_of (private_instance_selectors code class); side = set_of (private_side_selectors code class) }
-
--- the same of all declarations, by number
-abbrev pub all_privates : CodeProgram → List Privates
-all_privates code = map (privates_of code) code.classes
+-- whether no two members of one side have one selector
+abbrev pub has_different_members : CodeProgram → ClassCode → Bool
+has_different_members code class = are_different (instance_selectors code class) && are_different (side_selectors code class)

@@ -4,5 +4,6 @@
 pub mod kinds;
 pub mod members;
 pub mod names;
+pub mod numbers;
 pub mod privates;
 pub mod texts;

@@ -1,111 +1,182 @@
-//! The selectors of the members of a declaration.
+//! The members of a declaration: the numbers of their selectors, and whether one comes twice.
 
-ghost use Rattle.std.specs.Prelude.{◌≡◌, [], ◌∷◌, ◌++◌, ◌==◌, IfOk, OnOk, filter, map, option_map, slice_get};
+ghost use Rattle.std.specs.Prelude.{◌≡◌, ◌<◌, [], ◌∷◌, ◌++◌, ◌==◌, length, IfOk, OnOk, filter, option_map, slice_get};
 ghost use Rattle.ns_code.specs.declared.class.ClassCode.{ClassCode};
 ghost use Rattle.ns_code.specs.declared.class.MethodCode.{MethodCode};
 ghost use Rattle.ns_code.specs.declared.class.NestedCode.{NestedCode};
 ghost use Rattle.ns_code.specs.declared.class.SlotCode.{SlotCode};
-ghost use Rattle.ns_code.specs.Soundness as spec;
-ghost use Rattle.ns_members.specs.Members as own;
+ghost use Rattle.ns_code.specs.Soundness as sound;
+ghost use Rattle.ns_members.specs.Members.{has_different_members};
+ghost use Rattle.ns_members.specs.Numbers as spec;
 
 use crate::kinds::PRIVATE;
-use crate::names::name_text;
+use crate::names::{NameTable, is_name};
+use crate::numbers::are_apart;
 use ns_base::no_memory::NoMemory;
 use ns_base::selector::Sel;
-use ns_base::text::Text;
 use ns_code::class::{ClassCode, MethodCode, NestedCode, SlotCode};
 use ns_code::program::CodeProgram;
 use std::alloc::Global;
 
-/// The selectors of slots, nested classes and methods.
-fn selectors_of(
+/// Whether no two members of one side have one selector.
+pub fn has_different_members(
     alloc: Global,
     code: &CodeProgram,
+    names: &NameTable,
+    class: &ClassCode,
+) -> Result<bool, NoMemory>
+    requires { spec.IsNameTable code.now names.now }
+    ensures { IfOk result (λ different. different ≡ has_different_members code.now class.now) }
+{
+    if !has_different_instance_members(alloc, code, names, class)? {
+        return Ok(false);
+    }
+    let different = has_different_side_members(alloc, code, names, class)?;
+    Ok(different)
+}
+
+/// Whether no two members of the instance side have one selector.
+#[tactic(auto, using(crate::proofs::Selectors::different_instances))]
+fn has_different_instance_members(
+    alloc: Global,
+    code: &CodeProgram,
+    names: &NameTable,
+    class: &ClassCode,
+) -> Result<bool, NoMemory>
+    requires { spec.IsNameTable code.now names.now }
+    ensures { IfOk result (λ different. different ≡ sound.are_different (sound.instance_selectors code.now class.now)) }
+{
+    let slots = class.slots.as_slice();
+    let nested = class.nested.as_slice();
+    let methods = class.methods.as_slice();
+    let numbers = numbers_of(alloc, code, names, slots, nested, methods)?;
+    let apart = are_apart(numbers)?;
+    Ok(apart)
+}
+
+/// Whether no two members of the class side have one selector.
+#[tactic(auto, using(crate::proofs::Selectors::different_sides))]
+fn has_different_side_members(
+    alloc: Global,
+    code: &CodeProgram,
+    names: &NameTable,
+    class: &ClassCode,
+) -> Result<bool, NoMemory>
+    requires { spec.IsNameTable code.now names.now }
+    ensures { IfOk result (λ different. different ≡ sound.are_different (sound.side_selectors code.now class.now)) }
+{
+    let numbers = method_numbers(alloc, code, class.side_methods.as_slice())?;
+    let apart = are_apart(numbers)?;
+    Ok(apart)
+}
+
+/// The numbers of slots, nested classes and methods.
+fn numbers_of(
+    alloc: Global,
+    code: &CodeProgram,
+    names: &NameTable,
     slots: &[SlotCode],
     nested: &[NestedCode],
     methods: &[MethodCode],
-) -> Result<Vec<Text>, NoMemory>
-    ensures { IfOk result (λ found. found.items ≡ own.selectors_of code.now slots.now nested.now methods.now) }
+) -> Result<Vec<u32>, NoMemory>
+    requires { spec.IsNameTable code.now names.now }
+    ensures { IfOk result (λ found. found.items ≡ spec.numbers_of code.now slots.now nested.now methods.now) }
 {
     let mut found = Vec::new(alloc);
-    add_slots(alloc, code, slots, &mut found)?;
-    add_nested(alloc, code, nested, &mut found)?;
-    add_methods(alloc, code, methods, &mut found)?;
+    add_slots(code, names, slots, &mut found)?;
+    add_nested(code, nested, &mut found)?;
+    add_methods(code, methods, &mut found)?;
     Ok(found)
 }
 
-/// Adds the selectors of slots.
-fn add_slots(
+/// The numbers of methods.
+fn method_numbers(
     alloc: Global,
     code: &CodeProgram,
+    methods: &[MethodCode],
+) -> Result<Vec<u32>, NoMemory>
+    ensures { IfOk result (λ found. found.items ≡ spec.method_numbers code.now.names methods.now) }
+{
+    let mut found = Vec::new(alloc);
+    add_methods(code, methods, &mut found)?;
+    Ok(found)
+}
+
+/// Adds the numbers of slots.
+fn add_slots(
+    code: &CodeProgram,
+    names: &NameTable,
     slots: &[SlotCode],
-    found: &mut Vec<Text>,
+    found: &mut Vec<u32>,
 ) -> Result<(), NoMemory>
-    ensures { OnOk result (found.new.items ≡ found.old.items ++ spec.all_slot_selectors code.now slots.now) }
+    requires { spec.IsNameTable code.now names.now }
+    ensures { OnOk result (found.new.items ≡ found.old.items ++ spec.all_slot_numbers code.now.names slots.now) }
 {
     'slots: for slot in slots {
-        add_slot(alloc, code, *slot, found)?;
+        add_slot(code, names, *slot, found)?;
     }
     Ok(())
 }
 
-/// Adds the name of a slot, and with a colon behind it where the slot is mutable.
+/// Adds the number of a slot's name, and that of its setter where it is mutable.
 fn add_slot(
-    alloc: Global,
     code: &CodeProgram,
+    names: &NameTable,
     slot: SlotCode,
-    found: &mut Vec<Text>,
+    found: &mut Vec<u32>,
 ) -> Result<(), NoMemory>
-    ensures { OnOk result (found.new.items ≡ found.old.items ++ spec.slot_selectors code.now slot) }
+    requires { spec.IsNameTable code.now names.now }
+    ensures { OnOk result (found.new.items ≡ found.old.items ++ spec.slot_numbers code.now.names slot) }
 {
-    match name_text(code, slot.name) {
-        None => Ok(()),
-        Some(name) => {
-            found.push(Text::of(alloc, name)?)?;
-            if slot.mutable {
-                found.push(setter(alloc, name)?)?;
-            }
-            Ok(())
-        }
+    if is_name(code, slot.name) {
+        add_named(code, names, slot, found)
+    } else {
+        Ok(())
     }
 }
 
-/// A name with a colon behind it.
-fn setter(alloc: Global, name: &[u8]) -> Result<Text, NoMemory>
-    ensures { IfOk result (λ text. text ≡ name.now ++ 58 ∷ []) }
+/// The same, where the slot has a name.
+fn add_named(
+    code: &CodeProgram,
+    names: &NameTable,
+    slot: SlotCode,
+    found: &mut Vec<u32>,
+) -> Result<(), NoMemory>
+    requires table { spec.IsNameTable code.now names.now }
+    requires name { slot.name.0 < length code.now.names }
+    ensures { OnOk result (found.new.items ≡ found.old.items ++ spec.named_numbers code.now.names slot) }
 {
-    let mut bytes = Vec::from_slice(alloc, name)?;
-    bytes.push(b':')?;
-    Ok(Text::from_vec(bytes))
+    found.push(slot.name.0)?;
+    if slot.mutable {
+        found.push(names.setter(code, slot.name))?;
+    }
+    Ok(())
 }
 
-/// Adds the names of nested classes.
-#[tactic(auto, using(crate::proofs::Selectors::nested_then))]
+/// Adds the numbers of nested classes.
 fn add_nested(
-    alloc: Global,
     code: &CodeProgram,
     nested: &[NestedCode],
-    found: &mut Vec<Text>,
+    found: &mut Vec<u32>,
 ) -> Result<(), NoMemory>
-    ensures { OnOk result (found.new.items ≡ found.old.items ++ spec.texts_of code.now (spec.nested_names code.now nested.now)) }
+    ensures { OnOk result (found.new.items ≡ found.old.items ++ spec.there code.now.names (sound.nested_names code.now nested.now)) }
 {
     'nested: for one in nested {
-        add_class_name(alloc, code, *one, found)?;
+        add_class_name(code, *one, found)?;
     }
     Ok(())
 }
 
-/// Adds the name of a nested class, where it is one.
+/// Adds the number of a nested class's name, where it is a class and has a name.
 fn add_class_name(
-    alloc: Global,
     code: &CodeProgram,
     nested: NestedCode,
-    found: &mut Vec<Text>,
+    found: &mut Vec<u32>,
 ) -> Result<(), NoMemory>
-    ensures { OnOk result (found.new.items ≡ found.old.items ++ spec.texts_of code.now (spec.nested_names code.now (nested ∷ []))) }
+    ensures { OnOk result (found.new.items ≡ found.old.items ++ spec.there code.now.names (sound.nested_names code.now (nested ∷ []))) }
 {
     match class_name(code, nested.class) {
-        Some(name) => add_name(alloc, code, name, found),
+        Some(name) => add_name(code, name, found),
         None => Ok(()),
     }
 }
@@ -120,99 +191,63 @@ fn class_name(code: &CodeProgram, number: u32) -> Option<Sel>
     }
 }
 
-/// Adds the selectors of methods.
-#[tactic(auto, using(crate::proofs::Selectors::name_then))]
+/// Adds the numbers of methods.
 fn add_methods(
-    alloc: Global,
     code: &CodeProgram,
     methods: &[MethodCode],
-    found: &mut Vec<Text>,
+    found: &mut Vec<u32>,
 ) -> Result<(), NoMemory>
-    ensures { OnOk result (found.new.items ≡ found.old.items ++ spec.texts_of code.now (map (λ (method : MethodCode). method.sel.0) methods.now)) }
+    ensures { OnOk result (found.new.items ≡ found.old.items ++ spec.method_numbers code.now.names methods.now) }
 {
     'methods: for method in methods {
-        add_name(alloc, code, method.sel, found)?;
+        add_name(code, method.sel, found)?;
     }
     Ok(())
 }
 
-/// Adds the text of a name, where it is one.
-fn add_name(
-    alloc: Global,
-    code: &CodeProgram,
-    name: Sel,
-    found: &mut Vec<Text>,
-) -> Result<(), NoMemory>
-    ensures { OnOk result (found.new.items ≡ found.old.items ++ spec.texts_of code.now (name.0 ∷ [])) }
+/// Adds a number, where it is a name's.
+fn add_name(code: &CodeProgram, name: Sel, found: &mut Vec<u32>) -> Result<(), NoMemory>
+    ensures { OnOk result (found.new.items ≡ found.old.items ++ spec.there code.now.names (name.0 ∷ [])) }
 {
-    match name_text(code, name) {
-        None => Ok(()),
-        Some(text) => {
-            found.push(Text::of(alloc, text)?)?;
-            Ok(())
-        }
+    if is_name(code, name) {
+        found.push(name.0)?;
     }
+    Ok(())
 }
 
-/// The selectors of the members of the instance side.
-pub fn instance_selectors(
+/// The numbers of the private members of the instance side.
+pub fn private_instance_numbers(
     alloc: Global,
     code: &CodeProgram,
+    names: &NameTable,
     class: &ClassCode,
-) -> Result<Vec<Text>, NoMemory>
-    ensures { IfOk result (λ found. found.items ≡ spec.instance_selectors code.now class.now) }
-{
-    let slots = class.slots.as_slice();
-    let nested = class.nested.as_slice();
-    let methods = class.methods.as_slice();
-    Ok(selectors_of(alloc, code, slots, nested, methods)?)
-}
-
-/// The selectors of the members of the class side.
-pub fn side_selectors(
-    alloc: Global,
-    code: &CodeProgram,
-    class: &ClassCode,
-) -> Result<Vec<Text>, NoMemory>
-    ensures { IfOk result (λ found. found.items ≡ spec.side_selectors code.now class.now) }
-{
-    let mut found = Vec::new(alloc);
-    add_methods(alloc, code, class.side_methods.as_slice(), &mut found)?;
-    Ok(found)
-}
-
-/// The selectors of the private members of the instance side.
-pub fn private_instance_selectors(
-    alloc: Global,
-    code: &CodeProgram,
-    class: &ClassCode,
-) -> Result<Vec<Text>, NoMemory>
-    ensures { IfOk result (λ found. found.items ≡ own.private_instance_selectors code.now class.now) }
+) -> Result<Vec<u32>, NoMemory>
+    requires { spec.IsNameTable code.now names.now }
+    ensures { IfOk result (λ found. found.items ≡ spec.private_instance_numbers code.now class.now) }
 {
     let slots = private_slots(alloc, class.slots.as_slice())?;
     let nested = private_nested(alloc, class.nested.as_slice())?;
     let methods = private_methods(alloc, class.methods.as_slice())?;
-    Ok(selectors_of(
+    Ok(numbers_of(
         alloc,
         code,
+        names,
         slots.as_slice(),
         nested.as_slice(),
         methods.as_slice(),
     )?)
 }
 
-/// The selectors of the private members of the class side.
-pub fn private_side_selectors(
+/// The numbers of the private members of the class side.
+pub fn private_side_numbers(
     alloc: Global,
     code: &CodeProgram,
     class: &ClassCode,
-) -> Result<Vec<Text>, NoMemory>
-    ensures { IfOk result (λ found. found.items ≡ own.private_side_selectors code.now class.now) }
+) -> Result<Vec<u32>, NoMemory>
+    ensures { IfOk result (λ found. found.items ≡ spec.private_side_numbers code.now class.now) }
 {
-    let mut found = Vec::new(alloc);
     let methods = private_methods(alloc, class.side_methods.as_slice())?;
-    add_methods(alloc, code, methods.as_slice(), &mut found)?;
-    Ok(found)
+    Ok(method_numbers(alloc, code, methods.as_slice())?)
 }
 
 fn private_slots(alloc: Global, slots: &[SlotCode]) -> Result<Vec<SlotCode>, NoMemory>

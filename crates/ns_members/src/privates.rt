@@ -1,77 +1,86 @@
 //! The private members of all declarations.
 
-ghost use Rattle.std.specs.Prelude.{◌≡◌, ◌<◌, IfOk, map, slice_get, Some};
-ghost use Rattle.std.specs.List.{list_any};
-ghost use Rattle.std.specs.Str.{bytes_eq};
+ghost use Rattle.std.specs.Prelude.{◌≡◌, ◌<◌, IfOk, length};
+ghost use Rattle.std.specs.List.{AllZip};
 ghost use Rattle.ns_code.specs.declared.class.ClassCode.{ClassCode};
 ghost use Rattle.ns_code.specs.declared.program.CodeProgram.{CodeProgram};
-ghost use Rattle.ns_members.specs.Members as spec;
+ghost use Rattle.ns_members.specs.Members.{has_private};
+ghost use Rattle.ns_members.specs.Numbers as spec;
 
 use crate::kinds::INSTANCES;
-use crate::members::{private_instance_selectors, private_side_selectors};
-use crate::texts::Texts;
+use crate::members::{private_instance_numbers, private_side_numbers};
+use crate::names::NameTable;
+use crate::numbers::Numbers;
 use ns_base::no_memory::NoMemory;
+use ns_base::selector::Sel;
 use ns_code::class::ClassCode;
 use ns_code::program::CodeProgram;
 use std::alloc::Global;
 
-/// The selectors of the private members of a declaration, of both sides.
+/// The numbers of the private members of a declaration, of both sides.
 #[derive(Drop)]
 pub struct Privates {
-    pub instance: Texts,
-    pub side: Texts,
+    pub instance: Numbers,
+    pub side: Numbers,
 }
 
 impl Privates {
     /// Those of a declaration.
-    fn of(alloc: Global, code: &CodeProgram, class: &ClassCode) -> Result<Privates, NoMemory>
-        ensures { IfOk result (λ privates. privates ≡ spec.privates_of code.now class.now) }
+    fn of(
+        alloc: Global,
+        code: &CodeProgram,
+        names: &NameTable,
+        class: &ClassCode,
+    ) -> Result<Privates, NoMemory>
+        requires { spec.IsNameTable code.now names.now }
+        ensures { IfOk result (λ privates. spec.IsPrivatesOf code.now class.now privates) }
     {
-        let instance = private_instances(alloc, code, class)?;
-        let side = private_sides(alloc, code, class)?;
-        Ok(Privates { instance, side })
+        let instance = private_instance_numbers(alloc, code, names, class)?;
+        let side = private_side_numbers(alloc, code, class)?;
+        Ok(Privates {
+            instance: Numbers::of(instance)?,
+            side: Numbers::of(side)?,
+        })
     }
 
-    /// Whether a selector is that of a private member of a side.
-    #[tactic(auto, using(crate::proofs::Sets::among_set))]
-    pub fn has(&self, side: u8, selector: &[u8]) -> bool
-        ensures { (code : CodeProgram) (class : ClassCode) → self.now ≡ spec.privates_of code class → result ≡ list_any (bytes_eq selector.now) (spec.private_selectors code side class) }
+    /// Whether a name is the selector of a private member of a side.
+    pub fn has(&self, side: u8, name: Sel) -> bool
+        ensures { (code : CodeProgram) (class : ClassCode) → spec.IsPrivatesOf code class self.now → name.0 < length code.names →
+            result ≡ has_private code side class name.0 }
     {
         if side == INSTANCES {
-            self.instance.has(selector)
+            self.instance.has(name.0)
         } else {
-            self.side.has(selector)
+            self.side.has(name.0)
         }
     }
 }
 
-/// The selectors of the private members of the instance side.
-fn private_instances(
+/// Those of all declarations, by number.
+pub fn all_privates(
     alloc: Global,
     code: &CodeProgram,
-    class: &ClassCode,
-) -> Result<Texts, NoMemory>
-    ensures { IfOk result (λ set. set ≡ spec.set_of (spec.private_instance_selectors code.now class.now)) }
+    names: &NameTable,
+) -> Result<Vec<Privates>, NoMemory>
+    requires { spec.IsNameTable code.now names.now }
+    ensures { IfOk result (λ all. AllZip (spec.IsPrivatesOf code.now) code.now.classes all.items) }
 {
-    let selectors = private_instance_selectors(alloc, code, class)?;
-    Texts::of(alloc, selectors.as_slice())
+    privates_of(alloc, code, names, code.classes.as_slice())
 }
 
-/// The selectors of the private members of the class side.
-fn private_sides(alloc: Global, code: &CodeProgram, class: &ClassCode) -> Result<Texts, NoMemory>
-    ensures { IfOk result (λ set. set ≡ spec.set_of (spec.private_side_selectors code.now class.now)) }
-{
-    let selectors = private_side_selectors(alloc, code, class)?;
-    Texts::of(alloc, selectors.as_slice())
-}
-
-/// Those of all declarations, by number.
-pub fn all_privates(alloc: Global, code: &CodeProgram) -> Result<Vec<Privates>, NoMemory>
-    ensures { IfOk result (λ all. all.items ≡ spec.all_privates code.now) }
+/// Those of some declarations.
+fn privates_of(
+    alloc: Global,
+    code: &CodeProgram,
+    names: &NameTable,
+    classes: &[ClassCode],
+) -> Result<Vec<Privates>, NoMemory>
+    requires { spec.IsNameTable code.now names.now }
+    ensures { IfOk result (λ all. AllZip (spec.IsPrivatesOf code.now) classes.now all.items) }
 {
     let mut all = Vec::new(alloc);
-    'classes: for class in code.classes.as_slice() {
-        all.push(Privates::of(alloc, code, class)?)?;
+    'classes: for class in classes {
+        all.push(Privates::of(alloc, code, names, class)?)?;
     }
     Ok(all)
 }

@@ -1,9 +1,8 @@
 //! Sets of texts.
 
-ghost use Rattle.std.specs.Prelude.{◌≡◌, [], IfOk, OnOk, fold, not};
+ghost use Rattle.std.specs.Prelude.{◌≡◌, [], IfOk, OnOk, not};
 ghost use Rattle.ns_base.specs.Names.{has, put_in};
 ghost use Rattle.ns_code.specs.Soundness.{are_different};
-ghost use Rattle.ns_members.specs.Members.{set_of};
 
 use indexmap::IndexSet;
 use ns_base::no_memory::NoMemory;
@@ -13,7 +12,7 @@ use std::marker::Model;
 
 /// A set of texts. A clause sees them as a list, in the order in which they came.
 #[derive(Drop)]
-pub struct Texts {
+struct Texts {
     alloc: Global,
     all: IndexSet<Text>,
 }
@@ -50,21 +49,10 @@ impl Texts {
     }
 
     /// Whether a text is among them.
-    pub fn has(&self, text: &[u8]) -> bool
+    fn has(&self, text: &[u8]) -> bool
         ensures { result ≡ has self.now text.now }
     {
         self.all.contains(text)
-    }
-
-    /// The set of some texts.
-    pub fn of(alloc: Global, texts: &[Text]) -> Result<Texts, NoMemory>
-        ensures { IfOk result (λ set. set ≡ set_of texts.now) }
-    {
-        let mut set = Texts::new(alloc);
-        'texts: for text in texts {
-            set.put(text.bytes())?;
-        }
-        Ok(set)
     }
 }
 

@@ -108,6 +108,12 @@ const DONE: &[Row] = &[
         &["run", "Words.ns", "--", "", "--steps=1"],
         ("--steps=1\n", "=> 2\n", 0),
     ),
+    (&["sample", "1"], ("1\nclasses 1 steps 9\n", "=> 1\n", 0)),
+    (&["sample", "3"], ("9\nclasses 3 steps 27\n", "=> 9\n", 0)),
+    (
+        &["sample", "1000"],
+        ("600000\nclasses 1000 steps 204999\n", "=> 600000\n", 0),
+    ),
 ];
 
 /// Each send is a step.
@@ -178,6 +184,24 @@ const BAD_WORDS: &[Row] = &[
     (&["show", "--lib", "H.ns"], ("", "nspk: bad word 1\n", 2)),
     (&["show", "H.ns", "H.ns"], ("", "nspk: bad word 2\n", 2)),
     (&["--help", "run"], ("", "nspk: bad word 1\n", 2)),
+    (&["build"], ("", "nspk: bad word 1\n", 2)),
+    (&["build", "a.img"], ("", "nspk: bad word 2\n", 2)),
+    (
+        &["build", "--steps=5", "a.img", "H.ns"],
+        ("", "nspk: bad word 1\n", 2),
+    ),
+    (&["build", "a.img", "--lib"], ("", "nspk: bad word 2\n", 2)),
+    (&["exec"], ("", "nspk: bad word 1\n", 2)),
+    (&["exec", "--lib", "a.img"], ("", "nspk: bad word 1\n", 2)),
+    (&["exec", "a.img", "b.img"], ("", "nspk: bad word 2\n", 2)),
+    (&["list"], ("", "nspk: bad word 1\n", 2)),
+    (&["list", "a.img", "--"], ("", "nspk: bad word 2\n", 2)),
+    (&["sample"], ("", "nspk: bad word 1\n", 2)),
+    (&["sample", "0"], ("", "nspk: bad word 1\n", 2)),
+    (&["sample", "01"], ("", "nspk: bad word 1\n", 2)),
+    (&["sample", "1001"], ("", "nspk: bad word 1\n", 2)),
+    (&["sample", "1", "2"], ("", "nspk: bad word 2\n", 2)),
+    (&["sample", "--lib", "1"], ("", "nspk: bad word 1\n", 2)),
     (&["walk", "H.ns"], ("", "nspk: bad word 0\n", 2)),
     (&["check"], ("", "nspk: bad word 1\n", 2)),
     (&["check", "-a"], ("", "nspk: bad word 1\n", 2)),
@@ -243,6 +267,15 @@ const REFUSED_FILES: &[Row] = &[
         &["check", "--lib", "Lib.ns"],
         ("", "lib:Collections:1:7: DuplicateTop\n", 2),
     ),
+    (
+        &["build", "a.img", "H.ns", "Super.ns"],
+        ("", "Super.ns:1:21: BareReceiver\n", 2),
+    ),
+    (&["build", "H.ns", "Z.ns"], ("", "Z.ns: Missing\n", 2)),
+    (&["exec", "a.img"], ("", "a.img: Missing\n", 2)),
+    (&["exec", "H.ns"], ("", "H.ns: NotAnImage\n", 2)),
+    (&["list", "a.img"], ("", "a.img: Missing\n", 2)),
+    (&["list", "Empty.ns"], ("", "Empty.ns: NotAnImage\n", 2)),
     (&["run", "Z.ns"], ("", "Z.ns: Missing\n", 2)),
     (
         &["run", "--lib", "H.ns", "Z.ns"],

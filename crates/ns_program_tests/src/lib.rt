@@ -7,6 +7,8 @@ mod command;
 #[cfg(test)]
 mod command_tests;
 #[cfg(test)]
+mod image_tests;
+#[cfg(test)]
 mod limit_tests;
 #[cfg(test)]
 mod run_tests;

@@ -24,6 +24,7 @@ use ns_world::world::World;
 
 /// A new class of a mixin's declaration and enclosing object over another superclass; NotAClass
 /// where the mixin is no class, or the first check that fails.
+#[inline(never)]
 pub fn mixed(world: &mut World, code: &CodeProgram, mixin: Value, over: Value) -> Reached
     requires lawful { IsLawful world.old.world code.now }
     requires mixin { IsLiveValue world.old.world.cells code.now mixin }
@@ -46,6 +47,7 @@ pub fn mixed(world: &mut World, code: &CodeProgram, mixin: Value, over: Value) -
 }
 
 /// A class that was made, or the fault of its making.
+#[inline(never)]
 fn made(class: Result<u32, MakeFault>) -> Reached
     ensures reached { result ≡ class_answered class }
     ensures row { (heap : Heap) → IsOfRow heap result }
@@ -57,6 +59,7 @@ fn made(class: Result<u32, MakeFault>) -> Reached
 }
 
 /// The fault of a class that can't be made, as that of a row.
+#[inline(never)]
 pub fn make_fault(fault: MakeFault) -> Fault
     ensures { result ≡ site.make_fault fault }
 {

@@ -10,7 +10,7 @@ use ns_world::ending::{Fault, Kind};
 use ns_world::value::Value;
 
 /// A value, or a fault at the site of the send.
-#[inline]
+#[inline(always)]
 pub fn answered(answer: Result<Value, Fault>) -> Reached
     ensures reached { result ≡ spec.answered answer }
     ensures row { (heap : Heap) → IsOfRow heap result }

@@ -35,7 +35,7 @@ use ns_world::world::World;
 
 /// What a row of the kernel comes to, with its receiver and its arguments, sent as that selector.
 /// An argument that isn't there is nil. Takes no memory.
-#[inline]
+#[inline(always)]
 pub fn row_reached(
     world: &mut World,
     board: &mut Board,
@@ -78,6 +78,7 @@ pub fn row_reached(
 }
 
 /// What a row of the data of values comes to.
+#[inline(never)]
 fn data_reached(
     world: &mut World,
     code: &CodeProgram,
@@ -112,6 +113,7 @@ fn message_refused(world: &World, message: Value) -> Reached
 }
 
 /// What a row of a facet comes to.
+#[inline(never)]
 fn facet_reached(
     world: &mut World,
     board: &mut Board,
@@ -131,6 +133,7 @@ fn facet_reached(
 }
 
 /// What a row of a mirror comes to.
+#[inline(never)]
 fn mirror_reached(
     world: &mut World,
     code: &CodeProgram,
@@ -150,6 +153,7 @@ fn mirror_reached(
 }
 
 /// The answer of a mirror, the send that it asks for, or its fault.
+#[inline(never)]
 fn mirrored(answer: Result<Mirrored, Fault>) -> Reached
     ensures reached { result ≡ mirror_answered answer }
     ensures row { (heap : Heap) → IsOfRow heap result }

@@ -1,5 +1,9 @@
 pub mod FaultLaws
+pub mod ImageLaws
+pub mod KeepLaws
 pub mod LineLaws
 pub mod PieceLaws
 pub mod ReportLaws
+pub mod SampleLaws
+pub mod StoreLaws
 pub mod TextLaws

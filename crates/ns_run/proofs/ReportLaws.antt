@@ -11,11 +11,13 @@ use Rattle.ns_base.specs.declared.no_memory.NoMemory.{NoMemory}
 use Rattle.ns_base.specs.declared.place.Place.{Place}
 use Rattle.ns_base.specs.declared.status.Status.{Status}
 use Rattle.ns_base.specs.declared.status.Status.TheVariants.{Done, ProgramError, Limit, Refused, ReadFault, WriteFault, Memory}
-use Rattle.ns_run.specs.Meaning.{name_of, of_check, of_run, of_show, of_sized, of_units, run_report}
-use Rattle.ns_run.specs.Outcome.{IsDelivered, IsEnding, IsMissing, Leaves, NamesMissing, SomeOf, TellsMissing, Wrote, missing_line}
+use Rattle.ns_run.specs.Meaning.{files_read, name_of, of_build, of_built, of_check, of_run, of_show, of_sized, of_units}
+use Rattle.ns_run.specs.Run.{run_report}
+use Rattle.ns_exec.specs.Build.{Built, built_of, image, image_too_large, too_large}
+use Rattle.ns_run.specs.Outcome.{IsDelivered, IsEnding, IsMissing, LeavesStreams, NamesMissing, SomeOf, TellsMissing, Wrote, missing_line}
 use Rattle.ns_run.specs.Report.{many_name, refused_file, refused_text, spelling_name, size_name, static_name, told}
 use Rattle.ns_launch.specs.Run.{granted, meant_run}
-use Rattle.ns_run.specs.Task.{Task, Checks, Shows, Runs}
+use Rattle.ns_run.specs.Task.{Task, Checks, Shows, Builds, Runs}
 use Rattle.ns_run.specs.declared.report.Report.{Report}
 use Rattle.ns_run.specs.declared.stop.Stop.{Stop}
 use Rattle.ns_run.specs.declared.stop.Stop.TheVariants as stop
@@ -33,7 +35,7 @@ use Rattle.ns_rules.specs.declared.fault.Placed.{Placed}
 use Rattle.ns_rules.specs.declared.fault.StaticCause.{StaticCause}
 use Rattle.ns_rules.specs.declared.fault.StaticCause.TheVariants as static
 use Rattle.ns_tree.specs.Plain as p
-use Rattle.ns_words.specs.Words.{Reading, names_of}
+use Rattle.ns_words.specs.Words.{Reading}
 use Rattle.ns_world.specs.declared.ending.Ending.{Ending}
 use Rattle.ns_world.specs.declared.ending.Ending.TheVariants as ending
 
@@ -136,9 +138,9 @@ ending_plain report (ending.Done value) h = record { ends = subst IsEnding (sym 
 ending_plain report (ending.Error error) h = record { ends = subst IsEnding (sym h) tt; says = λ name m. cc (sym h ∙ m.0) }
 ending_plain report (ending.Limit limit) h = record { ends = subst IsEnding (sym h) tt; says = λ name m. cc (sym h ∙ m.0) }
 
-pub sized_plain : (limits : Limits) (arguments : List (List ℕ)) (meant : Meant) (kind : Option SizeKind) → IsPlain (of_sized limits arguments meant kind)
-sized_plain limits arguments meant None = ending_plain (run_report (meant_run meant limits arguments)) (ran meant (tables meant) granted arguments limits).ending refl
-sized_plain limits arguments meant (Some kind) = file_plain (codes "nspk") (size_name kind) (size_ends kind)
+pub sized_plain : (limits : Limits) (arguments : List (List ℕ)) (classes : Option ℕ) (meant : Meant) (kind : Option SizeKind) → IsPlain (of_sized limits arguments classes meant kind)
+sized_plain limits arguments classes meant None = ending_plain (run_report classes (meant_run meant limits arguments)) (ran meant (tables meant) granted arguments limits).ending refl
+sized_plain limits arguments classes meant (Some kind) = file_plain (codes "nspk") (size_name kind) (size_ends kind)
 
 pub show_plain : (units : List p.SourceUnit) → IsPlain (of_show units)
 show_plain [] = told_plain []
@@ -148,20 +150,30 @@ pub check_plain : (names : List (List ℕ)) (least : Option Placed) → IsPlain 
 check_plain names None = told_plain _
 check_plain names (Some fault) = text_plain (name_of names fault.place.file) fault.place (static_name fault.cause) (static_ends fault.cause)
 
-pub run_plain : (names : List (List ℕ)) (limits : Limits) (arguments files : List (List ℕ)) (trees : List p.SourceUnit) (places : List (List Place)) (least : Option Placed) → IsPlain (of_run names limits arguments files trees places least)
-run_plain names limits arguments files trees places None = sized_plain limits arguments (meant_of files trees places) (size_fault (code_of (meant_of files trees places)))
-run_plain names limits arguments files trees places (Some fault) = check_plain names (Some fault)
+pub run_plain : (names : List (List ℕ)) (limits : Limits) (arguments : List (List ℕ)) (classes : Option ℕ) (files : List (List ℕ)) (trees : List p.SourceUnit) (places : List (List Place)) (least : Option Placed) → IsPlain (of_run names limits arguments classes files trees places least)
+run_plain names limits arguments classes files trees places None = sized_plain limits arguments classes (meant_of files trees places) (size_fault (code_of (meant_of files trees places)))
+run_plain names limits arguments classes files trees places (Some fault) = check_plain names (Some fault)
+
+pub built_plain : (name : List ℕ) (made : Built) → IsPlain (of_built name made)
+built_plain name (image bytes) = record { ends = tt; says = λ file m. cc (m.0) }
+built_plain name (too_large kind) = file_plain (codes "nspk") (size_name kind) (size_ends kind)
+built_plain name image_too_large = file_plain (codes "nspk") (codes "TooLarge(Image)") (λ front. refl)
+
+pub build_plain : (names : List (List ℕ)) (name : List ℕ) (files : List (List ℕ)) (trees : List p.SourceUnit) (places : List (List Place)) (least : Option Placed) → IsPlain (of_build names name files trees places least)
+build_plain names name files trees places None = built_plain name (built_of (meant_of files trees places))
+build_plain names name files trees places (Some fault) = check_plain names (Some fault)
 
 -- The report of units is plain.
 pub units_plain : (t : Task) (names files : List (List ℕ)) (trees : List p.SourceUnit) (places : List (List Place)) → IsPlain (of_units t names files trees places)
 units_plain Checks names files trees places = check_plain names _
 units_plain Shows names files trees places = show_plain trees
-units_plain (Runs limits arguments) names files trees places = run_plain names limits arguments files trees places _
+units_plain (Builds name) names files trees places = build_plain names name files trees places _
+units_plain (Runs limits arguments classes) names files trees places = run_plain names limits arguments classes files trees places _
 
 -- ---- how a command ends
 
 -- With a status that a report may have, all is written.
-pub leaves_delivered : (r : Report) (s : Status) (o o' e e' : Option (List ℕ)) → IsEnding s → IsDelivered r s o o' e e' → Leaves r s o o' e e'
+pub leaves_delivered : (r : Report) (s : Status) (o o' e e' : Option (List ℕ)) → IsEnding s → IsDelivered r s o o' e e' → LeavesStreams r s o o' e e'
 leaves_delivered r Done o o' e e' i d = d
 leaves_delivered r ProgramError o o' e e' i d = d
 leaves_delivered r Refused o o' e e' i d = d
@@ -218,4 +230,4 @@ some_other names P Q f (k, s) = (k, some_at (slice_get names k) s)
 -- Where a refusal was written, and what was written says that a file isn't there, the refusal says so.
 pub names_missing : (reading : Reading) (r : Report) (old new : Option (List ℕ)) → r.status ≡ Refused → new ≡ with_bytes r.err old → TellsMissing reading old new → NamesMissing reading r
 names_missing reading r old new s d t =
-    some_other (names_of reading) (λ file. Wrote (missing_line file) old new) (λ file. IsMissing file r) (λ file w. names_file file r old new s d w) t
+    some_other (files_read reading) (λ file. Wrote (missing_line file) old new) (λ file. IsMissing file r) (λ file w. names_file file r old new s d w) t

@@ -11,8 +11,8 @@ use Rattle.ns_load.specs.Loaded.{file_names, loaded_texts, stopped, units}
 use Rattle.ns_load.specs.declared.fault.LoadCause.TheVariants.{Missing, TooLong, ReadFault, Spelling}
 use Rattle.ns_load.specs.declared.fault.LoadFault.{LoadFault}
 use Rattle.ns_load.specs.declared.fault.LoadFault.TheVariants.{At, Memory}
-use Rattle.ns_run.specs.Meaning.{meaning, of_fault, of_loading, of_reading, of_texts, of_units}
-use Rattle.ns_run.specs.Outcome.{IsRefusal, OverTexts, SomeTexts}
+use Rattle.ns_run.specs.Meaning.{files_read, meaning, of_fault, of_loading, of_reading, of_texts, of_units}
+use Rattle.ns_run.specs.Outcome.{IsRefusal, NamesMissing, OverTexts, SomeTexts}
 use Rattle.ns_run.specs.Task.{Task}
 use Rattle.ns_run.specs.declared.report.Report.{Report}
 use Rattle.ns_run.specs.declared.stop.Stop.{Stop}
@@ -21,14 +21,15 @@ use Rattle.ns_run.proofs.ReportLaws.{stop_keeps}
 use Rattle.ns_scope.specs.Whole.{IsFileName}
 use Rattle.ns_tree.specs.Plain as p
 use Rattle.ns_words.specs.Forms.{AreNames}
-use Rattle.ns_words.specs.Words.{Reading, is_file_name, names_of, reading_of}
+use Rattle.ns_words.specs.declared.form.Item.TheVariants.{File}
+use Rattle.ns_words.specs.Words.{Reading, is_file_name, reading_of}
 
 -- A word that can name a file does so.
 name_is_file : (name : List ℕ) → IsUtf8 name → is_file_name name ≡ true → IsFileName name
 name_is_file [] u e = absurd (cc (e))
 name_is_file (b ∷ bs) u e = (u, (λ h. cc (h)), grind (arith, nat_tests, e))
 
-pub names_are_files : (names : List (List ℕ)) → All IsUtf8 names → AreNames names → All IsFileName names
+pub names_are_files : (names : List (List ℕ)) → All IsUtf8 names → AreNames File names → All IsFileName names
 names_are_files [] u a = All-nil IsFileName
 names_are_files (name ∷ names) u a =
     All-cons IsFileName name names (name_is_file name (All-head IsUtf8 name names u) a.0) (names_are_files names (All-tail IsUtf8 name names u) a.1)
@@ -56,17 +57,22 @@ empty_texts (name ∷ names) = let t : SomeTexts names (λ texts. Unit {0}) = em
 
 -- Texts of the files of the command that is read.
 pub over_reading : (reading : Reading) (words : List (List ℕ)) (result : Result Report Stop) → reading ≡ reading_of words
-    → SomeTexts (names_of reading) (λ texts. IfOk result (λ r. r ≡ of_reading reading texts)) → OverTexts words (λ report. IfOk result (λ r. r ≡ report))
-over_reading reading words result e h = subst (λ k. SomeTexts (names_of k) (λ texts. IfOk result (λ r. r ≡ of_reading k texts))) e h
+    → SomeTexts (files_read reading) (λ texts. IfOk result (λ r. r ≡ of_reading reading texts)) → OverTexts words (λ report. IfOk result (λ r. r ≡ report))
+over_reading reading words result e h = subst (λ k. SomeTexts (files_read k) (λ texts. IfOk result (λ r. r ≡ of_reading k texts))) e h
 
 -- Where the texts decide nothing, none need be there.
 pub whatever_texts : (names : List (List ℕ)) (P : Type 0) → P → SomeTexts names (λ texts. P)
 whatever_texts names P h = let t : SomeTexts names (λ texts. Unit {0}) = empty_texts names in (t.0, t.1, h)
 
 -- The report of a command that was read is what its words mean.
-pub told_reading : (reading : Reading) (words : List (List ℕ)) (files : Files) (result : Result Report Stop) → reading ≡ reading_of words → IfOk result (λ r. r ≡ of_reading reading (map files (names_of reading)))
+pub told_reading : (reading : Reading) (words : List (List ℕ)) (files : Files) (result : Result Report Stop) → reading ≡ reading_of words → IfOk result (λ r. r ≡ of_reading reading (map files (files_read reading)))
     → IfOk result (λ r. r ≡ meaning words files)
-told_reading reading words files result e h = subst (λ k. IfOk result (λ r. r ≡ of_reading k (map files (names_of k)))) e h
+told_reading reading words files result e h = subst (λ k. IfOk result (λ r. r ≡ of_reading k (map files (files_read k)))) e h
+
+-- What follows where a report says that a file isn't there that the command reads.
+pub missing_of_reading : (reading : Reading) (words : List (List ℕ)) (P : Type 0) (result : Result Report Stop) → reading ≡ reading_of words → IfOk result (λ r. NamesMissing reading r → P)
+    → IfOk result (λ r. NamesMissing (reading_of words) r → P)
+missing_of_reading reading words P result e h = subst (λ k. IfOk result (λ r. NamesMissing k r → P)) e h
 
 -- The report of units is what the texts mean of which they are.
 pub units_of_texts : (t : Task) (own names : List (List ℕ)) (lib : Bool) (texts : List (Option (List ℕ))) (files : List (List ℕ)) (trees : List p.SourceUnit) (places : List (List Place)) (made : Result Report NoMemory) (result : Result Report Stop)

@@ -1,11 +1,14 @@
--- What a command means: the bytes that it writes and its status, over the texts of its files.
-use Rattle.std.specs.Prelude.{ℕ, Bool, List, Option, Some, None, codes, map, ◌++◌, ◌∷◌, [], slice_get}
+-- What a command means: what it stores, the bytes that it writes and its status, over the texts of its files.
+use Rattle.std.specs.Prelude.{ℕ, Bool, false, List, Option, Some, None, codes, map, ◌++◌, ◌∷◌, [], slice_get}
 use Rattle.ns_base.specs.Files.{Files}
 use Rattle.ns_base.specs.declared.limits.Limits.{Limits}
 use Rattle.ns_base.specs.declared.place.Place.{Place}
+use Rattle.ns_exec.specs.Build.{Built, built_of, image, image_too_large}
+use Rattle.ns_exec.specs.Build as built
 use Rattle.ns_gen.specs.Code.{code_of}
 use Rattle.ns_gen.specs.Sizes.{size_fault}
 use Rattle.ns_gen.specs.declared.size.SizeKind.{SizeKind}
+use Rattle.ns_lib.specs.Sample.{sample}
 use Rattle.ns_load.specs.Loaded.{Loading, units, stopped, file_names, loaded_texts}
 use Rattle.ns_load.specs.declared.fault.LoadCause.{LoadCause}
 use Rattle.ns_load.specs.declared.fault.LoadCause.TheVariants.{Missing, TooLong, ReadFault, Spelling}
@@ -14,19 +17,20 @@ use Rattle.ns_load.specs.declared.fault.LoadFault.TheVariants.{At, Memory}
 use Rattle.ns_meant.specs.Classes.{meant_of}
 use Rattle.ns_meant.specs.Program.{Meant}
 use Rattle.ns_print.specs.Printed.{printed}
-use Rattle.ns_run.specs.Report.{bad_word, refused_file, refused_text, spelling_name, static_name, told, too_large}
+use Rattle.ns_run.specs.Report.{bad_word, refused_file, refused_text, spelling_name, static_name, stores, told, too_large}
 use Rattle.ns_launch.specs.Run.{meant_run}
-use Rattle.ns_run.specs.Task.{Task, Checks, Shows, Runs}
+use Rattle.ns_run.specs.Image.{Executes, Lists, of_image}
+use Rattle.ns_run.specs.Run.{run_report}
+use Rattle.ns_run.specs.Task.{Task, Checks, Shows, Builds, Runs}
 use Rattle.ns_run.specs.declared.report.Report.{Report}
-use Rattle.ns_launch.specs.declared.run.Ran.{Ran}
 use Rattle.ns_run.specs.declared.usage.TheConstants.{HELP, VERSION}
 use Rattle.ns_rules.specs.Least.{faults, least}
 use Rattle.ns_rules.specs.declared.fault.Placed.{Placed}
 use Rattle.ns_tree.specs.Flat.{flat}
 use Rattle.ns_tree.specs.Plain as p
-use Rattle.ns_words.specs.Words.{Line, Reading, says, bad, limits_of, names_of, reading_of}
+use Rattle.ns_words.specs.Words.{Line, Reading, says, bad, limits_of, nothing_given, reading_of, sample_number}
 use Rattle.ns_words.specs.declared.form.Verb.{Verb}
-use Rattle.ns_words.specs.declared.form.Verb.TheVariants.{Check, Show, Run, Help, Version}
+use Rattle.ns_words.specs.declared.form.Verb.TheVariants.{Check, Show, Run, Build, Exec, Listing, Sample, Help, Version}
 
 abbrev pub name_from : Option (List ℕ) → List ℕ
 name_from (Some name) = name
@@ -46,29 +50,37 @@ abbrev pub of_show : List p.SourceUnit → Report
 of_show [] = told []
 of_show (unit ∷ more) = told (printed (flat unit))
 
--- A run writes what its program printed, and then its report line.
-abbrev pub run_report : Ran → Report
-run_report ran = record { out = ran.output; err = ran.line; status = ran.status }
-
 -- the run of a program, of which this size is too large: the code of what is meant decides on sizes alone
-abbrev pub of_sized : Limits → List (List ℕ) → Meant → Option SizeKind → Report
-of_sized limits arguments meant None = run_report (meant_run meant limits arguments)
-of_sized limits arguments meant (Some kind) = too_large kind
+abbrev pub of_sized : Limits → List (List ℕ) → Option ℕ → Meant → Option SizeKind → Report
+of_sized limits arguments classes meant None = run_report classes (meant_run meant limits arguments)
+of_sized limits arguments classes meant (Some kind) = too_large kind
 
 -- the run of a program without static faults
-abbrev pub of_meant : Limits → List (List ℕ) → Meant → Report
-of_meant limits arguments meant = of_sized limits arguments meant (size_fault (code_of meant))
+abbrev pub of_meant : Limits → List (List ℕ) → Option ℕ → Meant → Report
+of_meant limits arguments classes meant = of_sized limits arguments classes meant (size_fault (code_of meant))
 
 -- the run of units of files of these names, of which this is the least static fault
-abbrev pub of_run : List (List ℕ) → Limits → List (List ℕ) → List (List ℕ) → List p.SourceUnit → List (List Place) → Option Placed → Report
-of_run names limits arguments files trees places None = of_meant limits arguments (meant_of files trees places)
-of_run names limits arguments files trees places (Some fault) = of_check names (Some fault)
+abbrev pub of_run : List (List ℕ) → Limits → List (List ℕ) → Option ℕ → List (List ℕ) → List p.SourceUnit → List (List Place) → Option Placed → Report
+of_run names limits arguments classes files trees places None = of_meant limits arguments classes (meant_of files trees places)
+of_run names limits arguments classes files trees places (Some fault) = of_check names (Some fault)
+
+-- An image is stored under its name; one that would be too large is refused, as a size of the program is.
+abbrev pub of_built : List ℕ → Built → Report
+of_built name (image bytes) = stores name bytes
+of_built name (built.too_large kind) = too_large kind
+of_built name image_too_large = refused_file (codes "nspk") (codes "TooLarge(Image)")
+
+-- the image of units of files of these names, of which this is the least static fault
+abbrev pub of_build : List (List ℕ) → List ℕ → List (List ℕ) → List p.SourceUnit → List (List Place) → Option Placed → Report
+of_build names name files trees places None = of_built name (built_of (meant_of files trees places))
+of_build names name files trees places (Some fault) = of_check names (Some fault)
 
 -- what is done with the units of files of these names, of which the first are those that the command names
 abbrev pub of_units : Task → List (List ℕ) → List (List ℕ) → List p.SourceUnit → List (List Place) → Report
 of_units Checks names files trees places = of_check names (least (faults trees places))
 of_units Shows names files trees places = of_show trees
-of_units (Runs limits arguments) names files trees places = of_run names limits arguments files trees places (least (faults trees places))
+of_units (Builds name) names files trees places = of_build names name files trees places (least (faults trees places))
+of_units (Runs limits arguments classes) names files trees places = of_run names limits arguments classes files trees places (least (faults trees places))
 
 -- the refusal of a file (none that is told fails to be read)
 abbrev pub of_cause : List ℕ → LoadCause → Report
@@ -94,11 +106,25 @@ of_texts task names lib texts = of_loading task names lib (loaded_texts texts li
 abbrev pub of_files : Task → List (List ℕ) → Bool → Files → Report
 of_files task names lib files = of_texts task names lib (map files names)
 
+-- the image of the program of all files but the first is stored under the name of that; without a name there is none
+abbrev pub of_building : Bool → List (List ℕ) → List (Option (List ℕ)) → Report
+of_building lib [] texts = bad_word 1
+of_building lib (name ∷ names) texts = of_texts (Builds name) names lib texts
+
+-- the sample of that number is run within the default limits, and its classes are counted; without a number there is none
+abbrev pub of_sample : Option ℕ → Report
+of_sample None = bad_word 1
+of_sample (Some n) = of_texts (Runs (limits_of nothing_given) [] (Some n)) (codes "sample" ∷ []) false (Some (sample n) ∷ [])
+
 -- what the command of a line writes over these texts of its files, and its status
 abbrev pub of_line : Verb → Line → List (Option (List ℕ)) → Report
 of_line Check line texts = of_texts Checks line.names line.given.lib texts
 of_line Show line texts = of_texts Shows line.names line.given.lib texts
-of_line Run line texts = of_texts (Runs (limits_of line.given) line.arguments) line.names line.given.lib texts
+of_line Run line texts = of_texts (Runs (limits_of line.given) line.arguments None) line.names line.given.lib texts
+of_line Build line texts = of_building line.given.lib line.names texts
+of_line Exec line texts = of_image (Executes (limits_of line.given) line.arguments) line.names texts
+of_line Listing line texts = of_image Lists line.names texts
+of_line Sample line texts = of_sample (sample_number line.names)
 of_line Help line texts = told HELP.now
 of_line Version line texts = told VERSION.now
 
@@ -107,10 +133,32 @@ abbrev pub of_reading : Reading → List (Option (List ℕ)) → Report
 of_reading (says line) texts = of_line line.verb line texts
 of_reading (bad word) texts = bad_word word
 
+-- all names but the first
+abbrev pub behind_first : List (List ℕ) → List (List ℕ)
+behind_first [] = []
+behind_first (name ∷ names) = names
+
+-- the files that a command reads: those that it names, but for the one that `build` stores
+abbrev pub files_of : Verb → List (List ℕ) → List (List ℕ)
+files_of Check names = names
+files_of Show names = names
+files_of Run names = names
+files_of Build names = behind_first names
+files_of Exec names = names
+files_of Listing names = names
+files_of Sample names = []
+files_of Help names = []
+files_of Version names = []
+
+-- the files that a command reads that was read so
+abbrev pub files_read : Reading → List (List ℕ)
+files_read (says line) = files_of line.verb line.names
+files_read (bad word) = []
+
 -- what the command of these words writes over these texts of its files, and its status
 abbrev pub meaning_of_texts : List (List ℕ) → List (Option (List ℕ)) → Report
 meaning_of_texts words texts = of_reading (reading_of words) texts
 
 -- what the command of these words writes over these files, and its status
 abbrev pub meaning : List (List ℕ) → Files → Report
-meaning words files = meaning_of_texts words (map files (names_of (reading_of words)))
+meaning words files = meaning_of_texts words (map files (files_read (reading_of words)))

@@ -1,5 +1,5 @@
--- What a command writes, and its status.
-use Rattle.std.specs.Prelude.{ℕ, List, [], ◌∷◌, ◌++◌, codes, nat_eq, if◌then◌else◌}
+-- What a command stores and writes, and its status.
+use Rattle.std.specs.Prelude.{ℕ, List, [], ◌∷◌, ◌++◌, Option, Some, None, codes, nat_eq, if◌then◌else◌}
 use Rattle.std.specs.Fmt.{decimal}
 use Rattle.ns_base.specs.declared.place.Place.{Place}
 use Rattle.ns_base.specs.declared.status.Status.TheVariants as status
@@ -49,7 +49,7 @@ size_name size.Height = codes "TooLarge(Height)"
 
 -- A refusal writes its line alone.
 abbrev pub refused : List ℕ → Report
-refused line = record { out = []; err = line; status = status.Refused }
+refused line = record { out = []; err = line; status = status.Refused; stored = None }
 
 -- the refusal of a command line: its first bad word
 abbrev pub bad_word : ℕ → Report
@@ -68,6 +68,14 @@ abbrev pub refused_text : List ℕ → Place → List ℕ → Report
 refused_text file place cause =
     refused (file ++ codes ":" ++ decimal place.line ++ codes ":" ++ decimal place.col ++ codes ": " ++ cause ++ 10 ∷ [])
 
+-- the line that tells of a run how many classes its program has and how many steps it used
+abbrev pub summary : (classes steps : ℕ) → List ℕ
+summary classes steps = codes "classes " ++ decimal classes ++ codes " steps " ++ decimal steps ++ 10 ∷ []
+
 -- A command that only tells a text writes it, and is done.
 abbrev pub told : List ℕ → Report
-told text = record { out = text; err = []; status = status.Done }
+told text = record { out = text; err = []; status = status.Done; stored = None }
+
+-- A command that only stores a file writes nothing, and is done.
+abbrev pub stores : List ℕ → List ℕ → Report
+stores name bytes = record { out = []; err = []; status = status.Done; stored = Some (record { name = name; bytes = bytes }) }

@@ -1,24 +1,28 @@
 -- What is done with a program, apart from where its words lie.
-use Rattle.std.specs.Prelude.{ℕ, List, map, string_bytes}
+use Rattle.std.specs.Prelude.{ℕ, List, Option, map, string_bytes}
 use Rattle.ns_base.specs.Limits.{InRange}
 use Rattle.ns_base.specs.declared.limits.Limits.{Limits}
 use Rattle.ns_run.specs.declared.task.Task as tasks
-use Rattle.ns_run.specs.declared.task.Task.TheVariants.{Check, Show, Run}
+use Rattle.ns_run.specs.declared.task.Task.TheVariants.{Check, Show, Build, Run}
 
--- A program is checked, the canonical source of its first file is told, or it is run within limits, with arguments.
+-- A program is checked, the canonical source of its first file is told, its image is stored under a name, or it is run
+-- within limits, with arguments; where its classes are counted, their number and the steps are told too.
 pub data Task : Type 0 where
   Checks : Task
   Shows : Task
-  Runs : (limits : Limits) (arguments : List (List ℕ)) → Task
+  Builds : (image : List ℕ) → Task
+  Runs : (limits : Limits) (arguments : List (List ℕ)) (classes : Option ℕ) → Task
 
 -- the task that the code's stands for
 abbrev pub task_of : tasks.Task → Task
 task_of Check = Checks
 task_of Show = Shows
-task_of (Run limits arguments) = Runs limits (map string_bytes arguments.now)
+task_of (Build image) = Builds image.now
+task_of (Run limits arguments classes) = Runs limits (map string_bytes arguments.now) classes
 
 -- The limits of a run are in their ranges.
 abbrev pub RunsInRange : Task → Type 0
 RunsInRange Checks = Unit {0}
 RunsInRange Shows = Unit {0}
-RunsInRange (Runs limits arguments) = InRange limits
+RunsInRange (Builds image) = Unit {0}
+RunsInRange (Runs limits arguments classes) = InRange limits

@@ -1,10 +1,12 @@
 //! How causes of a refusal are written.
 
 ghost use Rattle.std.specs.Prelude.{◌≡◌};
+ghost use Rattle.ns_run.specs.Image.{verify_name as verify_name_lem};
 ghost use Rattle.ns_run.specs.Report as spec;
 
 use ns_gen::size::SizeKind;
 use ns_rules::fault::{Many, StaticCause};
+use ns_verify::fault::VerifyCause;
 
 /// What is wrong with a text, by the number that the loader gives.
 pub fn spelling_name(number: u8) -> &'static str
@@ -60,5 +62,19 @@ pub fn size_name(kind: SizeKind) -> &'static str
         SizeKind::Bodies => "TooLarge(Bodies)",
         SizeKind::Code => "TooLarge(Code)",
         SizeKind::Height => "TooLarge(Height)",
+    }
+}
+
+/// Why code isn't admitted.
+pub fn verify_name(cause: VerifyCause) -> &'static str
+    ensures { result.now ≡ verify_name_lem cause }
+{
+    match cause {
+        VerifyCause::BadJump => "BadJump",
+        VerifyCause::BadHeight => "BadHeight",
+        VerifyCause::BadSlot => "BadSlot",
+        VerifyCause::BadScope => "BadScope",
+        VerifyCause::BadLiteral => "BadLiteral",
+        VerifyCause::NoReturn => "NoReturn",
     }
 }

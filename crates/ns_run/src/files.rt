@@ -3,10 +3,8 @@
 ghost use Rattle.std.specs.Prelude.{◌≡◌, ◌≤◌, map, ℕ, List, Some, All, IfOk, IsErrOf, IsSome, IsUtf8, length, string_bytes};
 ghost use Rattle.ns_base.specs.Count.{Rose};
 ghost use Rattle.ns_base.specs.Files.{Files};
-ghost use Rattle.ns_base.specs.Limits.{InRange};
 ghost use Rattle.ns_base.specs.Shelf.{OnlyRead};
 ghost use Rattle.ns_load.specs.declared.fault.LoadCause.TheVariants.{ReadFault};
-ghost use Rattle.ns_meant.specs.Classes.{meant};
 ghost use Rattle.ns_print.specs.Printed.{printed};
 ghost use Rattle.ns_run.specs.Meaning as spec;
 ghost use Rattle.ns_run.specs.Outcome.{IsEnding, IsMissing, IsReadFault, IsRefusal, IsRefusedFor, SomeOf, SomeTexts};
@@ -18,23 +16,23 @@ ghost use Rattle.ns_tree.specs.Flat.{flat};
 ghost use Rattle.ns_tree.specs.PlainOf.{unit_of};
 ghost use Rattle.ns_words.specs.Forms.{AreFiles};
 
-use crate::cause::{size_name, spelling_name, static_name};
+use crate::build::on_build;
+use crate::cause::{spelling_name, static_name};
 use crate::report::{Report, refused_file, refused_text, told, told_text};
+use crate::run::on_run;
 use crate::stop::{Stop, or_stop};
 use crate::task::Task;
-use ns_base::limits::Limits;
 use ns_base::no_memory::NoMemory;
 use ns_base::place::Place;
 use ns_base::shelf::Shelf;
 use ns_base::text::Text;
-use ns_launch::run::{Ran, RunFault, run_source};
 use ns_load::fault::{LoadCause, LoadFault};
 use ns_load::load::load;
 use ns_load::names::names_of;
 use ns_print::print::print;
 use ns_rules::fault::StaticCause;
 use ns_scope::program::Program;
-use ns_static::check::{Checked, check};
+use ns_static::check::check;
 use ns_static::fault::StaticFault;
 use ns_tree::tree::Unit;
 use std::alloc::Global;
@@ -55,7 +53,7 @@ pub fn on_files<S: Shelf>(
     ensures only_read { OnlyRead S.holds S.misses S.faults S.store_faults shelf.old shelf.new }
     ensures read_fault { IsErrOf result Stop.ReadFault → Rose (S.faults shelf.old) (S.faults shelf.new) }
     ensures read_fault_there { (files : Files) → S.holds shelf.old ≡ Some files → IsErrOf result Stop.ReadFault → SomeOf (map string_bytes names.now) (λ file. IsSome (files file)) }
-    ensures missing { IfOk result (λ r. (name : List ℕ) → IsMissing name r → Rose (S.misses shelf.old) (S.misses shelf.new)) }
+    ensures missing { IfOk result (λ r. SomeOf (map string_bytes names.now) (λ file. IsMissing file r) → Rose (S.misses shelf.old) (S.misses shelf.new)) }
 {
     match names_of(alloc, names) {
         Ok(texts) => on_texts(alloc, task, lib, names, texts.as_slice(), shelf),
@@ -143,7 +141,12 @@ fn on_program(
     match task {
         Task::Check => on_check(alloc, names, program),
         Task::Show => on_show(alloc, program.units.as_slice()),
-        Task::Run { limits, arguments } => on_run(alloc, names, limits, arguments, program),
+        Task::Build { image } => on_build(alloc, names, image, program),
+        Task::Run {
+            limits,
+            arguments,
+            classes,
+        } => on_run(alloc, names, limits, arguments, classes, program),
     }
 }
 
@@ -160,7 +163,7 @@ fn on_check(alloc: Global, names: &[String], program: Program) -> Result<Report,
 }
 
 /// The report of a program with that fault at that place.
-fn on_static_fault(
+pub fn on_static_fault(
     alloc: Global,
     names: &[String],
     place: Place,
@@ -179,62 +182,6 @@ fn on_show(alloc: Global, units: &[Unit]) -> Result<Report, NoMemory>
     match units {
         [] => told_text(alloc, ""),
         [unit, ..] => shown(alloc, unit),
-    }
-}
-
-/// The report of the run of a program.
-fn on_run(
-    alloc: Global,
-    names: &[String],
-    limits: Limits,
-    arguments: &[String],
-    program: Program,
-) -> Result<Report, NoMemory>
-    requires whole { IsWhole program }
-    requires range { InRange limits }
-    ensures { IfOk result (λ r. r ≡ spec.of_run (map string_bytes names.now) limits (map string_bytes arguments.now) program.files (map unit_of program.units) program.marks (fault_of program)) }
-{
-    match check(alloc, program) {
-        Ok(checked) => {
-            let arguments = names_of(alloc, arguments)?;
-            run(alloc, limits, arguments.as_slice(), &checked)
-        }
-        Err(StaticFault::At { cause, place }) => on_static_fault(alloc, names, place, cause),
-        Err(StaticFault::Memory) => Err(NoMemory),
-    }
-}
-
-/// The report of the run of a program without static faults.
-fn run(
-    alloc: Global,
-    limits: Limits,
-    arguments: &[Text],
-    checked: &Checked,
-) -> Result<Report, NoMemory>
-    requires { InRange limits }
-    ensures { IfOk result (λ r. r ≡ spec.of_meant limits arguments.now (meant checked.now)) }
-{
-    match run_source(alloc, checked, limits, arguments) {
-        Ok(ran) => Ok(run_report(ran)),
-        Err(RunFault::TooLarge(kind)) => refused_file(alloc, "nspk", size_name(kind)),
-        Err(RunFault::Memory) => Err(NoMemory),
-    }
-}
-
-/// The report of a run.
-fn run_report(ran: Ran) -> Report
-    ensures { result ≡ spec.run_report ran }
-{
-    let Ran {
-        output,
-        line,
-        status,
-        ..
-    } = ran;
-    Report {
-        out: output,
-        err: line,
-        status,
     }
 }
 

@@ -1,20 +1,38 @@
-//! What a command is to write, and the status with which it ends.
+//! What a command is to store and to write, and the status with which it ends.
 
 ghost use Rattle.std.specs.Prelude.{◌≡◌, IfOk, string_bytes};
-ghost use Rattle.ns_run.specs.Report.{bad_word as bad_word_lem, refused as refused_lem, refused_file as refused_file_lem, refused_text as refused_text_lem, told as told_lem};
+ghost use Rattle.ns_run.specs.Report.{bad_word as bad_word_lem, refused as refused_lem, refused_file as refused_file_lem, refused_text as refused_text_lem, stores as stores_lem, told as told_lem};
 
 use ns_base::no_memory::NoMemory;
 use ns_base::place::Place;
 use ns_base::status::Status;
 use ns_base::text::Text;
 use std::alloc::Global;
+use std::marker::Model;
 
-/// The bytes for each stream, and the status.
+/// A file to be stored.
+#[derive(Drop)]
+pub struct Stored {
+    pub name: String,
+    pub bytes: Text,
+}
+
+impl Model for Stored {
+    ghost use Rattle.std.specs.Prelude.{string_bytes};
+    ghost use Rattle.ns_run.specs.Store.{FileStored};
+
+    ghost Value = { FileStored };
+
+    ghost view = { λ s. record { name = string_bytes s.name; bytes = s.bytes } };
+}
+
+/// The bytes for each stream, the status, and what is stored before any byte is written.
 #[derive(Drop)]
 pub struct Report {
     pub out: Text,
     pub err: Text,
     pub status: Status,
+    pub stored: Option<Stored>,
 }
 
 /// The report of a command line of which no form begins with the words up to this one.
@@ -41,6 +59,7 @@ fn refused(alloc: Global, line: String) -> Report
         out: Text::from_vec(Vec::new(alloc)),
         err: Text::from_vec(line.into_bytes()),
         status: Status::Refused,
+        stored: None,
     }
 }
 
@@ -66,6 +85,7 @@ pub fn told(alloc: Global, text: Text) -> Report
         out: text,
         err: Text::from_vec(Vec::new(alloc)),
         status: Status::Done,
+        stored: None,
     }
 }
 
@@ -75,4 +95,17 @@ pub fn told_text(alloc: Global, text: &str) -> Result<Report, NoMemory>
 {
     let text = Text::of(alloc, text.as_bytes())?;
     Ok(told(alloc, text))
+}
+
+/// The report of a command that only stores these bytes under that name.
+pub fn stores(alloc: Global, name: &str, bytes: Text) -> Result<Report, NoMemory>
+    ensures { IfOk result (λ r. r ≡ stores_lem name.now bytes) }
+{
+    let name = String::from_str(alloc, name)?;
+    Ok(Report {
+        out: Text::from_vec(Vec::new(alloc)),
+        err: Text::from_vec(Vec::new(alloc)),
+        status: Status::Done,
+        stored: Some(Stored { name, bytes }),
+    })
 }

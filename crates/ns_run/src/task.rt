@@ -1,4 +1,4 @@
-//! What a command does with its files.
+//! What a command does with its files, or with its image.
 
 use ns_base::limits::Limits;
 
@@ -9,9 +9,27 @@ pub enum Task<'a> {
     Check,
     /// The canonical source of its first file is written.
     Show,
-    /// It is run within these limits, with these arguments.
+    /// Its image is stored under this name.
+    Build {
+        image: &'a str,
+    },
+    /// It is run within these limits, with these arguments. Where its classes are counted, their
+    /// number and the steps are told behind its output.
     Run {
         limits: Limits,
         arguments: &'a [String],
+        classes: Option<u32>,
     },
+}
+
+/// What is done with an image.
+#[derive(Drop)]
+pub enum ImageTask<'a> {
+    /// It is run within these limits, with these arguments.
+    Exec {
+        limits: Limits,
+        arguments: &'a [String],
+    },
+    /// Its code is listed.
+    Listing,
 }

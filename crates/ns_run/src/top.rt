@@ -1,33 +1,37 @@
 //! The top call: from the words of a command to what is written.
 
-ghost use Rattle.std.specs.Prelude.{◌≡◌, ◌⊎◌, ◌≤◌, map, ℕ, List, Some, IfOk, IsErrOf, IsSome, string_bytes};
+ghost use Rattle.std.specs.Prelude.{◌≡◌, ◌⊎◌, ◌≤◌, map, length, ℕ, List, None, Some, IfOk, IsErrOf, IsSome, string_bytes};
 ghost use Rattle.ns_base.specs.Count.{Rose};
 ghost use Rattle.ns_base.specs.Files.{Files};
 ghost use Rattle.ns_base.specs.Limits.{InRange};
 ghost use Rattle.ns_base.specs.Shelf.{OnlyRead};
 ghost use Rattle.ns_run.specs.Meaning as spec;
-ghost use Rattle.ns_run.specs.Outcome.{HasAFile, IsEnding, IsMissing, Leaves, NamesMissing, OverTexts, SomeOf, SomeTexts, TellsMissing};
+ghost use Rattle.ns_run.specs.Image.{ImageInRange, of_image, work_of};
+ghost use Rattle.ns_run.specs.Outcome.{HasAFile, IsEnding, IsMissing, IsWritten, Leaves, LeavesFiles, LeavesStreams, NamesMissing, OfFiles, OverTexts, SomeOf, SomeTexts, StoresNothing, TellsMissing};
 ghost use Rattle.ns_run.specs.Report.{bad_word as bad_word_lem};
-ghost use Rattle.ns_words.specs.Forms.{IsSpelled};
+ghost use Rattle.ns_words.specs.Forms.{AreFiles, IsSpelled};
 ghost use Rattle.ns_words.specs.Line.{line_seen};
-ghost use Rattle.ns_words.specs.Words.{first_bad, limits_of, reading_of};
+ghost use Rattle.ns_words.specs.Words.{Reading, first_bad, limits_of, reading_of};
 
 use crate::deliver::deliver;
 use crate::files::on_files;
+use crate::image::on_image;
+use crate::keep::{Unkept, keep};
 use crate::report::{Report, bad_word, told_text};
+use crate::sample::on_sample;
 use crate::stop::{Stop, or_stop};
-use crate::task::Task;
+use crate::task::{ImageTask, Task};
 use crate::usage::{HELP, VERSION};
 use ns_base::no_memory::NoMemory;
 use ns_base::shelf::Shelf;
 use ns_base::sink::Sink;
 use ns_base::status::Status;
 use ns_words::form::Verb;
-use ns_words::words::{BadWord, Line, first_bad, words};
+use ns_words::words::{BadWord, Line, first_bad, sample_number, words};
 use std::alloc::Global;
 
-/// Carries out the command of these words: reads from the shelf, and writes what the command means
-/// to `out`, and then to `err`. No file is changed.
+/// Carries out the command of these words: reads from the shelf, stores what the command means to
+/// store, and writes what it means to `out`, and then to `err`.
 pub fn nspk<S: Shelf, O: Sink, E: Sink>(
     alloc: Global,
     words: &[String],
@@ -35,28 +39,61 @@ pub fn nspk<S: Shelf, O: Sink, E: Sink>(
     out: &mut O,
     err: &mut E,
 ) -> Status
-    // Over files that are told, the streams are left as the command's meaning says.
-    ensures told { (files : Files) → S.holds shelf.old ≡ Some files → Leaves (spec.meaning (map string_bytes words.now) files) result (O.written out.old) (O.written out.new) (E.written err.old) (E.written err.new) }
-    // Over any shelf there are texts of the command's files, over which its meaning says how the streams are left.
-    ensures texts { OverTexts (map string_bytes words.now) (λ report. Leaves report result (O.written out.old) (O.written out.new) (E.written err.old) (E.written err.new)) }
-    ensures files_stand { S.holds shelf.new ≡ S.holds shelf.old }
+    // Over files that are told, the files and the streams are left as the command's meaning says.
+    ensures told { (files : Files) → S.holds shelf.old ≡ Some files → Leaves (spec.meaning (map string_bytes words.now) files) result (S.holds shelf.old) (S.holds shelf.new) (O.written out.old) (O.written out.new) (E.written err.old) (E.written err.new) }
+    // Over any shelf there are texts of the command's files, over which its meaning says how all is left.
+    ensures texts { OverTexts (map string_bytes words.now) (λ report. Leaves report result (S.holds shelf.old) (S.holds shelf.new) (O.written out.old) (O.written out.new) (E.written err.old) (E.written err.new)) }
+    // No command but `build` changes a file or stores one.
+    ensures only_read { StoresNothing (reading_of (map string_bytes words.now)) → OnlyRead S.holds S.misses S.faults S.store_faults shelf.old shelf.new }
 
     // Each fault has its cause.
     ensures read_fault { result ≡ Status.ReadFault → Rose (S.faults shelf.old) (S.faults shelf.new) }
     ensures read_fault_there { (files : Files) → S.holds shelf.old ≡ Some files → result ≡ Status.ReadFault → HasAFile (reading_of (map string_bytes words.now)) files }
-    ensures write_fault { result ≡ Status.WriteFault → (Rose (O.faults out.old) (O.faults out.new)) ⊎ (Rose (E.faults err.old) (E.faults err.new)) }
+    ensures write_fault { result ≡ Status.WriteFault → (Rose (S.store_faults shelf.old) (S.store_faults shelf.new)) ⊎ ((Rose (O.faults out.old) (O.faults out.new)) ⊎ (Rose (E.faults err.old) (E.faults err.new))) }
     ensures missing { result ≡ Status.Refused → TellsMissing (reading_of (map string_bytes words.now)) (E.written err.old) (E.written err.new) → Rose (S.misses shelf.old) (S.misses shelf.new) }
 {
     match work(alloc, words, shelf) {
         Err(Stop::ReadFault) => Status::ReadFault,
         Err(Stop::Memory) => Status::Memory,
-        Ok(report) => {
-            if deliver(&report, out, err) {
-                report.status
-            } else {
-                Status::WriteFault
-            }
-        }
+        Ok(report) => finish(&report, shelf, out, err),
+    }
+}
+
+/// Stores and writes what the report says.
+fn finish<S: Shelf, O: Sink, E: Sink>(
+    report: &Report,
+    shelf: &mut S,
+    out: &mut O,
+    err: &mut E,
+) -> Status
+    requires { IsEnding report.now.status }
+    ensures files { OfFiles (LeavesFiles report.now result) (S.holds shelf.old) (S.holds shelf.new) }
+    ensures streams { LeavesStreams report.now result (O.written out.old) (O.written out.new) (E.written err.old) (E.written err.new) }
+    ensures only_read { report.now.stored ≡ None → OnlyRead S.holds S.misses S.faults S.store_faults shelf.old shelf.new }
+    ensures misses { S.misses shelf.new ≡ S.misses shelf.old }
+    ensures no_read_fault { result ≡ Status.ReadFault → ⊥ }
+    ensures write_fault { result ≡ Status.WriteFault → (Rose (S.store_faults shelf.old) (S.store_faults shelf.new)) ⊎ ((Rose (O.faults out.old) (O.faults out.new)) ⊎ (Rose (E.faults err.old) (E.faults err.new))) }
+    ensures missing { (reading : Reading) → result ≡ Status.Refused → TellsMissing reading (E.written err.old) (E.written err.new) → NamesMissing reading report.now }
+{
+    match keep(report, shelf) {
+        Err(Unkept::Failed) => Status::WriteFault,
+        Err(Unkept::Memory) => Status::Memory,
+        Ok(()) => write(report, out, err),
+    }
+}
+
+/// Writes what the report says.
+fn write<O: Sink, E: Sink>(report: &Report, out: &mut O, err: &mut E) -> Status
+    requires { IsEnding report.now.status }
+    ensures streams { LeavesStreams report.now result (O.written out.old) (O.written out.new) (E.written err.old) (E.written err.new) }
+    ensures status { IsWritten report.now.status result }
+    ensures write_fault { result ≡ Status.WriteFault → (Rose (O.faults out.old) (O.faults out.new)) ⊎ (Rose (E.faults err.old) (E.faults err.new)) }
+    ensures missing { (reading : Reading) → result ≡ Status.Refused → TellsMissing reading (E.written err.old) (E.written err.new) → NamesMissing reading report.now }
+{
+    if deliver(report, out, err) {
+        report.status
+    } else {
+        Status::WriteFault
     }
 }
 
@@ -68,7 +105,7 @@ pub fn refuse_cut<O: Sink, E: Sink>(
     out: &mut O,
     err: &mut E,
 ) -> Status
-    ensures told { Leaves (bad_word_lem (first_bad (map string_bytes words.now))) result (O.written out.old) (O.written out.new) (E.written err.old) (E.written err.new) }
+    ensures told { LeavesStreams (bad_word_lem (first_bad (map string_bytes words.now))) result (O.written out.old) (O.written out.new) (E.written err.old) (E.written err.new) }
     ensures write_fault { result ≡ Status.WriteFault → (Rose (O.faults out.old) (O.faults out.new)) ⊎ (Rose (E.faults err.old) (E.faults err.new)) }
 {
     match bad_word(alloc, first_bad(words)) {
@@ -103,13 +140,13 @@ fn work<S: Shelf>(alloc: Global, line: &[String], shelf: &mut S) -> Result<Repor
 fn on_line<S: Shelf>(alloc: Global, line: Line<'_>, shelf: &mut S) -> Result<Report, Stop>
     requires form { IsSpelled (line_seen line) }
     requires range { InRange (limits_of line.given) }
-    ensures told { (files : Files) → S.holds shelf.old ≡ Some files → IfOk result (λ r. r ≡ spec.of_line line.entry.verb (line_seen line.entry) (map files (line_seen line.entry).names)) }
-    ensures texts { SomeTexts (line_seen line.entry).names (λ texts. IfOk result (λ r. r ≡ spec.of_line line.entry.verb (line_seen line.entry) texts)) }
+    ensures told { (files : Files) → S.holds shelf.old ≡ Some files → IfOk result (λ r. r ≡ spec.of_line line.entry.verb (line_seen line.entry) (map files (spec.files_of line.entry.verb (line_seen line.entry).names))) }
+    ensures texts { SomeTexts (spec.files_of line.entry.verb (line_seen line.entry).names) (λ texts. IfOk result (λ r. r ≡ spec.of_line line.entry.verb (line_seen line.entry) texts)) }
     ensures ending { IfOk result (λ r. IsEnding r.status) }
     ensures only_read { OnlyRead S.holds S.misses S.faults S.store_faults shelf.old shelf.new }
     ensures read_fault { IsErrOf result Stop.ReadFault → Rose (S.faults shelf.old) (S.faults shelf.new) }
-    ensures read_fault_there { (files : Files) → S.holds shelf.old ≡ Some files → IsErrOf result Stop.ReadFault → SomeOf (line_seen line.entry).names (λ file. IsSome (files file)) }
-    ensures missing { IfOk result (λ r. (name : List ℕ) → IsMissing name r → Rose (S.misses shelf.old) (S.misses shelf.new)) }
+    ensures read_fault_there { (files : Files) → S.holds shelf.old ≡ Some files → IsErrOf result Stop.ReadFault → SomeOf (spec.files_of line.entry.verb (line_seen line.entry).names) (λ file. IsSome (files file)) }
+    ensures missing { IfOk result (λ r. SomeOf (spec.files_of line.entry.verb (line_seen line.entry).names) (λ file. IsMissing file r) → Rose (S.misses shelf.old) (S.misses shelf.new)) }
 {
     let Line {
         verb,
@@ -120,12 +157,75 @@ fn on_line<S: Shelf>(alloc: Global, line: Line<'_>, shelf: &mut S) -> Result<Rep
     match verb {
         Verb::Check => on_files(alloc, Task::Check, given.lib, names, shelf),
         Verb::Show => on_files(alloc, Task::Show, given.lib, names, shelf),
+        Verb::Build => on_building(alloc, given.lib, names, shelf),
+        Verb::Exec => {
+            let limits = given.limits();
+            let task = ImageTask::Exec { limits, arguments };
+            on_first(alloc, task, names, shelf)
+        }
+        Verb::Listing => on_first(alloc, ImageTask::Listing, names, shelf),
         Verb::Run => {
             let limits = given.limits();
-            let task = Task::Run { limits, arguments };
+            let task = Task::Run {
+                limits,
+                arguments,
+                classes: None,
+            };
             on_files(alloc, task, given.lib, names, shelf)
         }
+        Verb::Sample => match sample_number(names) {
+            Some(n) => on_sample(alloc, n),
+            None => or_stop(bad_word(alloc, 1)),
+        },
         Verb::Help => or_stop(told_text(alloc, HELP)),
         Verb::Version => or_stop(told_text(alloc, VERSION)),
+    }
+}
+
+/// The report of the image of the program of all files but the first, which names the image.
+fn on_building<S: Shelf>(
+    alloc: Global,
+    lib: bool,
+    names: &[String],
+    shelf: &mut S,
+) -> Result<Report, Stop>
+    requires { AreFiles (spec.behind_first (map string_bytes names.now)) }
+    ensures told { (files : Files) → S.holds shelf.old ≡ Some files → IfOk result (λ r. r ≡ spec.of_building lib (map string_bytes names.now) (map files (spec.behind_first (map string_bytes names.now)))) }
+    ensures texts { SomeTexts (spec.behind_first (map string_bytes names.now)) (λ texts. IfOk result (λ r. r ≡ spec.of_building lib (map string_bytes names.now) texts)) }
+    ensures ending { IfOk result (λ r. IsEnding r.status) }
+    ensures only_read { OnlyRead S.holds S.misses S.faults S.store_faults shelf.old shelf.new }
+    ensures read_fault { IsErrOf result Stop.ReadFault → Rose (S.faults shelf.old) (S.faults shelf.new) }
+    ensures read_fault_there { (files : Files) → S.holds shelf.old ≡ Some files → IsErrOf result Stop.ReadFault → SomeOf (spec.behind_first (map string_bytes names.now)) (λ file. IsSome (files file)) }
+    ensures missing { IfOk result (λ r. SomeOf (spec.behind_first (map string_bytes names.now)) (λ file. IsMissing file r) → Rose (S.misses shelf.old) (S.misses shelf.new)) }
+{
+    match names {
+        [] => or_stop(bad_word(alloc, 1)),
+        [image, files @ ..] => {
+            let image = image.as_str();
+            on_files(alloc, Task::Build { image }, lib, files, shelf)
+        }
+    }
+}
+
+/// The report of what is done with the image that is the one name.
+fn on_first<S: Shelf>(
+    alloc: Global,
+    task: ImageTask<'_>,
+    names: &[String],
+    shelf: &mut S,
+) -> Result<Report, Stop>
+    requires one { length names.now ≡ 1 }
+    requires range { ImageInRange (work_of task) }
+    ensures told { (files : Files) → S.holds shelf.old ≡ Some files → IfOk result (λ r. r ≡ of_image (work_of task.entry) (map string_bytes names.now) (map files (map string_bytes names.now))) }
+    ensures texts { SomeTexts (map string_bytes names.now) (λ texts. IfOk result (λ r. r ≡ of_image (work_of task.entry) (map string_bytes names.now) texts)) }
+    ensures ending { IfOk result (λ r. IsEnding r.status) }
+    ensures only_read { OnlyRead S.holds S.misses S.faults S.store_faults shelf.old shelf.new }
+    ensures read_fault { IsErrOf result Stop.ReadFault → Rose (S.faults shelf.old) (S.faults shelf.new) }
+    ensures read_fault_there { (files : Files) → S.holds shelf.old ≡ Some files → IsErrOf result Stop.ReadFault → SomeOf (map string_bytes names.now) (λ file. IsSome (files file)) }
+    ensures missing { IfOk result (λ r. SomeOf (map string_bytes names.now) (λ file. IsMissing file r) → Rose (S.misses shelf.old) (S.misses shelf.new)) }
+{
+    match names {
+        [name] => on_image(alloc, task, name.as_str(), shelf),
+        _ => or_stop(bad_word(alloc, 1)),
     }
 }

@@ -4,15 +4,19 @@
 pub const HELP: &str = "nspk runs Newspeak, in a profile with 64-bit integers
 
 usage:
-  nspk check [--lib] FILE ..                says whether the files are a program
-  nspk show FILE                            writes the canonical source of FILE
-  nspk run [OPTION ..] FILE .. [-- ARG ..]  runs the class of the first FILE
-  nspk --help                               tells this
-  nspk --version                            tells the version
+  nspk check [--lib] FILE ..                 says whether the files are a program
+  nspk show FILE                             writes the canonical source of FILE
+  nspk run [OPTION ..] FILE .. [-- ARG ..]   runs the class of the first FILE
+  nspk build [--lib] IMAGE FILE ..           stores the code of the files as IMAGE
+  nspk exec [OPTION ..] IMAGE [-- ARG ..]    runs IMAGE
+  nspk list IMAGE                            writes the code of IMAGE
+  nspk sample N                              runs a program of N classes: 1 to 1000
+  nspk --help                                tells this
+  nspk --version                             tells the version
 
 There are at most 16 files and 255 arguments. Options stand before the files,
 in any order, and each at most once:
-  --lib      the library is the last of the files
+  --lib      the library is the last of the files (not with exec)
   --steps=N  within N steps: 1 to 1000000000000, without it 10000000
   --cells=N  within N cells of the heap: 1 to 64000000, without it 4000000
   --depth=N  with at most N live frames: 1 to 100000, without it 10000
@@ -22,10 +26,10 @@ N is a decimal number without a zero in front.
 exit status:
   0  done
   1  the program ended in an error
-  2  the words, a file, or a size of the program were refused
+  2  the words, a file, or a size of the program or its image were refused
   3  a limit was reached
   4  the file could not be read
-  5  a stream could not be written
+  5  a stream or the image could not be written
   6  no memory was found
 ";
 

@@ -31,7 +31,7 @@ pub enum Row {
 }
 
 /// The rows in the order of the kernel's table, class by class.
-const ROWS: [Row; 81] = [
+static ROWS: [Row; 81] = [
     // all values
     Row::Data(DataRow::Identical),
     Row::Data(DataRow::Equal),
@@ -128,6 +128,7 @@ const ROWS: [Row; 81] = [
 ];
 
 /// The row of a number, counted from 0 in the order of the kernel's table.
+#[inline(always)]
 pub fn row_of(number: u32) -> Row
     requires { number < 81 }
     ensures { result ≡ row_at number }

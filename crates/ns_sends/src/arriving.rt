@@ -63,6 +63,7 @@ pub fn begin_method(
 }
 
 /// Lets a send with the elements of an array wait, at a site of its own.
+#[inline(never)]
 #[tactic(auto, using(crate::proofs::Arrived::send_waits))]
 pub fn perform(
     code: &CodeProgram,

@@ -15,6 +15,7 @@ use ns_frames::registers::Registers;
 use ns_world::ending::{Fault, Kind};
 
 /// Ends the run by a fault.
+#[inline(never)]
 #[tactic(auto, using(crate::proofs::Ended::fault_ends))]
 pub fn fail(code: &CodeProgram, core: &mut Core, at: Registers, sent: Sent, fault: Fault) -> Next
     ensures { Arrives code.now core.old at sent.floor (control_at code.now core.old at sent (reached.Fails fault)) core.new result }
@@ -25,6 +26,7 @@ pub fn fail(code: &CodeProgram, core: &mut Core, at: Registers, sent: Sent, faul
 }
 
 /// Ends the run by the refusal of a Message of that selector.
+#[inline(never)]
 #[tactic(auto, using(crate::proofs::Ended::refusal_ends))]
 pub fn refuse(code: &CodeProgram, core: &mut Core, at: Registers, sent: Sent, sel: Sel) -> Next
     ensures { Arrives code.now core.old at sent.floor (control_at code.now core.old at sent (reached.Refused sel)) core.new result }

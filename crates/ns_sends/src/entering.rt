@@ -42,6 +42,7 @@ pub fn enter_on_arguments(
 }
 
 /// Enters a body on none of the arguments.
+#[inline(never)]
 #[tactic(auto, using(crate::proofs::Entered::left_bare, crate::proofs::Entered::bare_goes, crate::proofs::Entered::bare_taken, crate::proofs::Entered::bare_arrives))]
 pub fn enter_without(
     code: &CodeProgram,

@@ -44,6 +44,7 @@ pub fn wait_for(
 }
 
 /// Lets the evaluation of a block wait with the elements of an array.
+#[inline(never)]
 #[tactic(auto, using(crate::proofs::Placed::items_fit, crate::proofs::Placed::items_wait))]
 fn wait_with_items(
     code: &CodeProgram,

@@ -2,3 +2,4 @@ pub mod Fetched
 pub mod Charged
 pub mod Turned
 pub mod Resent
+pub mod Along

@@ -144,7 +144,7 @@ not_both {A = A} true e f = absurd (cc)
 not_both {A = A} false e f = absurd (cc)
 
 -- the steps of what a machine shows are those that its world counts
-counted : (code : CodeProgram) (core : Core) (next : Next) → (world_of (shown code core next)).steps ≡ core.run.world.world.steps
+pub counted : (code : CodeProgram) (core : Core) (next : Next) → (world_of (shown code core next)).steps ≡ core.run.world.world.steps
 counted code core next = ap (λ (p : Progress). p.world.steps) (shown_progress code core next)
 
 module _ (code : CodeProgram) (steps : ℕ) (first now : Core) (from next : Next) where
@@ -154,7 +154,7 @@ module _ (code : CodeProgram) (steps : ℕ) (first now : Core) (from next : Next
   since_begun goes (inr on) =
       let since = on.since in let a = counted code first from in let b = counted code now next in omega (arith, since, a, b)
 
-  left_is : steps_left steps (shown code first from) (shown code now next) ≡ steps - (now.run.world.world.steps - first.run.world.world.steps)
+  pub left_is : steps_left steps (shown code first from) (shown code now next) ≡ steps - (now.run.world.world.steps - first.run.world.world.steps)
   left_is =
       ap (λ n. steps - (n - (world_of (shown code first from)).steps)) (counted code now next)
       ∙ ap (λ n. steps - (now.run.world.world.steps - n)) (counted code first from)

@@ -1,9 +1,10 @@
 -- A turn of a machine that is under way.
-use Rattle.std.specs.Prelude.{◌≡◌, ◌⊎◌, ℕ, ◌-◌, ◌≤◌, true}
+use Rattle.std.specs.Prelude.{◌≡◌, ◌⊎◌, ℕ, ◌-◌, ◌≤◌, ◌<◌, true, false}
 use Rattle.ns_code.specs.declared.program.CodeProgram.{CodeProgram}
 use Rattle.ns_facets.specs.declared.row.Grants.{Grants}
 use Rattle.ns_moves.specs.State.{State, world_of}
 use Rattle.ns_moves.specs.Turn.{is_still, Turns}
+use Rattle.ns_falling.specs.Falling.{run_left}
 use Rattle.ns_plan.specs.declared.plan.Plan.{Plan}
 use Rattle.ns_engine.specs.declared.own.OwnSends.{OwnSends}
 use Rattle.ns_engine.specs.declared.state.Core.{Core}
@@ -11,7 +12,7 @@ use Rattle.ns_engine.specs.declared.state.Next.{Next}
 use Rattle.ns_engine.specs.Own.{AreOwn}
 use Rattle.ns_engine.specs.Shown.{shown}
 use Rattle.ns_engine.specs.Standing.{Stays}
-use Rattle.ns_engine.specs.Ready.{IsReady}
+use Rattle.ns_engine.specs.Ready.{IsReady, Moves}
 use Rattle.ns_engine.specs.Turning.{IsWithin}
 use Rattle.ns_turns.specs.Prepared.{IsPrepared, CanRun}
 
@@ -44,3 +45,28 @@ pub record IsTurning (code : CodeProgram) (steps : ℕ) (first : Core) (from : N
   pub ready : (grants : Grants) → IsReady code grants first from → IsReady code grants now next
   pub stays : Stays first now
   pub under : IsUnderWay code steps (shown code first from) (shown code now next)
+
+-- Moves of the machine, if any, have led from one state to another: a turn that had come to the first with so many steps left
+-- has come to the other, and no more is left to be done.
+pub record GoesAlong (code : CodeProgram) (plan : Plan) (sends : OwnSends) (left : ℕ) (old : Core) (from : Next) (new : Core) (to : Next) : Type 0 where
+  pub runs : RunsBy code plan sends new to
+  pub turning : (steps : ℕ) (first : Core) (began : Next) → left ≡ steps_left steps (shown code first began) (shown code old from)
+      → IsTurning code steps first began old from → IsTurning code steps first began new to
+  pub lower : run_left code (shown code new to) ≤ run_left code (shown code old from)
+
+-- So one move or more have, and less is left.
+pub record HasGone (code : CodeProgram) (plan : Plan) (sends : OwnSends) (left : ℕ) (old : Core) (from : Next) (new : Core) (to : Next) : Type 0 where
+  pub along : GoesAlong code plan sends left old from new to
+  pub falls : run_left code (shown code new to) < run_left code (shown code old from)
+
+-- A move more, made with a step left, leaves it so.
+abbrev pub MovesGoAlong : CodeProgram → Type 0
+MovesGoAlong code =
+    (plan : Plan) (sends : OwnSends) (left : ℕ) (old now new : Core) (from here next : Next)
+    → GoesAlong code plan sends left old from now here → is_still (shown code old from) ≡ false → is_still (shown code now here) ≡ false
+    → now.run.world.world.steps - old.run.world.world.steps < left → Moves code now here new next → HasGone code plan sends left old from new next
+
+-- No move takes a step back.
+abbrev pub MovesCountOn : CodeProgram → Type 0
+MovesCountOn code =
+    (old new : Core) (from next : Next) → Moves code old from new next → old.run.world.world.steps ≤ new.run.world.world.steps

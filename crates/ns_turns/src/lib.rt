@@ -4,6 +4,7 @@
 
 pub mod charging;
 pub mod fetching;
+pub mod laws;
 mod moving;
 pub mod resending;
 pub mod stepping;

@@ -34,7 +34,7 @@ pub fn step(plan: &Plan, code: &CodeProgram, core: &mut Core, next: Next, own: O
 }
 
 /// Does what waits, if anything does.
-fn take_up(
+pub fn take_up(
     plan: &Plan,
     code: &CodeProgram,
     core: &mut Core,

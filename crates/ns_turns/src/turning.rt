@@ -1,6 +1,6 @@
 //! Turns: so many moves as so many steps allow.
 
-ghost use Rattle.std.specs.Prelude.{◌≡◌, false};
+ghost use Rattle.std.specs.Prelude.{◌≡◌, ◌≤◌, false};
 ghost use Rattle.ns_code.specs.declared.program.CodeProgram.{CodeProgram};
 ghost use Rattle.ns_facets.specs.declared.row.Grants.{Grants};
 ghost use Rattle.ns_moves.specs.Turn.{is_still, Turns};
@@ -8,15 +8,19 @@ ghost use Rattle.ns_engine.specs.declared.state.Core.{Core as AnyCore};
 ghost use Rattle.ns_engine.specs.Shown.{shown};
 ghost use Rattle.ns_engine.specs.Ready.{IsReady, Moves};
 ghost use Rattle.ns_engine.specs.Standing.{Stays};
-ghost use Rattle.ns_turns.specs.Turning.{RunsBy};
+ghost use Rattle.ns_engine.specs.declared.state.Next.TheVariants as next;
+ghost use Rattle.ns_turns.specs.Turning.{RunsBy, HasGone};
 
 use crate::charging::charges;
-use crate::moving::step;
+use crate::laws::moves_go_along;
+use crate::moving::{step, take_up};
+use crate::stepping::go_on;
 use ns_code::program::CodeProgram;
 use ns_engine::laws::{moves_keep_machines_ready, turns_go_by_moves};
 use ns_engine::own::OwnSends;
 use ns_engine::state::{Core, Next};
 use ns_falling::laws::moves_lower;
+use ns_frames::registers::Registers;
 use ns_moves::laws::{moves_charge_as_told, moves_go_onward};
 use ns_moves::valid_frames::moves_keep_valid;
 use ns_plan::plan::Plan;
@@ -49,10 +53,11 @@ pub fn turn(
         if is_ended(here) {
             return here;
         }
-        if steps <= core.run.world.counters().steps - begun {
+        let used = core.run.world.counters().steps - begun;
+        if steps <= used {
             break 'moves;
         }
-        here = step(plan, code, core, here, own);
+        here = go_along(plan, code, core, here, steps - used, own);
     }
     'last: loop {
         if is_ended(here) {
@@ -62,6 +67,61 @@ pub fn turn(
             return here;
         }
         here = step_apart(plan, code, core, here, own);
+    }
+}
+
+/// Moves with so many steps left: as long as the topmost frame goes on, and else the one of what waits.
+#[inline(always)]
+fn go_along(
+    plan: &Plan,
+    code: &CodeProgram,
+    core: &mut Core,
+    next: Next,
+    left: u64,
+    own: OwnSends,
+) -> Next
+    requires runs { RunsBy code.now plan.now own core.old next }
+    requires goes { is_still (shown code.now core.old next) ≡ false }
+    requires some { 1 ≤ left }
+    ensures { HasGone code.now plan.now own left core.old next core.new result }
+{
+    moves_go_along();
+    match next {
+        Next::On(at) => run_along(plan, code, core, at, left, own),
+        Next::Waits { pending, at } => take_up(plan, code, core, pending, at, own),
+        Next::Ends(_) => unreachable!(),
+    }
+}
+
+/// Moves with so many steps left, for as long as the topmost frame goes on. Its registers stay in local variables: no other
+/// way on is carried from one move to the next.
+#[inline(always)]
+fn run_along(
+    plan: &Plan,
+    code: &CodeProgram,
+    core: &mut Core,
+    at: Registers,
+    left: u64,
+    own: OwnSends,
+) -> Next
+    requires runs { RunsBy code.now plan.now own core.old (next.On at) }
+    requires some { 1 ≤ left }
+    ensures { HasGone code.now plan.now own left core.old (next.On at) core.new result }
+{
+    moves_go_along();
+    let begun = core.run.world.counters().steps;
+    let mut here = at;
+    'along: loop {
+        let moved = go_on(plan, code, core, here, own);
+        match moved {
+            Next::On(to) => {
+                if left <= core.run.world.counters().steps - begun {
+                    return moved;
+                }
+                here = to;
+            }
+            Next::Waits { .. } | Next::Ends(_) => return moved,
+        }
     }
 }
 

@@ -6,3 +6,4 @@ mod Examples
 mod Used
 mod Usable
 mod Homes
+mod Outward

@@ -1,5 +1,5 @@
 -- What stands around code: the declarations around a class, and the bodies around a block.
-use Rattle.std.specs.Prelude.{ℕ, zero, suc, List, [], ◌∷◌, ◌++◌, length, Option, Some, None, slice_get, ◌==◌, nat_lt, if◌then◌else◌}
+use Rattle.std.specs.Prelude.{ℕ, zero, suc, ◌+◌, List, [], ◌∷◌, ◌++◌, length, Option, Some, None, slice_get, ◌==◌, nat_lt, if◌then◌else◌}
 use Rattle.std.specs.Option.{option_map_or, option_and_then}
 use Rattle.std.specs.List.{slice_index_or}
 use Rattle.ns_code.specs.declared.program.CodeProgram.{CodeProgram}
@@ -24,6 +24,11 @@ around number body =
 -- the same, of a body by its number
 abbrev pub body_around : CodeProgram → ℕ → Option ℕ
 body_around code number = option_and_then (around number) (slice_get code.bodies number)
+
+-- the same, of bodies that are numbered from that number on
+abbrev pub arounds_from : ℕ → List BodyCode → List (Option ℕ)
+arounds_from number [] = []
+arounds_from number (body ∷ bodies) = around number body ∷ arounds_from (number + 1) bodies
 
 -- the body so many bodies out from one, which is at 0 hops itself
 abbrev pub body_at : CodeProgram → ℕ → ℕ → Option ℕ

@@ -1,5 +1,6 @@
 pub mod Heights
 pub mod Chains
+pub mod Around
 pub mod Causes
 pub mod Verify
 pub mod Counts

@@ -1,4 +1,4 @@
-//! What stands around code: the declarations around a class, and the bodies around a block.
+//! The bodies around blocks.
 
 ghost use Rattle.std.specs.Prelude.{◌≡◌, ◌≤◌, [], IfOk, length};
 ghost use Rattle.std.specs.List.{slice_index_or};
@@ -6,33 +6,8 @@ ghost use Rattle.ns_verify.specs.Chains as spec;
 
 use ns_base::no_memory::NoMemory;
 use ns_code::body::BodyCode;
-use ns_code::program::CodeProgram;
 use ns_members::kinds::BLOCK;
 use std::alloc::Global;
-
-/// The declaration around a class, if there is one.
-fn outer_of(code: &CodeProgram, number: u32) -> Option<u32>
-    ensures { result ≡ spec.outer_of code.now number }
-{
-    match code.classes.as_slice().get(number as usize) {
-        Some(class) => class.outer,
-        None => None,
-    }
-}
-
-/// The declaration so many levels out from a class, which is at level 0 itself.
-pub fn declaration_at(code: &CodeProgram, level: u8, number: u32) -> Option<u32>
-    ensures { result ≡ spec.declaration_at code.now level number }
-{
-    let mut found = Some(number);
-    for _passed in 0..level {
-        found = match found {
-            Some(inner) => outer_of(code, inner),
-            None => None,
-        };
-    }
-    found
-}
 
 /// The body in which a block of that number stands: its parent, where that has a smaller number.
 pub fn around(number: u32, body: &BodyCode) -> Option<u32>
@@ -45,30 +20,6 @@ pub fn around(number: u32, body: &BodyCode) -> Option<u32>
         Some(parent) => { if parent < number { Some(parent) } else { None } }
         None => None,
     }
-}
-
-/// The same, of a body by its number.
-fn body_around(code: &CodeProgram, number: u32) -> Option<u32>
-    ensures { result ≡ spec.body_around code.now number }
-{
-    match code.bodies.as_slice().get(number as usize) {
-        Some(body) => around(number, body),
-        None => None,
-    }
-}
-
-/// The body so many bodies out from one, which is at 0 hops itself.
-pub fn body_at(code: &CodeProgram, hops: u8, number: u32) -> Option<u32>
-    ensures { result ≡ spec.body_at code.now hops number }
-{
-    let mut found = Some(number);
-    for _passed in 0..hops {
-        found = match found {
-            Some(inner) => body_around(code, inner),
-            None => None,
-        };
-    }
-    found
 }
 
 /// The kind of the outermost body around a body, from these kinds of all bodies before it.

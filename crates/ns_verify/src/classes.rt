@@ -1,37 +1,40 @@
 //! What can be wrong with a class record.
 
-ghost use Rattle.std.specs.Prelude.{◌≡◌, ◌==◌, ◌&&◌, IfOk, false, true, not, slice_get, unwrap_or};
+ghost use Rattle.std.specs.Prelude.{◌≡◌, ◌==◌, IfOk, false, true, not, slice_get, unwrap_or};
 ghost use Rattle.std.specs.List.{list_any};
 ghost use Rattle.std.specs.Option.{option_map_or};
 ghost use Rattle.ns_code.specs.declared.class.ClassCode.{ClassCode};
 ghost use Rattle.ns_code.specs.declared.class.SlotCode.{SlotCode};
 ghost use Rattle.ns_code.specs.declared.class.MethodCode.{MethodCode};
 ghost use Rattle.ns_code.specs.Soundness as spec;
+ghost use Rattle.ns_members.specs.Numbers.{IsNameTable};
 ghost use Rattle.ns_verify.specs.Verify as own;
 
 use crate::fault::VerifyCause;
 use ns_base::no_memory::NoMemory;
+use ns_base::selector::Sel;
 use ns_code::class::{ClassCode, MethodCode, NestedCode, SlotCode};
 use ns_code::program::CodeProgram;
 use ns_members::kinds::{CLASS, CLAUSE, INITIALISER, INSTANCES, METHOD};
-use ns_members::members::{instance_selectors, side_selectors};
-use ns_members::names::{has_params_of, is_identifier_name, is_name};
-use ns_members::texts::are_different;
+use ns_members::members::has_different_members;
+use ns_members::names::{NameTable, is_name};
 use std::alloc::Global;
 
 /// The first cause that holds of a class.
 pub fn class_cause(
     alloc: Global,
     code: &CodeProgram,
+    names: &NameTable,
     number: u32,
     class: &ClassCode,
 ) -> Result<Option<VerifyCause>, NoMemory>
+    requires { IsNameTable code.now names.now }
     ensures { IfOk result (λ cause. cause ≡ own.class_cause code.now number class.now) }
 {
-    if has_bad_scope(alloc, code, number, class)? {
+    if has_bad_scope(alloc, code, names, number, class)? {
         return Ok(Some(VerifyCause::BadScope));
     }
-    if has_bad_literal(code, class) {
+    if has_bad_literal(code, names, class) {
         return Ok(Some(VerifyCause::BadLiteral));
     }
     Ok(None)
@@ -41,35 +44,20 @@ pub fn class_cause(
 fn has_bad_scope(
     alloc: Global,
     code: &CodeProgram,
+    names: &NameTable,
     number: u32,
     class: &ClassCode,
 ) -> Result<bool, NoMemory>
+    requires { IsNameTable code.now names.now }
     ensures { IfOk result (λ bad. bad ≡ spec.has_bad_scope code.now number class.now) }
 {
-    if !has_place(number, class) || !has_bodies(code, number, class) {
+    if !has_place(number, class) || !has_bodies(code, names, number, class) {
         return Ok(true);
     }
-    if !has_nested(code, number, class) || !has_params(code, class) {
+    if !has_nested(code, number, class) || !has_params(code, names, class) {
         return Ok(true);
     }
-    Ok(!has_different_members(alloc, code, class)?)
-}
-
-/// Whether no two members of one side have one selector.
-fn has_different_members(
-    alloc: Global,
-    code: &CodeProgram,
-    class: &ClassCode,
-) -> Result<bool, NoMemory>
-    ensures { IfOk result (λ different. different ≡ (spec.are_different (spec.instance_selectors code.now class.now) && spec.are_different (spec.side_selectors code.now class.now))) }
-{
-    let instance = instance_selectors(alloc, code, class)?;
-    if !are_different(alloc, instance.as_slice())? {
-        return Ok(false);
-    }
-    let side = side_selectors(alloc, code, class)?;
-    let different = are_different(alloc, side.as_slice())?;
-    Ok(different)
+    Ok(!has_different_members(alloc, code, names, class)?)
 }
 
 /// Whether an outer declaration is an earlier class, and a clause stands only within one.
@@ -83,13 +71,14 @@ fn has_place(number: u32, class: &ClassCode) -> bool
 }
 
 /// Whether the bodies that a class names are those that their places ask for.
-fn has_bodies(code: &CodeProgram, number: u32, class: &ClassCode) -> bool
+fn has_bodies(code: &CodeProgram, names: &NameTable, number: u32, class: &ClassCode) -> bool
+    requires { IsNameTable code.now names.now }
     ensures { result ≡ spec.has_bodies code.now number class.now }
 {
     is_body_with(code, class.init, INITIALISER, number, class.params)
         && has_clause(code, number, class)
-        && have_bodies(code, INSTANCES, number, class.methods.as_slice())
-        && have_bodies(code, CLASS, number, class.side_methods.as_slice())
+        && have_bodies(code, names, INSTANCES, number, class.methods.as_slice())
+        && have_bodies(code, names, CLASS, number, class.side_methods.as_slice())
 }
 
 fn has_clause(code: &CodeProgram, number: u32, class: &ClassCode) -> bool
@@ -117,15 +106,32 @@ fn is_body_with(code: &CodeProgram, body: u32, kind: u8, class: u32, params: u8)
 }
 
 /// Whether each method of a side names its body.
-fn have_bodies(code: &CodeProgram, side: u8, number: u32, methods: &[MethodCode]) -> bool
+fn have_bodies(
+    code: &CodeProgram,
+    names: &NameTable,
+    side: u8,
+    number: u32,
+    methods: &[MethodCode],
+) -> bool
+    requires { IsNameTable code.now names.now }
     ensures { result ≡ spec.have_bodies code.now side number methods.now }
 {
-    methods
-        .iter()
-        .all(|method| is_method_body(code, side, number, *method))
+    'methods: for method in methods {
+        if !is_method_body(code, names, side, number, *method) {
+            return false;
+        }
+    }
+    true
 }
 
-fn is_method_body(code: &CodeProgram, side: u8, number: u32, method: MethodCode) -> bool
+fn is_method_body(
+    code: &CodeProgram,
+    names: &NameTable,
+    side: u8,
+    number: u32,
+    method: MethodCode,
+) -> bool
+    requires { IsNameTable code.now names.now }
     ensures { result ≡ spec.is_body_of code.now method.body spec.method_kind side number (spec.has_params_of code.now method.sel) }
 {
     match code.bodies.as_slice().get(method.body as usize) {
@@ -133,7 +139,7 @@ fn is_method_body(code: &CodeProgram, side: u8, number: u32, method: MethodCode)
             body.kind == METHOD
                 && body.side == side
                 && body.class == number
-                && has_params_of(code, method.sel, body.params)
+                && names.has_params(code, method.sel, body.params)
         }
         None => false,
     }
@@ -160,33 +166,48 @@ fn is_inner(code: &CodeProgram, number: u32, nested: NestedCode) -> bool
 }
 
 /// Whether the factory takes as many arguments as the class has parameters, at most 63.
-fn has_params(code: &CodeProgram, class: &ClassCode) -> bool
+fn has_params(code: &CodeProgram, names: &NameTable, class: &ClassCode) -> bool
+    requires { IsNameTable code.now names.now }
     ensures { result ≡ spec.has_params code.now class.now }
 {
-    class.params < 64 && has_params_of(code, class.factory, class.params)
+    class.params < 64 && names.has_params(code, class.factory, class.params)
 }
 
 /// Whether a name isn't there, or that of a class or a slot isn't an identifier.
-fn has_bad_literal(code: &CodeProgram, class: &ClassCode) -> bool
+fn has_bad_literal(code: &CodeProgram, names: &NameTable, class: &ClassCode) -> bool
+    requires { IsNameTable code.now names.now }
     ensures { result ≡ spec.has_bad_literal code.now class.now }
 {
-    if !is_identifier_name(code, class.name)
+    if !is_identifier_name(code, names, class.name)
         || !is_name(code, class.factory)
         || !is_name(code, class.super_sel)
     {
         return true;
     }
-    has_bad_slot(code, class.slots.as_slice())
+    has_bad_slot(code, names, class.slots.as_slice())
         || has_bad_method(code, class.methods.as_slice())
         || has_bad_method(code, class.side_methods.as_slice())
 }
 
-fn has_bad_slot(code: &CodeProgram, slots: &[SlotCode]) -> bool
+fn has_bad_slot(code: &CodeProgram, names: &NameTable, slots: &[SlotCode]) -> bool
+    requires { IsNameTable code.now names.now }
     ensures { result ≡ list_any (λ (slot : SlotCode). not (spec.is_identifier_name code.now slot.name)) slots.now }
 {
-    slots
-        .iter()
-        .any(|slot| !is_identifier_name(code, slot.name))
+    'slots: for slot in slots {
+        if !is_identifier_name(code, names, slot.name) {
+            return true;
+        }
+    }
+    false
+}
+
+/// Whether it is the number of an identifier.
+fn is_identifier_name(code: &CodeProgram, names: &NameTable, name: Sel) -> bool
+    requires { IsNameTable code.now names.now }
+    ensures { result ≡ spec.is_identifier_name code.now name }
+{
+    let _code = code;
+    names.is_identifier(name)
 }
 
 fn has_bad_method(code: &CodeProgram, methods: &[MethodCode]) -> bool

@@ -1,40 +1,52 @@
 //! The first fault of code: over its classes, then its bodies, then their instructions.
 
-ghost use Rattle.std.specs.Prelude.{◌≡◌, ◌≤◌, ◌<◌, IfOk, length};
+ghost use Rattle.std.specs.Prelude.{◌≡◌, ◌≢◌, ◌≤◌, ◌<◌, IfOk, length};
+ghost use Rattle.std.specs.List.{AllPairs};
 ghost use Rattle.ns_verify.specs.Counts.{HasFewParts};
 ghost use Rattle.ns_verify.specs.Chains.{home_kinds};
 ghost use Rattle.ns_verify.specs.Heights.{begin};
-ghost use Rattle.ns_members.specs.Members.{all_privates};
+ghost use Rattle.ns_members.specs.Numbers.{IsNameTable};
+ghost use Rattle.ns_verify.specs.Around.{AreTablesOf, IsAround};
 ghost use Rattle.ns_verify.specs.Verify as spec;
 
+use crate::around::Around;
 use crate::chains::{home_kinds, kind_or};
 use crate::classes::class_cause;
 use crate::fault::{Fault, VerifyCause, Where};
 use crate::heights::Pass;
 use crate::instructions::{cause_at, empty_cause};
+use crate::tables::Tables;
 use ns_base::no_memory::NoMemory;
 use ns_code::body::BodyCode;
 use ns_code::program::CodeProgram;
-use ns_members::privates::{Privates, all_privates};
+use ns_members::names::NameTable;
 use std::alloc::Global;
 
-/// The first fault of code, if it has one. The code has few enough parts that 32 bits number them.
+/// The first fault of code, if it has one. The code has few enough parts that 32 bits number them,
+/// and its names differ.
 pub fn first_fault(alloc: Global, code: &CodeProgram) -> Result<Option<Fault>, NoMemory>
-    requires { HasFewParts code.now }
+    requires few { HasFewParts code.now }
+    requires differ { AllPairs (λ a b. a ≢ b) code.now.names }
     ensures { IfOk result (λ fault. fault ≡ spec.fault_of code.now) }
 {
-    match first_class_fault(alloc, code)? {
+    let names = NameTable::new(alloc, code)?;
+    match first_class_fault(alloc, code, &names)? {
         Some(fault) => Ok(Some(fault)),
         None => {
-            let fault = first_body_fault(alloc, code)?;
+            let fault = first_body_fault(alloc, code, names)?;
             Ok(fault)
         }
     }
 }
 
 /// The first fault of the classes, of which there is at least one.
-fn first_class_fault(alloc: Global, code: &CodeProgram) -> Result<Option<Fault>, NoMemory>
-    requires { length code.now.classes ≤ 65536 }
+fn first_class_fault(
+    alloc: Global,
+    code: &CodeProgram,
+    names: &NameTable,
+) -> Result<Option<Fault>, NoMemory>
+    requires few { length code.now.classes ≤ 65536 }
+    requires names { IsNameTable code.now names.now }
     ensures { IfOk result (λ fault. fault ≡ spec.first_class_fault code.now code.now.classes) }
 {
     match code.classes.as_slice() {
@@ -43,19 +55,24 @@ fn first_class_fault(alloc: Global, code: &CodeProgram) -> Result<Option<Fault>,
             at: Where::Class(0),
         })),
         [_, ..] => {
-            let fault = classes_fault(alloc, code)?;
+            let fault = classes_fault(alloc, code, names)?;
             Ok(fault)
         }
     }
 }
 
-fn classes_fault(alloc: Global, code: &CodeProgram) -> Result<Option<Fault>, NoMemory>
-    requires { length code.now.classes ≤ 65536 }
+fn classes_fault(
+    alloc: Global,
+    code: &CodeProgram,
+    names: &NameTable,
+) -> Result<Option<Fault>, NoMemory>
+    requires few { length code.now.classes ≤ 65536 }
+    requires names { IsNameTable code.now names.now }
     ensures { IfOk result (λ fault. fault ≡ spec.classes_fault code.now 0 code.now.classes) }
 {
     let mut number: u32 = 0;
     'classes: for class in code.classes.as_slice() {
-        match class_cause(alloc, code, number, class)? {
+        match class_cause(alloc, code, names, number, class)? {
             Some(cause) => {
                 return Ok(Some(Fault {
                     cause,
@@ -69,31 +86,36 @@ fn classes_fault(alloc: Global, code: &CodeProgram) -> Result<Option<Fault>, NoM
 }
 
 /// The first fault of the bodies.
-fn first_body_fault(alloc: Global, code: &CodeProgram) -> Result<Option<Fault>, NoMemory>
-    requires { HasFewParts code.now }
+fn first_body_fault(
+    alloc: Global,
+    code: &CodeProgram,
+    names: NameTable,
+) -> Result<Option<Fault>, NoMemory>
+    requires few { HasFewParts code.now }
+    requires names { IsNameTable code.now names }
     ensures { IfOk result (λ fault. fault ≡ spec.bodies_fault code.now 0 code.now.bodies) }
 {
-    let privates = all_privates(alloc, code)?;
+    let tables = Tables::new(alloc, code, names)?;
     let homes = home_kinds(alloc, code.bodies.as_slice())?;
-    let fault = bodies_fault(alloc, code, privates.as_slice(), homes.as_slice())?;
+    let fault = bodies_fault(alloc, code, &tables, homes.as_slice())?;
     Ok(fault)
 }
 
 fn bodies_fault(
     alloc: Global,
     code: &CodeProgram,
-    privates: &[Privates],
+    tables: &Tables,
     homes: &[u8],
 ) -> Result<Option<Fault>, NoMemory>
     requires few { HasFewParts code.now }
-    requires privates { privates.now ≡ all_privates code.now }
+    requires tables { AreTablesOf code.now tables.now }
     requires homes { homes.now ≡ home_kinds code.now }
     ensures { IfOk result (λ fault. fault ≡ spec.bodies_fault code.now 0 code.now.bodies) }
 {
     let mut number: u32 = 0;
     'bodies: for body in code.bodies.as_slice() {
         let home = kind_or(homes, number, body.kind);
-        match body_fault(alloc, code, privates, number, body, home)? {
+        match body_fault(alloc, code, tables, number, body, home)? {
             Some(fault) => return Ok(Some(fault)),
             None => number += 1,
         }
@@ -105,13 +127,13 @@ fn bodies_fault(
 fn body_fault(
     alloc: Global,
     code: &CodeProgram,
-    privates: &[Privates],
+    tables: &Tables,
     number: u32,
     body: &BodyCode,
     home: u8,
 ) -> Result<Option<Fault>, NoMemory>
     requires few { length body.now.instrs ≤ 65536 }
-    requires privates { privates.now ≡ all_privates code.now }
+    requires tables { AreTablesOf code.now tables.now }
     ensures { IfOk result (λ fault. fault ≡ spec.body_fault_in code.now number body.now home body.now.instrs) }
 {
     match body.instrs.as_slice() {
@@ -120,7 +142,8 @@ fn body_fault(
             at: Where::Body(number, 0),
         })),
         [_, ..] => {
-            let fault = instrs_fault(alloc, code, privates, number, body, home)?;
+            let around = Around::of(alloc, code, tables, number, body.class)?;
+            let fault = instrs_fault(alloc, code, tables, &around, number, body, home)?;
             Ok(fault)
         }
     }
@@ -129,19 +152,21 @@ fn body_fault(
 fn instrs_fault(
     alloc: Global,
     code: &CodeProgram,
-    privates: &[Privates],
+    tables: &Tables,
+    around: &Around,
     number: u32,
     body: &BodyCode,
     home: u8,
 ) -> Result<Option<Fault>, NoMemory>
     requires few { length body.now.instrs ≤ 65536 }
-    requires privates { privates.now ≡ all_privates code.now }
+    requires tables { AreTablesOf code.now tables.now }
+    requires around { IsAround code.now number body.now.class around.now }
     ensures { IfOk result (λ fault. fault ≡ spec.instrs_fault code.now number body.now home (begin (length body.now.instrs)) 0 body.now.instrs) }
 {
     let mut pass = Pass::begin(alloc, body.instrs.len())?;
     let mut at: u32 = 0;
     'instrs: for instr in body.instrs.as_slice() {
-        match cause_at(code, privates, number, body, home, &pass, at, *instr) {
+        match cause_at(code, tables, around, number, body, home, &pass, at, *instr) {
             Some(cause) => {
                 return Ok(Some(Fault {
                     cause,

@@ -3,11 +3,13 @@
 ghost use Rattle.std.specs.Prelude.{◌≡◌, ◌≤◌, ◌<◌, false, IsTrue, length, option_copied};
 ghost use Rattle.ns_verify.specs.Causes as spec;
 ghost use Rattle.ns_verify.specs.Heights as heights;
-ghost use Rattle.ns_members.specs.Members as members;
+ghost use Rattle.ns_verify.specs.Around.{AreTablesOf, IsAround};
 
-use crate::chains::{around, body_at, declaration_at};
+use crate::around::Around;
+use crate::chains::around;
 use crate::fault::VerifyCause;
 use crate::heights::Pass;
+use crate::tables::Tables;
 use ns_base::selector::Sel;
 use ns_code::body::BodyCode;
 use ns_code::instruction::Instr;
@@ -15,7 +17,6 @@ use ns_code::program::CodeProgram;
 use ns_code::table::{ends_wrongly, goes_on, takes, target};
 use ns_members::kinds::{BLOCK, CLAUSE, INITIALISER, INSTANCES, METHOD};
 use ns_members::names::is_name;
-use ns_members::privates::Privates;
 
 /// The greatest height of a body that can run.
 const MOST_OPERANDS: u16 = 1_023;
@@ -23,7 +24,8 @@ const MOST_OPERANDS: u16 = 1_023;
 /// The first cause that holds at an instruction, in the order of their numbers.
 pub fn cause_at(
     code: &CodeProgram,
-    privates: &[Privates],
+    tables: &Tables,
+    around: &Around,
     number: u32,
     body: &BodyCode,
     home: u8,
@@ -31,7 +33,8 @@ pub fn cause_at(
     at: u32,
     instr: Instr,
 ) -> Option<VerifyCause>
-    requires privates { privates.now ≡ members.all_privates code.now }
+    requires tables { AreTablesOf code.now tables.now }
+    requires around { IsAround code.now number body.now.class around.now }
     requires at { at < 65536 }
     ensures cause { result ≡ spec.cause_at code.now number body.now home pass.now at instr }
     ensures low { result ≡ None → heights.height_at pass.now at ≤ 65535 }
@@ -42,12 +45,13 @@ pub fn cause_at(
     if has_bad_height(body, pass, at, instr) {
         return Some(VerifyCause::BadHeight);
     }
-    if has_bad_slot(code, number, body, instr) {
+    if has_bad_slot(code, around, number, body, instr) {
         return Some(VerifyCause::BadSlot);
     }
     if has_bad_scope_at(
         code,
-        privates,
+        tables,
+        around,
         number,
         body,
         home,
@@ -57,7 +61,7 @@ pub fn cause_at(
     ) {
         return Some(VerifyCause::BadScope);
     }
-    if has_bad_name(code, body, instr) {
+    if has_bad_name(code, tables, body, instr) {
         return Some(VerifyCause::BadLiteral);
     }
     if runs_on(body, at, instr) {
@@ -104,13 +108,20 @@ fn has_bad_height(body: &BodyCode, pass: &Pass, at: u32, instr: Instr) -> bool
 }
 
 /// Whether a slot isn't below the slots of the body's class, or a local isn't one of its body.
-fn has_bad_slot(code: &CodeProgram, number: u32, body: &BodyCode, instr: Instr) -> bool
+fn has_bad_slot(
+    code: &CodeProgram,
+    around: &Around,
+    number: u32,
+    body: &BodyCode,
+    instr: Instr,
+) -> bool
+    requires { IsAround code.now number body.now.class around.now }
     ensures { result ≡ spec.has_bad_slot code.now number body.now instr }
 {
     match instr {
         Instr::StoreSlot(slot) => is_no_slot(code, body.class, slot),
         Instr::PushLocal { hops, index } | Instr::StoreLocal { hops, index } => {
-            is_no_local(code, number, hops, index)
+            is_no_local(code, around, number, body, hops, index)
         }
         _ => false,
     }
@@ -127,10 +138,20 @@ fn is_no_slot(code: &CodeProgram, class: u32, slot: u16) -> bool
 }
 
 /// Whether a local isn't below the locals of its body, if that is there.
-fn is_no_local(code: &CodeProgram, number: u32, hops: u8, index: u8) -> bool
+fn is_no_local(
+    code: &CodeProgram,
+    around: &Around,
+    number: u32,
+    body: &BodyCode,
+    hops: u8,
+    index: u8,
+) -> bool
+    requires { IsAround code.now number body.now.class around.now }
     ensures { result ≡ spec.is_no_local code.now number hops index }
 {
-    match body_at(code, hops, number) {
+    let _body = body;
+    let _number = number;
+    match around.body(hops) {
         Some(holder) => lacks_local(code, holder, index),
         None => false,
     }
@@ -149,7 +170,8 @@ fn lacks_local(code: &CodeProgram, number: u32, index: u8) -> bool
 /// with the whole body is named at the first instruction.
 fn has_bad_scope_at(
     code: &CodeProgram,
-    privates: &[Privates],
+    tables: &Tables,
+    around: &Around,
     number: u32,
     body: &BodyCode,
     home: u8,
@@ -157,34 +179,38 @@ fn has_bad_scope_at(
     at: u32,
     instr: Instr,
 ) -> bool
-    requires { privates.now ≡ members.all_privates code.now }
+    requires tables { AreTablesOf code.now tables.now }
+    requires around { IsAround code.now number body.now.class around.now }
     ensures { result ≡ spec.has_bad_scope_at code.now number body.now home started at instr }
 {
     if at == 0 && has_bad_head(code, number, body) {
         return true;
     }
-    has_bad_use(code, privates, number, body, home, started, instr)
+    has_bad_use(code, tables, around, number, body, home, started, instr)
 }
 
 fn has_bad_use(
     code: &CodeProgram,
-    privates: &[Privates],
+    tables: &Tables,
+    around: &Around,
     number: u32,
     body: &BodyCode,
     home: u8,
     started: bool,
     instr: Instr,
 ) -> bool
-    requires { privates.now ≡ members.all_privates code.now }
+    requires tables { AreTablesOf code.now tables.now }
+    requires around { IsAround code.now number body.now.class around.now }
     ensures { result ≡ spec.has_bad_use code.now number body.now home started instr }
 {
     match instr {
-        Instr::PushOuter(level) => is_no_level(code, body, level),
+        Instr::PushOuter(level) => is_no_level(code, around, number, body, level),
         Instr::SendPrivate { level, sel, .. } => {
-            is_no_level(code, body, level) || is_no_private(code, privates, body, level, sel)
+            is_no_level(code, around, number, body, level)
+                || is_no_private(code, tables, around, number, body, level, sel)
         }
         Instr::PushLocal { hops, .. } | Instr::StoreLocal { hops, .. } => {
-            body_at(code, hops, number).is_none()
+            around.body(hops).is_none()
         }
         Instr::PushBlock(block) => !is_block_in(code, number, block),
         Instr::InitSuper(_) => body.kind != INITIALISER || started,
@@ -197,38 +223,36 @@ fn has_bad_use(
 }
 
 /// Whether a body's class is there, but no declaration at that level.
-fn is_no_level(code: &CodeProgram, body: &BodyCode, level: u8) -> bool
+fn is_no_level(code: &CodeProgram, around: &Around, number: u32, body: &BodyCode, level: u8) -> bool
+    requires { IsAround code.now number body.now.class around.now }
     ensures { result ≡ spec.is_no_level code.now body.now level }
 {
-    (body.class as usize) < code.classes.len() && declaration_at(code, level, body.class).is_none()
+    let _number = number;
+    (body.class as usize) < code.classes.len() && around.declaration(level).is_none()
 }
 
 /// Whether the declaration at that level has no private member of that selector. At level 0 it is
 /// looked for on the code's own side, further out on that of instances.
 fn is_no_private(
     code: &CodeProgram,
-    privates: &[Privates],
+    tables: &Tables,
+    around: &Around,
+    number: u32,
     body: &BodyCode,
     level: u8,
     sel: Sel,
 ) -> bool
-    requires { privates.now ≡ members.all_privates code.now }
+    requires tables { AreTablesOf code.now tables.now }
+    requires around { IsAround code.now number body.now.class around.now }
     ensures { result ≡ spec.is_no_private code.now body.now level sel }
 {
-    let side = if level == 0 { body.side } else { INSTANCES };
-    match declaration_at(code, level, body.class) {
-        Some(class) => is_name(code, sel) && lacks_private(code, privates, class, side, sel),
-        None => false,
+    let _number = number;
+    if !is_name(code, sel) {
+        return false;
     }
-}
-
-/// Whether a class that is there has no private member of that selector on that side.
-fn lacks_private(code: &CodeProgram, privates: &[Privates], class: u32, side: u8, sel: Sel) -> bool
-    requires { privates.now ≡ members.all_privates code.now }
-    ensures { result ≡ spec.lacks_private code.now side sel class }
-{
-    match privates.get(class as usize) {
-        Some(privates) => !privates.has(side, code.selector_text(sel)),
+    let side = if level == 0 { body.side } else { INSTANCES };
+    match around.declaration(level) {
+        Some(class) => tables.lacks_private(code, class, side, sel),
         None => false,
     }
 }
@@ -283,7 +307,8 @@ fn holds_block(code: &CodeProgram, parent: u32, block: &BodyCode) -> bool
 }
 
 /// Whether a name or text isn't there, or a message is sent with another number of arguments.
-fn has_bad_name(code: &CodeProgram, body: &BodyCode, instr: Instr) -> bool
+fn has_bad_name(code: &CodeProgram, tables: &Tables, body: &BodyCode, instr: Instr) -> bool
+    requires { AreTablesOf code.now tables.now }
     ensures { result ≡ spec.has_bad_name code.now body.now instr }
 {
     match instr {
@@ -292,27 +317,29 @@ fn has_bad_name(code: &CodeProgram, body: &BodyCode, instr: Instr) -> bool
         Instr::Send { sel, argc }
         | Instr::SendInner { sel, argc }
         | Instr::SendPrivate { sel, argc, .. }
-        | Instr::SendSuper { sel, argc } => is_bad_send(code, sel, argc),
-        Instr::InitSuper(argc) => is_bad_start(code, body.class, argc),
+        | Instr::SendSuper { sel, argc } => is_bad_send(code, tables, sel, argc),
+        Instr::InitSuper(argc) => is_bad_start(code, tables, body.class, argc),
         _ => false,
     }
 }
 
 /// Whether a selector isn't a name, or takes another number of arguments.
-fn is_bad_send(code: &CodeProgram, sel: Sel, argc: u8) -> bool
+fn is_bad_send(code: &CodeProgram, tables: &Tables, sel: Sel, argc: u8) -> bool
+    requires { AreTablesOf code.now tables.now }
     ensures { result ≡ spec.is_bad_send code.now sel argc }
 {
-    !is_name(code, sel) || usize::from(argc) != code.selector_arity(sel)
+    !is_name(code, sel) || usize::from(argc) != tables.arity(code, sel)
 }
 
 /// Whether that isn't the number of arguments of the superclass message of a class that is there.
-fn is_bad_start(code: &CodeProgram, class: u32, argc: u8) -> bool
+fn is_bad_start(code: &CodeProgram, tables: &Tables, class: u32, argc: u8) -> bool
+    requires { AreTablesOf code.now tables.now }
     ensures { result ≡ spec.is_bad_start code.now class argc }
 {
     match code.classes.as_slice().get(class as usize) {
         Some(class) => {
             is_name(code, class.super_sel)
-                && usize::from(argc) != code.selector_arity(class.super_sel)
+                && usize::from(argc) != tables.arity(code, class.super_sel)
         }
         None => false,
     }

@@ -2,12 +2,12 @@
 use Rattle.std.specs.Prelude.{◌≡◌, ◌⊎◌, ℕ, nat_le, length, List, [], ◌∷◌, ◌++◌, true, Option, Some, None, codes, refl}
 use Rattle.std.proofs.Common.{◌≤◌, ◌+◌, arith, ap, sym, ◌∙◌, inl, inr, append_assoc}
 use Rattle.std.proofs.lemmas.Bool.Decides.{nat_tests}
-use Rattle.ns_words.proofs.PartLaws.{arguments_read, dashes_are_no_option, name_is_no_option, names_read, options_read}
+use Rattle.ns_words.proofs.PartLaws.{arguments_read, dashes_are_no_item, dashes_are_no_option, name_is_no_option, names_read, options_read}
 use Rattle.ns_words.specs.Forms.{AreArguments, AreNames, IsForm}
 use Rattle.ns_words.specs.Table.{form_of, word_of}
 use Rattle.ns_words.specs.Words.{Line, Options, Names, Arguments, bad, says, nothing_given, option_or, part_or, read_from, reading_of, with_name, with_option}
 use Rattle.ns_words.specs.declared.form.Verb.{Verb}
-use Rattle.ns_words.specs.declared.form.Verb.TheVariants.{Check, Show, Run, Help, Version}
+use Rattle.ns_words.specs.declared.form.Verb.TheVariants.{Check, Show, Run, Build, Exec, Listing, Sample, Help, Version}
 use Rattle.ns_words.specs.declared.words.Given.{Given}
 
 -- The first word of a form names its command.
@@ -15,6 +15,10 @@ pub word_is_read : (verb : Verb) (words : List (List ℕ)) → reading_of (word_
 word_is_read Check words = refl
 word_is_read Show words = refl
 word_is_read Run words = refl
+word_is_read Build words = refl
+word_is_read Exec words = refl
+word_is_read Listing words = refl
+word_is_read Sample words = refl
 word_is_read Help words = refl
 word_is_read Version words = refl
 
@@ -44,9 +48,9 @@ last_read verb given names last arguments k e (inr (m, s, l, few)) =
     ∙ arguments_read verb given names [] arguments (k + 1) m s e (omega (arith, few))
   where
     dashes : nat_le (form_of verb).least (length names) ≡ true → read_from verb (Names given names) k (codes "--" ∷ arguments) ≡ read_from verb (Arguments given names []) (k + 1) arguments
-    dashes enough = rw (enough, s) refl
+    dashes enough = rw (dashes_are_no_item (form_of verb).item, enough, s) refl
 
-pub names_behind_options : (verb : Verb) (given : Given) (names last arguments : List (List ℕ)) (k : ℕ) → AreNames names → IsLast (form_of verb).arguments last arguments
+pub names_behind_options : (verb : Verb) (given : Given) (names last arguments : List (List ℕ)) (k : ℕ) → AreNames (form_of verb).item names → IsLast (form_of verb).arguments last arguments
     → read_from verb (Options given) k (names ++ last) ≡ read_from verb (Names given []) k (names ++ last)
 names_behind_options verb given [] last arguments k a (inl (l, s)) = ap (read_from verb (Options given) k) l ∙ sym (ap (read_from verb (Names given []) k) l)
 names_behind_options verb given [] last arguments k a (inr (m, s, l, few)) =

@@ -1,13 +1,16 @@
 -- What the parts of a command line are read as.
 use Rattle.std.specs.Prelude.{◌≡◌, ℕ, ◌&&◌, nat_eq, nat_le, nat_lt, not, length, List, [], ◌∷◌, ◌++◌, Bool, true, false, Option, Some, None, cond, codes, take, option_and_then, refl}
-use Rattle.std.proofs.Common.{◌≤◌, ◌<◌, ◌+◌, arith, ap, sym, ◌∙◌, append_assoc}
+use Rattle.std.proofs.Common.{◌≤◌, ◌<◌, ◌+◌, arith, ap, sym, subst, ◌∙◌, append_assoc}
 use Rattle.std.proofs.lemmas.Bool.Decides.{nat_tests}
 use Rattle.std.proofs.lemmas.List.{append-nil}
+use Rattle.std.specs.Option.{is_some}
 use Rattle.std.specs.Str.{bytes_eq}
 use Rattle.ns_words.specs.Forms.{AreNames, all_given}
 use Rattle.ns_words.specs.Table.{form_of}
-use Rattle.ns_words.specs.Words.{Options, Names, Arguments, bad, says, is_file_name, number_given, option_or, part_or, read_from, with_cells, with_depth, with_limit, with_name, with_option, with_out, with_steps}
+use Rattle.ns_words.specs.Words.{Options, Names, Arguments, bad, says, is_file_name, is_item, number_given, number_of, option_or, part_or, read_from, with_cells, with_depth, with_limit, with_name, with_option, with_out, with_steps}
 use Rattle.ns_words.specs.declared.form.Form.{Form}
+use Rattle.ns_words.specs.declared.form.Item.{Item}
+use Rattle.ns_words.specs.declared.form.Item.TheVariants.{File, Number}
 use Rattle.ns_words.specs.declared.form.Verb.{Verb}
 use Rattle.ns_words.specs.declared.words.Given.{Given}
 
@@ -46,11 +49,35 @@ no_dash b bs h =
       | false ↦ λ k. refl
     ] h
 
-pub name_is_no_option : (form : Form) (given : Given) (word : List ℕ) → is_file_name word ≡ true → with_option form given word ≡ None
-name_is_no_option form given [] h = absurd (cc (h))
+-- A number has no dash in front.
+pub no_dash_of_number : (greatest b : ℕ) (bs : List ℕ) → is_some (number_of greatest (b ∷ bs)) ≡ true → nat_eq b 45 ≡ false
+no_dash_of_number greatest b bs h =
+    elim (nat_eq b 45) as (λ q. nat_eq b 45 ≡ q → q ≡ false) [
+      | true ↦ λ e.
+          let is : b ≡ 45 = grind (arith, nat_tests, e) in
+          let none : false ≡ true = subst (λ x. is_some (number_of greatest (x ∷ bs)) ≡ true) is h in
+          absurd (cc (none))
+      | false ↦ λ e. refl
+    ] refl
+
+pub no_dash_of_item : (item : Item) (b : ℕ) (bs : List ℕ) → is_item item (b ∷ bs) ≡ true → nat_eq b 45 ≡ false
+no_dash_of_item File b bs h = no_dash b bs h
+no_dash_of_item (Number greatest) b bs h = no_dash_of_number greatest b bs h
+
+pub some_item : {P : Type 0} (item : Item) → is_item item [] ≡ true → P
+some_item File h = absurd (cc (h))
+some_item (Number greatest) h = absurd (cc (h))
+
+pub name_is_no_option : (form : Form) (given : Given) (word : List ℕ) → is_item form.item word ≡ true → with_option form given word ≡ None
+name_is_no_option form given [] h = some_item form.item h
 name_is_no_option form given (b ∷ bs) h =
-    let e : nat_eq b 45 ≡ false = no_dash b bs h in
+    let e : nat_eq b 45 ≡ false = no_dash_of_item form.item b bs h in
     no_option form given (b ∷ bs) (rw e refl) (λ c name. rw e refl)
+
+-- `--` is no name.
+pub dashes_are_no_item : (item : Item) → is_item item (codes "--") ≡ false
+dashes_are_no_item File = refl
+dashes_are_no_item (Number greatest) = refl
 
 pub dashes_are_no_option : (form : Form) (given : Given) → with_option form given (codes "--") ≡ None
 dashes_are_no_option form given = no_option form given (codes "--") refl (λ c name. refl)
@@ -86,11 +113,11 @@ pub length_one : (xs : List (List ℕ)) (x : List ℕ) → length (xs ++ x ∷ [
 length_one [] x = omega arith
 length_one (y ∷ ys) x = omega (arith, length_one ys x)
 
-pub names_append : (names : List (List ℕ)) (w : List ℕ) → AreNames names → is_file_name w ≡ true → AreNames (names ++ w ∷ [])
-names_append [] w a e = (e, tt)
-names_append (n ∷ ns) w a e = (a.0, names_append ns w a.1 e)
+pub names_append : (item : Item) (names : List (List ℕ)) (w : List ℕ) → AreNames item names → is_item item w ≡ true → AreNames item (names ++ w ∷ [])
+names_append item [] w a e = (e, tt)
+names_append item (n ∷ ns) w a e = (a.0, names_append item ns w a.1 e)
 
-pub names_read : (verb : Verb) (given : Given) (before names words : List (List ℕ)) (k : ℕ) → AreNames names → length before + length names ≤ (form_of verb).most
+pub names_read : (verb : Verb) (given : Given) (before names words : List (List ℕ)) (k : ℕ) → AreNames (form_of verb).item names → length before + length names ≤ (form_of verb).most
     → read_from verb (Names given before) k (names ++ words) ≡ read_from verb (Names given (before ++ names)) (k + length names) words
 names_read verb given before [] words k a l =
     let n : k ≡ k + 0 = omega arith in

@@ -10,10 +10,11 @@ use Rattle.ns_words.proofs.FormLaws.{form_is_read, word_is_read}
 use Rattle.ns_words.proofs.PartLaws.{all_given_append, length_one, names_append}
 use Rattle.ns_words.specs.Forms.{AreArguments, AreNames, Begins, IsForm, IsReadingOf, all_given}
 use Rattle.ns_words.specs.Table.{form_of, verb_of, word_of}
-use Rattle.ns_words.specs.Words.{Line, Part, Options, Names, Arguments, Reading, bad, bad_of, says, arguments_behind, first_bad, has_room, is_file_name, line_of, names_read, nothing_given, option_or, part_or, read_from, reading_of, with_argument, with_dashes, with_name, with_option, with_word}
+use Rattle.ns_words.specs.Words.{Line, Part, Options, Names, Arguments, Reading, bad, bad_of, says, arguments_behind, first_bad, has_room, is_item, line_of, names_read, nothing_given, option_or, part_or, read_from, reading_of, with_argument, with_dashes, with_name, with_option, with_word}
 use Rattle.ns_words.specs.declared.form.Form.{Form}
+use Rattle.ns_words.specs.declared.form.Item.{Item}
 use Rattle.ns_words.specs.declared.form.Verb.{Verb}
-use Rattle.ns_words.specs.declared.form.Verb.TheVariants.{Check, Show, Run, Help, Version}
+use Rattle.ns_words.specs.declared.form.Verb.TheVariants.{Check, Show, Run, Build, Exec, Listing, Sample, Help, Version}
 use Rattle.ns_words.specs.declared.words.Given.{Given}
 
 -- ---- what was read so far
@@ -23,7 +24,7 @@ pub record AreNamed (form : Form) (words : List (List ℕ)) (given : Given) (nam
   pub options : List (List ℕ)
   pub spelled : words ≡ options ++ names
   pub gives : all_given form nothing_given options ≡ Some given
-  pub named : AreNames names
+  pub named : AreNames form.item names
   pub few : length names ≤ form.most
 
 -- The form takes `--` behind so many names, and so many arguments behind it.
@@ -78,13 +79,13 @@ dashes_more form words given names w next n h =
 pub name_more : (form : Form) (words : List (List ℕ)) (given : Given) (names : List (List ℕ)) (w : List ℕ) (next : Part) → AreNamed form words given names
     → with_name form given names w ≡ Some next → IsPart form (words ++ w ∷ []) next
 name_more form words given names w next n h =
-    elim (is_file_name w) as (λ q. is_file_name w ≡ q
+    elim (is_item form.item w) as (λ q. is_item form.item w ≡ q
     → cond (q && nat_lt (length names) form.most) (Some (Names given (names ++ w ∷ []))) (with_dashes given names (arguments_behind form (length names) w)) ≡ Some next → IsPart form (words ++ w ∷ []) next) [
       | false ↦ λ e k. dashes_more form words given names w next n k
       | true ↦ λ e k. room e k
     ] refl h
   where
-    room : is_file_name w ≡ true → cond (nat_lt (length names) form.most) (Some (Names given (names ++ w ∷ []))) (with_dashes given names (arguments_behind form (length names) w)) ≡ Some next → IsPart form (words ++ w ∷ []) next
+    room : is_item form.item w ≡ true → cond (nat_lt (length names) form.most) (Some (Names given (names ++ w ∷ []))) (with_dashes given names (arguments_behind form (length names) w)) ≡ Some next → IsPart form (words ++ w ∷ []) next
     room e k =
         elim (nat_lt (length names) form.most) as (λ q. nat_lt (length names) form.most ≡ q
         → cond q (Some (Names given (names ++ w ∷ []))) (with_dashes given names (arguments_behind form (length names) w)) ≡ Some next → IsPart form (words ++ w ∷ []) next) [
@@ -93,7 +94,7 @@ name_more form words given names w next n h =
               let few : length (names ++ w ∷ []) ≤ form.most = grind (arith, nat_tests, r, length_one names w) in
               let is : Names given (names ++ w ∷ []) ≡ next = cc (j) in
               let all : AreNamed form (words ++ w ∷ []) given (names ++ w ∷ []) =
-              record { options = n.options; spelled = ap (λ x. x ++ w ∷ []) n.spelled ∙ append_assoc n.options names (w ∷ []); gives = n.gives; named = names_append names w n.named e; few = few }
+              record { options = n.options; spelled = ap (λ x. x ++ w ∷ []) n.spelled ∙ append_assoc n.options names (w ∷ []); gives = n.gives; named = names_append form.item names w n.named e; few = few }
               in
               subst (IsPart form (words ++ w ∷ [])) is all
         ] refl k
@@ -120,27 +121,42 @@ part_more form words (Arguments given names arguments) w next p h = argument_mor
 
 -- ---- what a part begins
 
--- so many names
+-- so many names: `1` can be the name of a file, and is a number
 abbrev pub fill : ℕ → List (List ℕ)
 fill zero = []
-fill (suc n) = codes "a" ∷ fill n
+fill (suc n) = codes "1" ∷ fill n
 
 pub fill_length : (n : ℕ) → length (fill n) ≡ n
 fill_length zero = refl
 fill_length (suc n) = omega (arith, fill_length n)
 
-pub fill_named : (n : ℕ) → AreNames (fill n)
-fill_named zero = tt
-fill_named (suc n) = (refl, fill_named n)
+pub fill_item : (verb : Verb) → is_item (form_of verb).item (codes "1") ≡ true
+fill_item Check = refl
+fill_item Show = refl
+fill_item Run = refl
+fill_item Build = refl
+fill_item Exec = refl
+fill_item Listing = refl
+fill_item Sample = refl
+fill_item Help = refl
+fill_item Version = refl
 
-pub both_named : (names more : List (List ℕ)) → AreNames names → AreNames more → AreNames (names ++ more)
-both_named [] more a b = b
-both_named (n ∷ ns) more a b = (a.0, both_named ns more a.1 b)
+pub fill_named : (item : Item) (n : ℕ) → is_item item (codes "1") ≡ true → AreNames item (fill n)
+fill_named item zero e = tt
+fill_named item (suc n) e = (e, fill_named item n e)
+
+pub both_named : (item : Item) (names more : List (List ℕ)) → AreNames item names → AreNames item more → AreNames item (names ++ more)
+both_named item [] more a b = b
+both_named item (n ∷ ns) more a b = (a.0, both_named item ns more a.1 b)
 
 pub least_is_less : (verb : Verb) → (form_of verb).least ≤ (form_of verb).most
 least_is_less Check = omega arith
 least_is_less Show = omega arith
 least_is_less Run = omega arith
+least_is_less Build = omega arith
+least_is_less Exec = omega arith
+least_is_less Listing = omega arith
+least_is_less Sample = omega arith
 least_is_less Help = omega arith
 least_is_less Version = omega arith
 
@@ -168,7 +184,7 @@ named_begin verb words given names n =
         given = n.gives;
         enough = omega (arith, size);
         few = omega (arith, size, n.few, least_is_less verb);
-        named = both_named names more n.named (fill_named ((form_of verb).least - length names));
+        named = both_named (form_of verb).item names more n.named (fill_named (form_of verb).item ((form_of verb).least - length names) (fill_item verb));
         ends = no_arguments (form_of verb).arguments;
       },
     )
@@ -265,9 +281,13 @@ by_verb w P some none =
     test (codes "check") _ _ (some Check) λ a.
     test (codes "show") _ _ (some Show) λ b.
     test (codes "run") _ _ (some Run) λ c.
-    test (codes "--help") _ _ (some Help) λ d.
-    test (codes "--version") _ _ (some Version) λ e.
-    none (all a b c d e)
+    test (codes "build") _ _ (some Build) λ d.
+    test (codes "exec") _ _ (some Exec) λ e.
+    test (codes "list") _ _ (some Listing) λ f.
+    test (codes "sample") _ _ (some Sample) λ g.
+    test (codes "--help") _ _ (some Help) λ h.
+    test (codes "--version") _ _ (some Version) λ i.
+    none (all a b c d e f g h i)
   where
     test : (text : List ℕ) (x y : Option Verb) → (w ≡ text → P x) → (bytes_eq w text ≡ false → P y) → P (cond (bytes_eq w text) x y)
     test text x y f g =
@@ -276,12 +296,16 @@ by_verb w P some none =
           | false ↦ g
         ] refl
 
-    all : bytes_eq w (codes "check") ≡ false → bytes_eq w (codes "show") ≡ false → bytes_eq w (codes "run") ≡ false → bytes_eq w (codes "--help") ≡ false → bytes_eq w (codes "--version") ≡ false → (verb : Verb) → w ≡ word_of verb → ⊥
-    all a b c d e Check h = apart w (codes "check") a h
-    all a b c d e Show h = apart w (codes "show") b h
-    all a b c d e Run h = apart w (codes "run") c h
-    all a b c d e Help h = apart w (codes "--help") d h
-    all a b c d e Version h = apart w (codes "--version") e h
+    all : bytes_eq w (codes "check") ≡ false → bytes_eq w (codes "show") ≡ false → bytes_eq w (codes "run") ≡ false → bytes_eq w (codes "build") ≡ false → bytes_eq w (codes "exec") ≡ false → bytes_eq w (codes "list") ≡ false → bytes_eq w (codes "sample") ≡ false → bytes_eq w (codes "--help") ≡ false → bytes_eq w (codes "--version") ≡ false → (verb : Verb) → w ≡ word_of verb → ⊥
+    all a b c d e f g h i Check is = apart w (codes "check") a is
+    all a b c d e f g h i Show is = apart w (codes "show") b is
+    all a b c d e f g h i Run is = apart w (codes "run") c is
+    all a b c d e f g h i Build is = apart w (codes "build") d is
+    all a b c d e f g h i Exec is = apart w (codes "exec") e is
+    all a b c d e f g h i Listing is = apart w (codes "list") f is
+    all a b c d e f g h i Sample is = apart w (codes "sample") g is
+    all a b c d e f g h i Help is = apart w (codes "--help") h is
+    all a b c d e f g h i Version is = apart w (codes "--version") i is
 
 pub begins_nothing : Begins []
 begins_nothing = let b : Begins (word_of Help ∷ []) = part_begins Help [] (Options nothing_given) refl in (word_of Help ∷ b.0, b.1, b.2)

@@ -1,17 +1,20 @@
 -- The forms of a command line as relations, apart from how words are read.
 use Rattle.std.specs.Prelude.{◌≡◌, ◌⊎◌, ℕ, ◌+◌, ◌<◌, ◌≤◌, List, [], ◌∷◌, ◌++◌, Option, Some, None, true, option_and_then, codes, take, length}
 use Rattle.ns_words.specs.Table.{form_of, word_of}
-use Rattle.ns_words.specs.Words.{Line, Reading, says, bad, is_file_name, nothing_given, with_option}
+use Rattle.ns_words.specs.Words.{Line, Reading, says, bad, is_item, nothing_given, with_option}
 use Rattle.ns_words.specs.declared.form.Form.{Form}
+use Rattle.ns_words.specs.declared.form.Item.{Item}
+use Rattle.ns_words.specs.declared.form.Item.TheVariants.{File}
 use Rattle.ns_words.specs.declared.words.Given.{Given}
 
-abbrev pub AreNames : List (List ℕ) → Type 0
-AreNames [] = Unit {0}
-AreNames (word ∷ words) = (is_file_name word ≡ true) × AreNames words
+-- Each of these words can be a name of that kind.
+abbrev pub AreNames : Item → List (List ℕ) → Type 0
+AreNames item [] = Unit {0}
+AreNames item (word ∷ words) = (is_item item word ≡ true) × AreNames item words
 
--- 1 to 16 names
+-- 1 to 16 names of files
 abbrev pub AreFiles : List (List ℕ) → Type 0
-AreFiles words = (1 ≤ length words) × (length words ≤ 16) × AreNames words
+AreFiles words = (1 ≤ length words) × (length words ≤ 16) × AreNames File words
 
 -- what these words give beside what was given, each of them an option that the form takes and that wasn't given before
 abbrev pub all_given : Form → Given → List (List ℕ) → Option Given
@@ -32,7 +35,7 @@ pub record IsForm (words : List (List ℕ)) (line : Line) : Type 0 where
   pub given : all_given (form_of line.verb) nothing_given options ≡ Some line.given
   pub enough : (form_of line.verb).least ≤ length line.names
   pub few : length line.names ≤ (form_of line.verb).most
-  pub named : AreNames line.names
+  pub named : AreNames (form_of line.verb).item line.names
   pub ends : AreArguments (form_of line.verb).arguments last line.arguments
 
 -- The line is what some words spell.

@@ -2,23 +2,32 @@
 use Rattle.std.specs.Prelude.{ℕ, List, true, false, Option, Some, None, codes, if◌then◌else◌}
 use Rattle.std.specs.Str.{bytes_eq}
 use Rattle.ns_words.specs.declared.form.Form.{Form}
+use Rattle.ns_words.specs.declared.form.Item.TheVariants.{File, Number}
 use Rattle.ns_words.specs.declared.form.Verb.{Verb}
-use Rattle.ns_words.specs.declared.form.Verb.TheVariants.{Check, Show, Run, Help, Version}
+use Rattle.ns_words.specs.declared.form.Verb.TheVariants.{Check, Show, Run, Build, Exec, Listing, Sample, Help, Version}
 
--- the form of each command: whether it takes the options of limits, and `--lib`; the fewest names and the most; how
--- many arguments
+-- the form of each command: whether it takes the options of limits, and `--lib`; what each name is; the fewest names and
+-- the most; how many arguments
 abbrev pub form_of : Verb → Form
-form_of Check = record { limits = false; lib = true; least = 1; most = 16; arguments = None }
-form_of Show = record { limits = false; lib = false; least = 1; most = 1; arguments = None }
-form_of Run = record { limits = true; lib = true; least = 1; most = 16; arguments = Some 255 }
-form_of Help = record { limits = false; lib = false; least = 0; most = 0; arguments = None }
-form_of Version = record { limits = false; lib = false; least = 0; most = 0; arguments = None }
+form_of Check = record { limits = false; lib = true; item = File; least = 1; most = 16; arguments = None }
+form_of Show = record { limits = false; lib = false; item = File; least = 1; most = 1; arguments = None }
+form_of Run = record { limits = true; lib = true; item = File; least = 1; most = 16; arguments = Some 255 }
+form_of Build = record { limits = false; lib = true; item = File; least = 2; most = 17; arguments = None }
+form_of Exec = record { limits = true; lib = false; item = File; least = 1; most = 1; arguments = Some 255 }
+form_of Listing = record { limits = false; lib = false; item = File; least = 1; most = 1; arguments = None }
+form_of Sample = record { limits = false; lib = false; item = Number 1000; least = 1; most = 1; arguments = None }
+form_of Help = record { limits = false; lib = false; item = File; least = 0; most = 0; arguments = None }
+form_of Version = record { limits = false; lib = false; item = File; least = 0; most = 0; arguments = None }
 
 -- the first word of a command's form
 abbrev pub word_of : Verb → List ℕ
 word_of Check = codes "check"
 word_of Show = codes "show"
 word_of Run = codes "run"
+word_of Build = codes "build"
+word_of Exec = codes "exec"
+word_of Listing = codes "list"
+word_of Sample = codes "sample"
 word_of Help = codes "--help"
 word_of Version = codes "--version"
 
@@ -28,6 +37,10 @@ verb_of word =
     if bytes_eq word (codes "check") then Some Check
     else (if bytes_eq word (codes "show") then Some Show
     else (if bytes_eq word (codes "run") then Some Run
+    else (if bytes_eq word (codes "build") then Some Build
+    else (if bytes_eq word (codes "exec") then Some Exec
+    else (if bytes_eq word (codes "list") then Some Listing
+    else (if bytes_eq word (codes "sample") then Some Sample
     else (if bytes_eq word (codes "--help") then Some Help
     else (if bytes_eq word (codes "--version") then Some Version
-    else None))))
+    else None))))))))

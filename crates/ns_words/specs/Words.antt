@@ -1,10 +1,12 @@
 -- How the words of a command line are read, one after the other, over the form of its command (this profile).
 use Rattle.std.specs.Prelude.{ℕ, ◌+◌, ◌-◌, ◌*◌, ◌&&◌, nat_le, nat_lt, not, List, [], ◌∷◌, ◌++◌, Bool, true, false, Option, Some, None, option_and_then, take, drop, length, codes, nat_eq, if◌then◌else◌}
-use Rattle.std.specs.Option.{unwrap_or}
+use Rattle.std.specs.Option.{is_some, unwrap_or}
 use Rattle.std.specs.Str.{bytes_eq}
 use Rattle.ns_base.specs.declared.limits.Limits.{Limits}
 use Rattle.ns_words.specs.Table.{form_of, verb_of}
 use Rattle.ns_words.specs.declared.form.Form.{Form}
+use Rattle.ns_words.specs.declared.form.Item.{Item}
+use Rattle.ns_words.specs.declared.form.Item.TheVariants.{File, Number}
 use Rattle.ns_words.specs.declared.form.Verb.{Verb}
 use Rattle.ns_words.specs.declared.words.Given.{Given}
 
@@ -113,6 +115,11 @@ abbrev pub is_file_name : List ℕ → Bool
 is_file_name [] = false
 is_file_name (b ∷ bs) = not (nat_eq b 45) && nat_le (length (b ∷ bs)) 4294967295
 
+-- a word that can be a name of a command: the name of a file, or a number from 1 to the greatest
+abbrev pub is_item : Item → List ℕ → Bool
+is_item File word = is_file_name word
+is_item (Number greatest) word = is_some (number_of greatest word)
+
 -- Behind so many arguments another one may stand.
 abbrev pub has_room : Option ℕ → ℕ → Bool
 has_room None count = false
@@ -135,7 +142,7 @@ with_dashes given names (Some most) = Some (Arguments given names [])
 -- what is read with a word more behind names: another name, or `--`
 abbrev pub with_name : Form → Given → List (List ℕ) → List ℕ → Option Part
 with_name form given names word =
-    if is_file_name word && nat_lt (length names) form.most then Some (Names given (names ++ word ∷ []))
+    if is_item form.item word && nat_lt (length names) form.most then Some (Names given (names ++ word ∷ []))
     else with_dashes given names (arguments_behind form (length names) word)
 
 -- an option more, or else the other
@@ -192,6 +199,12 @@ after_verb words (Some verb) = read_from verb (Options nothing_given) 1 words
 abbrev pub reading_of : List (List ℕ) → Reading
 reading_of [] = bad 0
 reading_of (word ∷ words) = after_verb words (verb_of word)
+
+-- the number of the sample that a line asks for, which is its one name
+abbrev pub sample_number : List (List ℕ) → Option ℕ
+sample_number [] = None
+sample_number (name ∷ []) = number_of 1000 name
+sample_number (name ∷ next ∷ more) = None
 
 -- the names of a line
 abbrev pub names_of : Reading → List (List ℕ)

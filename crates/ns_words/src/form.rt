@@ -12,20 +12,39 @@ pub enum Verb {
     Show,
     /// Runs a program.
     Run,
+    /// Stores the image of a program.
+    Build,
+    /// Runs an image.
+    Exec,
+    /// Lists the code of an image.
+    Listing,
+    /// Runs the sample of a number.
+    Sample,
     /// Tells how the program is used.
     Help,
     /// Tells the version of the program.
     Version,
 }
 
-/// What may stand behind the first word: options, in any order and each at most once; then names of
-/// files; then `--` and arguments.
+/// What each name of a command is.
+#[derive(Clone, Copy, Debug, PartialEq, Eq)]
+pub enum Item {
+    /// The name of a file.
+    File,
+    /// A number from 1 to this one.
+    Number(u32),
+}
+
+/// What may stand behind the first word: options, in any order and each at most once; then names;
+/// then `--` and arguments.
 #[derive(Clone, Copy, Debug, PartialEq, Eq)]
 pub struct Form {
     /// Whether the limits can be given, as `--steps=N` and so on.
     pub limits: bool,
     /// Whether `--lib` can be given.
     pub lib: bool,
+    /// What each name is.
+    pub item: Item,
     /// The fewest names.
     pub least: u64,
     /// The most names.
@@ -50,18 +69,34 @@ pub fn form_of(verb: Verb) -> Form
             arguments: Some(255),
             ..names(1, 16)
         },
+        // The image, and 1 to 16 files behind it.
+        Verb::Build => Form {
+            lib: true,
+            ..names(2, 17)
+        },
+        Verb::Exec => Form {
+            limits: true,
+            arguments: Some(255),
+            ..names(1, 1)
+        },
+        Verb::Listing => names(1, 1),
+        Verb::Sample => Form {
+            item: Item::Number(1_000),
+            ..names(1, 1)
+        },
         Verb::Help => names(0, 0),
         Verb::Version => names(0, 0),
     }
 }
 
-/// The form of names alone.
+/// The form of names of files alone.
 fn names(least: u64, most: u64) -> Form
-    ensures { result ≡ record { limits = false; lib = false; least = least; most = most; arguments = None } }
+    ensures { result ≡ record { limits = false; lib = false; item = Item.File; least = least; most = most; arguments = None } }
 {
     Form {
         limits: false,
         lib: false,
+        item: Item::File,
         least,
         most,
         arguments: None,
@@ -80,6 +115,18 @@ pub fn verb_of(word: &[u8]) -> Option<Verb>
     }
     if word == b"run".as_slice() {
         return Some(Verb::Run);
+    }
+    if word == b"build".as_slice() {
+        return Some(Verb::Build);
+    }
+    if word == b"exec".as_slice() {
+        return Some(Verb::Exec);
+    }
+    if word == b"list".as_slice() {
+        return Some(Verb::Listing);
+    }
+    if word == b"sample".as_slice() {
+        return Some(Verb::Sample);
     }
     if word == b"--help".as_slice() {
         return Some(Verb::Help);

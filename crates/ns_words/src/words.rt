@@ -7,7 +7,7 @@ ghost use Rattle.ns_words.specs.Line.{line_seen, seen};
 ghost use Rattle.ns_words.specs.Table.{form_of as form_of_lem};
 ghost use Rattle.ns_words.specs.Words as spec;
 
-use crate::form::{Form, Verb, form_of, verb_of};
+use crate::form::{Form, Item, Verb, form_of, verb_of};
 use ns_base::limits::Limits;
 
 /// What the options of a command line give.
@@ -79,6 +79,20 @@ pub fn first_bad(line: &[String]) -> u64
     }
 }
 
+/// The number of the sample that these names ask for: there is one name, from 1 to 1,000.
+pub fn sample_number(names: &[String]) -> Option<u32>
+    ensures is { result ≡ spec.sample_number (map string_bytes names.now) }
+    ensures range { IfSome result (λ n. (1 ≤ n) × (n ≤ 1000)) }
+{
+    match names {
+        [name] => match number(1_000, name.as_bytes()) {
+            Some(n) => Some(n as u32),
+            None => None,
+        },
+        _ => None,
+    }
+}
+
 fn nothing_given() -> Given
     ensures { result ≡ spec.nothing_given }
 {
@@ -128,7 +142,7 @@ fn after_names<'a>(
     match rest {
         [] => ended(verb, given, number, names),
         [word, more @ ..] => {
-            if is_name(word.as_bytes()) && (count as u64) < form.most {
+            if is_item(form.item, word.as_bytes()) && (count as u64) < form.most {
                 return after_names(verb, given, number + 1, words, count + 1);
             }
             match arguments_behind(form, count as u64, word.as_bytes()) {
@@ -198,8 +212,18 @@ fn arguments<'a>(
     })
 }
 
+/// Whether a word can be such a name.
+fn is_item(item: Item, word: &[u8]) -> bool
+    ensures { result ≡ spec.is_item item word.now }
+{
+    match item {
+        Item::File => is_file_name(word),
+        Item::Number(greatest) => number(greatest as u64, word).is_some(),
+    }
+}
+
 /// Whether a word can be the name of a file.
-fn is_name(word: &[u8]) -> bool
+fn is_file_name(word: &[u8]) -> bool
     ensures { result ≡ spec.is_file_name word.now }
 {
     !word.is_empty() && word[0] != b'-' && word.len() <= 4_294_967_295
@@ -279,7 +303,8 @@ fn number_given(name: &[u8], greatest: u64, before: Option<u64>, word: &[u8]) ->
 /// The decimal number without a leading zero, from 1 to the greatest.
 fn number(greatest: u64, text: &[u8]) -> Option<u64>
     requires { greatest ≤ 1000000000000 }
-    ensures { result ≡ spec.number_of greatest text.now }
+    ensures is { result ≡ spec.number_of greatest text.now }
+    ensures range { IfSome result (λ n. (1 ≤ n) × (n ≤ greatest)) }
 {
     if begins_bad(text) {
         None
@@ -298,7 +323,8 @@ fn begins_bad(text: &[u8]) -> bool
 #[tactic(auto, using(crate::proofs::NumberLaws::too_big))]
 fn value(greatest: u64, text: &[u8]) -> Option<u64>
     requires { greatest ≤ 1000000000000 }
-    ensures { result ≡ option_and_then (spec.in_range greatest) (spec.value_from 0 text.now) }
+    ensures is { result ≡ option_and_then (spec.in_range greatest) (spec.value_from 0 text.now) }
+    ensures range { IfSome result (λ n. (1 ≤ n) × (n ≤ greatest)) }
 {
     let mut n: u64 = 0;
     for b in text {

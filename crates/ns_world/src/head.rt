@@ -34,6 +34,7 @@ pub fn is_class_head(head: Head) -> bool
 }
 
 /// The declaration of a class, 0 where the head is that of another cell.
+#[inline(always)]
 pub fn declared_at_head(head: Head) -> u32
     ensures { result ≡ declared_at_head head }
 {
@@ -44,6 +45,7 @@ pub fn declared_at_head(head: Head) -> u32
 }
 
 /// Where the lookup starts for the cell of that number.
+#[inline(always)]
 pub fn start_at_head(head: Head, at: u32) -> Start
     ensures { result ≡ start_at_head head at }
 {

@@ -151,6 +151,7 @@ impl Heap {
     }
 
     /// A value behind the head of a cell.
+    #[inline(always)]
     pub fn read(&self, at: u32, word: u32) -> Value
         requires { word < length (words_at self.now.cells at) }
         ensures { result ≡ word_at self.now.cells at word }
@@ -159,6 +160,7 @@ impl Heap {
     }
 
     /// Writes a value of an object, an environment or an array.
+    #[inline(always)]
     pub fn write(&mut self, at: u32, word: u32, value: Value)
         requires { word < length (open_words_at self.old.cells at) }
         ensures cells { self.new ≡ record self.old { cells = write_word self.old.cells at word value } }
@@ -195,6 +197,7 @@ impl Heap {
     }
 
     /// The kind and the size of a cell.
+    #[inline(always)]
     pub fn head(&self, at: u32) -> Head
         requires { IsSome (find_cell self.now.cells at) }
         ensures { result ≡ head_at self.now.cells at }
@@ -342,6 +345,7 @@ fn shape_in(head: Word, next: Word, second: Word, third: Word) -> NewCell
 }
 
 /// What a head tells by itself.
+#[inline(always)]
 fn head_in(head: Word) -> Head
     ensures { result ≡ head_in head }
 {

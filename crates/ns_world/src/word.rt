@@ -43,6 +43,7 @@ pub enum Word {
 const _: () = prove!(size_of::<Word>() == 16);
 
 /// The word of a value.
+#[inline(always)]
 pub fn word_of(value: Value) -> Word
     ensures { result ≡ word_of value }
 {
@@ -73,6 +74,7 @@ pub fn word_beside(value: Value, beside: u32) -> Word
 }
 
 /// The value of a word, nil where it holds none.
+#[inline(always)]
 pub fn value_in(word: Word) -> Value
     ensures { result ≡ value_in word }
 {
@@ -94,6 +96,7 @@ pub fn value_in(word: Word) -> Value
 }
 
 /// The number beside the value of a word, 0 where none stands there.
+#[inline(always)]
 pub fn beside_in(word: Word) -> u32
     ensures { result ≡ beside_in word }
 {

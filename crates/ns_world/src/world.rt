@@ -150,6 +150,7 @@ impl World {
     /// A value behind the head of a live cell: an entry of an object, the enclosing object, the
     /// enclosing holder and the superclass of a class, self and the environment of a block, a local
     /// of an environment, an element of an array, what a mirror mirrors, the arguments of a message.
+    #[inline(always)]
     pub fn read(&self, at: u32, word: u32) -> Value
         requires { word < length (words_at self.now.world.cells at) }
         ensures { result ≡ word_at self.now.world.cells at word }
@@ -158,6 +159,7 @@ impl World {
     }
 
     /// Writes a value of an object, an environment or an array.
+    #[inline(always)]
     pub fn write(&mut self, at: u32, word: u32, value: Value)
         requires { word < length (open_words_at self.old.world.cells at) }
         ensures { self.new ≡ record self.old { world = written self.old.world at word value } }
@@ -198,6 +200,7 @@ impl World {
     }
 
     /// The kind and the size of a live cell, which stand in its first word.
+    #[inline(always)]
     pub fn head(&self, at: u32) -> Head
         requires { IsSome (find_cell self.now.world.cells at) }
         ensures { result ≡ head_at self.now.world.cells at }
@@ -223,6 +226,7 @@ impl World {
     }
 
     /// The declaration of a class.
+    #[inline(always)]
     #[tactic(auto, using(crate::proofs::HeadTests::declaration_told))]
     pub fn declaration(&self, class: u32) -> u32
         requires { IsTrue (is_class (find_cell self.now.world.cells class)) }
@@ -232,6 +236,7 @@ impl World {
     }
 
     /// Where the lookup of a send to this value starts. An environment is no receiver.
+    #[inline(always)]
     #[tactic(auto, using(crate::proofs::HeadTests::start_told))]
     pub fn start(&self, value: Value) -> Start
         requires { IsTrue (is_receiver self.now.world.cells value) }
@@ -249,6 +254,7 @@ impl World {
     }
 
     /// The name of the class of a start, by which an error names its receiver.
+    #[inline(always)]
     pub fn class_name(&self, start: Start) -> ClassName
         requires { IsTrue (has_class self.now.world.cells start) }
         ensures { result ≡ class_name_at self.now.world.cells start }
@@ -260,6 +266,7 @@ impl World {
         }
     }
 
+    #[inline(always)]
     fn name_of_instance(&self, class: u32) -> ClassName
         requires { IsTrue (has_class self.now.world.cells (Instance class)) }
         ensures { result ≡ class_name_at self.now.world.cells (Instance class) }
@@ -315,6 +322,7 @@ impl World {
     }
 
     /// Charges one step.
+    #[inline(always)]
     pub fn step(&mut self) -> Result<(), LimitKind>
         ensures charges { Charges (stepped self.old.world) Steps self.old result self.new }
         ensures limits { self.new.world.limits ≡ self.old.world.limits }
@@ -328,6 +336,7 @@ impl World {
     }
 
     /// Charges one frame.
+    #[inline(always)]
     pub fn enter(&mut self) -> Result<(), LimitKind>
         ensures charges { Charges (entered self.old.world) Depth self.old result self.new }
         ensures limits { self.new.world.limits ≡ self.old.world.limits }
@@ -341,6 +350,7 @@ impl World {
     }
 
     /// Gives one frame back.
+    #[inline(always)]
     pub fn leave(&mut self)
         requires { 0 < self.old.world.depth }
         ensures { self.new ≡ record self.old { world = left self.old.world } }
@@ -363,6 +373,7 @@ impl World {
     }
 
     /// What was used of each limit.
+    #[inline(always)]
     pub fn counters(&self) -> Counters
         ensures { result ≡ counters_of self.now.world }
     {

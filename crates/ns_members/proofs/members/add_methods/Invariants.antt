@@ -1,9 +1,7 @@
-use Rattle.std.proofs.Common.{◌≡◌, ◌++◌, drop, map}
-use Rattle.ns_code.specs.declared.class.MethodCode.{MethodCode}
-use Rattle.ns_code.specs.Soundness.{texts_of}
+use Rattle.std.proofs.Common.{◌≡◌, ◌++◌, drop}
+use Rattle.ns_members.specs.Numbers.{method_numbers}
 use Rattle.ns_members.proofs.members.add_methods.Given as goal
 
 abbrev pub invariant-methods : goal.invariant-methods
 invariant-methods l =
-    l.found.items ++ texts_of l.code (map (λ (method : MethodCode). method.sel.0) (drop l.method-index l.methods))
-    ≡ l.fn.found.items ++ texts_of l.code (map (λ (method : MethodCode). method.sel.0) l.methods)
+    l.found.items ++ method_numbers l.code.names (drop l.method-index l.methods) ≡ l.fn.found.items ++ method_numbers l.code.names l.methods

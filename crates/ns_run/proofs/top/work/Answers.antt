@@ -1,19 +1,16 @@
 use Rattle.std.proofs.Common.{◌≡◌, [], refl, map, string_bytes}
-use Rattle.std.proofs.lemmas.Result.{IfOk-weaker}
-use Rattle.ns_run.specs.Outcome.{IsMissing}
 use Rattle.ns_run.specs.Report.{bad_word}
-use Rattle.ns_run.proofs.ReportLaws.{some_of, stop_keeps}
-use Rattle.ns_run.proofs.TextLaws.{over_reading, told_reading}
+use Rattle.ns_run.proofs.ReportLaws.{stop_keeps}
+use Rattle.ns_run.proofs.TextLaws.{missing_of_reading, over_reading, told_reading}
 use Rattle.ns_run.proofs.top.work.Goals as goal
-use Rattle.ns_words.specs.Words.{bad, names_of, reading_of}
+use Rattle.ns_words.specs.Words.{bad}
 
 pub returns-in-Ok-clause-told : goal.returns-in-Ok-clause-told
 returns-in-Ok-clause-told g c = λ files e. told_reading _ (map string_bytes c.args.line.now) files c.on_line.result c.in-Ok.ensures.reading (c.on_line.ensures.told files e)
 
 pub returns-in-Ok-clause-missing : goal.returns-in-Ok-clause-missing
 returns-in-Ok-clause-missing g c =
-    IfOk-weaker c.on_line.result _ _
-    (λ r f s. some_of (names_of (reading_of (map string_bytes c.args.line.now))) (λ file. IsMissing file r) s f) c.on_line.ensures.missing
+    missing_of_reading _ (map string_bytes c.args.line.now) _ c.on_line.result c.in-Ok.ensures.reading c.on_line.ensures.missing
 
 pub returns-in-Ok-clause-texts : goal.returns-in-Ok-clause-texts
 returns-in-Ok-clause-texts g c = over_reading _ (map string_bytes c.args.line.now) c.on_line.result c.in-Ok.ensures.reading c.on_line.ensures.texts

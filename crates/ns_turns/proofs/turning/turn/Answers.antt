@@ -2,7 +2,7 @@ use Rattle.std.proofs.Common.{◌≡◌, ◌∙◌, ap, sym, arith, false}
 use Rattle.ns_world.specs.declared.ending.Counters.{Counters}
 use Rattle.ns_moves.specs.Turn.{is_still}
 use Rattle.ns_engine.specs.Shown.{shown}
-use Rattle.ns_turns.proofs.Turned.{Known, turning_begins, rests_here, ends_here, since_begun, some_left, spent_on, spent_goes, runs_on, turning_on, not_both}
+use Rattle.ns_turns.proofs.Turned.{Known, turning_begins, rests_here, ends_here, since_begun, left_is, spent_on, spent_goes, runs_on, turning_on, not_both}
 use Rattle.ns_turns.proofs.turning.turn.Goals as goal
 
 pub moves-init : goal.moves-init
@@ -40,8 +40,8 @@ returns-then-is_ended-clause-turns c =
     rests_here c.args.code.now known c.args.steps (shown c.args.code.now c.args.core.now c.args.next) (shown c.args.code.now c.moves.core c.moves.here)
     (sym (c.is_ended.ensures c.args.code.now c.moves.core) ∙ c.if-is_ended.true) c.moves.invariant.turning.under
 
-pub overflow_sub-counters : goal.overflow_sub-counters
-overflow_sub-counters c =
+pub overflow_sub-used : goal.overflow_sub-used
+overflow_sub-used c =
     let since = since_begun c.args.code.now c.args.steps c.args.core.now c.moves.core c.args.next c.moves.here (sym (c.is_ended.ensures c.args.code.now c.moves.core) ∙ c.if-is_ended.false)
     c.moves.invariant.turning.under in
     let begun = c.moves.invariant.begun in
@@ -50,27 +50,13 @@ overflow_sub-counters c =
 
 pub moves-preserved : goal.moves-preserved
 moves-preserved c =
-    let known : Known c.args.code.now = (record {
-      begin = c.turns_go_by_moves.ensures.begin c.args.code.now;
-      free = c.turns_go_by_moves.ensures.free c.args.code.now;
-      charged = c.turns_go_by_moves.ensures.charged c.args.code.now;
-      last = c.turns_go_by_moves.ensures.last c.args.code.now;
-      rest = c.turns_go_by_moves.ensures.rest c.args.code.now;
-      took = c.moves_charge_as_told.ensures.steps c.args.code.now;
-      test = c.moves_charge_as_told.ensures.test c.args.code.now;
-      keeps = c.moves_keep_valid.ensures c.args.code.now;
-      onward = c.moves_go_onward.ensures c.args.code.now;
-    }) in
     let begun = c.moves.invariant.begun in
     let counted = ap (λ (used : Counters). used.steps) c.counters.ensures in
+    let left = left_is c.args.code.now c.args.steps c.args.core.now c.moves.core c.args.next c.moves.here in
     record {
-      runs = runs_on c.args.code.now c.args.plan.now c.args.own c.moves.core c.step-here.new.core c.moves.here c.step-here.result
-          (c.moves_keep_machines_ready.ensures.moves c.args.code.now) c.moves.invariant.runs c.step-here.ensures;
-      turning = turning_on c.args.code.now known (c.moves_keep_machines_ready.ensures.moves c.args.code.now) c.args.steps c.args.core.now c.moves.core
-          c.step-here.new.core c.args.next c.moves.here c.step-here.result c.moves.invariant.runs.can (sym (c.is_ended.ensures c.args.code.now c.moves.core) ∙ c.if-is_ended.false)
-          (λ told. some_left c.args.code.now c.args.steps c.args.core.now c.moves.core c.args.next c.moves.here
-          (omega (arith, begun, counted, c.if-steps-counters.false))) c.moves.invariant.turning c.step-here.ensures;
-      begun = c.moves.invariant.begun;
+      runs = c.go_along-here.ensures.along.runs;
+      turning = c.go_along-here.ensures.along.turning c.args.steps c.args.core.now c.args.next (omega (arith, left, counted, begun)) c.moves.invariant.turning;
+      begun = begun;
     }
 
 pub returns-then-is_ended-2-clause-turns : goal.returns-then-is_ended-2-clause-turns

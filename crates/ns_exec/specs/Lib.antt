@@ -1,0 +1,4 @@
+pub mod Build
+pub mod Exec
+pub mod Listing
+pub mod Laws

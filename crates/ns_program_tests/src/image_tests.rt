@@ -1,0 +1,148 @@
+//! Images: what is built of files, and what is done with it.
+
+use crate::command::{Setting, Want, leaves};
+use ns_base::no_memory::NoMemory;
+use std::alloc::Global;
+
+/// An image of version 1, of a class A whose main method answers 7.
+const SEVEN: &[u8] =
+    b"NSPK\x00\x01\x00\x00\x00\x04\x00\x00\x00\x01A\x00\x00\x00\x0dpackageUsing:\x00\x00\x00\x03new\x00\x00\x00\x0amain:args:\x00\x00\x00\x00\x00\x00\x00\x01\x00\x00\x00\x00\x00\x00\x00\x00\x00\x00\x00\x01\x01\x00\x00\x00\x00\x00\x00\x00\x00\x00\x00\x00\x02\x00\x00\x00\x00\x00\x01\x00\x00\x00\x03\x00\x00\x00\x00\x01\x00\x00\x00\x00\x00\x02\x02\x00\x00\x00\x00\x00\x00\x00\x00\x00\x01\x01\x00\x00\x00\x00\x00\x00\x02\x13\x00\x16\x00\x00\x00\x00\x00\x00\x00\x00\x00\x00\x02\x02\x00\x00\x01\x00\x00\x00\x02\x04\x00\x00\x00\x00\x00\x00\x00\x07\x15";
+
+const LISTING: &str = "class 0 A
+body 0 init class 0 params 1 locals 1
+  local 0 t0
+  0 InitSuper 0
+  1 ReturnSelf
+body 1 method class 0 params 2 locals 2
+  local 0 t0
+  local 1 t1
+  0 PushInt 7
+  1 Return
+";
+
+/// A block that returns to a method which has ended.
+const DEAD: &[u8] = b"class D packageUsing: m = () (
+make = (^[^1])
+public main: p args: a = (^make value)
+)
+";
+
+/// The files that each command finds.
+const FILES: &[(&str, &[u8])] = &[("a.img", SEVEN), ("D.ns", DEAD)];
+
+/// The words of a command, the calls of the shelf that fail, those of `out` and of `err` with how many
+/// bytes they still take, and what the command leaves.
+struct Failing {
+    words: &'static [&'static str],
+    shelf: &'static [u64],
+    out: &'static [(u64, u64)],
+    err: &'static [(u64, u64)],
+    want: Want,
+}
+
+const DONE: &[(&[&str], Want)] = &[
+    (&["exec", "a.img"], ("", "=> 7\n", 0)),
+    (&["exec", "--steps=1", "a.img"], ("", "limit: steps\n", 3)),
+    (&["list", "a.img"], (LISTING, "", 0)),
+    (&["build", "d.img", "D.ns"], ("", "", 0)),
+];
+
+const FAILING: &[Failing] = &[
+    Failing {
+        words: &["build", "d.img", "D.ns"],
+        shelf: &[0],
+        out: &[],
+        err: &[],
+        want: ("", "", 4),
+    },
+    Failing {
+        words: &["build", "d.img", "D.ns"],
+        shelf: &[1],
+        out: &[],
+        err: &[],
+        want: ("", "", 5),
+    },
+    Failing {
+        words: &["exec", "a.img"],
+        shelf: &[0],
+        out: &[],
+        err: &[],
+        want: ("", "", 4),
+    },
+    Failing {
+        words: &["exec", "a.img"],
+        shelf: &[],
+        out: &[],
+        err: &[(0, 2)],
+        want: ("", "=>", 5),
+    },
+    Failing {
+        words: &["list", "a.img"],
+        shelf: &[0],
+        out: &[],
+        err: &[],
+        want: ("", "", 4),
+    },
+    Failing {
+        words: &["list", "a.img"],
+        shelf: &[],
+        out: &[(0, 7)],
+        err: &[],
+        want: ("class 0", "", 5),
+    },
+    Failing {
+        words: &["show", "D.ns"],
+        shelf: &[],
+        out: &[(0, 5)],
+        err: &[],
+        want: ("class", "", 5),
+    },
+    Failing {
+        words: &["check", "D.ns", "D.ns"],
+        shelf: &[1],
+        out: &[],
+        err: &[],
+        want: ("", "", 4),
+    },
+    Failing {
+        words: &["run", "D.ns", "D.ns"],
+        shelf: &[1],
+        out: &[],
+        err: &[],
+        want: ("", "", 4),
+    },
+];
+
+#[test]
+fn images_are_built_run_and_listed(rt: HostRuntime) {
+    assert!(rt; all_done(rt.alloc()));
+    assert!(rt; runs_what_it_stored(rt.alloc()) == Ok(true));
+    for row in FAILING {
+        assert!(rt; ends_so(rt.alloc(), row) == Ok(true));
+    }
+}
+
+fn all_done(alloc: Global) -> bool {
+    for (words, want) in DONE {
+        if !leaves(alloc, FILES, words, *want) {
+            return false;
+        }
+    }
+    true
+}
+
+/// An error of an image that was built has its place.
+fn runs_what_it_stored(alloc: Global) -> Result<bool, NoMemory> {
+    let mut setting = Setting::of(alloc, FILES)?;
+    let built = setting.run(alloc, &["build", "d.img", "D.ns"])?;
+    let want = ("", "D.ns:3:33: DeadReturn Block value\n", 1);
+    Ok(built == 0 && setting.leaves(alloc, &["exec", "d.img"], want))
+}
+
+fn ends_so(alloc: Global, row: &Failing) -> Result<bool, NoMemory> {
+    let mut setting = Setting::of(alloc, FILES)?;
+    setting.shelf.fail_at.extend_from_slice(row.shelf)?;
+    setting.out.fail_at.extend_from_slice(row.out)?;
+    setting.err.fail_at.extend_from_slice(row.err)?;
+    Ok(setting.leaves(alloc, row.words, row.want))
+}

@@ -1,0 +1,142 @@
+-- No command but one stores a file.
+use Rattle.std.proofs.Common.{◌≡◌, ℕ, List, [], ◌∷◌, length, nat_lt, cond, Bool, true, false, Option, Some, None, codes, refl, ap, ◌∙◌}
+use Rattle.ns_base.specs.declared.limits.Limits.{Limits}
+use Rattle.ns_base.specs.declared.place.Place.{Place}
+use Rattle.ns_exec.specs.Exec.{Executed, executed, has_run, refused_code, refused_image}
+use Rattle.ns_exec.specs.Listing.{Listed, listed, lines, unlisted}
+use Rattle.ns_gen.specs.Code.{code_of}
+use Rattle.ns_gen.specs.Sizes.{size_fault}
+use Rattle.ns_gen.specs.declared.size.SizeKind.{SizeKind}
+use Rattle.ns_lib.specs.Sample.{sample}
+use Rattle.ns_load.specs.Loaded.{Loading, loaded_texts, stopped, units}
+use Rattle.ns_load.specs.declared.fault.LoadCause.{LoadCause}
+use Rattle.ns_load.specs.declared.fault.LoadCause.TheVariants as cause
+use Rattle.ns_load.specs.declared.fault.LoadFault.{LoadFault}
+use Rattle.ns_load.specs.declared.fault.LoadFault.TheVariants as fault
+use Rattle.ns_meant.specs.Classes.{meant_of}
+use Rattle.ns_meant.specs.Program.{Meant}
+use Rattle.ns_rules.specs.Least.{faults, least}
+use Rattle.ns_rules.specs.declared.fault.Placed.{Placed}
+use Rattle.ns_run.specs.Image.{ImageWork, Executes, Lists, of_executed, of_image, of_image_bytes, of_listed, of_short, unsound}
+use Rattle.ns_run.specs.Meaning.{name_of, of_cause, of_check, of_fault, of_line, of_loading, of_reading, of_run, of_sample, of_show, of_sized, of_texts, of_units}
+use Rattle.ns_run.specs.Outcome.{IsNoBuild, OverTexts, StoresNothing}
+use Rattle.ns_run.specs.Report.{refused_file}
+use Rattle.ns_run.specs.Task.{Task, Checks, Shows, Builds, Runs}
+use Rattle.ns_run.specs.declared.report.Report.{Report}
+use Rattle.ns_tree.specs.Plain as p
+use Rattle.ns_verify.specs.declared.fault.VerifyCause.{VerifyCause}
+use Rattle.ns_verify.specs.declared.fault.Where.{Where}
+use Rattle.ns_verify.specs.declared.fault.Where.TheVariants as where_at
+use Rattle.ns_words.specs.Words.{Line, Reading, says, bad, limits_of, nothing_given, reading_of, sample_number}
+use Rattle.ns_words.specs.declared.form.Verb.{Verb}
+use Rattle.ns_words.specs.declared.form.Verb.TheVariants as verb
+
+-- The report stores nothing.
+abbrev pub KeepsNone : Report → Type 0
+KeepsNone report = report.stored ≡ None
+
+-- ---- programs
+
+check_keeps : (names : List (List ℕ)) (why : Option Placed) → KeepsNone (of_check names why)
+check_keeps names None = refl
+check_keeps names (Some why) = refl
+
+show_keeps : (trees : List p.SourceUnit) → KeepsNone (of_show trees)
+show_keeps [] = refl
+show_keeps (unit ∷ more) = refl
+
+sized_keeps : (limits : Limits) (arguments : List (List ℕ)) (classes : Option ℕ) (meant : Meant) (kind : Option SizeKind) → KeepsNone (of_sized limits arguments classes meant kind)
+sized_keeps limits arguments classes meant None = refl
+sized_keeps limits arguments classes meant (Some kind) = refl
+
+run_keeps : (names : List (List ℕ)) (limits : Limits) (arguments : List (List ℕ)) (classes : Option ℕ) (files : List (List ℕ)) (trees : List p.SourceUnit) (places : List (List Place)) (why : Option Placed)
+    → KeepsNone (of_run names limits arguments classes files trees places why)
+run_keeps names limits arguments classes files trees places None = sized_keeps limits arguments classes (meant_of files trees places) (size_fault (code_of (meant_of files trees places)))
+run_keeps names limits arguments classes files trees places (Some why) = refl
+
+-- The task isn't the one that stores an image.
+abbrev pub IsNoBuilding : Task → Type 0
+IsNoBuilding Checks = Unit {0}
+IsNoBuilding Shows = Unit {0}
+IsNoBuilding (Builds name) = ⊥
+IsNoBuilding (Runs limits arguments classes) = Unit {0}
+
+units_keep : (t : Task) (names files : List (List ℕ)) (trees : List p.SourceUnit) (places : List (List Place)) → IsNoBuilding t → KeepsNone (of_units t names files trees places)
+units_keep Checks names files trees places i = check_keeps names (least (faults trees places))
+units_keep Shows names files trees places i = show_keeps trees
+units_keep (Builds name) names files trees places i = absurd i
+units_keep (Runs limits arguments classes) names files trees places i = run_keeps names limits arguments classes files trees places (least (faults trees places))
+
+cause_keeps : (file : List ℕ) (why : LoadCause) → KeepsNone (of_cause file why)
+cause_keeps file cause.Missing = refl
+cause_keeps file cause.TooLong = refl
+cause_keeps file cause.ReadFault = refl
+cause_keeps file (cause.Spelling number place) = refl
+
+fault_keeps : (names : List (List ℕ)) (why : LoadFault) → KeepsNone (of_fault names why)
+fault_keeps names (fault.At why file) = cause_keeps (name_of names file) why
+fault_keeps names fault.Memory = refl
+
+loading_keeps : (t : Task) (names : List (List ℕ)) (lib : Bool) (loading : Loading) → IsNoBuilding t → KeepsNone (of_loading t names lib loading)
+loading_keeps t names lib (units trees places) i = units_keep t names _ trees places i
+loading_keeps t names lib (stopped why) i = fault_keeps names why
+
+texts_keep : (t : Task) (names : List (List ℕ)) (lib : Bool) (texts : List (Option (List ℕ))) → IsNoBuilding t → KeepsNone (of_texts t names lib texts)
+texts_keep t names lib texts i = loading_keeps t names lib (loaded_texts texts lib) i
+
+sample_keeps : (number : Option ℕ) → KeepsNone (of_sample number)
+sample_keeps None = refl
+sample_keeps (Some n) = texts_keep (Runs (limits_of nothing_given) [] (Some n)) (codes "sample" ∷ []) false (Some (sample n) ∷ []) tt
+
+-- ---- images
+
+unsound_keeps : (file : List ℕ) (why : VerifyCause) (at : Where) → KeepsNone (unsound file why at)
+unsound_keeps file why (where_at.Class k) = refl
+unsound_keeps file why (where_at.Body k i) = refl
+
+executed_keeps : (file : List ℕ) (done : Executed) → KeepsNone (of_executed file done)
+executed_keeps file (refused_image why) = refl
+executed_keeps file (refused_code why at) = unsound_keeps file why at
+executed_keeps file (has_run ran) = refl
+
+listed_keeps : (file : List ℕ) (done : Listed) → KeepsNone (of_listed file done)
+listed_keeps file (unlisted why) = refl
+listed_keeps file (lines text) = refl
+
+bytes_keep : (work : ImageWork) (file bytes : List ℕ) → KeepsNone (of_image_bytes work file bytes)
+bytes_keep (Executes limits arguments) file bytes = executed_keeps file (executed bytes limits arguments)
+bytes_keep Lists file bytes = listed_keeps file (listed bytes)
+
+short_keeps : (work : ImageWork) (file bytes : List ℕ) → KeepsNone (of_short work file bytes)
+short_keeps work file bytes =
+    elim (nat_lt 134217728 (length bytes)) as (λ q. KeepsNone (cond q (refused_file file (codes "TooLong")) (of_image_bytes work file bytes))) [
+      | true ↦ refl
+      | false ↦ bytes_keep work file bytes
+    ]
+
+image_keeps : (work : ImageWork) (names : List (List ℕ)) (texts : List (Option (List ℕ))) → KeepsNone (of_image work names texts)
+image_keeps work [] texts = refl
+image_keeps work (name ∷ names) [] = refl
+image_keeps work (name ∷ names) (None ∷ texts) = refl
+image_keeps work (name ∷ names) (Some bytes ∷ texts) = short_keeps work name bytes
+
+-- ---- commands
+
+line_keeps : (each : Verb) (line : Line) (texts : List (Option (List ℕ))) → IsNoBuild each → KeepsNone (of_line each line texts)
+line_keeps verb.Check line texts i = texts_keep Checks line.names line.given.lib texts tt
+line_keeps verb.Show line texts i = texts_keep Shows line.names line.given.lib texts tt
+line_keeps verb.Run line texts i = texts_keep (Runs (limits_of line.given) line.arguments None) line.names line.given.lib texts tt
+line_keeps verb.Build line texts i = absurd i
+line_keeps verb.Exec line texts i = image_keeps (Executes (limits_of line.given) line.arguments) line.names texts
+line_keeps verb.Listing line texts i = image_keeps Lists line.names texts
+line_keeps verb.Sample line texts i = sample_keeps (sample_number line.names)
+line_keeps verb.Help line texts i = refl
+line_keeps verb.Version line texts i = refl
+
+reading_keeps : (reading : Reading) (texts : List (Option (List ℕ))) → StoresNothing reading → KeepsNone (of_reading reading texts)
+reading_keeps (says line) texts i = line_keeps line.verb line texts i
+reading_keeps (bad word) texts i = refl
+
+-- A report that some texts mean stores nothing, where its command doesn't.
+pub stores_nothing : (words : List (List ℕ)) (report : Report) → OverTexts words (λ each. report ≡ each) → StoresNothing (reading_of words) → report.stored ≡ None
+stores_nothing words report (texts, count, is) i = ap (λ (r : Report). r.stored) is ∙ reading_keeps (reading_of words) texts i

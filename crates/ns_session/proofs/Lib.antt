@@ -1,0 +1,10 @@
+pub mod Swapped
+pub mod Counting
+pub mod Begun
+pub mod Starting
+pub mod Reached
+pub mod Alone
+pub mod Lists
+pub mod Playing
+pub mod Rounding
+pub mod Keeping

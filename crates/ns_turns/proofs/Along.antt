@@ -1,0 +1,65 @@
+-- Moves of a machine one after another, with steps left.
+use Rattle.std.proofs.Common.{◌≡◌, ℕ, ◌-◌, ◌<◌, ◌≤◌, ap, sym, subst, arith, false}
+use Rattle.ns_code.specs.declared.program.CodeProgram.{CodeProgram}
+use Rattle.ns_facets.specs.declared.row.Grants.{Grants}
+use Rattle.ns_falling.specs.Falling.{run_left, MovesLower}
+use Rattle.ns_moves.specs.State.{State, world_of}
+use Rattle.ns_moves.specs.Turn.{is_still}
+use Rattle.ns_plan.specs.declared.plan.Plan.{Plan}
+use Rattle.ns_engine.specs.declared.own.OwnSends.{OwnSends}
+use Rattle.ns_engine.specs.declared.state.Core.{Core}
+use Rattle.ns_engine.specs.declared.state.Next.{Next}
+use Rattle.ns_engine.specs.Shown.{shown}
+use Rattle.ns_engine.specs.Ready.{Moves, MovesKeepReady}
+use Rattle.ns_turns.specs.Turning.{steps_left, RunsBy, IsTurning, GoesAlong, HasGone}
+use Rattle.ns_turns.proofs.Turned.{Known, runs_on, turning_on, counted, left_is, since_begun}
+
+-- what is known of moves of a machine
+pub record KnownMoves (code : CodeProgram) : Type 0 where
+  pub known : Known code
+  pub keeps : (grants : Grants) → MovesKeepReady code grants
+  pub lower : (grants : Grants) → MovesLower code grants
+
+-- a move takes no step back
+pub since_on : (code : CodeProgram) → Known code → (old new : Core) (from next : Next) → Moves code old from new next
+    → old.run.world.world.steps ≤ new.run.world.world.steps
+since_on code known old new from next moved =
+    let on = (known.onward 1 (shown code old from)).later.steps in
+    let is = ap (λ (s : State). (world_of s).steps) moved.state in
+    let a = counted code old from in
+    let b = counted code new next in
+    omega (arith, on, is, a, b)
+
+pub none_gone : (code : CodeProgram) (plan : Plan) (sends : OwnSends) (left : ℕ) (old : Core) (from : Next) → RunsBy code plan sends old from
+    → GoesAlong code plan sends left old from old from
+none_gone code plan sends left old from runs = record { runs = runs; turning = λ steps first began e turning. turning; lower = omega arith }
+
+module _ (code : CodeProgram) (all : KnownMoves code) (plan : Plan) (sends : OwnSends) (left : ℕ) (old : Core) (from : Next) where
+  module _ (goes : is_still (shown code old from) ≡ false) (now new : Core) (here next : Next) (on : is_still (shown code now here) ≡ false)
+      (few : now.run.world.world.steps - old.run.world.world.steps < left) (moved : Moves code now here new next) where
+    some_left : (steps : ℕ) (first : Core) (began : Next) → left ≡ steps_left steps (shown code first began) (shown code old from)
+        → IsTurning code steps first began old from → 1 ≤ steps_left steps (shown code first began) (shown code now here)
+    some_left steps first began e turning =
+        let since = since_begun code steps first old began from goes turning.under in
+        let a = left_is code steps first old began from in
+        let b = left_is code steps first now began here in
+        omega (arith, e, since, a, b, few)
+
+    falls_on : GoesAlong code plan sends left old from now here → run_left code (shown code new next) < run_left code (shown code old from)
+    falls_on along =
+        let a = subst (λ (s : State). run_left code s < run_left code (shown code now here)) (sym moved.state)
+        (all.lower along.runs.can.grants (shown code now here) along.runs.can.ready.valid on) in
+        let b = along.lower in
+        omega (arith, a, b)
+
+    pub gone_on : GoesAlong code plan sends left old from now here → HasGone code plan sends left old from new next
+    gone_on along = record {
+      along = record {
+        runs = runs_on code plan sends now new here next all.keeps along.runs moved;
+        turning = λ steps first began e turning.
+            turning_on code all.known all.keeps steps first now new began here next along.runs.can on
+            (λ told. some_left steps first began e turning) (along.turning steps first began e turning) moved;
+        lower = let a = falls_on along in omega (arith, a);
+      };
+      falls = falls_on along;
+    }
