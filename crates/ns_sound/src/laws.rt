@@ -6,7 +6,7 @@ ghost use Rattle.ns_tree.specs.PlainOf.{unit_of};
 ghost use Rattle.ns_scope.specs.declared.program.Program.{Program};
 ghost use Rattle.ns_scope.specs.Whole.{IsWhole};
 ghost use Rattle.ns_rules.specs.Least.{least, faults};
-ghost use Rattle.ns_code.specs.Fits.{IsWord, IsFileName, IsName, IsShort, ClassFits};
+ghost use Rattle.ns_code.specs.Fits.{IsWord, IsFileName, IsName, IsShort, ClassFits, Fits};
 ghost use Rattle.ns_meant.specs.Classes.{meant};
 ghost use Rattle.ns_gen.specs.Code.{code_of};
 ghost use Rattle.ns_gen.specs.Sizes.{size_fault};
@@ -66,4 +66,15 @@ pub fn names_and_places_are_there()
     ns_gen::laws::names_and_texts_stand_in_order();
     ns_gen::laws::bodies_end();
     ns_gen::laws::lines_use_what_is_there();
+}
+
+/// The code of a whole program without static faults whose sizes are within their limits fits its
+/// fields.
+pub fn code_fits()
+    ensures { (program : Program) → IsWhole program → least (faults (map unit_of program.units) program.marks) ≡ None →
+        size_fault (code_of (meant program)) ≡ None → Fits (code_of (meant program)) }
+{
+    tables_are_small();
+    numbers_fit();
+    names_and_places_are_there();
 }

@@ -13,7 +13,11 @@ use Rattle.ns_sound.proofs.Said.{Says, names_are_names, texts_are_short, bodies_
 use Rattle.ns_sound.proofs.laws.names_and_places_are_there.Goals as goal
 
 place_in : (files number : ℕ) (place : Place) → number < files → IsPlaceOf number place → IsIn files place
-place_in files number place below h = let same = h.0 in record { file = omega (below, same, arith); line = h.1; col = h.2 }
+place_in files number place below h =
+    let same = h.0 in
+    let line = h.1.1 in
+    let col = h.2.1 in
+    record { file = omega (below, same, arith); line = (h.1.0, omega (line, arith)); col = (h.2.0, omega (col, arith)) }
 
 pub returns : goal.returns
 returns c =
