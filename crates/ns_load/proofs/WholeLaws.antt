@@ -1,11 +1,11 @@
 -- What was read is whole.
-use Rattle.std.proofs.Common.{rules, ◌≡◌, ◌<◌, ℕ, ◌+◌, ◌≤◌, List, [], ◌∷◌, ◌++◌, length, map, take, Bool, true, false, cond, Option, Some, None, Result, Ok, Err, refl, ap, sym, subst, ◌∙◌, arith}
+use Rattle.std.proofs.Common.{rules, ◌≡◌, ◌<◌, ℕ, suc, ◌+◌, ◌≤◌, List, [], ◌∷◌, ◌++◌, length, map, take, Bool, true, false, cond, Option, Some, None, Result, Ok, Err, refl, ap, sym, subst, ◌∙◌, arith}
 use Rattle.std.specs.Prelude.{◌==◌, All, IsUtf8, codes}
 use Rattle.std.specs.Str.{IsAscii}
 use Rattle.std.proofs.lemmas.Str.{IsUtf8-from_ascii}
 use Rattle.std.proofs.lemmas.Str.Ascii.{IsAscii-nil, IsAscii-cons}
 use Rattle.std.proofs.lemmas.List.Elements.{All-append, All-cons, All-nil}
-use Rattle.std.proofs.lemmas.List.{length-map, length-append}
+use Rattle.std.proofs.lemmas.List.{length-map, length-append, length-take}
 use Rattle.ns_base.specs.declared.place.Place.{Place}
 use Rattle.ns_lex.specs.Scan.{Tokens, scan}
 use Rattle.ns_lex.proofs.Cutting.{scan_lexes}
@@ -29,23 +29,39 @@ use Rattle.ns_tree.specs.Tokens.{kinds}
 use Rattle.ns_tree.specs.declared.token.Kind.{Kind}
 use Rattle.ns_tree.specs.declared.token.Token.{Token}
 
-pub past_is_of : (file b : ℕ) (place : Place) → IsPlaceOf file place → IsPlaceOf file (past b place)
-past_is_of file b place h =
-    elim (b == 10) as (λ q. IsPlaceOf file (cond {A = Place} q (record { file = place.file; line = place.line + 1; col = 1 }) (record { file = place.file; line = place.line; col = place.col + 1 }))) [
-      | true ↦ (h.0, omega arith, omega arith)
-      | false ↦ (h.0, h.1, omega arith)
+-- The place is one of that file, with so many bytes before it at most.
+abbrev IsBehind : ℕ → ℕ → Place → Type 0
+IsBehind file count place =
+    (place.file ≡ file) × ((1 ≤ place.line) × (place.line ≤ count + 1)) × ((1 ≤ place.col) × (place.col ≤ count + 1))
+
+past_is_behind : (file count b : ℕ) (place : Place) → IsBehind file count place → IsBehind file (count + 1) (past b place)
+past_is_behind file count b place h =
+    let line = h.1.1 in
+    let col = h.2.1 in
+    elim (b == 10) as (λ q. IsBehind file (count + 1) (cond {A = Place} q (record { file = place.file; line = place.line + 1; col = 1 }) (record { file = place.file; line = place.line; col = place.col + 1 }))) [
+      | true ↦ (h.0, (omega arith, omega (line, arith)), (omega arith, omega arith))
+      | false ↦ (h.0, (h.1.0, omega (line, arith)), (omega arith, omega (col, arith)))
     ]
 
-pub behind_is_of : (file : ℕ) (bytes : List ℕ) (place : Place) → IsPlaceOf file place → IsPlaceOf file (behind bytes place)
-behind_is_of file [] place h = h
-behind_is_of file (b ∷ bs) place h = behind_is_of file bs (past b place) (past_is_of file b place h)
+behind_is_behind : (file : ℕ) (bytes : List ℕ) (count : ℕ) (place : Place) → IsBehind file count place → IsBehind file (count + length bytes) (behind bytes place)
+behind_is_behind file [] count place h = let z : count ≡ count + 0 = omega arith in subst (λ n. IsBehind file n place) z h
+behind_is_behind file (b ∷ bs) count place h =
+    let z : count + 1 + length bs ≡ count + length (b ∷ bs) = let l : length (b ∷ bs) ≡ suc (length bs) = refl in omega (l, arith) in
+    subst (λ n. IsBehind file n (behind bs (past b place))) z (behind_is_behind file bs (count + 1) (past b place) (past_is_behind file count b place h))
 
-pub place_is_of : (file : ℕ) (source : List ℕ) (offset : ℕ) → IsPlaceOf file (place_of file source offset)
-place_is_of file source offset = behind_is_of file (take offset source) (start file) (refl, omega arith, omega arith)
+pub place_is_of : (file : ℕ) (source : List ℕ) (offset : ℕ) → length source ≤ 1048576 → IsPlaceOf file (place_of file source offset)
+place_is_of file source offset few =
+    let first : IsBehind file 0 (start file) = (refl, (omega arith, omega arith), (omega arith, omega arith)) in
+    let h = behind_is_behind file (take offset source) 0 (start file) first in
+    let taken = length-take offset source in
+    let line = h.1.1 in
+    let col = h.2.1 in
+    (h.0, (h.1.0, omega (line, taken, few, arith)), (h.2.0, omega (col, taken, few, arith)))
 
-pub marks_are_of : (file : ℕ) (source : List ℕ) (tokens : List Token) (last : Place) → IsPlaceOf file last → ArePlacesOf file (places file source tokens ++ last ∷ [])
-marks_are_of file source [] last h = (h, tt)
-marks_are_of file source (t ∷ ts) last h = (place_is_of file source t.start, marks_are_of file source ts last h)
+pub marks_are_of : (file : ℕ) (source : List ℕ) (tokens : List Token) (last : Place) → length source ≤ 1048576 → IsPlaceOf file last →
+    ArePlacesOf file (places file source tokens ++ last ∷ [])
+marks_are_of file source [] last few h = (h, tt)
+marks_are_of file source (t ∷ ts) last few h = (place_is_of file source t.start few, marks_are_of file source ts last few h)
 
 -- What is parsed has no bracket that is too deep.
 shallow_by : (o : Option ℕ) (outcome : Outcome p.SourceUnit) (unit : p.SourceUnit) → parse_by o outcome ≡ Ok unit → o ≡ None
@@ -68,7 +84,7 @@ cut_whole file source tokens unit h s q =
       few = omega (arith, long, h, cut_count 0 source tokens (length source) [] cut);
       short = subst (AllWithin most_bytes) spells.spelled (cut_within most_bytes 0 source tokens (length source) [] h cut);
       one_longer = length-append (places file source tokens) (place_of file source (length source) ∷ []) ∙ ap (λ n. n + 1) (length-map tokens (λ token. place_of file source token.start) ∙ sym long);
-      placed = marks_are_of file source tokens (place_of file source (length source)) (place_is_of file source (length source));
+      placed = marks_are_of file source tokens (place_of file source (length source)) h (place_is_of file source (length source) h);
     }
 
 parsed_whole : (file : ℕ) (source : List ℕ) (tokens : List Token) (unit : p.SourceUnit) (ps : List Place) (r : Result p.SourceUnit ParseFault) → length source ≤ 1048576 → scan source ≡ Ok tokens → parse (kinds tokens) ≡ r → parsed file source tokens r ≡ spells unit ps → IsWholeUnit file unit ps

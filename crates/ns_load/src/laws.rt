@@ -11,7 +11,7 @@ ghost use Rattle.ns_tree.specs.PlainOf.{unit_of};
 
 /// What was read of files are whole units: each is a tree of the grammar that the tokens of its
 /// source spell, each token and the end have a place, and each place is of that file, with lines and
-/// columns above 0.
+/// columns from 1 on, at most one more than a source has bytes.
 pub fn what_is_read_is_whole()
     ensures { (file : ℕ) (units : List p.SourceUnit) (places : List (List Place)) → AreRead file units places → AreWholeUnits file units places }
 {}

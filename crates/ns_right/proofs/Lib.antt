@@ -2,7 +2,7 @@ mod Sits
 mod Walk
 mod Bodies
 mod Named
-mod Texts
+pub mod Texts
 mod Patterns
 mod Spelling
 mod Faults
@@ -12,7 +12,7 @@ mod Declared
 mod Classes
 mod FewLocals
 mod FewInAll
-mod Arities
+pub mod Arities
 mod Sending
 mod Expressions
 mod Integers

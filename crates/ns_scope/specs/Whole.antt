@@ -32,9 +32,13 @@ abbrev pub AllWithin : ℕ → List Kind → Type 0
 AllWithin most [] = Unit {0}
 AllWithin most (kind ∷ kinds) = (length (text_of kind) ≤ most) × AllWithin most kinds
 
--- The place is one of that file; lines and columns are counted from 1.
+-- A number of a line or of a column: counted from 1, and at most one behind the last byte.
+abbrev pub IsCounted : ℕ → Type 0
+IsCounted number = (1 ≤ number) × (number ≤ most_bytes + 1)
+
+-- The place is one of that file.
 abbrev pub IsPlaceOf : ℕ → Place → Type 0
-IsPlaceOf file place = (place.file ≡ file) × (1 ≤ place.line) × (1 ≤ place.col)
+IsPlaceOf file place = (place.file ≡ file) × IsCounted place.line × IsCounted place.col
 
 abbrev pub ArePlacesOf : ℕ → List Place → Type 0
 ArePlacesOf file [] = Unit {0}

@@ -6,13 +6,14 @@ ghost use Rattle.ns_tree.specs.PlainOf.{unit_of};
 ghost use Rattle.ns_scope.specs.declared.program.Program.{Program};
 ghost use Rattle.ns_scope.specs.Whole.{IsWhole};
 ghost use Rattle.ns_rules.specs.Least.{least, faults};
-ghost use Rattle.ns_code.specs.Fits.{IsWord, IsFileName, ClassFits};
+ghost use Rattle.ns_code.specs.Fits.{IsWord, IsFileName, IsName, IsShort, ClassFits, Fits};
 ghost use Rattle.ns_meant.specs.Classes.{meant};
 ghost use Rattle.ns_gen.specs.Code.{code_of};
 ghost use Rattle.ns_gen.specs.Sizes.{size_fault};
 ghost use Rattle.ns_verify.specs.Verify.{IsSound};
 ghost use Rattle.ns_sound.specs.Accepted.{IsAccepted};
 ghost use Rattle.ns_sound.specs.Numbers.{NumbersFit};
+ghost use Rattle.ns_sound.specs.Spoken.{NamesFit};
 
 /// The code of a whole program without static faults whose sizes are within their limits is sound.
 pub fn code_is_sound()
@@ -50,4 +51,30 @@ pub fn numbers_fit()
     ns_gen::laws::names_and_texts_stand_in_order();
     ns_gen::laws::bodies_end();
     ns_gen::laws::lines_use_what_is_there();
+}
+
+/// The names of an accepted program's code are the texts of selectors, and its literal texts are
+/// not too long. The locals of its bodies have names, and its places are in its files.
+pub fn names_and_places_are_there()
+    ensures names { (program : Program) → IsAccepted program → All IsName (code_of (meant program)).names }
+    ensures texts { (program : Program) → IsAccepted program → All IsShort (code_of (meant program)).texts }
+    ensures bodies { (program : Program) → IsAccepted program → All (NamesFit (length (code_of (meant program)).files)) (code_of (meant program)).bodies }
+{
+    ns_right::laws::whole_programs_are_right();
+    ns_right::laws::classes_and_members_are_few();
+    ns_gen::laws::bodies_have_their_code();
+    ns_gen::laws::names_and_texts_stand_in_order();
+    ns_gen::laws::bodies_end();
+    ns_gen::laws::lines_use_what_is_there();
+}
+
+/// The code of a whole program without static faults whose sizes are within their limits fits its
+/// fields.
+pub fn code_fits()
+    ensures { (program : Program) → IsWhole program → least (faults (map unit_of program.units) program.marks) ≡ None →
+        size_fault (code_of (meant program)) ≡ None → Fits (code_of (meant program)) }
+{
+    tables_are_small();
+    numbers_fit();
+    names_and_places_are_there();
 }

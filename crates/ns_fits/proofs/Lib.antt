@@ -1,4 +1,0 @@
-pub mod Different
-pub mod OneMore
-pub mod Ordered
-pub mod Records
