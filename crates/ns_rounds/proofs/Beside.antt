@@ -1,6 +1,5 @@
 -- The turn of an application beside a shared board is a function.
-use Rattle.std.proofs.Common.{◌≡◌, ℕ, refl, ap, ◌∙◌, Bool, true, false}
-use Rattle.ns_code.specs.declared.program.CodeProgram.{CodeProgram}
+use Rattle.std.proofs.Common.{◌≡◌, ℕ, ap, ◌∙◌, Bool, true, false}
 use Rattle.ns_facets.specs.declared.board.Board.{Board}
 use Rattle.ns_moves.specs.State.{State, swapped}
 use Rattle.ns_moves.specs.WorldStays.{SwapsKeepValid}

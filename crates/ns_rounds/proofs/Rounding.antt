@@ -1,5 +1,5 @@
 -- The round robin is a function: each round of runs of which some go on uses up some of what is left.
-use Rattle.std.proofs.Common.{◌≡◌, ℕ, zero, suc, ◌+◌, ◌<◌, ◌≤◌, ◌⊎◌, ◌&&◌, inl, inr, List, [], ◌∷◌, map, length, refl, ap, sym, ◌∙◌, subst, arith, Bool, true, false, Option, Some, None, IsSome, if◌then◌else◌}
+use Rattle.std.proofs.Common.{◌≡◌, ℕ, zero, suc, ◌+◌, ◌<◌, ◌≤◌, ◌⊎◌, ◌&&◌, inl, inr, List, [], ◌∷◌, length, refl, ap, sym, ◌∙◌, subst, arith, Bool, true, false, Option, Some, None, IsSome, if◌then◌else◌}
 use Rattle.std.specs.Prelude.{slice_get, slice_set}
 use Rattle.std.specs.Option.{is_some}
 use Rattle.std.proofs.lemmas.List.{length-set}
@@ -7,15 +7,14 @@ use Rattle.std.proofs.lemmas.Option.{same_Some, slice_get_within}
 use Rattle.ns_facets.specs.declared.board.Board.{Board}
 use Rattle.ns_moves.specs.State.{State, ending_of}
 use Rattle.ns_session.specs.Laws.{StartsReached, TurnsLower, TurnsReach}
-use Rattle.ns_session.specs.Member.{Application, MemberView, MayStart, TurnOf, starting, start_of}
+use Rattle.ns_session.specs.Member.{Application, MemberView, starting}
 use Rattle.ns_session.specs.Play.{opened}
 use Rattle.ns_session.specs.Reached.{IsReached, left_for, left_of}
 use Rattle.ns_session.specs.Rounds.{GivenTo, RoundFrom, Rounds, RoundRobin, HaveEnded}
-use Rattle.ns_session.specs.Session.{SessionView, Pair, HasTurn, PlaysAt, Plays, ending_in}
+use Rattle.ns_session.specs.Session.{SessionView, HasTurn, PlaysAt, ending_in}
 use Rattle.ns_world.specs.declared.ending.Ending.{Ending}
 use Rattle.ns_rounds.specs.Laws.{TurnsAreTurnedBeside, AreReached, MayAllStart}
 use Rattle.ns_rounds.specs.Robin.{with_turn, turn_unless, turn_for, round_from, round_of, have_ended, rounds_in, robin}
-use Rattle.ns_rounds.specs.Turned.{AfterTurn, turned_beside}
 
 -- What is known of turns.
 pub record Known : Type 0 where
