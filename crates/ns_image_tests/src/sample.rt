@@ -4,7 +4,8 @@
 //! sides. Body 1 is its method `foo`, in which block 4 stands, and in that block 8; body 5 is the
 //! clause of B, in which block 9 stands. No class names body 10.
 
-ghost use Rattle.std.specs.Prelude.{◌≡◌, true};
+ghost use Rattle.std.specs.Prelude.{◌≡◌, ◌≢◌, true};
+ghost use Rattle.std.specs.List.{AllPairs};
 ghost use Rattle.ns_verify.specs.Counts.{HasFewParts};
 
 use ns_base::items::Items;
@@ -15,6 +16,7 @@ use ns_code::body::BodyCode;
 use ns_code::class::{ClassCode, MethodCode, NestedCode, SlotCode};
 use ns_code::instruction::Instr;
 use ns_code::program::CodeProgram;
+use ns_members::texts::are_different;
 use ns_verify::fault::Fault;
 use ns_verify::faults::first_fault;
 use std::alloc::Global;
@@ -206,6 +208,9 @@ pub fn has_fault(
     if !has_few_parts(&code) {
         return false;
     }
+    if !names_differ(alloc, code.names.as_slice()) {
+        return false;
+    }
     match first_fault(alloc, &code) {
         Ok(found) => found == wanted,
         Err(_) => false,
@@ -296,5 +301,16 @@ fn has_few_parts(code: &CodeProgram) -> bool
             return false;
         }
     }
-    code.classes.len() <= 65_536 && code.bodies.len() <= 65_536
+    code.names.len() <= 65_536 && code.classes.len() <= 65_536 && code.bodies.len() <= 65_536
+}
+
+/// Whether no name comes twice.
+#[tactic(auto, using(crate::proofs::Different::different_pairs))]
+fn names_differ(alloc: Global, names: &[Text]) -> bool
+    ensures { result ≡ true → AllPairs (λ a b. a ≢ b) names.now }
+{
+    match are_different(alloc, names) {
+        Ok(different) => different,
+        Err(_) => false,
+    }
 }

@@ -5,7 +5,7 @@ mod around;
 mod chains;
 mod classes;
 pub mod fault;
-mod faults;
+pub mod faults;
 mod heights;
 mod instructions;
 pub mod laws;
