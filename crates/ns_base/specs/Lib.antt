@@ -1,6 +1,8 @@
 pub mod Count
 pub mod Files
 pub mod Limits
+pub mod MemShelf
+pub mod MemSink
 pub mod Names
 pub mod Stored
 pub mod Shelf

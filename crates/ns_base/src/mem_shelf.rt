@@ -1,7 +1,10 @@
 //! A shelf over memory on which listed calls fail.
 
-ghost use Rattle.std.specs.Prelude.{◌≡◌, ◌==◌, ◌+◌, ◌-◌, ◌^◌, [], min};
-ghost use Rattle.std.specs.List.{list_any};
+ghost use Rattle.std.specs.Prelude.{◌≡◌, ◌+◌, ◌≤◌, [], length, IfOk, IfSome, IsErrOf, IsNone, IsSomeAnd, MatchOption, Some};
+ghost use Rattle.ns_base.specs.Count.{Rose, one_more};
+ghost use Rattle.ns_base.specs.MemShelf.{Loads, Stores, after_load, held, will_fail};
+ghost use Rattle.ns_base.specs.Shelf.{AnswersLoad, AnswersStore};
+ghost use Rattle.ns_base.specs.Stored.{file_at};
 
 use crate::shelf::{Shelf, ShelfFault};
 use crate::stored::{find, first, set};
@@ -45,8 +48,8 @@ impl MemShelf {
 
     /// Counts a call, and answers whether it is one that fails.
     fn fails(&mut self) -> bool
-        ensures listed { result ≡ list_any (λ call. call == self.old.calls) self.old.fail_at.items }
-        ensures counts { self.new ≡ record self.old { calls = min (self.old.calls + 1) (2 ^ 64 - 1) } }
+        ensures listed { result ≡ will_fail self.old }
+        ensures counts { self.new ≡ record self.old { calls = one_more self.old.calls } }
     {
         let call = self.calls;
         self.calls = call.saturating_add(1);
@@ -66,7 +69,21 @@ impl Shelf for MemShelf {
 
     ghost store_faults = { λ s. s.store_faults };
 
-    fn load(&mut self, alloc: Global, name: &str, most: u64) -> Result<Vec<u8>, ShelfFault> {
+    /// The first `most` bytes of the file. `Missing` comes exactly where the name isn't held, and `Failed` exactly where it is
+    /// and the call is listed.
+    fn load(&mut self, alloc: Global, name: &str, most: u64) -> Result<Vec<u8>, ShelfFault>
+        ensures answer { Loads (held self.old name.now) (will_fail self.old) most result }
+        ensures counts { self.new ≡ after_load (held self.old name.now) (will_fail self.old) self.old }
+
+        ensures holds { file_at self.new.files.items ≡ file_at self.old.files.items }
+        ensures store_faults { self.new.store_faults ≡ self.old.store_faults }
+        ensures misses { self.old.misses ≤ self.new.misses }
+        ensures faults { self.old.faults ≤ self.new.faults }
+        ensures at_most { IfOk result (λ bytes. length bytes.items ≤ most) }
+        ensures missing { IsErrOf result ShelfFault.Missing → Rose self.old.misses self.new.misses }
+        ensures failed { IsErrOf result ShelfFault.Failed → Rose self.old.faults self.new.faults }
+        ensures told { AnswersLoad (file_at self.old.files.items) name.now most result }
+    {
         let fails = self.fails();
         match find(self.files.as_slice(), name.as_bytes()) {
             None => {
@@ -81,7 +98,17 @@ impl Shelf for MemShelf {
         }
     }
 
-    fn store(&mut self, name: &str, bytes: &[u8]) -> Result<(), ShelfFault> {
+    /// Makes these the bytes of the file. `Failed` comes exactly where the call is listed.
+    fn store(&mut self, name: &str, bytes: &[u8]) -> Result<(), ShelfFault>
+        ensures answer { Stores (will_fail self.old) name.now bytes.now self.old self.new result }
+
+        ensures misses { self.new.misses ≡ self.old.misses }
+        ensures faults { self.new.faults ≡ self.old.faults }
+        ensures store_faults { self.old.store_faults ≤ self.new.store_faults }
+        ensures missing { IsErrOf result ShelfFault.Missing → ⊥ }
+        ensures failed { IsErrOf result ShelfFault.Failed → Rose self.old.store_faults self.new.store_faults }
+        ensures told { AnswersStore (file_at self.old.files.items) (file_at self.new.files.items) name.now bytes.now result }
+    {
         if self.fails() {
             self.store_faults = self.store_faults.saturating_add(1);
             return Err(ShelfFault::Failed);

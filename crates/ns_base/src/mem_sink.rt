@@ -1,6 +1,11 @@
 //! A sink over memory on which listed calls fail.
 
-ghost use Rattle.std.specs.Prelude.{◌≡◌, ◌≤◌, length, IfOk, []};
+ghost use Rattle.std.specs.Prelude.{◌≡◌, ◌≤◌, IfOk, OnOk, OnErr, Some, []};
+ghost use Rattle.std.specs.Result.{is_ok};
+ghost use Rattle.ns_base.specs.Count.{Rose};
+ghost use Rattle.ns_base.specs.MemSink as spec;
+ghost use Rattle.ns_base.specs.MemSink.{IsReserved, Puts, takes_whole};
+ghost use Rattle.ns_base.specs.Sink.{WrotePrefix, with_bytes};
 
 use crate::no_memory::NoMemory;
 use crate::sink::{Sink, SinkFailed};
@@ -28,6 +33,8 @@ impl MemSink {
         ensures room { IfOk result (λ s. s.room ≡ room) }
         ensures sure { IfOk result (λ s. s.fail_at.items ≡ []) }
         ensures faults { IfOk result (λ s. s.faults ≡ 0) }
+        ensures calls { IfOk result (λ s. s.calls ≡ 0) }
+        ensures reserved { IfOk result (λ s. IsReserved s) }
     {
         Ok(MemSink {
             bytes: Vec::with_capacity(alloc, room as usize)?,
@@ -46,11 +53,21 @@ impl Sink for MemSink {
 
     ghost faults = { λ s. s.faults };
 
-    fn put(&mut self, piece: &[u8]) -> Result<(), SinkFailed> {
+    /// Writes what it takes of the piece. Where its room is reserved it fails exactly where that isn't all.
+    fn put(&mut self, piece: &[u8]) -> Result<(), SinkFailed>
+        ensures puts { IsReserved self.old → Puts piece.now self.old self.new }
+        ensures whole { IsReserved self.old → is_ok result ≡ takes_whole self.old piece.now }
+
+        ensures faults { self.old.faults ≤ self.new.faults }
+        ensures ok { OnOk result (Some self.new.bytes.items ≡ with_bytes piece.now (Some self.old.bytes.items)) }
+        ensures err { OnErr result (WrotePrefix piece.now (Some self.old.bytes.items) (Some self.new.bytes.items)) }
+        ensures failed { OnErr result (Rose self.old.faults self.new.faults) }
+    {
         let call = self.calls;
         self.calls = call.saturating_add(1);
         let room = self.room.saturating_sub(self.bytes.len() as u64);
-        let taken = taken(self.fail_at.as_slice(), call, room, piece);
+        let most = piece.len().min(room as usize);
+        let taken = allowed(self.fail_at.as_slice(), call, most);
         let whole = taken == piece.len();
         if self.bytes.extend_from_slice(&piece[..taken]).is_err() || !whole {
             self.faults = self.faults.saturating_add(1);
@@ -60,15 +77,16 @@ impl Sink for MemSink {
     }
 }
 
-/// How many bytes of a piece a call takes.
-fn taken(fail_at: &[(u64, u64)], call: u64, room: u64, piece: &[u8]) -> usize
-    ensures { result ≤ length piece.now }
+/// The most bytes that a call of that number takes.
+fn allowed(fail_at: &[(u64, u64)], call: u64, most: usize) -> usize
+    ensures allowed { result ≡ spec.allowed fail_at.now call most }
+    ensures at_most { result ≤ most }
 {
-    let mut most = piece.len().min(room as usize);
+    let mut least = most;
     for (failing, bytes) in fail_at {
         if *failing == call {
-            most = most.min(*bytes as usize);
+            least = least.min(*bytes as usize);
         }
     }
-    most
+    least
 }
