@@ -180,8 +180,8 @@ new_object : says (to (to_own m.own (codes "In")) (codes "new")) ≡ codes "=> o
 unfolding none place digits
 new_object = refl
 
--- a cascade has the value of its last message
-cascade_last : says (m.cascade (number 7) (m.more_messages (record { selector = codes "negated"; place = place }) m.no_nodes (m.last_message (record { selector = codes "isNil"; place = place }) m.no_nodes))) ≡ codes "=> false" ++ 10 ∷ []
+-- a cascade has the value of its last message, which goes to the receiver of the first
+cascade_last : says (m.cascade (number 7) (m.more_messages (record { selector = codes "negated"; place = place }) m.no_nodes (m.last_message (record { selector = codes "+"; place = place }) (m.more_nodes (number 1) m.no_nodes)))) ≡ codes "=> 8" ++ 10 ∷ []
 unfolding none place digits
 cascade_last = refl
 
