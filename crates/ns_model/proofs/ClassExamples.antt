@@ -22,7 +22,7 @@ use Rattle.ns_model.specs.Whole.{meaning_of_run}
 --     public says = (^super says + 10))
 --   class M = (| private count ::= 0. |) (public says = (count:: count + 1. ^super says + count))
 --   class D of: x = (| public got = x. |) ()
---   class E = D of: 3 () ()
+--   class E = D of: 3 (| public more ::= got. |) ()
 --   class F = D () ()
 --   kept = (^5)
 --   private secret = (^6)
@@ -139,7 +139,7 @@ program main =
           ∷ class_in 0 (codes "M") None 19 (record { name = codes "count"; access = access.Private; mutable = true } ∷ []) [] (shows (codes "says") 20 ∷ [])
           ∷ record (class_in 0 (codes "D") None 21 (record { name = codes "got"; access = access.Public; mutable = false } ∷ []) [] [])
           { factory = codes "of:"; params = 1 }
-          ∷ record (class_in 0 (codes "E") (Some 22) 23 [] [] []) { super_selector = codes "of:" }
+          ∷ record (class_in 0 (codes "E") (Some 22) 23 (slot (codes "more")) [] []) { super_selector = codes "of:" }
           ∷ class_in 0 (codes "F") (Some 24) 25 [] [] [] ∷ [];
       bodies = record (begins 0 (codes "m" ∷ []) m.no_nodes []) { params = 1 } ∷ returns 0 (number 5) ∷ returns 0 (number 6)
           ∷ body 0 2 (codes "p" ∷ codes "a" ∷ []) (m.as_method [] (m.return main ∷ [])) ∷ begins 1 [] m.no_nodes (first (number 1))
@@ -149,7 +149,7 @@ program main =
           ∷ begins 3 [] m.no_nodes [] ∷ returns 3 (plus (to_super (codes "says")) (number 10)) ∷ head (to_super (codes "In")) ∷ begins 4 [] m.no_nodes []
           ∷ returns 4 (plus (to_super (codes "it")) (number 1)) ∷ begins 5 [] m.no_nodes (first (number 0)) ∷ body 5 0 [] (m.as_method [] one_more)
           ∷ record (begins 6 (codes "x" ∷ []) m.no_nodes (first (m.local 0 0))) { params = 1 } ∷ head (to_own (m.enclosing 0) (codes "D"))
-          ∷ begins 7 [] (m.more_nodes (number 3) m.no_nodes) [] ∷ head (to_own (m.enclosing 0) (codes "D")) ∷ begins 8 [] m.no_nodes [] ∷ [];
+          ∷ begins 7 [] (m.more_nodes (number 3) m.no_nodes) (first (to_own m.own (codes "got"))) ∷ head (to_own (m.enclosing 0) (codes "D")) ∷ begins 8 [] m.no_nodes [] ∷ [];
     }
 
 abbrev says : m.Node → List ℕ
@@ -218,7 +218,12 @@ superclass_part : says (to (new (codes "E")) (codes "got")) ≡ codes "=> 3" ++ 
 unfolding none digits
 superclass_part = refl
 
--- which is to be the superclass's factory
+-- before the slots are filled
+superclass_part_first : says (to (new (codes "E")) (codes "more")) ≡ codes "=> 3" ++ 10 ∷ []
+unfolding none digits
+superclass_part_first = refl
+
+-- that message is to be the superclass's factory
 superclass_mismatch : says (new (codes "F")) ≡ codes "P.ns:2:3: InitMismatch F class new" ++ 10 ∷ []
 unfolding none digits
 superclass_mismatch = refl
