@@ -10,7 +10,7 @@ use Rattle.ns_code.specs.declared.instruction.Instr.{Instr}
 use Rattle.ns_code.specs.declared.instruction.Instr.TheVariants as i
 use Rattle.ns_meant.specs.Program as m
 use Rattle.ns_meant.proofs.Examples.{expected, at_column, sent}
-use Rattle.ns_gen.specs.Code.{does, sends, plain, inner, private_at, code_of, body_lines}
+use Rattle.ns_gen.specs.Code.{does, sends, starts, plain, inner, private_at, super, code_of, body_lines}
 
 -- ---- the code of a class in a class
 -- class W of: x = () (who = (^'outer') class In = Base (private own = (^[who])))
@@ -109,3 +109,46 @@ lines_of_many : body_lines 3 many
     ∷ does (i.PushInt (pos 1)) ∷ does (i.PushOuter 1) ∷ does (i.Pick 1) ∷ sends inner (sent (codes "a:") 5) 1 ∷ does i.Pop ∷ does (i.StoreLocal 0 1) ∷ does i.Pop
     ∷ does i.ReturnSelf ∷ []
 lines_of_many = refl
+
+-- ---- the lines of other bodies
+
+-- { 1. x m: 2 n: 3 }: receivers first, and then what stands further right
+abbrev in_order : m.Does
+in_order =
+    m.as_clause
+    (m.array (m.more_nodes (m.integer (pos 1)) (one (m.send (m.local 0 0) (sent (codes "m:n:") 1) (m.more_nodes (m.integer (pos 2)) (one (m.integer (pos 3))))))))
+
+lines_in_order : body_lines 0 in_order
+    ≡ does (i.PushInt (pos 1)) ∷ does (i.PushLocal 0 0) ∷ does (i.PushInt (pos 2)) ∷ does (i.PushInt (pos 3)) ∷ sends plain (sent (codes "m:n:") 1) 2
+    ∷ does (i.MakeArray 2) ∷ does i.Return ∷ []
+lines_in_order = refl
+
+-- a block ends with its last value, and `^` returns from its home
+lines_of_a_value : body_lines 0 (m.as_block [] (m.evaluate m.self_value ∷ [])) ≡ does i.PushSelf ∷ does i.Return ∷ []
+lines_of_a_value = refl
+
+lines_of_a_return : body_lines 0 (m.as_block [] (m.return m.self_value ∷ [])) ≡ does i.PushSelf ∷ does i.ReturnHome ∷ []
+lines_of_a_return = refl
+
+-- in a method it returns from there
+lines_of_a_method : body_lines 0 (m.as_method [] (m.return m.nil_value ∷ [])) ≡ does i.PushNil ∷ does i.Return ∷ []
+lines_of_a_method = refl
+
+-- an initialiser starts the superclass part before it fills its slots
+abbrev starting : m.Initialiser
+starting =
+    record {
+      place = at_column 1;
+      arguments = one (m.integer (pos 1));
+      slots = record { index = 2; value = m.integer (pos 2) } ∷ [];
+      expressions = m.integer (pos 3) ∷ [];
+    }
+
+lines_of_an_initialiser : body_lines 0 (m.as_initialiser starting)
+    ≡ does (i.PushInt (pos 1)) ∷ starts (at_column 1) 1 ∷ does (i.PushInt (pos 2)) ∷ does (i.StoreSlot 2) ∷ does (i.PushInt (pos 3)) ∷ does i.Pop
+    ∷ does i.ReturnSelf ∷ []
+lines_of_an_initialiser = refl
+
+-- a send to super pushes no receiver
+lines_of_super : body_lines 0 (m.as_clause (m.send_super (sent (codes "m") 1) m.no_nodes)) ≡ sends super (sent (codes "m") 1) 0 ∷ does i.Return ∷ []
+lines_of_super = refl

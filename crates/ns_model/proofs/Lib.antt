@@ -10,3 +10,5 @@ pub mod Agreeing
 pub mod SameRun
 pub mod RowsMean
 pub mod RuleExamples
+pub mod ClassExamples
+pub mod ProgramExamples

@@ -14,7 +14,7 @@ use Rattle.ns_model.specs.Whole.{meaning_of_run}
 -- class T packageUsing: m = (| s = 4. t ::= nil. |) (
 --   class In = () ()
 --   public main: p args: a = (STEPS, with a block of SAID)
---   protected kept = (^5)  private own = (^6)  public make = (^[^1])  public doesNotUnderstand: m = (^8))
+--   protected kept = (^5)  private own = (^6)  public make = (^[^1])  public doesNotUnderstand: m = (^8)  public quiet = ())
 
 place : Place
 place = record { file = 0; line = 2; col = 3 }
@@ -72,7 +72,7 @@ inner =
       side_methods = [];
     }
 
--- the program without its last method, and with it
+-- the program without its last two methods, and with some of them
 abbrev with_methods : List m.Method → m.Node → m.Node → m.Meant
 with_methods more main said =
     record {
@@ -93,7 +93,7 @@ with_methods more main said =
       } ∷ inner ∷ [];
       bodies = record (begins 0 (codes "m" ∷ []) (record { index = 0; value = number 4 } ∷ [])) { params = 1 }
           ∷ method 2 (codes "p" ∷ codes "a" ∷ []) main ∷ block 1 [] (m.evaluate said ∷ []) ∷ method 0 [] (number 5) ∷ method 0 [] (number 6)
-          ∷ method 0 [] (m.block 6) ∷ block 5 [] (m.return (number 1) ∷ []) ∷ method 1 (codes "m" ∷ []) (number 8) ∷ begins 1 [] [] ∷ [];
+          ∷ method 0 [] (m.block 6) ∷ block 5 [] (m.return (number 1) ∷ []) ∷ method 1 (codes "m" ∷ []) (number 8) ∷ begins 1 [] [] ∷ record (method 0 [] (number 0)) { does = m.as_method [] [] } ∷ [];
     }
 
 abbrev program : m.Node → m.Node → m.Meant
@@ -170,6 +170,21 @@ set_value : says (set_own (codes "t:") (number 9)) ≡ codes "=> 9" ++ 10 ∷ []
 unfolding none place digits
 set_value = refl
 
+-- what stands in one expression is evaluated from left to right
+left_to_right : says (m.in_turn (m.array (m.more_nodes (set_own (codes "t:") (number 1)) (m.more_nodes (set_own (codes "t:") (number 2)) m.no_nodes))) (to_own m.own (codes "t"))) ≡ codes "=> 2" ++ 10 ∷ []
+unfolding none place digits
+left_to_right = refl
+
+-- a receiver before the arguments
+receiver_first : says (m.in_turn (to_with (set_own (codes "t:") (number 1)) (codes "+") (set_own (codes "t:") (number 2))) (to_own m.own (codes "t"))) ≡ codes "=> 2" ++ 10 ∷ []
+unfolding none place digits
+receiver_first = refl
+
+-- a method without a return answers self
+quiet_answers_self : line (with_methods (member (codes "quiet") access.Public 9 ∷ []) (to m.self_value (codes "quiet")) m.nil_value) ≡ codes "=> object T" ++ 10 ∷ []
+unfolding none place digits
+quiet_answers_self = refl
+
 -- a nested class is made once
 kept_class : says (to_with (to_own m.own (codes "In")) (codes "==") (to_own m.own (codes "In"))) ≡ codes "=> true" ++ 10 ∷ []
 unfolding none place digits
@@ -180,8 +195,8 @@ new_object : says (to (to_own m.own (codes "In")) (codes "new")) ≡ codes "=> o
 unfolding none place digits
 new_object = refl
 
--- a cascade has the value of its last message
-cascade_last : says (m.cascade (number 7) (m.more_messages (record { selector = codes "negated"; place = place }) m.no_nodes (m.last_message (record { selector = codes "isNil"; place = place }) m.no_nodes))) ≡ codes "=> false" ++ 10 ∷ []
+-- a cascade has the value of its last message, which goes to the receiver of the first
+cascade_last : says (m.cascade (number 7) (m.more_messages (record { selector = codes "negated"; place = place }) m.no_nodes (m.last_message (record { selector = codes "+"; place = place }) (m.more_nodes (number 1) m.no_nodes)))) ≡ codes "=> 8" ++ 10 ∷ []
 unfolding none place digits
 cascade_last = refl
 
