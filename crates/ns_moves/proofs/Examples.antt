@@ -10,14 +10,19 @@ use Rattle.ns_world.specs.declared.value.Value.{Value}
 use Rattle.ns_world.specs.declared.value.Value.TheVariants.{Nil, True, False, Int}
 use Rattle.ns_world.specs.declared.ending.Ending.TheVariants.{Done, Limit}
 use Rattle.ns_world.specs.declared.ending.LimitKind.TheVariants.{Steps, Cells}
-use Rattle.ns_world.specs.declared.ending.Kind.TheVariants.{MustBeBoolean, DeadReturn}
+use Rattle.ns_world.specs.declared.ending.Kind.TheVariants.{MustBeBoolean, DeadReturn, NotPublic, WrongKind}
+use Rattle.ns_world.specs.declared.kernel.ClassName.TheVariants.{Kernel as KernelName}
+use Rattle.ns_world.specs.declared.kernel.KernelRow.TheVariants as row
+use Rattle.ns_code.specs.declared.own.Own.TheVariants.{DoesNotUnderstand}
 use Rattle.ns_facets.specs.declared.row.Grants.{Grants}
 use Rattle.ns_send.specs.Worked.{sel, method_of, class_of}
+use Rattle.ns_send.specs.declared.site.Site.{Site}
 use Rattle.ns_send.specs.Site.{error}
 use Rattle.ns_send.specs.Control.{FromMethod, FromBody}
 use Rattle.ns_send.specs.Worked.{small_progress, small_site, in_m}
 use Rattle.ns_moves.specs.State.{Loud, Running, Hosted, State, Going, Stuck, ending_of, world_of}
 use Rattle.ns_moves.specs.Move.{move, moves}
+use Rattle.ns_moves.specs.Returns.{own_sel}
 use Rattle.ns_moves.specs.Turn.{charges, charged_in, after_turn}
 use Rattle.ns_moves.specs.Starts.{new_machine, started}
 use Rattle.ns_moves.specs.Charging.{will_charge}
@@ -156,3 +161,16 @@ dead = refl
 -- an operand that isn't there
 nothing_to_pop : move (program (instr.Pop ∷ []) []) (at (instr.Pop ∷ []) 0 []) ≡ Stuck (small_progress [])
 nothing_to_pop = refl
+
+-- `doesNotUnderstand:` of all values is protected: a send from inside reaches it, and a plain one doesn't
+abbrev told : Site
+told = record { place = None; class = KernelName row.UndefinedObject; sel = own_sel early DoesNotUnderstand }
+
+abbrev sending : Instr → State
+sending send = move (program (send ∷ []) []) (at (send ∷ []) 0 (Nil ∷ Nil ∷ []))
+
+inner_send_reaches : ending_of (sending (instr.SendInner (own_sel early DoesNotUnderstand) 1)) ≡ Some (error WrongKind told)
+inner_send_reaches = refl
+
+plain_send_does_not : ending_of (sending (instr.Send (own_sel early DoesNotUnderstand) 1)) ≡ Some (error NotPublic told)
+plain_send_does_not = refl

@@ -2,6 +2,7 @@
 use Rattle.std.specs.Prelude.{◌≡◌, ℕ, List, [], ◌∷◌, ◌++◌, Some, None, codes, pos}
 use Rattle.std.specs.Fmt.{decimal}
 use Rattle.std.proofs.Common.{refl}
+use Rattle.ns_code.specs.declared.program.CodeProgram.{CodeProgram}
 use Rattle.ns_world.specs.declared.value.Value.{Value}
 use Rattle.ns_world.specs.declared.value.Value.TheVariants.{Nil, Int, Kernel, Ref}
 use Rattle.ns_world.specs.declared.value.KClass.TheVariants.{Object, Array}
@@ -18,13 +19,13 @@ use Rattle.ns_kcode.specs.declared.state.KMethod.TheVariants as method
 use Rattle.ns_kcode.specs.Rows.{beginning}
 use Rattle.ns_send.specs.declared.site.Site.{Site}
 use Rattle.ns_send.specs.Site.{error}
-use Rattle.ns_send.specs.Control.{Progress, in_world, Activation, FromMethod, FromBody, FromClause, Gives, Halts, Control, Enter, Evaluate, Begin, Skip, EnterPart, Waits, Finishes, gives, halts, fails}
+use Rattle.ns_send.specs.Control.{Progress, in_world, Activation, FromMethod, FromBody, FromClause, Gives, Halts, Control, Enter, Evaluate, Begin, Skip, Stop, EnterPart, Waits, Finishes, gives, halts, fails}
 use Rattle.ns_send.specs.Bodies.{no_home}
 use Rattle.ns_send.specs.Classes.{super_part, body_ended}
 use Rattle.ns_send.specs.Blocks.{evaluated, method_next}
 use Rattle.ns_send.specs.Sends.{to_value, to_self, ToPrivate, ToSuper, sent}
 use Rattle.ns_send.specs.Report.{report_line}
-use Rattle.ns_send.specs.Worked.{sel, small_world, small_code, small_cells, small_progress, small_site, in_m}
+use Rattle.ns_send.specs.Worked.{sel, class_p, class_m, class_inner, small_world, small_code, small_cells, small_progress, small_site, in_m}
 
 -- a run of these cells in which so many steps, frames and method activations were charged
 abbrev at : Heap → ℕ → ℕ → ℕ → Progress
@@ -93,6 +94,16 @@ part_of_the_superclass = refl
 part_of_object : super_part small_code in_m [] start ≡ Skip start
 part_of_object = refl
 
+-- a superclass's factory is to be what was sent, also Object's, which is `new`
+abbrev with_message : ℕ → CodeProgram
+with_message name = record small_code { classes = class_p ∷ record class_m { super_sel = sel name } ∷ class_inner ∷ [] }
+
+no_factory_of_the_superclass : super_part (with_message 5) in_mixin [] start ≡ Stop (error kind.InitMismatch small_site) start
+no_factory_of_the_superclass = refl
+
+no_factory_of_object : super_part (with_message 5) in_m [] start ≡ Stop (error kind.InitMismatch small_site) start
+no_factory_of_object = refl
+
 -- a nested class: the head of its clause first, with the enclosing object as self
 head_begins : send (Ref 13) 7 []
     ≡ Enter (FromClause 13 4 2) (record { self = Ref 13; holder = 4; body = 5; home = no_home; env = Nil; site = site_of (Declared 1) 7 }) [] (at small_cells 1 1 5)
@@ -104,6 +115,13 @@ in_head = record in_m { body = 5; site = site_of (Declared 1) 7 }
 class_is_kept : body_ended small_code (FromClause 13 4 2) in_head (Kernel Object) (at small_cells 1 1 5)
     ≡ Gives (Ref 26) (in_world (at small_cells 1 0 5) (written (record (small_world (ClassCell 2 (Ref 13) (Ref 4) (Kernel Object) ∷ small_cells)) { steps = 1 }) 13 1 (Ref 26)))
 class_is_kept = refl
+
+-- one that is kept is the answer, and its clause isn't begun again
+abbrev keeping : Progress
+keeping = in_world start (written (small_world small_cells) 13 1 (Ref 8))
+
+kept_class_is_answered : sent small_code in_m (to_value (Ref 13)) (sel 7) [] None keeping ≡ gives (Ref 8) (in_world start (written (record (small_world small_cells) { steps = 1 }) 13 1 (Ref 8)))
+kept_class_is_answered = refl
 
 head_is_no_class : body_ended small_code (FromClause 13 4 2) in_head (Int (pos 3)) (at small_cells 1 1 5) ≡ Halts (error kind.NotAClass (site_of (Declared 1) 7)) (at small_cells 1 0 5)
 head_is_no_class = refl
