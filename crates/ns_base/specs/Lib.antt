@@ -6,3 +6,4 @@ pub mod Stored
 pub mod Shelf
 pub mod Sink
 pub mod Status
+pub mod TextIndex
