@@ -8,3 +8,4 @@ pub mod Stored
 pub mod Shelf
 pub mod Sink
 pub mod Status
+pub mod TextIndex

@@ -16,3 +16,5 @@ pub mod stored;
 pub mod sure_shelf;
 pub mod sure_sink;
 pub mod text;
+pub mod text_index;
+pub mod text_set;

@@ -8,7 +8,7 @@ ghost use Rattle.ns_base.specs.declared.names.NamesFault.TheVariants as f;
 
 use crate::selector::Sel;
 use crate::text::Text;
-use indexmap::IndexSet;
+use crate::text_set::TextSet;
 use std::alloc::Global;
 use std::marker::Model;
 
@@ -26,7 +26,7 @@ pub enum NamesFault {
 #[derive(Drop)]
 pub struct Names {
     alloc: Global,
-    texts: IndexSet<Text>,
+    texts: TextSet,
 }
 
 impl Model for Names {
@@ -35,9 +35,9 @@ impl Model for Names {
 
     ghost Value = { List (List ℕ) };
 
-    ghost view = { λ names. names.texts.keys };
+    ghost view = { λ names. names.texts };
 
-    ghost invariant = { λ names. IsTable names.texts.keys };
+    ghost invariant = { λ names. IsTable names.texts };
 }
 
 impl Names {
@@ -47,7 +47,7 @@ impl Names {
     {
         Names {
             alloc,
-            texts: IndexSet::new(alloc),
+            texts: TextSet::new(alloc),
         }
     }
 
@@ -77,14 +77,14 @@ impl Names {
         ensures unchanged { OnErr result (self.new ≡ self.old) }
         ensures no_repeats { NoRepeats self.new }
     {
-        if self.texts.len() >= MOST_NAMES {
+        if self.texts.as_slice().len() >= MOST_NAMES {
             return Err(NamesFault::Full);
         }
         match Text::of(self.alloc, text) {
             Err(_) => Err(NamesFault::Memory),
-            Ok(name) => match self.texts.insert_full(name) {
+            Ok(name) => match self.texts.add(name) {
                 Err(_) => Err(NamesFault::Memory),
-                Ok((place, _)) => Ok(Sel(place as u32)),
+                Ok(number) => Ok(Sel(number)),
             },
         }
     }
@@ -95,8 +95,8 @@ impl Names {
         ensures found { is_some result ≡ has self.now text.now }
         ensures no_repeats { NoRepeats self.now }
     {
-        match self.texts.get_index_of(text) {
-            Some(place) => Some(Sel(place as u32)),
+        match self.texts.find(text) {
+            Some(number) => Some(Sel(number)),
             None => None,
         }
     }
@@ -113,6 +113,6 @@ impl Names {
     pub fn count(&self) -> u32
         ensures { result ≡ length self.now }
     {
-        self.texts.len() as u32
+        self.texts.as_slice().len() as u32
     }
 }

@@ -1,16 +1,17 @@
 //! Texts, which are lists of bytes.
 
-ghost use Rattle.std.specs.Prelude.{◌≡◌, IfOk, nat_eq};
+ghost use Rattle.std.specs.Prelude.{◌≡◌, IfOk, Some};
+ghost use Rattle.std.specs.BTreeMap.Comparable.{le_lt_trans};
 ghost use Rattle.std.specs.Cmp.{partial_equiv_from_equiv};
-ghost use Rattle.std.specs.Cmp.Lexicographic.{pointwise, nat_list_eq_equiv, bytes_decides};
-ghost use Rattle.std.specs.Hash as fed;
+ghost use Rattle.std.specs.Cmp.Lexicographic.{slice_cmp, nat_list_cmp_total, nat_list_eq_equiv, texts_po, texts_ties};
+ghost use Rattle.std.specs.Ordering.{nat_cmp};
 ghost use Rattle.std.specs.Str.{bytes_eq};
-ghost use Rattle.std.proofs.Common.{ap};
+ghost use Rattle.std.proofs.Common.{refl};
 
 use crate::no_memory::NoMemory;
-use indexmap::Equivalent;
 use std::alloc::Global;
-use std::hash::{Hash, Hasher};
+use std::cmp::Ordering;
+use std::collections::btree_map::Comparable;
 use std::marker::Model;
 
 /// A list of bytes. A clause sees the list alone.
@@ -77,25 +78,40 @@ impl Eq for Text {
     ghost laws = { nat_list_eq_equiv };
 }
 
-impl Hash for Text {
-    ghost hash_input = { fed.slice fed.u8 };
+/// Texts are in the order of their bytes, the first that differs.
+impl PartialOrd for Text {
+    ghost partial_cmp = { λ x y. Some (slice_cmp nat_cmp x y) };
 
-    ghost respects_eq = { λ x y h. ap (fed.slice fed.u8) ((bytes_decides x y).0 h) };
+    ghost laws = { texts_po };
 
-    fn hash<H: Hasher>(&self, state: &mut H) {
-        self.bytes().hash(state);
+    fn partial_cmp(&self, other: &Text) -> Option<Ordering> {
+        Some(self.cmp(other))
     }
 }
 
-/// Bytes stand for the text that has them, so a table of texts is searched without making one.
-impl Equivalent<Text> for &[u8] {
-    ghost equivalent = { λ q text. bytes_eq q.now text };
+impl Ord for Text {
+    ghost cmp = { slice_cmp nat_cmp };
 
-    ghost respects_hash = { λ q text h. ap (fed.slice fed.u8) ((bytes_decides q.now text).0 h) };
+    ghost total = { nat_list_cmp_total };
 
-    ghost respects_eq = { λ q x y. nat_list_eq_equiv.congr q.now x y };
+    ghost matches_partial_cmp = { λ x y. refl };
 
-    fn equivalent(&self, key: &Text) -> bool {
-        *self == key.bytes()
+    ghost matches_eq = { texts_ties };
+
+    fn cmp(&self, other: &Text) -> Ordering {
+        self.bytes().cmp(&other.bytes())
+    }
+}
+
+/// Bytes stand for the text that has them in an ordered table too.
+impl Comparable<Text> for &[u8] {
+    ghost compare = { λ q text. slice_cmp nat_cmp q.now text };
+
+    ghost respects_cmp = { λ q x y. nat_list_cmp_total.congr q.now x y };
+
+    ghost below_greater = { λ q x y. le_lt_trans nat_list_cmp_total q.now x y };
+
+    fn compare(&self, key: &Text) -> Ordering {
+        (*self).cmp(&key.bytes())
     }
 }

@@ -6,11 +6,11 @@ ghost use Rattle.std.specs.Option.{is_some};
 ghost use Rattle.std.specs.Str.{bytes_eq};
 ghost use Rattle.ns_base.specs.Names.{NoRepeats, has, put_in, place_of};
 
-use indexmap::IndexSet;
 use ns_base::items::Items;
 use ns_base::no_memory::NoMemory;
 use ns_base::selector::Sel;
 use ns_base::text::Text;
+use ns_base::text_set::TextSet;
 use std::alloc::Global;
 use std::marker::Model;
 
@@ -18,18 +18,18 @@ use std::marker::Model;
 #[derive(Drop)]
 pub struct NameTable {
     alloc: Global,
-    texts: IndexSet<Text>,
+    texts: TextSet,
 }
 
 impl Model for NameTable {
-    ghost use Rattle.std.specs.Prelude.{List, ℕ, length, ◌<◌, ◌^◌};
+    ghost use Rattle.std.specs.Prelude.{List, ℕ};
     ghost use Rattle.ns_base.specs.Names.{NoRepeats};
 
     ghost Value = { List (List ℕ) };
 
-    ghost view = { λ table. table.texts.keys };
+    ghost view = { λ table. table.texts };
 
-    ghost invariant = { λ table. NoRepeats table.texts.keys × (length table.texts.keys < 2 ^ 32) };
+    ghost invariant = { λ table. NoRepeats table.texts };
 }
 
 impl NameTable {
@@ -39,7 +39,7 @@ impl NameTable {
     {
         NameTable {
             alloc,
-            texts: IndexSet::new(alloc),
+            texts: TextSet::new(alloc),
         }
     }
 
@@ -65,14 +65,11 @@ impl NameTable {
         ensures unchanged { OnErr result (self.new ≡ self.old) }
         ensures no_repeats { NoRepeats self.new }
     {
-        if self.texts.len() >= u32::MAX as usize {
-            return Err(NoMemory);
-        }
         match Text::of(self.alloc, text) {
             Err(_) => Err(NoMemory),
-            Ok(name) => match self.texts.insert_full(name) {
+            Ok(name) => match self.texts.add(name) {
                 Err(_) => Err(NoMemory),
-                Ok((place, _)) => Ok(Sel(place as u32)),
+                Ok(number) => Ok(Sel(number)),
             },
         }
     }
@@ -83,8 +80,8 @@ impl NameTable {
         ensures found { is_some result ≡ has self.now text.now }
         ensures no_repeats { NoRepeats self.now }
     {
-        match self.texts.get_index_of(text) {
-            Some(place) => Some(Sel(place as u32)),
+        match self.texts.find(text) {
+            Some(number) => Some(Sel(number)),
             None => None,
         }
     }
@@ -112,7 +109,7 @@ impl NameTable {
     pub fn count(&self) -> usize
         ensures { result ≡ length self.now }
     {
-        self.texts.len()
+        self.texts.as_slice().len()
     }
 }
 
