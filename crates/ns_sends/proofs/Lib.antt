@@ -6,6 +6,7 @@ pub mod Leads
 pub mod Numbered
 pub mod Goes
 pub mod Stepped
+pub mod Looked
 pub mod Operands
 pub mod Received
 pub mod Selves

@@ -39,9 +39,9 @@ pub fn go_on(
     }
 }
 
-/// Asks a row of the kernel, and goes where that leads.
+/// Asks a row of the kernel, and goes where that leads. The rows of Integer, which are asked most, have a copy of this code
+/// of their own, in which there is no way but to a value or a fault.
 #[inline(always)]
-#[tactic(auto, using(crate::proofs::Leads::row_left, crate::proofs::Leads::row_goes, crate::proofs::Leads::row_given, crate::proofs::Leads::runs_body, crate::proofs::Leads::row_leads, crate::proofs::Leads::row_asked))]
 fn ask(
     code: &CodeProgram,
     core: &mut Core,
@@ -57,6 +57,52 @@ fn ask(
     ensures { Leads code.now core.old at sent.floor (answered_at code.now core.old at sent receiver (answers.Row number)) core.new result }
 {
     let row = row_numbered(number);
+    match row {
+        Row::Integer(_) => ask_row(code, core, at, sent, receiver, number, row),
+        _ => ask_apart(code, core, at, sent, receiver, number, row),
+    }
+}
+
+/// The same with any row, apart from the code of those of Integer.
+#[inline(never)]
+fn ask_apart(
+    code: &CodeProgram,
+    core: &mut Core,
+    at: Registers,
+    sent: Sent,
+    receiver: Value,
+    number: u32,
+    row: Row,
+) -> Next
+    requires left { IsLeft code.now core.old at sent }
+    requires goes { GoesOn code.now (length core.old.stack.frames.items) (answered_at code.now core.old at sent receiver (answers.Row number)) }
+    requires can { CanAsk code.now core.old at sent receiver number }
+    requires runs { IsRunning core.old.stack.frames.items }
+    requires row { row ≡ row_at number }
+    ensures { Leads code.now core.old at sent.floor (answered_at code.now core.old at sent receiver (answers.Row number)) core.new result }
+{
+    ask_row(code, core, at, sent, receiver, number, row)
+}
+
+/// Asks the row of a number.
+#[inline(always)]
+#[tactic(auto, using(crate::proofs::Leads::row_left, crate::proofs::Leads::row_goes, crate::proofs::Leads::row_given, crate::proofs::Leads::runs_body, crate::proofs::Leads::row_leads, crate::proofs::Leads::row_asked))]
+fn ask_row(
+    code: &CodeProgram,
+    core: &mut Core,
+    at: Registers,
+    sent: Sent,
+    receiver: Value,
+    number: u32,
+    row: Row,
+) -> Next
+    requires left { IsLeft code.now core.old at sent }
+    requires goes { GoesOn code.now (length core.old.stack.frames.items) (answered_at code.now core.old at sent receiver (answers.Row number)) }
+    requires can { CanAsk code.now core.old at sent receiver number }
+    requires runs { IsRunning core.old.stack.frames.items }
+    requires row { row ≡ row_at number }
+    ensures { Leads code.now core.old at sent.floor (answered_at code.now core.old at sent receiver (answers.Row number)) core.new result }
+{
     let arguments = core.stack.from(at, sent.first);
     let reached = row_reached(
         &mut core.run.world,

@@ -1,29 +1,39 @@
-use Rattle.std.proofs.Common.{◌≡◌, List, subst}
-use Rattle.ns_world.specs.declared.value.Value.{Value}
-use Rattle.ns_send.specs.Control.{Activation}
 use Rattle.ns_send.specs.Sends.{To}
-use Rattle.ns_act.specs.Answered.{answered_shown, answered}
-use Rattle.ns_frames.specs.View.{site_shown}
-use Rattle.ns_engine.specs.Shown.{progress_in}
-use Rattle.ns_sends.specs.Going.{answered_at}
-use Rattle.ns_sends.specs.Sending.{looked_up}
-use Rattle.ns_sends.proofs.Stepped.{answer_goes, answer_sends, no_one, with_values}
+use Rattle.ns_sends.proofs.Looked.{looked_can, looked_goes, looked_found, looked_sends}
 use Rattle.ns_sends.proofs.sending.look_up.Goals as goal
 
-pub go_on-requires-clause-goes : goal.go_on-requires-clause-goes
-go_on-requires-clause-goes c =
-    answer_goes c.args.code.now c.args.core.now c.args.at c.args.sent c.args.receiver c.send-answered.new.run c.send-answered.result
-    (looked_up c.args.code.now c.args.core.now c.args.at c.args.sent no_one (To c.args.receiver c.args.kind))
-    (with_values c.args.code.now c.args.core.now c.args.at c.args.sent c.args.receiver c.send-answered.new.run c.send-answered.result no_one
-    (To c.args.receiver c.args.kind) c.from-arguments.result.now c.from-arguments.ensures
-    (c.send-answered.ensures.answered (site_shown c.args.core.now.places c.args.sent.site) no_one))
-    (c.requires.goes no_one)
+pub do_found-requires-clause-goes : goal.do_found-requires-clause-goes
+do_found-requires-clause-goes c activation =
+    looked_goes c.args.code.now c.args.core.now c.args.at c.args.sent c.found_of-found.new.run activation (To c.args.receiver c.args.kind)
+    c.found_of-found.ensures.rest (c.requires.goes activation)
 
-pub returns : goal.returns
-returns c activation =
-    answer_sends c.args.code.now c.args.core.now c.go_on.new.core c.args.at c.args.sent c.args.receiver c.send-answered.new.run c.send-answered.result
-    (looked_up c.args.code.now c.args.core.now c.args.at c.args.sent activation (To c.args.receiver c.args.kind)) c.go_on.result
-    (with_values c.args.code.now c.args.core.now c.args.at c.args.sent c.args.receiver c.send-answered.new.run c.send-answered.result activation
-    (To c.args.receiver c.args.kind) c.from-arguments.result.now c.from-arguments.ensures
-    (c.send-answered.ensures.answered (site_shown c.args.core.now.places c.args.sent.site) activation))
-    c.send-answered.ensures.rest c.send-answered.ensures.kept c.go_on.ensures
+pub do_found-requires-in-Kernel-clause-goes : goal.do_found-requires-in-Kernel-clause-goes
+do_found-requires-in-Kernel-clause-goes c activation =
+    looked_goes c.args.code.now c.args.core.now c.args.at c.args.sent c.found_of-found.new.run activation (To c.args.receiver c.args.kind)
+    c.found_of-found.ensures.rest (c.requires.goes activation)
+
+pub do_apart-requires : goal.do_apart-requires
+do_apart-requires c = record {
+  can = looked_can c.args.code.now c.args.core.now c.args.at c.args.sent c.args.receiver c.found_of-found.new.run c.found_of-found.ensures.rest
+      c.found_of-found.ensures.kept c.requires.can;
+  own = c.requires.own;
+  goes = λ activation. looked_goes c.args.code.now c.args.core.now c.args.at c.args.sent c.found_of-found.new.run activation (To c.args.receiver c.args.kind)
+      c.found_of-found.ensures.rest (c.requires.goes activation);
+  found = looked_found c.args.code.now c.args.core.now c.found_of-found.new.run c.args.receiver c.args.sent.site.sel.0 c.args.kind c.found_of-found.result
+      c.found_of-found.ensures.rest c.found_of-found.ensures.found;
+}
+
+pub returns-in-Method : goal.returns-in-Method
+returns-in-Method c activation =
+    looked_sends c.args.code.now c.args.core.now c.do_found.new.core c.args.at c.args.sent c.found_of-found.new.run activation (To c.args.receiver c.args.kind)
+    c.do_found.result c.found_of-found.ensures.rest (c.do_found.ensures activation)
+
+pub returns-in-Kernel : goal.returns-in-Kernel
+returns-in-Kernel c activation =
+    looked_sends c.args.code.now c.args.core.now c.do_found-in-Kernel.new.core c.args.at c.args.sent c.found_of-found.new.run activation
+    (To c.args.receiver c.args.kind) c.do_found-in-Kernel.result c.found_of-found.ensures.rest (c.do_found-in-Kernel.ensures activation)
+
+pub returns-in_default : goal.returns-in_default
+returns-in_default c activation =
+    looked_sends c.args.code.now c.args.core.now c.do_apart.new.core c.args.at c.args.sent c.found_of-found.new.run activation (To c.args.receiver c.args.kind)
+    c.do_apart.result c.found_of-found.ensures.rest (c.do_apart.ensures activation)
