@@ -62,7 +62,9 @@ impl TextIndex {
     }
 
     /// How many places there are.
-    pub fn places(&self) -> usize {
+    pub fn places(&self) -> usize
+        ensures { result ≡ length self.now.places.items }
+    {
         self.places.len()
     }
 
