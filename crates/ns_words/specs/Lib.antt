@@ -1,3 +1,4 @@
+pub mod Application
 pub mod Forms
 pub mod Line
 pub mod Table

@@ -223,7 +223,7 @@ fn is_item(item: Item, word: &[u8]) -> bool
 }
 
 /// Whether a word can be the name of a file.
-fn is_file_name(word: &[u8]) -> bool
+pub fn is_file_name(word: &[u8]) -> bool
     ensures { result ≡ spec.is_file_name word.now }
 {
     !word.is_empty() && word[0] != b'-' && word.len() <= 4_294_967_295
