@@ -92,3 +92,7 @@ transcript_of member = (world_of member.state).output
 abbrev pub report_of : List (List ℕ) → MemberView → Option (List ℕ)
 report_of files member =
     option_map (report_line (world_of member.state).cells member.application.code files) (ending_of member.state)
+
+-- that line, with the names that its code has for its files
+abbrev pub line_of : MemberView → Option (List ℕ)
+line_of member = report_of member.application.code.files member

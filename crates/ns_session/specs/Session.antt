@@ -5,7 +5,7 @@ use Rattle.ns_facets.specs.declared.board.Board.{Board}
 use Rattle.ns_moves.specs.State.{State, ending_of}
 use Rattle.ns_machine.specs.declared.stage.Turn.{Turn}
 use Rattle.ns_machine.specs.Turning.{turn_at}
-use Rattle.ns_session.specs.Member.{Application, MemberView, starting, TurnOf, StandsAlone, report_of}
+use Rattle.ns_session.specs.Member.{Application, MemberView, starting, TurnOf, StandsAlone, report_of, line_of}
 
 -- what a session is to its host
 pub record SessionView : Type 0 where
@@ -58,6 +58,11 @@ ending_in (Some member) = ending_of member.state
 abbrev pub report_in : List (List ℕ) → Option MemberView → Option (List ℕ)
 report_in files None = None
 report_in files (Some member) = report_of files member
+
+-- that line with the names that the code has for its files
+abbrev pub line_in : Option MemberView → Option (List ℕ)
+line_in None = None
+line_in (Some member) = line_of member
 
 -- what a turn of an application answers: how its run has ended, or that it goes on
 abbrev pub Answers : Turn → Option MemberView → Type 0

@@ -5,7 +5,7 @@ ghost use Rattle.std.specs.Option.{option_copied};
 ghost use Rattle.ns_base.specs.Limits.{InRange};
 ghost use Rattle.ns_moves.specs.State.{ending_of};
 ghost use Rattle.ns_machine.specs.Turning.{turn_at};
-ghost use Rattle.ns_session.specs.Member.{starting, transcript_of, report_of, TurnOf, LentTurn, OwnTurn, StandsAlone};
+ghost use Rattle.ns_session.specs.Member.{starting, transcript_of, report_of, line_of, TurnOf, LentTurn, OwnTurn, StandsAlone};
 ghost use Rattle.ns_session.specs.Reached.{left_for};
 
 use crate::laws::{
@@ -108,6 +108,13 @@ impl Member {
                 Ok(Some(line))
             }
         }
+    }
+
+    /// That line, with the names that its code has for its files.
+    pub fn line(&self, alloc: Global) -> Result<Option<Vec<u8>>, NoMemory>
+        ensures { IfOk result (λ line. option_map (λ bytes. bytes.items) line ≡ line_of self.now) }
+    {
+        self.report(alloc, self.machine.code().files.as_slice())
     }
 
     /// Without the board it stands where its run on its own stands.

@@ -4,7 +4,7 @@ ghost use Rattle.std.specs.Prelude.{◌≡◌, ◌≤◌, ◌<◌, ◌↔◌, []
 ghost use Rattle.std.specs.Option.{option_copied, is_some};
 ghost use Rattle.ns_base.specs.Limits.{InRange};
 ghost use Rattle.ns_session.specs.Member.{transcript_of};
-ghost use Rattle.ns_session.specs.Session.{added, Plays, OthersStay, BoardStays, ending_in, report_in, Answers, IsAloneAt};
+ghost use Rattle.ns_session.specs.Session.{added, Plays, OthersStay, BoardStays, ending_in, report_in, line_in, Answers, IsAloneAt};
 ghost use Rattle.ns_session.specs.Reached.{left_of};
 ghost use Rattle.ns_session.specs.Rounds.{CanGoOn};
 ghost use Rattle.ns_session.specs.Play.{opened};
@@ -138,6 +138,16 @@ impl Session {
     {
         match self.members.get(k as usize) {
             Some(member) => member.report(alloc, files),
+            None => Ok(None),
+        }
+    }
+
+    /// That line, with the names that the application's code has for its files.
+    pub fn line(&self, alloc: Global, k: u32) -> Result<Option<Vec<u8>>, NoMemory>
+        ensures { IfOk result (λ line. option_map (λ bytes. bytes.items) line ≡ line_in (slice_get self.now.members k)) }
+    {
+        match self.members.get(k as usize) {
+            Some(member) => member.line(alloc),
             None => Ok(None),
         }
     }

@@ -1,3 +1,4 @@
+pub mod ApplicationLaws
 pub mod FormLaws
 pub mod LineLaws
 pub mod NumberLaws

@@ -1,0 +1,4 @@
+pub mod KeepingLaws
+pub mod MakingLaws
+pub mod StandingLaws
+pub mod TellingLaws
