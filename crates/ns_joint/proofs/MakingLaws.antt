@@ -1,23 +1,29 @@
 -- Applications that are made one after another.
-use Rattle.std.proofs.Common.{◌≡◌, ℕ, zero, suc, ◌+◌, ◌≤◌, ◌-◌, ◌^◌, ◌&&◌, List, [], ◌∷◌, ◌++◌, length, map, take, drop, refl, ap, sym, subst, ◌∙◌, arith, Bool, true, false, Option, Some, None, Result, Ok, Err, append_assoc, string_bytes}
-use Rattle.std.specs.Prelude.{IsSomeAnd, min, slice_get}
+use Rattle.std.proofs.Common.{◌≡◌, ℕ, zero, suc, ◌+◌, ◌≤◌, ◌-◌, ◌^◌, ◌&&◌, List, [], ◌∷◌, ◌++◌, length, map, take, drop, refl, ap, sym, subst, ◌∙◌, arith, Bool, true, false, Option, Some, None, Result, Ok, Err, IfOk, IfErr, IsUtf8, nat_le, append_assoc}
+use Rattle.std.specs.Prelude.{All, IsErrAnd, IsSomeAnd, min, slice_get}
+use Rattle.std.proofs.lemmas.Bool.Decides.{nat_tests}
+use Rattle.std.proofs.lemmas.List.Elements.{All-cons, All-head, All-nil, All-tail}
 use Rattle.std.proofs.lemmas.List.{length-append, length-map, map-append}
 use Rattle.ns_base.specs.Count.{Rose}
 use Rattle.ns_base.specs.Files.{Files}
 use Rattle.ns_base.specs.Shelf.{OnlyRead}
 use Rattle.ns_base.specs.declared.limits.Limits.{Limits}
 use Rattle.ns_facets.specs.declared.row.Grants.{Grants}
-use Rattle.ns_load.specs.Answer.{IsFaultOfTexts, TellsFault}
-use Rattle.ns_load.specs.Loaded.{Loading, loaded, loaded_texts, stopped}
-use Rattle.ns_load.specs.declared.fault.LoadCause.{LoadCause}
-use Rattle.ns_load.specs.declared.fault.LoadCause.TheVariants.{Missing, TooLong, ReadFault, Spelling}
-use Rattle.ns_load.specs.declared.fault.LoadFault.{LoadFault}
-use Rattle.ns_load.specs.declared.fault.LoadFault.TheVariants.{At, Memory}
+use Rattle.ns_code.specs.declared.program.CodeProgram.{CodeProgram}
+use Rattle.ns_gen.specs.Code.{code_of}
+use Rattle.ns_meant.specs.Classes.{meant}
+use Rattle.ns_rules.specs.declared.fault.Placed.{Placed}
+use Rattle.ns_scope.specs.Whole.{IsFileName}
+use Rattle.ns_scope.specs.declared.program.Program.{Program}
+use Rattle.ns_static.specs.Check.{fault_of}
+use Rattle.ns_tree.specs.PlainOf.{unit_of}
+use Rattle.ns_load.specs.Loaded.{Loading, file_names, units}
 use Rattle.ns_session.specs.Member.{Application, MemberView, starting}
-use Rattle.ns_session.specs.Session.{SessionView}
-use Rattle.ns_words.specs.Application.{Asked}
-use Rattle.ns_joint.specs.Answer.{AreAdmitted, IsFaultOf, IsWithAll, Makes, OfSomeName, OfSomeTexts, fault_from, with_all}
-use Rattle.ns_joint.specs.Making.{Making, Source, all_made, application_of, behind, files_asked, made, made_of, of_loading, refused, then_made, unloaded}
+use Rattle.ns_session.specs.Session.{SessionView, added}
+use Rattle.ns_words.specs.Application.{Asked, all_name_files, are_few}
+use Rattle.ns_words.specs.FileName.{is_file_name}
+use Rattle.ns_joint.specs.Answer.{AreAdmitted, IsCodeOf, IsFaultOf, IsMadeAs, IsWithAll, Makes, OfSomeName, OfSomeTexts, with_all}
+use Rattle.ns_joint.specs.Making.{Making, Source, all_made, application_of, behind, files_asked, made, made_of, of_least, of_loading, of_source, refused, then_made}
 use Rattle.ns_joint.specs.declared.fault.JointFault.{JointFault}
 use Rattle.ns_joint.specs.declared.fault.JointFault.TheVariants as fault
 
@@ -138,24 +144,66 @@ pub read_twice : {S : Type 0} (holds : S → Option Files) (misses faults store_
     → OnlyRead holds misses faults store_faults old new
 read_twice holds misses faults store_faults old mid new one two = (two.0 ∙ one.0, two.1 ∙ one.1, omega (arith, one.2, two.2), omega (arith, one.3, two.3))
 
--- ---- files that were refused
+-- ---- one application
 
--- What was made is refused for that file, and such a fault is this refusal.
-abbrev pub Refuses : (List (List ℕ)) → Making → (LoadCause → ℕ → JointFault) → Type 0
-Refuses names making unloading = (cause : LoadCause) (file : ℕ) → making ≡ refused (unloaded names (At cause file)) → IsFaultOf making (unloading cause file)
+pub memory_texts : (grants : Grants) (names : List (List ℕ)) (making : List (Option (List ℕ)) → Making) (result : Result CodeProgram JointFault) → IsErrAnd result (λ e. e ≡ fault.Memory) → OfSomeTexts names (λ texts. IsMadeAs grants (making texts) result)
+memory_texts grants names making (Ok code) h = absurd h
+memory_texts grants names making (Err why) h =
+    let t : OfSomeTexts names (λ texts. Unit {0}) = empty names in (t.0, t.1, subst (λ e. IsFaultOf (making t.0) e) (sym h) tt)
+  where
+    empty : (names : List (List ℕ)) → OfSomeTexts names (λ texts. Unit {0})
+    empty [] = ([], refl, tt)
+    empty (name ∷ names) = let t : OfSomeTexts names (λ texts. Unit {0}) = empty names in (None ∷ t.0, omega (arith, t.1), tt)
 
-pub fault_told : (unloading : LoadCause → ℕ → JointFault) (names : List (List ℕ)) (grants : Grants) (lib : Bool) (files : Files) (why : LoadFault) → Refuses names (of_loading names grants lib (loaded names lib files)) unloading → TellsFault names lib files why
-    → IsFaultOf (of_loading names grants lib (loaded names lib files)) (fault_from unloading why)
-fault_told unloading names grants lib files (At Missing file) r h = r Missing file (ap (of_loading names grants lib) h)
-fault_told unloading names grants lib files (At TooLong file) r h = r TooLong file (ap (of_loading names grants lib) h)
-fault_told unloading names grants lib files (At ReadFault file) r h = tt
-fault_told unloading names grants lib files (At (Spelling number place) file) r h = r (Spelling number place) file (ap (of_loading names grants lib) h)
-fault_told unloading names grants lib files Memory r h = tt
+-- a program without static faults
+pub program_made : (names : List (List ℕ)) (grants : Grants) (program checked : Program) (result : Result CodeProgram JointFault) → checked ≡ program → fault_of program ≡ None
+    → IsMadeAs grants (of_source (record { meant = meant checked; grants = grants })) result → IsMadeAs grants (of_least names grants program.files (map unit_of program.units) program.marks (fault_of program)) result
+program_made names grants program checked result is none h =
+    subst (λ (least : Option Placed). IsMadeAs grants (of_least names grants program.files (map unit_of program.units) program.marks least) result) (sym none)
+    (subst (λ (each : Program). IsMadeAs grants (of_source (record { meant = meant each; grants = grants })) result) is h)
 
-pub fault_of_texts : (unloading : LoadCause → ℕ → JointFault) (names : List (List ℕ)) (grants : Grants) (lib : Bool) (texts : List (Option (List ℕ))) (why : LoadFault) → Refuses names (of_loading names grants lib (loaded_texts texts lib)) unloading → IsFaultOfTexts texts lib why
-    → IsFaultOf (of_loading names grants lib (loaded_texts texts lib)) (fault_from unloading why)
-fault_of_texts unloading names grants lib texts (At Missing file) r h = r Missing file (ap (of_loading names grants lib) h)
-fault_of_texts unloading names grants lib texts (At TooLong file) r h = r TooLong file (ap (of_loading names grants lib) h)
-fault_of_texts unloading names grants lib texts (At ReadFault file) r h = tt
-fault_of_texts unloading names grants lib texts (At (Spelling number place) file) r h = r (Spelling number place) file (ap (of_loading names grants lib) h)
-fault_of_texts unloading names grants lib texts Memory r h = tt
+-- a program that was loaded
+pub loading_made : (own names : List (List ℕ)) (grants : Grants) (lib : Bool) (loading : Loading) (program : Program) (result : Result CodeProgram JointFault) → names ≡ own → program.files ≡ file_names names lib → loading ≡ units (map unit_of program.units) program.marks
+    → IsMadeAs grants (of_least own grants program.files (map unit_of program.units) program.marks (fault_of program)) result → IsMadeAs grants (of_loading names grants lib loading) result
+loading_made own names grants lib loading program result same files is h =
+    subst (λ (l : Loading). IsMadeAs grants (of_loading names grants lib l) result) (sym is)
+    (subst (λ (f : List (List ℕ)). IsMadeAs grants (of_least names grants f (map unit_of program.units) program.marks (fault_of program)) result) files
+    (subst (λ (n : List (List ℕ)). IsMadeAs grants (of_least n grants program.files (map unit_of program.units) program.marks (fault_of program)) result) (sym same) h))
+
+-- Names that are few are names of files.
+pub all_named : (names : List (List ℕ)) → all_name_files names ≡ true → All IsUtf8 names → All IsFileName names
+all_named [] e u = All-nil IsFileName
+all_named (name ∷ names) e u =
+    All-cons IsFileName name names (named name (All-head IsUtf8 name names u) (first (is_file_name name) e)) (all_named names (rest (is_file_name name) e) (All-tail IsUtf8 name names u))
+  where
+    first : (q : Bool) → (q && all_name_files names) ≡ true → q ≡ true
+    first true e = refl
+    first false e = e
+
+    rest : (q : Bool) → (q && all_name_files names) ≡ true → all_name_files names ≡ true
+    rest true e = e
+    rest false e = absurd (cc (e))
+
+    named : (name : List ℕ) → IsUtf8 name → is_file_name name ≡ true → IsFileName name
+    named [] u e = absurd (cc (e))
+    named (b ∷ bs) u e = (u, (λ h. cc (h)), grind (arith, nat_tests, e))
+
+pub few_named : (most : ℕ) (names : List (List ℕ)) → are_few most names ≡ true → all_name_files names ≡ true
+few_named most names e = second (nat_le (length names) most) e
+  where
+    second : (q : Bool) → (q && all_name_files names) ≡ true → all_name_files names ≡ true
+    second true e = e
+    second false e = absurd (cc (e))
+
+-- An application that was made is added.
+pub one_makes : (limits : Limits) (grants given : Grants) (making : Making) (code : CodeProgram) (old new : SessionView) (result : Result (Unit {0}) JointFault) → IsCodeOf grants making code → given ≡ grants
+    → IfOk result (λ done. new ≡ added (record { code = code; grants = given; limits = limits }) old) → IfErr result (λ why. why ≡ fault.Memory) → Makes limits making old new result
+one_makes limits grants given (made []) code old new result h g a m = absurd h
+one_makes limits grants given (made (source ∷ [])) code old new (Ok done) h g a m =
+    let is : record { code = code; grants = given; limits = limits } ≡ application_of limits source =
+    ap (λ (c : CodeProgram). record { code = c; grants = given; limits = limits }) h.0
+    ∙ ap (λ (k : Grants). record { code = code_of source.meant; grants = k; limits = limits }) (g ∙ sym h.1)
+    in (a ∙ ap (λ (application : Application). added application old) is, (h.2, tt))
+one_makes limits grants given (made (source ∷ [])) code old new (Err why) h g a m = subst (λ e. IsFaultOf (made (source ∷ [])) e) (sym m) tt
+one_makes limits grants given (made (source ∷ next ∷ more)) code old new result h g a m = absurd h
+one_makes limits grants given (refused why) code old new result h g a m = absurd h

@@ -21,10 +21,10 @@ use Rattle.ns_joint.specs.Stood.{run_at}
 -- A run that has ended moves no more.
 ended_still : (state : State) → IsSome (ending_of state) → is_still state ≡ true
 ended_still (Unbegun arguments progress) e = refl
-ended_still (Going phase frames progress) e = absurd e
-ended_still (Pends phase pending frames progress) e = absurd e
+ended_still (Going phase frames progress) e = absurd (cc (e))
+ended_still (Pends phase pending frames progress) e = absurd (cc (e))
 ended_still (Ended ending phase progress) e = refl
-ended_still (Stuck progress) e = absurd e
+ended_still (Stuck progress) e = absurd (cc (e))
 
 pub as_meant : (limits : Limits) (source : Source) (member : MemberView) → SourceLeads source.meant → ReportedAsMeant source.meant → HasStood limits source member → run_at member ≡ run_of limits source member
 as_meant limits source member leads reported stood =
@@ -43,6 +43,10 @@ as_meant limits source member leads reported stood =
         let is : member.state ≡ Ended end.ending way.goes_on.phase end.progress = way.at_rest (ended_still member.state stood.ended) in
         ap (told_at (code_of source.meant)) is ∙ ap ran_of (reported [] source.grants limits)
 
+    either : {q : Bool} → q ≡ source.grants.board → told_at (code_of source.meant) member.state ≡ cond q (told_at (code_of source.meant) member.state) (ran_of (meaning_of_run source.meant [] source.grants limits))
+        → told_at (code_of source.meant) member.state ≡ run_of limits source member
+    either e h = subst (λ p. told_at (code_of source.meant) member.state ≡ cond p (told_at (code_of source.meant) member.state) (ran_of (meaning_of_run source.meant [] source.grants limits))) e h
+
     by : (q : Bool) → source.grants.board ≡ q → told_at (code_of source.meant) member.state ≡ run_of limits source member
-    by true e = rw e refl
-    by false e = rw e (alone e)
+    by true e = either (sym e) refl
+    by false e = either (sym e) (alone e)

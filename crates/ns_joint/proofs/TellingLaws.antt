@@ -46,7 +46,8 @@ then_done Memory = refl
 pub next_there : {A : Type 0} (xs : List A) (number : ℕ) (x : A) → slice_get xs number ≡ Some x → drop number xs ≡ x ∷ drop (number + 1) xs
 next_there [] number x e = absurd (cc)
 next_there (y ∷ xs) zero x e = ap (λ (z : _). z ∷ xs) (same_Some y x e)
-next_there (y ∷ xs) (suc number) x e = next_there xs number x e
+next_there (y ∷ xs) (suc number) x e =
+    let n : suc (number + 1) ≡ suc number + 1 = omega arith in next_there xs number x e ∙ ap (λ (k : ℕ). x ∷ drop k (y ∷ xs)) n
 
 pub some_there : {A : Type 0} {P : Type 0} (xs : List A) (number : ℕ) → number < length xs → ((x : A) → slice_get xs number ≡ Some x → P) → P
 some_there [] number l f = absurd (omega (arith, l))

@@ -3,6 +3,7 @@ use Rattle.std.specs.Prelude.{◌≡◌, ℕ, List, [], ◌∷◌, ◌++◌, map
 use Rattle.ns_base.specs.declared.limits.Limits.{Limits}
 use Rattle.ns_code.specs.Fits.{Fits}
 use Rattle.ns_code.specs.declared.program.CodeProgram.{CodeProgram}
+use Rattle.ns_facets.specs.declared.row.Grants.{Grants}
 use Rattle.ns_gen.specs.Code.{code_of}
 use Rattle.ns_link.specs.Laws.{HasFirst}
 use Rattle.ns_load.specs.declared.fault.LoadCause.{LoadCause}
@@ -87,17 +88,17 @@ pub record IsAdmitted (source : Source) : Type 0 where
   pub sound : IsSound (code_of source.meant)
   pub fits : Fits (code_of source.meant)
 
--- The code is that of the one application that was made.
-abbrev pub IsCodeOf : Making → CodeProgram → Type 0
-IsCodeOf (made []) code = ⊥
-IsCodeOf (made (source ∷ [])) code = (code ≡ code_of source.meant) × IsAdmitted source
-IsCodeOf (made (source ∷ next ∷ more)) code = ⊥
-IsCodeOf (refused why) code = ⊥
+-- The code is that of the one application that was made, which is granted this.
+abbrev pub IsCodeOf : Grants → Making → CodeProgram → Type 0
+IsCodeOf grants (made []) code = ⊥
+IsCodeOf grants (made (source ∷ [])) code = (code ≡ code_of source.meant) × (source.grants ≡ grants) × IsAdmitted source
+IsCodeOf grants (made (source ∷ next ∷ more)) code = ⊥
+IsCodeOf grants (refused why) code = ⊥
 
 -- The code of the application was made, or there is a refusal.
-abbrev pub IsMadeAs : Making → Result CodeProgram JointFault → Type 0
-IsMadeAs making (Ok code) = IsCodeOf making code
-IsMadeAs making (Err why) = IsFaultOf making why
+abbrev pub IsMadeAs : Grants → Making → Result CodeProgram JointFault → Type 0
+IsMadeAs grants making (Ok code) = IsCodeOf grants making code
+IsMadeAs grants making (Err why) = IsFaultOf making why
 
 -- ---- all applications
 

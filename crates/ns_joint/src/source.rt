@@ -41,8 +41,8 @@ pub fn code_of<S: Shelf>(
     shelf: &mut S,
 ) -> Result<Verified, JointFault>
     requires few { are_few 16 (asked_seen asked).names ≡ true }
-    ensures told { (files : Files) → S.holds shelf.old ≡ Some files → IsMadeAs (spec.made_of lib (asked_seen asked.entry) (map files (asked_seen asked.entry).names)) result }
-    ensures texts { OfSomeTexts (asked_seen asked.entry).names (λ texts. IsMadeAs (spec.made_of lib (asked_seen asked.entry) texts) result) }
+    ensures told { (files : Files) → S.holds shelf.old ≡ Some files → IsMadeAs (spec.granted (asked_seen asked.entry)) (spec.made_of lib (asked_seen asked.entry) (map files (asked_seen asked.entry).names)) result }
+    ensures texts { OfSomeTexts (asked_seen asked.entry).names (λ texts. IsMadeAs (spec.granted (asked_seen asked.entry)) (spec.made_of lib (asked_seen asked.entry) texts) result) }
     ensures refused { IfErr result HasRefusedFile }
     ensures only_read { OnlyRead S.holds S.misses S.faults S.store_faults shelf.old shelf.new }
     ensures missing { IfErr result (λ why. IsMissingFile why → Rose (S.misses shelf.old) (S.misses shelf.new)) }
@@ -66,8 +66,8 @@ fn of_files<S: Shelf>(
     requires few { length texts.now ≤ 16 }
     requires named { All IsFileName texts.now }
     requires same { texts.now ≡ map string_bytes names.items }
-    ensures told { (grants : AnyGrants) (files : Files) → S.holds shelf.old ≡ Some files → IsMadeAs (spec.of_loading texts.now grants lib (loaded texts.now lib files)) result }
-    ensures texts { (grants : AnyGrants) → OfSomeTexts texts.now (λ read. IsMadeAs (spec.of_loading texts.now grants lib (loaded_texts read lib)) result) }
+    ensures told { (grants : AnyGrants) (files : Files) → S.holds shelf.old ≡ Some files → IsMadeAs grants (spec.of_loading texts.now grants lib (loaded texts.now lib files)) result }
+    ensures texts { (grants : AnyGrants) → OfSomeTexts texts.now (λ read. IsMadeAs grants (spec.of_loading texts.now grants lib (loaded_texts read lib)) result) }
     ensures refused { IfErr result HasRefusedFile }
     ensures only_read { OnlyRead S.holds S.misses S.faults S.store_faults shelf.old shelf.new }
     ensures missing { IfErr result (λ why. IsMissingFile why → Rose (S.misses shelf.old) (S.misses shelf.new)) }
@@ -102,7 +102,7 @@ fn of_program(
     program: Program,
 ) -> Result<Verified, JointFault>
     requires { IsWhole program }
-    ensures made { (grants : AnyGrants) → IsMadeAs (spec.of_least (map string_bytes names.items) grants program.files (map unit_of program.units) program.marks (fault_of program)) result }
+    ensures made { (grants : AnyGrants) → IsMadeAs grants (spec.of_least (map string_bytes names.items) grants program.files (map unit_of program.units) program.marks (fault_of program)) result }
     ensures loaded { IfErr result IsOfLoaded }
 {
     match check(alloc, program) {
@@ -114,7 +114,7 @@ fn of_program(
 
 /// The code of the application of a program without static faults.
 fn of_checked(alloc: Global, checked: &Checked) -> Result<Verified, JointFault>
-    ensures made { (grants : AnyGrants) → IsMadeAs (spec.of_source (record { meant = meant checked.now; grants = grants })) result }
+    ensures made { (grants : AnyGrants) → IsMadeAs grants (spec.of_source (record { meant = meant checked.now; grants = grants })) result }
     ensures loaded { IfErr result IsOfLoaded }
 {
     whole_programs_begin();

@@ -1,6 +1,6 @@
 //! Words that ask for an application: letters of what it is granted, `=`, and the names of its files.
 
-ghost use Rattle.std.specs.Prelude.{◌≡◌, ◌<◌, IfSome, IfOk, None, map, string_bytes};
+ghost use Rattle.std.specs.Prelude.{◌≡◌, ◌≤◌, ◌<◌, IfSome, IfOk, length, map, string_bytes};
 ghost use Rattle.std.specs.Bool.{OnTrue};
 ghost use Rattle.std.specs.Option.{is_some};
 ghost use Rattle.ns_words.specs.Application as spec;
@@ -73,7 +73,8 @@ fn are_few(most: u32, names: &str) -> bool
 
 /// The names that `+` joins.
 pub fn names_in(alloc: Global, text: &str) -> Result<Vec<String>, NoMemory>
-    ensures { IfOk result (λ names. map string_bytes names.items ≡ spec.names_in text.now) }
+    ensures names { IfOk result (λ names. map string_bytes names.items ≡ spec.names_in text.now) }
+    ensures some { IfOk result (λ names. 1 ≤ length names.items) }
 {
     let mut names = Vec::new(alloc);
     let mut left = text;
