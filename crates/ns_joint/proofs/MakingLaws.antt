@@ -1,9 +1,9 @@
 -- Applications that are made one after another.
 use Rattle.std.proofs.Common.{◌≡◌, ℕ, zero, suc, ◌+◌, ◌≤◌, ◌-◌, ◌^◌, ◌&&◌, List, [], ◌∷◌, ◌++◌, length, map, take, drop, refl, ap, sym, subst, ◌∙◌, arith, Bool, true, false, Option, Some, None, Result, Ok, Err, IfOk, IfErr, IsUtf8, nat_le, append_assoc}
-use Rattle.std.specs.Prelude.{All, IsErrAnd, IsSomeAnd, min, slice_get}
+use Rattle.std.specs.Prelude.{All, IsErrAnd, get_or, IsSomeAnd, min, slice_get}
 use Rattle.std.proofs.lemmas.Bool.Decides.{nat_tests}
 use Rattle.std.proofs.lemmas.List.Elements.{All-cons, All-head, All-nil, All-tail}
-use Rattle.std.proofs.lemmas.List.{length-append, length-map, map-append}
+use Rattle.std.proofs.lemmas.List.{length-append, length-map, map-append, take_all}
 use Rattle.ns_base.specs.Count.{Rose}
 use Rattle.ns_base.specs.Files.{Files}
 use Rattle.ns_base.specs.Shelf.{OnlyRead}
@@ -120,6 +120,13 @@ module _ (limits : Limits) (lib : Bool) (asked : Asked) (more : List Asked) (old
       empty : (names : List (List ℕ)) → OfSomeTexts names (λ texts. Unit {0})
       empty [] = ([], refl, tt)
       empty (name ∷ names) = let t : OfSomeTexts names (λ texts. Unit {0}) = empty names in (None ∷ t.0, omega (arith, t.1), tt)
+
+-- The first of words, and the others.
+pub cons_of : {A : Type 0} (xs : List A) (x : A) → 1 ≤ length xs → x ≡ get_or xs 0 x → xs ≡ x ∷ take (length xs - 1) (drop 1 xs)
+cons_of [] x l e = absurd (omega (arith, l))
+cons_of (y ∷ xs) x l e =
+    let all : take (length (y ∷ xs) - 1) xs ≡ xs = take_all (length (y ∷ xs) - 1) xs (omega arith) in
+    ap (λ (z : _). z ∷ xs) (sym e) ∙ ap (λ (zs : List _). x ∷ zs) (sym all)
 
 -- ---- names
 

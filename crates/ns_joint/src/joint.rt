@@ -8,8 +8,6 @@ ghost use Rattle.ns_base.specs.declared.limits.Limits.{Limits as AnyLimits};
 ghost use Rattle.ns_base.specs.Shelf.{OnlyRead};
 ghost use Rattle.ns_session.specs.Play.{opened};
 ghost use Rattle.ns_words.specs.Application.{AreApplications, asked_of};
-
-
 ghost use Rattle.ns_joint.specs.Answer.{AreAdmitted, HasRefusedFile, IsMissingFile, OfSomeName, OfSomeTexts, Tells};
 ghost use Rattle.ns_joint.specs.Joint as spec;
 ghost use Rattle.ns_joint.specs.Making.{Source, application_of, files_asked};

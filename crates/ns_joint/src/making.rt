@@ -6,9 +6,7 @@ ghost use Rattle.ns_base.specs.Files.{Files};
 ghost use Rattle.ns_base.specs.Limits.{InRange};
 ghost use Rattle.ns_base.specs.Shelf.{OnlyRead};
 ghost use Rattle.ns_words.specs.Application.{AreApplications, are_few, asked_of, is_application};
-
 ghost use Rattle.ns_words.specs.Line.{asked_seen};
-
 ghost use Rattle.ns_joint.specs.Answer.{HasRefusedFile, IsMissingFile, Makes, OfSomeName, OfSomeTexts};
 ghost use Rattle.ns_joint.specs.Making as spec;
 ghost use Rattle.ns_joint.specs.declared.fault.JointFault.TheVariants.{Memory, Unread};

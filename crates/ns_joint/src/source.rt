@@ -96,18 +96,18 @@ fn unloaded(names: Vec<String>, fault: LoadFault) -> JointFault
 }
 
 /// The code of the application of a program, whose files have these names.
-fn of_program(
-    alloc: Global,
-    names: Vec<String>,
-    program: Program,
-) -> Result<Verified, JointFault>
+fn of_program(alloc: Global, names: Vec<String>, program: Program) -> Result<Verified, JointFault>
     requires { IsWhole program }
     ensures made { (grants : AnyGrants) → IsMadeAs grants (spec.of_least (map string_bytes names.items) grants program.files (map unit_of program.units) program.marks (fault_of program)) result }
     ensures loaded { IfErr result IsOfLoaded }
 {
     match check(alloc, program) {
         Ok(checked) => of_checked(alloc, &checked),
-        Err(StaticFault::At { cause, place }) => Err(JointFault::Unchecked { names, place, cause }),
+        Err(StaticFault::At { cause, place }) => Err(JointFault::Unchecked {
+            names,
+            place,
+            cause,
+        }),
         Err(StaticFault::Memory) => Err(JointFault::Memory),
     }
 }

@@ -18,12 +18,7 @@ use ns_world::ending::Ending;
 use std::alloc::Global;
 
 /// What is told of the applications from that number on, behind what was told of those before it.
-pub fn tell(
-    alloc: Global,
-    session: &Session,
-    number: u32,
-    told: Told,
-) -> Result<Told, NoMemory>
+pub fn tell(alloc: Global, session: &Session, number: u32, told: Told) -> Result<Told, NoMemory>
     requires ended { HaveEnded session.now }
     requires run { IsRunStatus told.status }
     ensures out { IfOk result (λ all. all.out ≡ told.out ++ text_from number (runs_at (drop number session.now.members))) }
@@ -41,12 +36,7 @@ pub fn tell(
 }
 
 /// What is told of the application of that number, behind what was told.
-fn tell_one(
-    alloc: Global,
-    session: &Session,
-    number: u32,
-    told: Told,
-) -> Result<Told, NoMemory>
+fn tell_one(alloc: Global, session: &Session, number: u32, told: Told) -> Result<Told, NoMemory>
     requires ended { HaveEnded session.now }
     requires there { number < length session.now.members }
     requires run { IsRunStatus told.status }

@@ -1,5 +1,5 @@
 -- What the lines of forms say.
-use Rattle.std.proofs.Common.{◌≡◌, ◌≤◌, ℕ, [], None, Result, IfOk, arith, length, map, refl, sym, subst}
+use Rattle.std.proofs.Common.{◌≡◌, ◌≤◌, ℕ, List, [], ◌∷◌, None, Result, IfOk, arith, length, map, refl, sym, subst}
 use Rattle.ns_base.specs.Files.{Files}
 use Rattle.ns_base.specs.declared.limits.Limits.{Limits}
 use Rattle.ns_run.proofs.TextLaws.{whatever_texts}
@@ -11,6 +11,7 @@ use Rattle.ns_run.specs.Task.{Runs}
 use Rattle.ns_run.specs.declared.report.Report.{Report}
 use Rattle.ns_run.specs.declared.stop.Stop.{Stop}
 use Rattle.ns_run.specs.declared.usage.TheConstants.{HELP, VERSION}
+use Rattle.ns_words.specs.Application.{AreApplications}
 use Rattle.ns_words.specs.Forms.{AreFiles, AreNames, IsSpelled}
 use Rattle.ns_words.specs.declared.form.Item.TheVariants.{File, Application}
 use Rattle.ns_words.specs.Table.{form_of}
@@ -54,8 +55,12 @@ are_files verb line e t (words, f) =
     (omega (arith, w.0, f.enough), omega (arith, w.1, f.few), subst (λ item. AreNames item line.names) w.2 f.named)
 
 -- The names of a session are at most 16 applications.
-pub are_applications : (line : Line) → line.verb ≡ Session → IsSpelled line → AreNames Application line.names
-are_applications line e (words, f) = subst (λ verb. AreNames (form_of verb).item line.names) e f.named
+pub are_applications : (line : Line) → line.verb ≡ Session → IsSpelled line → AreApplications line.names
+are_applications line e (words, f) = all line.names (subst (λ verb. AreNames (form_of verb).item line.names) e f.named)
+  where
+    all : (names : List (List ℕ)) → AreNames Application names → AreApplications names
+    all [] a = tt
+    all (name ∷ names) a = (a.0, all names a.1)
 
 pub few_applications : (line : Line) → line.verb ≡ Session → IsSpelled line → length line.names ≤ 16
 few_applications line e (words, f) = subst (λ verb. length line.names ≤ (form_of verb).most) e f.few

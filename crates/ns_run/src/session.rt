@@ -11,9 +11,7 @@ ghost use Rattle.ns_joint.specs.Stood.{IsRunStatus};
 ghost use Rattle.ns_run.specs.Meaning as spec;
 ghost use Rattle.ns_run.specs.Outcome.{IsEnding, IsMissing, SomeOf, SomeTexts};
 ghost use Rattle.ns_run.specs.Report.{told_jointly as told_jointly_lem};
-ghost use Rattle.ns_words.specs.Application.{asked_of};
-ghost use Rattle.ns_words.specs.Forms.{AreNames};
-ghost use Rattle.ns_words.specs.declared.form.Item.TheVariants.{Application};
+ghost use Rattle.ns_words.specs.Application.{AreApplications, asked_of};
 ghost use Rattle.ns_joint.specs.declared.fault.JointFault.TheVariants.{Unread};
 
 use crate::cause::size_name;
@@ -38,7 +36,7 @@ pub fn on_session<S: Shelf>(
 ) -> Result<Report, Stop>
     requires range { InRange limits }
     requires quantum { 1 ≤ quantum }
-    requires asked { AreNames Application (map string_bytes words.now) }
+    requires asked { AreApplications (map string_bytes words.now) }
     requires few { length words.now ≤ 16 }
     ensures told { (files : Files) → S.holds shelf.old ≡ Some files → IfOk result (λ r. r ≡ spec.of_session lib limits quantum (map string_bytes words.now) (map files (files_asked (map asked_of (map string_bytes words.now))))) }
     ensures texts { SomeTexts (files_asked (map asked_of (map string_bytes words.now))) (λ texts. IfOk result (λ r. r ≡ spec.of_session lib limits quantum (map string_bytes words.now) texts)) }
