@@ -15,7 +15,7 @@ ghost use Rattle.ns_words.specs.Application.{AreApplications, asked_of};
 ghost use Rattle.ns_joint.specs.declared.fault.JointFault.TheVariants.{Unread};
 
 use crate::cause::size_name;
-use crate::files::{on_cause, on_static_fault, name_of};
+use crate::files::{name_of, on_cause, on_static_fault};
 use crate::report::{Report, refused_file};
 use crate::stop::{Stop, or_stop};
 use ns_base::limits::Limits;
@@ -75,9 +75,11 @@ fn on_refusal(alloc: Global, why: JointFault) -> Result<Report, Stop>
         JointFault::Unloaded { names, cause, file } => {
             on_cause(alloc, name_of(names.as_slice(), file as usize), cause)
         }
-        JointFault::Unchecked { names, place, cause } => {
-            or_stop(on_static_fault(alloc, names.as_slice(), place, cause))
-        }
+        JointFault::Unchecked {
+            names,
+            place,
+            cause,
+        } => { or_stop(on_static_fault(alloc, names.as_slice(), place, cause)) }
         JointFault::TooLarge(kind) => or_stop(refused_file(alloc, "nspk", size_name(kind))),
         JointFault::Memory => Err(Stop::Memory),
     }
