@@ -21,7 +21,7 @@ use Rattle.ns_load.specs.Loaded.{Loading, file_names, units}
 use Rattle.ns_session.specs.Member.{Application, MemberView, starting}
 use Rattle.ns_session.specs.Session.{SessionView, added}
 use Rattle.ns_words.specs.Application.{Asked, all_name_files, are_few}
-use Rattle.ns_words.specs.Words.{is_file_name}
+use Rattle.ns_words.specs.FileName.{is_file_name}
 use Rattle.ns_joint.specs.Answer.{AreAdmitted, IsCodeOf, IsFaultOf, IsMadeAs, IsWithAll, Makes, OfSomeName, OfSomeTexts, with_all}
 use Rattle.ns_joint.specs.Making.{Making, Source, all_made, application_of, behind, files_asked, made, made_of, of_least, of_loading, of_source, refused, then_made}
 use Rattle.ns_joint.specs.declared.fault.JointFault.{JointFault}

@@ -5,5 +5,6 @@ pub mod LineLaws
 pub mod PieceLaws
 pub mod ReportLaws
 pub mod SampleLaws
+pub mod SessionLaws
 pub mod StoreLaws
 pub mod TextLaws

@@ -1,22 +1,23 @@
 -- What the lines of forms say.
-use Rattle.std.proofs.Common.{◌≡◌, ◌≤◌, [], None, Result, IfOk, arith, map, refl, sym, subst}
+use Rattle.std.proofs.Common.{◌≡◌, ◌≤◌, ℕ, List, [], ◌∷◌, None, Result, IfOk, arith, length, map, refl, sym, subst}
 use Rattle.ns_base.specs.Files.{Files}
 use Rattle.ns_base.specs.declared.limits.Limits.{Limits}
 use Rattle.ns_run.proofs.TextLaws.{whatever_texts}
 use Rattle.ns_run.specs.Image.{Executes, of_image}
-use Rattle.ns_run.specs.Meaning.{files_of, of_files, of_line}
+use Rattle.ns_run.specs.Meaning.{files_of, of_files, of_line, of_session}
 use Rattle.ns_run.specs.Outcome.{SomeTexts}
 use Rattle.ns_run.specs.Report.{told}
 use Rattle.ns_run.specs.Task.{Runs}
 use Rattle.ns_run.specs.declared.report.Report.{Report}
 use Rattle.ns_run.specs.declared.stop.Stop.{Stop}
 use Rattle.ns_run.specs.declared.usage.TheConstants.{HELP, VERSION}
+use Rattle.ns_words.specs.Application.{AreApplications}
 use Rattle.ns_words.specs.Forms.{AreFiles, AreNames, IsSpelled}
-use Rattle.ns_words.specs.declared.form.Item.TheVariants.{File}
+use Rattle.ns_words.specs.declared.form.Item.TheVariants.{File, Application}
 use Rattle.ns_words.specs.Table.{form_of}
-use Rattle.ns_words.specs.Words.{Line, limits_of}
+use Rattle.ns_words.specs.Words.{Line, limits_of, quantum_of}
 use Rattle.ns_words.specs.declared.form.Verb.{Verb}
-use Rattle.ns_words.specs.declared.form.Verb.TheVariants.{Check, Show, Run, Build, Exec, Listing, Sample, Help, Version}
+use Rattle.ns_words.specs.declared.form.Verb.TheVariants.{Check, Show, Run, Build, Exec, Listing, Session, Sample, Help, Version}
 
 -- The command works on files.
 abbrev pub TakesFiles : Verb → Type 0
@@ -26,6 +27,7 @@ TakesFiles Run = Unit {0}
 TakesFiles Build = ⊥
 TakesFiles Exec = Unit {0}
 TakesFiles Listing = Unit {0}
+TakesFiles Session = ⊥
 TakesFiles Sample = ⊥
 TakesFiles Help = ⊥
 TakesFiles Version = ⊥
@@ -41,6 +43,7 @@ within Run t = (omega arith, omega arith, refl)
 within Build t = absurd t
 within Exec t = (omega arith, omega arith, refl)
 within Listing t = (omega arith, omega arith, refl)
+within Session t = absurd t
 within Sample t = absurd t
 within Help t = absurd t
 within Version t = absurd t
@@ -51,7 +54,32 @@ are_files verb line e t (words, f) =
     let w : NamesFiles line.verb = subst NamesFiles (sym e) (within verb t) in
     (omega (arith, w.0, f.enough), omega (arith, w.1, f.few), subst (λ item. AreNames item line.names) w.2 f.named)
 
+-- The names of a session are at most 16 applications.
+pub are_applications : (line : Line) → line.verb ≡ Session → IsSpelled line → AreApplications line.names
+are_applications line e (words, f) = all line.names (subst (λ verb. AreNames (form_of verb).item line.names) e f.named)
+  where
+    all : (names : List (List ℕ)) → AreNames Application names → AreApplications names
+    all [] a = tt
+    all (name ∷ names) a = (a.0, all names a.1)
+
+pub few_applications : (line : Line) → line.verb ≡ Session → IsSpelled line → length line.names ≤ 16
+few_applications line e (words, f) = subst (λ verb. length line.names ≤ (form_of verb).most) e f.few
+
 -- ---- what the reports of a line mean
+
+pub session_told : (line : Line) (limits : Limits) (quantum : ℕ) (files : Files) (result : Result Report Stop) → line.verb ≡ Session → limits ≡ limits_of line.given → quantum ≡ quantum_of line.given
+    → IfOk result (λ r. r ≡ of_session line.given.lib limits quantum line.names (map files (files_of Session line.names))) → IfOk result (λ r. r ≡ of_line line.verb line (map files (files_of line.verb line.names)))
+session_told line limits quantum files result e l q h =
+    subst (λ v. IfOk result (λ r. r ≡ of_line v line (map files (files_of v line.names)))) (sym e)
+    (subst (λ n. IfOk result (λ r. r ≡ of_session line.given.lib (limits_of line.given) n line.names (map files (files_of Session line.names)))) q
+    (subst (λ l. IfOk result (λ r. r ≡ of_session line.given.lib l quantum line.names (map files (files_of Session line.names)))) l h))
+
+pub session_texts : (line : Line) (limits : Limits) (quantum : ℕ) (result : Result Report Stop) → line.verb ≡ Session → limits ≡ limits_of line.given → quantum ≡ quantum_of line.given
+    → SomeTexts (files_of Session line.names) (λ texts. IfOk result (λ r. r ≡ of_session line.given.lib limits quantum line.names texts)) → SomeTexts (files_of line.verb line.names) (λ texts. IfOk result (λ r. r ≡ of_line line.verb line texts))
+session_texts line limits quantum result e l q h =
+    subst (λ v. SomeTexts (files_of v line.names) (λ texts. IfOk result (λ r. r ≡ of_line v line texts))) (sym e)
+    (subst (λ n. SomeTexts (files_of Session line.names) (λ texts. IfOk result (λ r. r ≡ of_session line.given.lib (limits_of line.given) n line.names texts))) q
+    (subst (λ l. SomeTexts (files_of Session line.names) (λ texts. IfOk result (λ r. r ≡ of_session line.given.lib l quantum line.names texts))) l h))
 
 pub run_told : (line : Line) (limits : Limits) (files : Files) (result : Result Report Stop) → line.verb ≡ Run → limits ≡ limits_of line.given
     → IfOk result (λ r. r ≡ of_files (Runs limits line.arguments None) line.names line.given.lib files) → IfOk result (λ r. r ≡ of_line line.verb line (map files (files_of line.verb line.names)))

@@ -1,5 +1,5 @@
 -- No command but one stores a file.
-use Rattle.std.proofs.Common.{◌≡◌, ℕ, List, [], ◌∷◌, length, nat_lt, cond, Bool, true, false, Option, Some, None, codes, refl, ap, ◌∙◌}
+use Rattle.std.proofs.Common.{◌≡◌, ℕ, List, [], ◌∷◌, length, map, nat_lt, cond, Bool, true, false, Option, Some, None, codes, refl, ap, ◌∙◌}
 use Rattle.ns_base.specs.declared.limits.Limits.{Limits}
 use Rattle.ns_base.specs.declared.place.Place.{Place}
 use Rattle.ns_exec.specs.Exec.{Executed, executed, has_run, refused_code, refused_image}
@@ -7,6 +7,10 @@ use Rattle.ns_exec.specs.Listing.{Listed, listed, lines, unlisted}
 use Rattle.ns_gen.specs.Code.{code_of}
 use Rattle.ns_gen.specs.Sizes.{size_fault}
 use Rattle.ns_gen.specs.declared.size.SizeKind.{SizeKind}
+use Rattle.ns_joint.specs.Joint.{Joint, joint, stopped_for}
+use Rattle.ns_joint.specs.Joint as joints
+use Rattle.ns_joint.specs.Making.{Refusal, unchecked, unloaded}
+use Rattle.ns_joint.specs.Making as making
 use Rattle.ns_lib.specs.Sample.{sample}
 use Rattle.ns_load.specs.Loaded.{Loading, loaded_texts, stopped, units}
 use Rattle.ns_load.specs.declared.fault.LoadCause.{LoadCause}
@@ -18,7 +22,7 @@ use Rattle.ns_meant.specs.Program.{Meant}
 use Rattle.ns_rules.specs.Least.{faults, least}
 use Rattle.ns_rules.specs.declared.fault.Placed.{Placed}
 use Rattle.ns_run.specs.Image.{ImageWork, Executes, Lists, of_executed, of_image, of_image_bytes, of_listed, of_short, unsound}
-use Rattle.ns_run.specs.Meaning.{name_of, of_cause, of_check, of_fault, of_line, of_loading, of_reading, of_run, of_sample, of_show, of_sized, of_texts, of_units}
+use Rattle.ns_run.specs.Meaning.{name_of, of_cause, of_check, of_fault, of_joint, of_line, of_loading, of_reading, of_refusal, of_run, of_sample, of_show, of_sized, of_texts, of_units}
 use Rattle.ns_run.specs.Outcome.{IsNoBuild, OverTexts, StoresNothing}
 use Rattle.ns_run.specs.Report.{refused_file}
 use Rattle.ns_run.specs.Task.{Task, Checks, Shows, Builds, Runs}
@@ -27,7 +31,8 @@ use Rattle.ns_tree.specs.Plain as p
 use Rattle.ns_verify.specs.declared.fault.VerifyCause.{VerifyCause}
 use Rattle.ns_verify.specs.declared.fault.Where.{Where}
 use Rattle.ns_verify.specs.declared.fault.Where.TheVariants as where_at
-use Rattle.ns_words.specs.Words.{Line, Reading, says, bad, limits_of, nothing_given, reading_of, sample_number}
+use Rattle.ns_words.specs.Application.{asked_of}
+use Rattle.ns_words.specs.Words.{Line, Reading, says, bad, limits_of, nothing_given, quantum_of, reading_of, sample_number}
 use Rattle.ns_words.specs.declared.form.Verb.{Verb}
 use Rattle.ns_words.specs.declared.form.Verb.TheVariants as verb
 
@@ -120,6 +125,17 @@ image_keeps work (name ∷ names) [] = refl
 image_keeps work (name ∷ names) (None ∷ texts) = refl
 image_keeps work (name ∷ names) (Some bytes ∷ texts) = short_keeps work name bytes
 
+-- ---- sessions
+
+refusal_keeps : (why : Refusal) → KeepsNone (of_refusal why)
+refusal_keeps (unloaded names why) = fault_keeps names why
+refusal_keeps (unchecked names why) = refl
+refusal_keeps (making.too_large kind) = refl
+
+session_keeps : (each : Joint) → KeepsNone (of_joint each)
+session_keeps (stopped_for why) = refusal_keeps why
+session_keeps (joints.has_run told) = refl
+
 -- ---- commands
 
 line_keeps : (each : Verb) (line : Line) (texts : List (Option (List ℕ))) → IsNoBuild each → KeepsNone (of_line each line texts)
@@ -129,6 +145,7 @@ line_keeps verb.Run line texts i = texts_keep (Runs (limits_of line.given) line.
 line_keeps verb.Build line texts i = absurd i
 line_keeps verb.Exec line texts i = image_keeps (Executes (limits_of line.given) line.arguments) line.names texts
 line_keeps verb.Listing line texts i = image_keeps Lists line.names texts
+line_keeps verb.Session line texts i = session_keeps (joint line.given.lib (limits_of line.given) (quantum_of line.given) (map asked_of line.names) texts)
 line_keeps verb.Sample line texts i = sample_keeps (sample_number line.names)
 line_keeps verb.Help line texts i = refl
 line_keeps verb.Version line texts i = refl

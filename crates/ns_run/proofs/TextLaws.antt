@@ -22,7 +22,8 @@ use Rattle.ns_scope.specs.Whole.{IsFileName}
 use Rattle.ns_tree.specs.Plain as p
 use Rattle.ns_words.specs.Forms.{AreNames}
 use Rattle.ns_words.specs.declared.form.Item.TheVariants.{File}
-use Rattle.ns_words.specs.Words.{Reading, is_file_name, reading_of}
+use Rattle.ns_words.specs.FileName.{is_file_name}
+use Rattle.ns_words.specs.Words.{Reading, reading_of}
 
 -- A word that can name a file does so.
 name_is_file : (name : List ℕ) → IsUtf8 name → is_file_name name ≡ true → IsFileName name

@@ -8,6 +8,9 @@ use Rattle.ns_exec.specs.Build as built
 use Rattle.ns_gen.specs.Code.{code_of}
 use Rattle.ns_gen.specs.Sizes.{size_fault}
 use Rattle.ns_gen.specs.declared.size.SizeKind.{SizeKind}
+use Rattle.ns_joint.specs.Joint.{Joint, joint, has_run, stopped_for}
+use Rattle.ns_joint.specs.Making.{Refusal, files_asked, unchecked, unloaded}
+use Rattle.ns_joint.specs.Making as making
 use Rattle.ns_lib.specs.Sample.{sample}
 use Rattle.ns_load.specs.Loaded.{Loading, units, stopped, file_names, loaded_texts}
 use Rattle.ns_load.specs.declared.fault.LoadCause.{LoadCause}
@@ -17,7 +20,7 @@ use Rattle.ns_load.specs.declared.fault.LoadFault.TheVariants.{At, Memory}
 use Rattle.ns_meant.specs.Classes.{meant_of}
 use Rattle.ns_meant.specs.Program.{Meant}
 use Rattle.ns_print.specs.Printed.{printed}
-use Rattle.ns_run.specs.Report.{bad_word, refused_file, refused_text, spelling_name, static_name, stores, told, too_large}
+use Rattle.ns_run.specs.Report.{bad_word, refused_file, refused_text, spelling_name, static_name, stores, told, told_jointly, too_large}
 use Rattle.ns_launch.specs.Run.{meant_run}
 use Rattle.ns_run.specs.Image.{Executes, Lists, of_image}
 use Rattle.ns_run.specs.Run.{run_report}
@@ -28,9 +31,10 @@ use Rattle.ns_rules.specs.Least.{faults, least}
 use Rattle.ns_rules.specs.declared.fault.Placed.{Placed}
 use Rattle.ns_tree.specs.Flat.{flat}
 use Rattle.ns_tree.specs.Plain as p
-use Rattle.ns_words.specs.Words.{Line, Reading, says, bad, limits_of, nothing_given, reading_of, sample_number}
+use Rattle.ns_words.specs.Application.{asked_of}
+use Rattle.ns_words.specs.Words.{Line, Reading, says, bad, limits_of, nothing_given, quantum_of, reading_of, sample_number}
 use Rattle.ns_words.specs.declared.form.Verb.{Verb}
-use Rattle.ns_words.specs.declared.form.Verb.TheVariants.{Check, Show, Run, Build, Exec, Listing, Sample, Help, Version}
+use Rattle.ns_words.specs.declared.form.Verb.TheVariants.{Check, Show, Run, Build, Exec, Listing, Session, Sample, Help, Version}
 
 abbrev pub name_from : Option (List ℕ) → List ℕ
 name_from (Some name) = name
@@ -116,6 +120,20 @@ abbrev pub of_sample : Option ℕ → Report
 of_sample None = bad_word 1
 of_sample (Some n) = of_texts (Runs (limits_of nothing_given) [] (Some n)) (codes "sample" ∷ []) false (Some (sample n) ∷ [])
 
+-- the refusal of an application of a session
+abbrev pub of_refusal : Refusal → Report
+of_refusal (unloaded names fault) = of_fault names fault
+of_refusal (unchecked names fault) = of_check names (Some fault)
+of_refusal (making.too_large kind) = too_large kind
+
+abbrev pub of_joint : Joint → Report
+of_joint (stopped_for why) = of_refusal why
+of_joint (has_run told) = told_jointly told
+
+-- the session of the applications that these words ask for, over these texts of their files
+abbrev pub of_session : Bool → Limits → ℕ → List (List ℕ) → List (Option (List ℕ)) → Report
+of_session lib limits quantum words texts = of_joint (joint lib limits quantum (map asked_of words) texts)
+
 -- what the command of a line writes over these texts of its files, and its status
 abbrev pub of_line : Verb → Line → List (Option (List ℕ)) → Report
 of_line Check line texts = of_texts Checks line.names line.given.lib texts
@@ -124,6 +142,7 @@ of_line Run line texts = of_texts (Runs (limits_of line.given) line.arguments No
 of_line Build line texts = of_building line.given.lib line.names texts
 of_line Exec line texts = of_image (Executes (limits_of line.given) line.arguments) line.names texts
 of_line Listing line texts = of_image Lists line.names texts
+of_line Session line texts = of_session line.given.lib (limits_of line.given) (quantum_of line.given) line.names texts
 of_line Sample line texts = of_sample (sample_number line.names)
 of_line Help line texts = told HELP.now
 of_line Version line texts = told VERSION.now
@@ -138,7 +157,7 @@ abbrev pub behind_first : List (List ℕ) → List (List ℕ)
 behind_first [] = []
 behind_first (name ∷ names) = names
 
--- the files that a command reads: those that it names, but for the one that `build` stores
+-- the files that a command reads: those that it names, or that its applications name, but for the one that `build` stores
 abbrev pub files_of : Verb → List (List ℕ) → List (List ℕ)
 files_of Check names = names
 files_of Show names = names
@@ -146,6 +165,7 @@ files_of Run names = names
 files_of Build names = behind_first names
 files_of Exec names = names
 files_of Listing names = names
+files_of Session names = files_asked (map asked_of names)
 files_of Sample names = []
 files_of Help names = []
 files_of Version names = []

@@ -78,6 +78,7 @@ IsNoBuild verb.Run = Unit {0}
 IsNoBuild verb.Build = ⊥
 IsNoBuild verb.Exec = Unit {0}
 IsNoBuild verb.Listing = Unit {0}
+IsNoBuild verb.Session = Unit {0}
 IsNoBuild verb.Sample = Unit {0}
 IsNoBuild verb.Help = Unit {0}
 IsNoBuild verb.Version = Unit {0}

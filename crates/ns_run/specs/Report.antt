@@ -3,6 +3,7 @@ use Rattle.std.specs.Prelude.{ℕ, List, [], ◌∷◌, ◌++◌, Option, Some, 
 use Rattle.std.specs.Fmt.{decimal}
 use Rattle.ns_base.specs.declared.place.Place.{Place}
 use Rattle.ns_base.specs.declared.status.Status.TheVariants as status
+use Rattle.ns_joint.specs.declared.joint.Told.{Told}
 use Rattle.ns_run.specs.declared.report.Report.{Report}
 use Rattle.ns_gen.specs.declared.size.SizeKind.{SizeKind}
 use Rattle.ns_gen.specs.declared.size.SizeKind.TheVariants as size
@@ -75,6 +76,10 @@ summary classes steps = codes "classes " ++ decimal classes ++ codes " steps " +
 -- A command that only tells a text writes it, and is done.
 abbrev pub told : List ℕ → Report
 told text = record { out = text; err = []; status = status.Done; stored = None }
+
+-- A session tells of all its applications in its output, and ends with their status.
+abbrev pub told_jointly : Told → Report
+told_jointly told = record { out = told.out; err = []; status = told.status; stored = None }
 
 -- A command that only stores a file writes nothing, and is done.
 abbrev pub stores : List ℕ → List ℕ → Report

@@ -102,7 +102,7 @@ fn on_fault(alloc: Global, names: &[String], fault: LoadFault) -> Result<Report,
 }
 
 /// The report of a file that was refused.
-fn on_cause(alloc: Global, file: &str, cause: LoadCause) -> Result<Report, Stop>
+pub fn on_cause(alloc: Global, file: &str, cause: LoadCause) -> Result<Report, Stop>
     ensures told { IfOk result (λ r. r ≡ spec.of_cause file.now cause) }
     ensures refusal { IfOk result (λ _. IsRefusedFor cause) }
     ensures read_fault { IsErrOf result Stop.ReadFault → cause ≡ ReadFault }
@@ -118,7 +118,7 @@ fn on_cause(alloc: Global, file: &str, cause: LoadCause) -> Result<Report, Stop>
 }
 
 /// The name of the file of that number: the library stands behind the files that are named.
-fn name_of(names: &[String], file: usize) -> &str
+pub fn name_of(names: &[String], file: usize) -> &str
     ensures { result.now ≡ spec.name_of (map string_bytes names.now) file }
 {
     match names.get(file) {

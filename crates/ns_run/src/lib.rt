@@ -10,6 +10,7 @@ pub mod keep;
 pub mod report;
 mod run;
 mod sample;
+mod session;
 pub mod stop;
 pub mod task;
 pub mod top;

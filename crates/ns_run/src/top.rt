@@ -11,7 +11,7 @@ ghost use Rattle.ns_run.specs.Outcome.{HasAFile, IsEnding, IsMissing, IsWritten,
 ghost use Rattle.ns_run.specs.Report.{bad_word as bad_word_lem};
 ghost use Rattle.ns_words.specs.Forms.{AreFiles, IsSpelled};
 ghost use Rattle.ns_words.specs.Line.{line_seen};
-ghost use Rattle.ns_words.specs.Words.{Reading, first_bad, limits_of, reading_of};
+ghost use Rattle.ns_words.specs.Words.{Reading, first_bad, limits_of, quantum_of, reading_of};
 
 use crate::deliver::deliver;
 use crate::files::on_files;
@@ -19,6 +19,7 @@ use crate::image::on_image;
 use crate::keep::{Unkept, keep};
 use crate::report::{Report, bad_word, told_text};
 use crate::sample::on_sample;
+use crate::session::on_session;
 use crate::stop::{Stop, or_stop};
 use crate::task::{ImageTask, Task};
 use crate::usage::{HELP, VERSION};
@@ -140,6 +141,7 @@ fn work<S: Shelf>(alloc: Global, line: &[String], shelf: &mut S) -> Result<Repor
 fn on_line<S: Shelf>(alloc: Global, line: Line<'_>, shelf: &mut S) -> Result<Report, Stop>
     requires form { IsSpelled (line_seen line) }
     requires range { InRange (limits_of line.given) }
+    requires quantum { 1 ≤ quantum_of line.given }
     ensures told { (files : Files) → S.holds shelf.old ≡ Some files → IfOk result (λ r. r ≡ spec.of_line line.entry.verb (line_seen line.entry) (map files (spec.files_of line.entry.verb (line_seen line.entry).names))) }
     ensures texts { SomeTexts (spec.files_of line.entry.verb (line_seen line.entry).names) (λ texts. IfOk result (λ r. r ≡ spec.of_line line.entry.verb (line_seen line.entry) texts)) }
     ensures ending { IfOk result (λ r. IsEnding r.status) }
@@ -172,6 +174,10 @@ fn on_line<S: Shelf>(alloc: Global, line: Line<'_>, shelf: &mut S) -> Result<Rep
                 classes: None,
             };
             on_files(alloc, task, given.lib, names, shelf)
+        }
+        Verb::Session => {
+            let limits = given.limits();
+            on_session(alloc, given.lib, limits, given.quantum(), names, shelf)
         }
         Verb::Sample => match sample_number(names) {
             Some(n) => on_sample(alloc, n),

@@ -10,9 +10,14 @@ usage:
   nspk build [--lib] IMAGE FILE ..           stores the code of the files as IMAGE
   nspk exec [OPTION ..] IMAGE [-- ARG ..]    runs IMAGE
   nspk list IMAGE                            writes the code of IMAGE
+  nspk session [OPTION ..] GRANTS=FILE[+FILE ..] ..
+                                             runs up to 16 applications in turns
   nspk sample N                              runs a program of N classes: 1 to 1000
   nspk --help                                tells this
   nspk --version                             tells the version
+
+GRANTS are letters, in this order and each or not: c for the console, k for
+the kernel, m for mirrors, b for the board that applications share.
 
 There are at most 16 files and 255 arguments. Options stand before the files,
 in any order, and each at most once:
@@ -21,6 +26,9 @@ in any order, and each at most once:
   --cells=N  within N cells of the heap: 1 to 64000000, without it 4000000
   --depth=N  with at most N live frames: 1 to 100000, without it 10000
   --out=N    with at most N bytes of output: 1 to 16777216, without it 1048576
+  --quantum=N  with turns of N steps: 1 to 1000000, without it 1000; with
+             session alone, where each application has at most 4000000 cells
+             and 10000 frames
 N is a decimal number without a zero in front.
 
 exit status:

@@ -5,7 +5,7 @@ use Rattle.std.proofs.lemmas.List.{append-nil, map-append}
 use Rattle.std.specs.List.{after_first, before_first, position_or_len}
 use Rattle.std.proofs.lemmas.Str.Pattern.{IsSplitOnceResult, split_once_first}
 use Rattle.ns_words.specs.Application.{all_name_files, are_few, begins, names_in, onto_first, without}
-use Rattle.ns_words.specs.Words.{is_file_name}
+use Rattle.ns_words.specs.FileName.{is_file_name}
 
 -- ---- a letter
 

@@ -7,7 +7,7 @@ use Rattle.ns_words.specs.Forms.{AreArguments, AreNames, IsForm}
 use Rattle.ns_words.specs.Table.{form_of, word_of}
 use Rattle.ns_words.specs.Words.{Line, Options, Names, Arguments, bad, says, nothing_given, option_or, part_or, read_from, reading_of, with_name, with_option}
 use Rattle.ns_words.specs.declared.form.Verb.{Verb}
-use Rattle.ns_words.specs.declared.form.Verb.TheVariants.{Check, Show, Run, Build, Exec, Listing, Sample, Help, Version}
+use Rattle.ns_words.specs.declared.form.Verb.TheVariants.{Check, Show, Run, Build, Exec, Listing, Session, Sample, Help, Version}
 use Rattle.ns_words.specs.declared.words.Given.{Given}
 
 -- The first word of a form names its command.
@@ -18,6 +18,7 @@ word_is_read Run words = refl
 word_is_read Build words = refl
 word_is_read Exec words = refl
 word_is_read Listing words = refl
+word_is_read Session words = refl
 word_is_read Sample words = refl
 word_is_read Help words = refl
 word_is_read Version words = refl

@@ -5,12 +5,15 @@ use Rattle.std.proofs.lemmas.Bool.Decides.{nat_tests}
 use Rattle.std.proofs.lemmas.List.{append-nil}
 use Rattle.std.specs.Option.{is_some}
 use Rattle.std.specs.Str.{bytes_eq}
+use Rattle.ns_base.specs.declared.limits.Limits.{Limits}
+use Rattle.ns_words.specs.Application.{begins, is_application}
+use Rattle.ns_words.specs.FileName.{is_file_name}
 use Rattle.ns_words.specs.Forms.{AreNames, all_given}
 use Rattle.ns_words.specs.Table.{form_of}
-use Rattle.ns_words.specs.Words.{Options, Names, Arguments, bad, says, is_file_name, is_item, number_given, number_of, option_or, part_or, read_from, with_cells, with_depth, with_limit, with_name, with_option, with_out, with_steps}
+use Rattle.ns_words.specs.Words.{Options, Names, Arguments, bad, says, given_or, is_item, limit_where, number_given, number_of, option_or, part_or, quantum_where, read_from, with_cells, with_depth, with_limit, with_name, with_option, with_out, with_quantum, with_steps}
 use Rattle.ns_words.specs.declared.form.Form.{Form}
 use Rattle.ns_words.specs.declared.form.Item.{Item}
-use Rattle.ns_words.specs.declared.form.Item.TheVariants.{File, Number}
+use Rattle.ns_words.specs.declared.form.Item.TheVariants.{File, Number, Application}
 use Rattle.ns_words.specs.declared.form.Verb.{Verb}
 use Rattle.ns_words.specs.declared.words.Given.{Given}
 
@@ -24,22 +27,26 @@ no_number name greatest None word e = rw e refl
 abbrev pub BeginsOtherwise : List ℕ → Type 0
 BeginsOtherwise word = (c : ℕ) (name : List ℕ) → bytes_eq (take (length (45 ∷ 45 ∷ c ∷ name)) word) (45 ∷ 45 ∷ c ∷ name) ≡ false
 
-pub no_limit : (given : Given) (word : List ℕ) → BeginsOtherwise word → with_limit given word ≡ None
-no_limit given word e =
-    ap (λ n. with_steps given n (with_cells given (number_given (codes "--cells=") 64000000 given.cells word) (with_depth given (number_given (codes "--depth=") 100000 given.depth word) (with_out given (number_given (codes "--out=") 16777216 given.out word)))))
-    (no_number (codes "--steps=") 1000000000000 given.steps word (e 115 (codes "teps=")))
-    ∙ ap (λ n. with_cells given n (with_depth given (number_given (codes "--depth=") 100000 given.depth word) (with_out given (number_given (codes "--out=") 16777216 given.out word))))
-    (no_number (codes "--cells=") 64000000 given.cells word (e 99 (codes "ells=")))
-    ∙ ap (λ n. with_depth given n (with_out given (number_given (codes "--out=") 16777216 given.out word))) (no_number (codes "--depth=") 100000 given.depth word (e 100 (codes "epth=")))
-    ∙ ap (with_out given) (no_number (codes "--out=") 16777216 given.out word (e 111 (codes "ut=")))
+pub no_limit : (greatest : Limits) (given : Given) (word : List ℕ) → BeginsOtherwise word → with_limit greatest given word ≡ None
+no_limit greatest given word e =
+    ap (λ n. with_steps given n (with_cells given (number_given (codes "--cells=") greatest.cells given.cells word) (with_depth given (number_given (codes "--depth=") greatest.depth given.depth word) (with_out given (number_given (codes "--out=") greatest.out given.out word)))))
+    (no_number (codes "--steps=") greatest.steps given.steps word (e 115 (codes "teps=")))
+    ∙ ap (λ n. with_cells given n (with_depth given (number_given (codes "--depth=") greatest.depth given.depth word) (with_out given (number_given (codes "--out=") greatest.out given.out word))))
+    (no_number (codes "--cells=") greatest.cells given.cells word (e 99 (codes "ells=")))
+    ∙ ap (λ n. with_depth given n (with_out given (number_given (codes "--out=") greatest.out given.out word))) (no_number (codes "--depth=") greatest.depth given.depth word (e 100 (codes "epth=")))
+    ∙ ap (with_out given) (no_number (codes "--out=") greatest.out given.out word (e 111 (codes "ut=")))
+
+pub no_limit_where : (greatest : Option Limits) (given : Given) (word : List ℕ) → BeginsOtherwise word → limit_where greatest given word ≡ None
+no_limit_where None given word e = refl
+no_limit_where (Some greatest) given word e = no_limit greatest given word e
+
+pub no_quantum : (takes : Bool) (given : Given) (word : List ℕ) → BeginsOtherwise word → quantum_where takes given word ≡ None
+no_quantum true given word e = ap (with_quantum given) (no_number (codes "--quantum=") 1000000 given.quantum word (e 113 (codes "uantum=")))
+no_quantum false given word e = refl
 
 pub no_option : (form : Form) (given : Given) (word : List ℕ) → bytes_eq word (codes "--lib") ≡ false → BeginsOtherwise word → with_option form given word ≡ None
 no_option form given word e n =
-    let l : with_limit given word ≡ None = no_limit given word n in
-    rw e (elim form.limits as (λ q. cond q (with_limit given word) None ≡ None) [
-      | true ↦ l
-      | false ↦ refl
-    ])
+    rw e (ap (λ o. given_or o (limit_where form.greatest given word)) (no_quantum form.quantum given word n) ∙ no_limit_where form.greatest given word n)
 
 -- A name has no dash in front.
 pub no_dash : (b : ℕ) (bs : List ℕ) → is_file_name (b ∷ bs) ≡ true → nat_eq b 45 ≡ false
@@ -60,13 +67,26 @@ no_dash_of_number greatest b bs h =
       | false ↦ λ e. refl
     ] refl
 
+-- An application has no dash in front.
+pub no_dash_of_application : (b : ℕ) (bs : List ℕ) → is_application (b ∷ bs) ≡ true → nat_eq b 45 ≡ false
+no_dash_of_application b bs h =
+    elim (nat_eq b 45) as (λ q. nat_eq b 45 ≡ q → q ≡ false) [
+      | true ↦ λ e.
+          let is : b ≡ 45 = grind (arith, nat_tests, e) in
+          let none : false ≡ true = subst (λ x. is_application (x ∷ bs) ≡ true) is h in
+          absurd (cc (none))
+      | false ↦ λ e. refl
+    ] refl
+
 pub no_dash_of_item : (item : Item) (b : ℕ) (bs : List ℕ) → is_item item (b ∷ bs) ≡ true → nat_eq b 45 ≡ false
 no_dash_of_item File b bs h = no_dash b bs h
 no_dash_of_item (Number greatest) b bs h = no_dash_of_number greatest b bs h
+no_dash_of_item Application b bs h = no_dash_of_application b bs h
 
 pub some_item : {P : Type 0} (item : Item) → is_item item [] ≡ true → P
 some_item File h = absurd (cc (h))
 some_item (Number greatest) h = absurd (cc (h))
+some_item Application h = absurd (cc (h))
 
 pub name_is_no_option : (form : Form) (given : Given) (word : List ℕ) → is_item form.item word ≡ true → with_option form given word ≡ None
 name_is_no_option form given [] h = some_item form.item h
@@ -78,6 +98,7 @@ name_is_no_option form given (b ∷ bs) h =
 pub dashes_are_no_item : (item : Item) → is_item item (codes "--") ≡ false
 dashes_are_no_item File = refl
 dashes_are_no_item (Number greatest) = refl
+dashes_are_no_item Application = refl
 
 pub dashes_are_no_option : (form : Form) (given : Given) → with_option form given (codes "--") ≡ None
 dashes_are_no_option form given = no_option form given (codes "--") refl (λ c name. refl)

@@ -13,8 +13,9 @@ use Rattle.ns_words.specs.Table.{form_of, verb_of, word_of}
 use Rattle.ns_words.specs.Words.{Line, Part, Options, Names, Arguments, Reading, bad, bad_of, says, arguments_behind, first_bad, has_room, is_item, line_of, names_read, nothing_given, option_or, part_or, read_from, reading_of, with_argument, with_dashes, with_name, with_option, with_word}
 use Rattle.ns_words.specs.declared.form.Form.{Form}
 use Rattle.ns_words.specs.declared.form.Item.{Item}
+use Rattle.ns_words.specs.declared.form.Item.TheVariants.{File, Number, Application}
 use Rattle.ns_words.specs.declared.form.Verb.{Verb}
-use Rattle.ns_words.specs.declared.form.Verb.TheVariants.{Check, Show, Run, Build, Exec, Listing, Sample, Help, Version}
+use Rattle.ns_words.specs.declared.form.Verb.TheVariants.{Check, Show, Run, Build, Exec, Listing, Session, Sample, Help, Version}
 use Rattle.ns_words.specs.declared.words.Given.{Given}
 
 -- ---- what was read so far
@@ -121,27 +122,34 @@ part_more form words (Arguments given names arguments) w next p h = argument_mor
 
 -- ---- what a part begins
 
--- so many names: `1` can be the name of a file, and is a number
-abbrev pub fill : ℕ → List (List ℕ)
-fill zero = []
-fill (suc n) = codes "1" ∷ fill n
+-- a name of each kind: `1` can be the name of a file, and is a number
+abbrev pub filler : Item → List ℕ
+filler File = codes "1"
+filler (Number greatest) = codes "1"
+filler Application = codes "=1"
 
-pub fill_length : (n : ℕ) → length (fill n) ≡ n
-fill_length zero = refl
-fill_length (suc n) = omega (arith, fill_length n)
+-- so many names
+abbrev pub fill : Item → ℕ → List (List ℕ)
+fill item zero = []
+fill item (suc n) = filler item ∷ fill item n
 
-pub fill_item : (verb : Verb) → is_item (form_of verb).item (codes "1") ≡ true
+pub fill_length : (item : Item) (n : ℕ) → length (fill item n) ≡ n
+fill_length item zero = refl
+fill_length item (suc n) = omega (arith, fill_length item n)
+
+pub fill_item : (verb : Verb) → is_item (form_of verb).item (filler (form_of verb).item) ≡ true
 fill_item Check = refl
 fill_item Show = refl
 fill_item Run = refl
 fill_item Build = refl
 fill_item Exec = refl
 fill_item Listing = refl
+fill_item Session = refl
 fill_item Sample = refl
 fill_item Help = refl
 fill_item Version = refl
 
-pub fill_named : (item : Item) (n : ℕ) → is_item item (codes "1") ≡ true → AreNames item (fill n)
+pub fill_named : (item : Item) (n : ℕ) → is_item item (filler item) ≡ true → AreNames item (fill item n)
 fill_named item zero e = tt
 fill_named item (suc n) e = (e, fill_named item n e)
 
@@ -156,6 +164,7 @@ least_is_less Run = omega arith
 least_is_less Build = omega arith
 least_is_less Exec = omega arith
 least_is_less Listing = omega arith
+least_is_less Session = omega arith
 least_is_less Sample = omega arith
 least_is_less Help = omega arith
 least_is_less Version = omega arith
@@ -170,8 +179,8 @@ some_arguments most m arguments e l = subst (λ o. AreArguments o (codes "--" �
 -- Names, and as many more as the form needs.
 pub named_begin : (verb : Verb) (words : List (List ℕ)) (given : Given) (names : List (List ℕ)) → AreNamed (form_of verb) words given names → Begins (word_of verb ∷ words)
 named_begin verb words given names n =
-    let more : List (List ℕ) = fill ((form_of verb).least - length names) in
-    let size : length (names ++ more) ≡ length names + ((form_of verb).least - length names) = length-append names more ∙ ap (λ j. length names + j) (fill_length ((form_of verb).least - length names)) in
+    let more : List (List ℕ) = fill (form_of verb).item ((form_of verb).least - length names) in
+    let size : length (names ++ more) ≡ length names + ((form_of verb).least - length names) = length-append names more ∙ ap (λ j. length names + j) (fill_length (form_of verb).item ((form_of verb).least - length names)) in
     let spelled : words ++ more ≡ n.options ++ (names ++ more) ++ [] =
     ap (λ x. x ++ more) n.spelled ∙ append_assoc n.options names more ∙ sym (append-nil (n.options ++ (names ++ more)))
     in (
@@ -284,10 +293,11 @@ by_verb w P some none =
     test (codes "build") _ _ (some Build) λ d.
     test (codes "exec") _ _ (some Exec) λ e.
     test (codes "list") _ _ (some Listing) λ f.
+    test (codes "session") _ _ (some Session) λ j.
     test (codes "sample") _ _ (some Sample) λ g.
     test (codes "--help") _ _ (some Help) λ h.
     test (codes "--version") _ _ (some Version) λ i.
-    none (all a b c d e f g h i)
+    none (all a b c d e f j g h i)
   where
     test : (text : List ℕ) (x y : Option Verb) → (w ≡ text → P x) → (bytes_eq w text ≡ false → P y) → P (cond (bytes_eq w text) x y)
     test text x y f g =
@@ -296,16 +306,17 @@ by_verb w P some none =
           | false ↦ g
         ] refl
 
-    all : bytes_eq w (codes "check") ≡ false → bytes_eq w (codes "show") ≡ false → bytes_eq w (codes "run") ≡ false → bytes_eq w (codes "build") ≡ false → bytes_eq w (codes "exec") ≡ false → bytes_eq w (codes "list") ≡ false → bytes_eq w (codes "sample") ≡ false → bytes_eq w (codes "--help") ≡ false → bytes_eq w (codes "--version") ≡ false → (verb : Verb) → w ≡ word_of verb → ⊥
-    all a b c d e f g h i Check is = apart w (codes "check") a is
-    all a b c d e f g h i Show is = apart w (codes "show") b is
-    all a b c d e f g h i Run is = apart w (codes "run") c is
-    all a b c d e f g h i Build is = apart w (codes "build") d is
-    all a b c d e f g h i Exec is = apart w (codes "exec") e is
-    all a b c d e f g h i Listing is = apart w (codes "list") f is
-    all a b c d e f g h i Sample is = apart w (codes "sample") g is
-    all a b c d e f g h i Help is = apart w (codes "--help") h is
-    all a b c d e f g h i Version is = apart w (codes "--version") i is
+    all : bytes_eq w (codes "check") ≡ false → bytes_eq w (codes "show") ≡ false → bytes_eq w (codes "run") ≡ false → bytes_eq w (codes "build") ≡ false → bytes_eq w (codes "exec") ≡ false → bytes_eq w (codes "list") ≡ false → bytes_eq w (codes "session") ≡ false → bytes_eq w (codes "sample") ≡ false → bytes_eq w (codes "--help") ≡ false → bytes_eq w (codes "--version") ≡ false → (verb : Verb) → w ≡ word_of verb → ⊥
+    all a b c d e f j g h i Check is = apart w (codes "check") a is
+    all a b c d e f j g h i Show is = apart w (codes "show") b is
+    all a b c d e f j g h i Run is = apart w (codes "run") c is
+    all a b c d e f j g h i Build is = apart w (codes "build") d is
+    all a b c d e f j g h i Exec is = apart w (codes "exec") e is
+    all a b c d e f j g h i Listing is = apart w (codes "list") f is
+    all a b c d e f j g h i Session is = apart w (codes "session") j is
+    all a b c d e f j g h i Sample is = apart w (codes "sample") g is
+    all a b c d e f j g h i Help is = apart w (codes "--help") h is
+    all a b c d e f j g h i Version is = apart w (codes "--version") i is
 
 pub begins_nothing : Begins []
 begins_nothing = let b : Begins (word_of Help ∷ []) = part_begins Help [] (Options nothing_given) refl in (word_of Help ∷ b.0, b.1, b.2)

@@ -3,10 +3,12 @@ use Rattle.std.specs.Prelude.{ℕ, ◌+◌, ◌-◌, ◌*◌, ◌&&◌, nat_le, 
 use Rattle.std.specs.Option.{is_some, unwrap_or}
 use Rattle.std.specs.Str.{bytes_eq}
 use Rattle.ns_base.specs.declared.limits.Limits.{Limits}
+use Rattle.ns_words.specs.Application.{is_application}
+use Rattle.ns_words.specs.FileName.{is_file_name}
 use Rattle.ns_words.specs.Table.{form_of, verb_of}
 use Rattle.ns_words.specs.declared.form.Form.{Form}
 use Rattle.ns_words.specs.declared.form.Item.{Item}
-use Rattle.ns_words.specs.declared.form.Item.TheVariants.{File, Number}
+use Rattle.ns_words.specs.declared.form.Item.TheVariants.{File, Number, Application}
 use Rattle.ns_words.specs.declared.form.Verb.{Verb}
 use Rattle.ns_words.specs.declared.words.Given.{Given}
 
@@ -55,7 +57,7 @@ number_of greatest text = if begins_bad text then None else option_and_then (in_
 
 -- no option
 abbrev pub nothing_given : Given
-nothing_given = record { steps = None; cells = None; depth = None; out = None; lib = false }
+nothing_given = record { steps = None; cells = None; depth = None; out = None; quantum = None; lib = false }
 
 -- the number that a word gives which begins with an option's name, where that option wasn't given before
 abbrev pub number_given : List ℕ → ℕ → Option ℕ → List ℕ → Option ℕ
@@ -66,37 +68,55 @@ number_given name greatest None word =
 abbrev pub with_lib : Given → Option Given
 with_lib given =
     if given.lib then None
-    else Some (record { steps = given.steps; cells = given.cells; depth = given.depth; out = given.out; lib = true })
+    else Some (record { steps = given.steps; cells = given.cells; depth = given.depth; out = given.out; quantum = given.quantum; lib = true })
 
 abbrev pub with_out : Given → Option ℕ → Option Given
 with_out given None = None
-with_out given (Some n) = Some (record { steps = given.steps; cells = given.cells; depth = given.depth; out = Some n; lib = given.lib })
+with_out given (Some n) = Some (record { steps = given.steps; cells = given.cells; depth = given.depth; out = Some n; quantum = given.quantum; lib = given.lib })
 
 abbrev pub with_depth : Given → Option ℕ → Option Given → Option Given
 with_depth given None other = other
-with_depth given (Some n) other = Some (record { steps = given.steps; cells = given.cells; depth = Some n; out = given.out; lib = given.lib })
+with_depth given (Some n) other = Some (record { steps = given.steps; cells = given.cells; depth = Some n; out = given.out; quantum = given.quantum; lib = given.lib })
 
 abbrev pub with_cells : Given → Option ℕ → Option Given → Option Given
 with_cells given None other = other
-with_cells given (Some n) other = Some (record { steps = given.steps; cells = Some n; depth = given.depth; out = given.out; lib = given.lib })
+with_cells given (Some n) other = Some (record { steps = given.steps; cells = Some n; depth = given.depth; out = given.out; quantum = given.quantum; lib = given.lib })
 
 abbrev pub with_steps : Given → Option ℕ → Option Given → Option Given
 with_steps given None other = other
-with_steps given (Some n) other = Some (record { steps = Some n; cells = given.cells; depth = given.depth; out = given.out; lib = given.lib })
+with_steps given (Some n) other = Some (record { steps = Some n; cells = given.cells; depth = given.depth; out = given.out; quantum = given.quantum; lib = given.lib })
 
--- what is given with a word more that is the option of a limit
-abbrev pub with_limit : Given → List ℕ → Option Given
-with_limit given word =
-    with_steps given (number_given (codes "--steps=") 1000000000000 given.steps word)
-    (with_cells given (number_given (codes "--cells=") 64000000 given.cells word)
-    (with_depth given (number_given (codes "--depth=") 100000 given.depth word)
-    (with_out given (number_given (codes "--out=") 16777216 given.out word))))
+-- what is given with a word more that is the option of a limit, where these are the greatest
+abbrev pub with_limit : Limits → Given → List ℕ → Option Given
+with_limit greatest given word =
+    with_steps given (number_given (codes "--steps=") greatest.steps given.steps word)
+    (with_cells given (number_given (codes "--cells=") greatest.cells given.cells word)
+    (with_depth given (number_given (codes "--depth=") greatest.depth given.depth word)
+    (with_out given (number_given (codes "--out=") greatest.out given.out word))))
+
+abbrev pub limit_where : Option Limits → Given → List ℕ → Option Given
+limit_where None given word = None
+limit_where (Some greatest) given word = with_limit greatest given word
+
+abbrev pub with_quantum : Given → Option ℕ → Option Given
+with_quantum given None = None
+with_quantum given (Some n) = Some (record { steps = given.steps; cells = given.cells; depth = given.depth; out = given.out; quantum = Some n; lib = given.lib })
+
+-- what is given with a word more that is the option of the quantum
+abbrev pub quantum_where : Bool → Given → List ℕ → Option Given
+quantum_where takes given word =
+    if takes then with_quantum given (number_given (codes "--quantum=") 1000000 given.quantum word) else None
+
+-- the first that is there
+abbrev pub given_or : Option Given → Option Given → Option Given
+given_or (Some given) other = Some given
+given_or None other = other
 
 -- what is given with one word more: an option that the form takes, and that wasn't given before
 abbrev pub with_option : Form → Given → List ℕ → Option Given
 with_option form given word =
     if bytes_eq word (codes "--lib") then (if form.lib then with_lib given else None)
-    else (if form.limits then with_limit given word else None)
+    else given_or (quantum_where form.quantum given word) (limit_where form.greatest given word)
 
 -- the limits that are given, and the defaults of the others
 abbrev pub limits_of : Given → Limits
@@ -108,17 +128,17 @@ limits_of given =
       out = unwrap_or given.out 1048576;
     }
 
+-- the steps of a turn that are given, or the default
+abbrev pub quantum_of : Given → ℕ
+quantum_of given = unwrap_or given.quantum 1000
+
 -- ---- one word
 
--- a word that can name a file: not empty, without a dash in front, and not too long
-abbrev pub is_file_name : List ℕ → Bool
-is_file_name [] = false
-is_file_name (b ∷ bs) = not (nat_eq b 45) && nat_le (length (b ∷ bs)) 4294967295
-
--- a word that can be a name of a command: the name of a file, or a number from 1 to the greatest
+-- a word that can be a name of a command: the name of a file, a number from 1 to the greatest, or an application
 abbrev pub is_item : Item → List ℕ → Bool
 is_item File word = is_file_name word
 is_item (Number greatest) word = is_some (number_of greatest word)
+is_item Application word = is_application word
 
 -- Behind so many arguments another one may stand.
 abbrev pub has_room : Option ℕ → ℕ → Bool

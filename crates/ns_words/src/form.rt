@@ -3,6 +3,8 @@
 ghost use Rattle.std.specs.Prelude.{◌≡◌, false, None};
 ghost use Rattle.ns_words.specs.Table as spec;
 
+use ns_base::limits::Limits;
+
 /// A command, which the first word of a line names.
 #[derive(Clone, Copy, Debug, PartialEq, Eq)]
 pub enum Verb {
@@ -18,6 +20,8 @@ pub enum Verb {
     Exec,
     /// Lists the code of an image.
     Listing,
+    /// Runs several applications in turns.
+    Session,
     /// Runs the sample of a number.
     Sample,
     /// Tells how the program is used.
@@ -33,14 +37,18 @@ pub enum Item {
     File,
     /// A number from 1 to this one.
     Number(u32),
+    /// An application: what it is granted, and the names of its files.
+    Application,
 }
 
 /// What may stand behind the first word: options, in any order and each at most once; then names;
 /// then `--` and arguments.
 #[derive(Clone, Copy, Debug, PartialEq, Eq)]
 pub struct Form {
-    /// Whether the limits can be given, as `--steps=N` and so on.
-    pub limits: bool,
+    /// The greatest limits that can be given, as `--steps=N` and so on, where they can.
+    pub greatest: Option<Limits>,
+    /// Whether `--quantum=N` can be given.
+    pub quantum: bool,
     /// Whether `--lib` can be given.
     pub lib: bool,
     /// What each name is.
@@ -53,6 +61,13 @@ pub struct Form {
     pub arguments: Option<u64>,
 }
 
+/// The greatest limits of each of several runs side by side: as many cells and frames as a run has by default.
+const GREATEST_OF_MANY: Limits = Limits {
+    cells: Limits::DEFAULT.cells,
+    depth: Limits::DEFAULT.depth,
+    ..Limits::GREATEST
+};
+
 /// The form of a command.
 pub fn form_of(verb: Verb) -> Form
     ensures { result ≡ spec.form_of verb }
@@ -64,7 +79,7 @@ pub fn form_of(verb: Verb) -> Form
         },
         Verb::Show => names(1, 1),
         Verb::Run => Form {
-            limits: true,
+            greatest: Some(Limits::GREATEST),
             lib: true,
             arguments: Some(255),
             ..names(1, 16)
@@ -75,11 +90,18 @@ pub fn form_of(verb: Verb) -> Form
             ..names(2, 17)
         },
         Verb::Exec => Form {
-            limits: true,
+            greatest: Some(Limits::GREATEST),
             arguments: Some(255),
             ..names(1, 1)
         },
         Verb::Listing => names(1, 1),
+        Verb::Session => Form {
+            greatest: Some(GREATEST_OF_MANY),
+            quantum: true,
+            lib: true,
+            item: Item::Application,
+            ..names(1, 16)
+        },
         Verb::Sample => Form {
             item: Item::Number(1_000),
             ..names(1, 1)
@@ -91,10 +113,11 @@ pub fn form_of(verb: Verb) -> Form
 
 /// The form of names of files alone.
 fn names(least: u64, most: u64) -> Form
-    ensures { result ≡ record { limits = false; lib = false; item = Item.File; least = least; most = most; arguments = None } }
+    ensures { result ≡ record { greatest = None; quantum = false; lib = false; item = Item.File; least = least; most = most; arguments = None } }
 {
     Form {
-        limits: false,
+        greatest: None,
+        quantum: false,
         lib: false,
         item: Item::File,
         least,
@@ -124,6 +147,9 @@ pub fn verb_of(word: &[u8]) -> Option<Verb>
     }
     if word == b"list".as_slice() {
         return Some(Verb::Listing);
+    }
+    if word == b"session".as_slice() {
+        return Some(Verb::Session);
     }
     if word == b"sample".as_slice() {
         return Some(Verb::Sample);

@@ -2,11 +2,13 @@
 
 ghost use Rattle.std.specs.Prelude.{◌≡◌, ◌≤◌, ◌+◌, [], IfOk, IfSome, Some, true, map, option_and_then, string_bytes, take, drop, length, nat_le};
 ghost use Rattle.ns_base.specs.Limits.{InRange};
+ghost use Rattle.ns_words.specs.FileName as file_name;
 ghost use Rattle.ns_words.specs.Forms.{IsSpelled};
 ghost use Rattle.ns_words.specs.Line.{line_seen, seen};
 ghost use Rattle.ns_words.specs.Table.{form_of as form_of_lem};
 ghost use Rattle.ns_words.specs.Words as spec;
 
+use crate::application::application_of;
 use crate::form::{Form, Item, Verb, form_of, verb_of};
 use ns_base::limits::Limits;
 
@@ -17,6 +19,7 @@ pub struct Given {
     pub cells: Option<u64>,
     pub depth: Option<u64>,
     pub out: Option<u64>,
+    pub quantum: Option<u64>,
     pub lib: bool,
 }
 
@@ -31,6 +34,13 @@ impl Given {
             depth: self.depth.unwrap_or(Limits::DEFAULT.depth),
             out: self.out.unwrap_or(Limits::DEFAULT.out),
         }
+    }
+
+    /// The steps of a turn that are given, or the default.
+    pub fn quantum(&self) -> u64
+        ensures { result ≡ spec.quantum_of self.now }
+    {
+        self.quantum.unwrap_or(1_000)
     }
 }
 
@@ -53,6 +63,7 @@ pub fn words(words: &[String]) -> Result<Line<'_>, BadWord>
     ensures reading { seen result ≡ spec.reading_of (map string_bytes words.now) }
     ensures spelled { IfOk result (λ line. IsSpelled (line_seen line)) }
     ensures range { IfOk result (λ line. InRange (spec.limits_of line.given)) }
+    ensures quantum { IfOk result (λ line. 1 ≤ spec.quantum_of line.given) }
 {
     read(words)
 }
@@ -101,6 +112,7 @@ fn nothing_given() -> Given
         cells: None,
         depth: None,
         out: None,
+        quantum: None,
         lib: false,
     }
 }
@@ -142,7 +154,7 @@ fn after_names<'a>(
     match rest {
         [] => ended(verb, given, number, names),
         [word, more @ ..] => {
-            if is_item(form.item, word.as_bytes()) && (count as u64) < form.most {
+            if is_item(form.item, word.as_str()) && (count as u64) < form.most {
                 return after_names(verb, given, number + 1, words, count + 1);
             }
             match arguments_behind(form, count as u64, word.as_bytes()) {
@@ -213,32 +225,35 @@ fn arguments<'a>(
 }
 
 /// Whether a word can be such a name.
-fn is_item(item: Item, word: &[u8]) -> bool
+fn is_item(item: Item, word: &str) -> bool
     ensures { result ≡ spec.is_item item word.now }
 {
     match item {
-        Item::File => is_file_name(word),
-        Item::Number(greatest) => number(greatest as u64, word).is_some(),
+        Item::File => is_file_name(word.as_bytes()),
+        Item::Number(greatest) => number(greatest as u64, word.as_bytes()).is_some(),
+        Item::Application => application_of(word).is_some(),
     }
 }
 
 /// Whether a word can be the name of a file.
 pub fn is_file_name(word: &[u8]) -> bool
-    ensures { result ≡ spec.is_file_name word.now }
+    ensures { result ≡ file_name.is_file_name word.now }
 {
     !word.is_empty() && word[0] != b'-' && word.len() <= 4_294_967_295
 }
 
 /// What is given with one word more: an option that the form takes, and that was not given before.
 fn with_option(form: Form, given: Given, word: &[u8]) -> Option<Given>
+    requires { IfSome form.greatest InRange }
     ensures { result ≡ spec.with_option form given word.now }
 {
     if word == b"--lib".as_slice() {
         if form.lib { with_lib(given) } else { None }
-    } else if form.limits {
-        with_limit(given, word)
     } else {
-        None
+        match quantum_where(form.quantum, given, word) {
+            Some(more) => Some(more),
+            None => limit_where(form.greatest, given, word),
+        }
     }
 }
 
@@ -252,11 +267,38 @@ fn with_lib(given: Given) -> Option<Given>
     }
 }
 
-/// What is given with a word more that is the option of a limit.
-fn with_limit(given: Given, word: &[u8]) -> Option<Given>
-    ensures { result ≡ spec.with_limit given word.now }
+/// What is given with a word more that is the option of the quantum, where the form takes it.
+fn quantum_where(takes: bool, given: Given, word: &[u8]) -> Option<Given>
+    ensures { result ≡ spec.quantum_where takes given word.now }
 {
-    let most = Limits::GREATEST;
+    if !takes {
+        return None;
+    }
+    match number_given(b"--quantum=", 1_000_000, given.quantum, word) {
+        Some(n) => Some(Given {
+            quantum: Some(n),
+            ..given
+        }),
+        None => None,
+    }
+}
+
+/// What is given with a word more that is the option of a limit, where the form takes these.
+fn limit_where(greatest: Option<Limits>, given: Given, word: &[u8]) -> Option<Given>
+    requires { IfSome greatest InRange }
+    ensures { result ≡ spec.limit_where greatest given word.now }
+{
+    match greatest {
+        Some(greatest) => with_limit(greatest, given, word),
+        None => None,
+    }
+}
+
+/// What is given with a word more that is the option of a limit, where these are the greatest.
+fn with_limit(most: Limits, given: Given, word: &[u8]) -> Option<Given>
+    requires { InRange most }
+    ensures { result ≡ spec.with_limit most given word.now }
+{
     if let Some(n) = number_given(b"--steps=", most.steps, given.steps, word) {
         return Some(Given {
             steps: Some(n),

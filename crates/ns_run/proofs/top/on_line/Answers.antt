@@ -1,4 +1,4 @@
-use Rattle.ns_run.proofs.LineLaws.{exec_told, help_texts, run_told}
+use Rattle.ns_run.proofs.LineLaws.{are_applications, exec_told, help_texts, run_told}
 use Rattle.ns_run.proofs.ReportLaws.{stop_keeps}
 use Rattle.ns_run.proofs.top.on_line.Goals as goal
 use Rattle.ns_words.specs.Line.{line_seen}
@@ -11,3 +11,6 @@ returns-in-Help-clause-texts g c = help_texts (line_seen c.args.line) c.or_stop-
 
 pub returns-in-Exec-clause-told : goal.returns-in-Exec-clause-told
 returns-in-Exec-clause-told g c = λ files e. exec_told (line_seen c.args.line) c.limits-limits.result files c.on_first.result c.in-Exec.is c.limits-limits.ensures (c.on_first.ensures.told files e)
+
+pub on_session-requires-clause-asked : goal.on_session-requires-clause-asked
+on_session-requires-clause-asked g c = are_applications (line_seen c.args.line) c.in-Session.is c.requires.form

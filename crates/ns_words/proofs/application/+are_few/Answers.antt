@@ -1,7 +1,7 @@
 use Rattle.std.proofs.Common.{◌≡◌, ◌∙◌, ◌≤◌, ◌-◌, ◌&&◌, ◌∷◌, [], None, Some, ap, sym, arith, true, false}
 use Rattle.std.proofs.lemmas.Bool.Decides.{nat_tests}
 use Rattle.ns_words.specs.Application.{are_few, names_in}
-use Rattle.ns_words.specs.Words.{is_file_name}
+use Rattle.ns_words.specs.FileName.{is_file_name}
 use Rattle.ns_words.proofs.ApplicationLaws.{more_are_few, no_room, one_is_few, split_names}
 use Rattle.ns_words.proofs.application.+are_few.Goals as goal
 

@@ -1,0 +1,86 @@
+//! The session of several applications, and its report.
+
+ghost use Rattle.std.specs.Prelude.{◌≡◌, ◌≤◌, map, ℕ, Some, IfOk, IsErrOf, IsSome, length, string_bytes};
+ghost use Rattle.ns_base.specs.Count.{Rose};
+ghost use Rattle.ns_base.specs.Files.{Files};
+ghost use Rattle.ns_base.specs.Limits.{InRange};
+ghost use Rattle.ns_base.specs.Shelf.{OnlyRead};
+ghost use Rattle.ns_joint.specs.Answer.{HasRefusedFile, IsMissingFile, RefusesAs};
+ghost use Rattle.ns_joint.specs.Making.{files_asked};
+ghost use Rattle.ns_joint.specs.Stood.{IsRunStatus};
+ghost use Rattle.ns_run.specs.Meaning as spec;
+ghost use Rattle.ns_run.specs.Outcome.{IsEnding, IsMissing, SomeOf, SomeTexts};
+ghost use Rattle.ns_run.specs.Report.{told_jointly as told_jointly_lem};
+ghost use Rattle.ns_words.specs.Application.{AreApplications, asked_of};
+ghost use Rattle.ns_joint.specs.declared.fault.JointFault.TheVariants.{Unread};
+
+use crate::cause::size_name;
+use crate::files::{name_of, on_cause, on_static_fault};
+use crate::report::{Report, refused_file};
+use crate::stop::{Stop, or_stop};
+use ns_base::limits::Limits;
+use ns_base::shelf::Shelf;
+use ns_base::text::Text;
+use ns_joint::fault::JointFault;
+use ns_joint::joint::{Told, run_jointly};
+use std::alloc::Global;
+
+/// The report of the session of the applications that these words ask for.
+pub fn on_session<S: Shelf>(
+    alloc: Global,
+    lib: bool,
+    limits: Limits,
+    quantum: u64,
+    words: &[String],
+    shelf: &mut S,
+) -> Result<Report, Stop>
+    requires range { InRange limits }
+    requires quantum { 1 ≤ quantum }
+    requires asked { AreApplications (map string_bytes words.now) }
+    requires few { length words.now ≤ 16 }
+    ensures told { (files : Files) → S.holds shelf.old ≡ Some files → IfOk result (λ r. r ≡ spec.of_session lib limits quantum (map string_bytes words.now) (map files (files_asked (map asked_of (map string_bytes words.now))))) }
+    ensures texts { SomeTexts (files_asked (map asked_of (map string_bytes words.now))) (λ texts. IfOk result (λ r. r ≡ spec.of_session lib limits quantum (map string_bytes words.now) texts)) }
+    ensures ending { IfOk result (λ r. IsEnding r.status) }
+    ensures only_read { OnlyRead S.holds S.misses S.faults S.store_faults shelf.old shelf.new }
+    ensures read_fault { IsErrOf result Stop.ReadFault → Rose (S.faults shelf.old) (S.faults shelf.new) }
+    ensures read_fault_there { (files : Files) → S.holds shelf.old ≡ Some files → IsErrOf result Stop.ReadFault → SomeOf (files_asked (map asked_of (map string_bytes words.now))) (λ file. IsSome (files file)) }
+    ensures missing { IfOk result (λ r. SomeOf (files_asked (map asked_of (map string_bytes words.now))) (λ file. IsMissing file r) → Rose (S.misses shelf.old) (S.misses shelf.new)) }
+{
+    match run_jointly(alloc, words, lib, limits, quantum, shelf) {
+        Ok(told) => Ok(told_jointly(alloc, told)),
+        Err(why) => on_refusal(alloc, why),
+    }
+}
+
+/// The report of a session that has told so.
+fn told_jointly(alloc: Global, told: Told) -> Report
+    ensures { result ≡ told_jointly_lem told }
+{
+    Report {
+        out: told.out,
+        err: Text::from_vec(Vec::new(alloc)),
+        status: told.status,
+        stored: None,
+    }
+}
+
+/// The report of a session that was refused.
+fn on_refusal(alloc: Global, why: JointFault) -> Result<Report, Stop>
+    requires { HasRefusedFile why }
+    ensures told { IfOk result (λ r. RefusesAs (λ refusal. r ≡ spec.of_refusal refusal) why) }
+    ensures read_fault { IsErrOf result Stop.ReadFault → why ≡ Unread }
+{
+    match why {
+        JointFault::Unread => Err(Stop::ReadFault),
+        JointFault::Unloaded { names, cause, file } => {
+            on_cause(alloc, name_of(names.as_slice(), file as usize), cause)
+        }
+        JointFault::Unchecked {
+            names,
+            place,
+            cause,
+        } => { or_stop(on_static_fault(alloc, names.as_slice(), place, cause)) }
+        JointFault::TooLarge(kind) => or_stop(refused_file(alloc, "nspk", size_name(kind))),
+        JointFault::Memory => Err(Stop::Memory),
+    }
+}
