@@ -13,6 +13,8 @@ mod limit_tests;
 #[cfg(test)]
 mod run_tests;
 #[cfg(test)]
+mod session_tests;
+#[cfg(test)]
 mod stream_tests;
 #[cfg(test)]
 mod text_tests;

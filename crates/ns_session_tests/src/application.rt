@@ -1,0 +1,54 @@
+//! Applications made of a source in memory.
+
+use ns_base::limits::Limits;
+use ns_base::mem_shelf::MemShelf;
+use ns_base::no_memory::NoMemory;
+use ns_base::text::Text;
+use ns_facets::row::Grants;
+use ns_joint::source::code_of;
+use ns_session::fault::AddFault;
+use ns_session::session::Session;
+use ns_verify::verify::Verified;
+use ns_words::application::application_of;
+use std::alloc::Global;
+
+/// The console alone.
+const GRANTED: Grants = Grants {
+    console: true,
+    kernel: false,
+    mirrors: false,
+    board: false,
+};
+
+/// Few steps, since one of the applications never ends by itself.
+const LIMITS: Limits = Limits {
+    steps: 500,
+    ..Limits::DEFAULT
+};
+
+/// Adds the application of a source to a session, with the console alone: what the session answers, or none where the source
+/// isn't that of an application.
+pub fn add(alloc: Global, session: &mut Session, source: &str) -> Option<Result<u32, AddFault>> {
+    match code(alloc, source) {
+        Some(code) if LIMITS.are_in_range() => Some(session.add(code, GRANTED, LIMITS)),
+        _ => None,
+    }
+}
+
+/// The code of a source.
+fn code(alloc: Global, source: &str) -> Option<Verified> {
+    match (application_of("c=T.ns"), shelf(alloc, source)) {
+        (Some(asked), Ok(mut shelf)) => code_of(alloc, asked, false, &mut shelf).ok(),
+        _ => None,
+    }
+}
+
+/// A shelf of one file, which has this text.
+fn shelf(alloc: Global, source: &str) -> Result<MemShelf, NoMemory> {
+    let mut files = Vec::new(alloc);
+    files.push((
+        Text::of(alloc, b"T.ns")?,
+        source.as_bytes().to_vec(alloc)?,
+    ))?;
+    Ok(MemShelf::new(alloc, files))
+}
