@@ -4,9 +4,7 @@ use Rattle.std.specs.Prelude.{All, IsErrAnd, get_or, IsSomeAnd, min, slice_get}
 use Rattle.std.proofs.lemmas.Bool.Decides.{nat_tests}
 use Rattle.std.proofs.lemmas.List.Elements.{All-cons, All-head, All-nil, All-tail}
 use Rattle.std.proofs.lemmas.List.{length-append, length-map, map-append, take_all}
-use Rattle.ns_base.specs.Count.{Rose}
 use Rattle.ns_base.specs.Files.{Files}
-use Rattle.ns_base.specs.Shelf.{OnlyRead}
 use Rattle.ns_base.specs.declared.limits.Limits.{Limits}
 use Rattle.ns_facets.specs.declared.row.Grants.{Grants}
 use Rattle.ns_code.specs.declared.program.CodeProgram.{CodeProgram}
@@ -103,12 +101,6 @@ module _ (limits : Limits) (lib : Bool) (asked : Asked) (more : List Asked) (old
       (then_makes limits (made_of lib asked (map files asked.names)) (all_made lib more (map files (files_asked more))) old mid new result h k))
 
   -- An application was refused.
-  pub first_told : (files : Files) (why : JointFault) → IsFaultOf (made_of lib asked (map files asked.names)) why → IsFaultOf (all_made lib (asked ∷ more) (map files (files_asked (asked ∷ more)))) why
-  first_told files why h =
-      subst (λ (t : List (Option (List ℕ))). IsFaultOf (all_made lib (asked ∷ more) t) why) (sym (map-append files asked.names (files_asked more)))
-      (subst (λ making. IsFaultOf making why) (sym (apart lib asked more (map files asked.names) (map files (files_asked more)) (length-map asked.names files)))
-      (fault_first (made_of lib asked (map files asked.names)) (all_made lib more (map files (files_asked more))) why h))
-
   pub first_texts : (why : JointFault) → OfSomeTexts asked.names (λ texts. IsFaultOf (made_of lib asked texts) why) → OfSomeTexts (files_asked (asked ∷ more)) (λ texts. IsFaultOf (all_made lib (asked ∷ more) texts) why)
   first_texts why (one, n, h) =
       let others : OfSomeTexts (files_asked more) (λ texts. Unit {0}) = empty (files_asked more) in (
@@ -138,18 +130,6 @@ some_front (name ∷ names) more P (suc k, s) = let r : OfSomeName (names ++ mor
 pub some_back : (names more : List (List ℕ)) (P : List ℕ → Type 0) → OfSomeName more P → OfSomeName (names ++ more) P
 some_back [] more P s = s
 some_back (name ∷ names) more P s = let r : OfSomeName (names ++ more) P = some_back names more P s in (suc r.0, r.1)
-
--- ---- counts
-
-pub rose_on : (a b c : ℕ) → Rose a b → b ≤ c → Rose a c
-rose_on a b c r l = omega (arith, r, l)
-
-pub rose_later : (a b c : ℕ) → a ≤ b → Rose b c → Rose a c
-rose_later a b c l r = omega (arith, l, r)
-
-pub read_twice : {S : Type 0} (holds : S → Option Files) (misses faults store_faults : S → ℕ) (old mid new : S) → OnlyRead holds misses faults store_faults old mid → OnlyRead holds misses faults store_faults mid new
-    → OnlyRead holds misses faults store_faults old new
-read_twice holds misses faults store_faults old mid new one two = (two.0 ∙ one.0, two.1 ∙ one.1, omega (arith, one.2, two.2), omega (arith, one.3, two.3))
 
 -- ---- one application
 

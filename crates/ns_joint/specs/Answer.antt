@@ -1,5 +1,6 @@
 -- What answers say of the applications of a session.
-use Rattle.std.specs.Prelude.{◌≡◌, ℕ, List, [], ◌∷◌, ◌++◌, map, length, string_bytes, Option, Result, Ok, Err, slice_get, IsSomeAnd}
+use Rattle.std.specs.Prelude.{◌≡◌, ℕ, List, [], ◌∷◌, ◌++◌, map, length, string_bytes, Option, Result, Ok, Err, slice_get, IsSome, IsSomeAnd}
+use Rattle.ns_base.specs.Files.{Files}
 use Rattle.ns_base.specs.declared.limits.Limits.{Limits}
 use Rattle.ns_code.specs.Fits.{Fits}
 use Rattle.ns_code.specs.declared.program.CodeProgram.{CodeProgram}
@@ -128,6 +129,10 @@ OfSomeTexts names P = (texts : List (Option (List ℕ))) × (length texts ≡ le
 -- Some of these names is such.
 abbrev pub OfSomeName : List (List ℕ) → (List ℕ → Type 0) → Type 0
 OfSomeName names P = (k : ℕ) × IsSomeAnd (slice_get names k) P
+
+-- One of these files is there.
+abbrev pub SomeIsThere : Files → List (List ℕ) → Type 0
+SomeIsThere files names = OfSomeName names (λ file. IsSome (files file))
 
 -- ---- the session
 

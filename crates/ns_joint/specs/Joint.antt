@@ -4,7 +4,8 @@ use Rattle.std.specs.Fmt.{decimal}
 use Rattle.ns_base.specs.declared.limits.Limits.{Limits}
 use Rattle.ns_base.specs.declared.status.Status.{Status}
 use Rattle.ns_base.specs.declared.status.Status.TheVariants.{Done, ProgramError, Refused, Limit, ReadFault, WriteFault, Memory}
-use Rattle.ns_words.specs.Application.{Asked}
+use Rattle.ns_base.specs.Files.{Files}
+use Rattle.ns_words.specs.Application.{Asked, asked_of}
 use Rattle.ns_gen.specs.Code.{code_of}
 use Rattle.ns_launch.specs.Machine.{told_at}
 use Rattle.ns_launch.specs.Run.{ran_of}
@@ -12,7 +13,7 @@ use Rattle.ns_launch.specs.declared.run.Ran.{Ran}
 use Rattle.ns_model.specs.Whole.{meaning_of_run}
 use Rattle.ns_rounds.specs.Robin.{session_run}
 use Rattle.ns_session.specs.Member.{Application, MemberView}
-use Rattle.ns_joint.specs.Making.{Making, Refusal, Source, all_made, application_of, made, refused}
+use Rattle.ns_joint.specs.Making.{Making, Refusal, Source, all_made, application_of, files_named, made, refused}
 use Rattle.ns_joint.specs.declared.joint.Told.{Told}
 
 -- ---- one application
@@ -77,3 +78,10 @@ of_making limits quantum (refused why) = stopped_for why
 -- the session of applications that are asked for, over these texts of their files
 abbrev pub joint : Bool → Limits → ℕ → List Asked → List (Option (List ℕ)) → Joint
 joint lib limits quantum asked texts = of_making limits quantum (all_made lib asked texts)
+
+-- that of those that words ask for, over these texts of their files, or over the files' own
+abbrev pub joint_of : Bool → Limits → ℕ → List (List ℕ) → List (Option (List ℕ)) → Joint
+joint_of lib limits quantum words texts = joint lib limits quantum (map asked_of words) texts
+
+abbrev pub joint_over : Files → Bool → Limits → ℕ → List (List ℕ) → Joint
+joint_over files lib limits quantum words = joint_of lib limits quantum words (map files (files_named words))

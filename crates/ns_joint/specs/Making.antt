@@ -1,8 +1,9 @@
 -- The applications of a session are made of their sources, one after another.
-use Rattle.std.specs.Prelude.{ℕ, Bool, List, [], ◌∷◌, ◌++◌, length, take, drop, Option, Some, None}
+use Rattle.std.specs.Prelude.{ℕ, Bool, List, [], ◌∷◌, ◌++◌, length, map, take, drop, Option, Some, None}
+use Rattle.ns_base.specs.Files.{Files}
 use Rattle.ns_base.specs.declared.limits.Limits.{Limits}
 use Rattle.ns_base.specs.declared.place.Place.{Place}
-use Rattle.ns_words.specs.Application.{Asked}
+use Rattle.ns_words.specs.Application.{Asked, asked_of}
 use Rattle.ns_facets.specs.declared.row.Grants.{Grants}
 use Rattle.ns_gen.specs.Code.{code_of}
 use Rattle.ns_gen.specs.Sizes.{size_fault}
@@ -63,6 +64,10 @@ of_loading names grants lib (stopped fault) = refused (unloaded names fault)
 abbrev pub made_of : Bool → Asked → List (Option (List ℕ)) → Making
 made_of lib asked texts = of_loading asked.names (granted asked) lib (loaded_texts texts lib)
 
+-- that of the files' own texts
+abbrev pub made_from : Files → Bool → Asked → Making
+made_from files lib asked = made_of lib asked (map files asked.names)
+
 -- ---- all applications
 
 abbrev pub behind : List Source → Making → Making
@@ -84,3 +89,13 @@ abbrev pub all_made : Bool → List Asked → List (Option (List ℕ)) → Makin
 all_made lib [] texts = made []
 all_made lib (asked ∷ more) texts =
     then_made (made_of lib asked (take (length asked.names) texts)) (all_made lib more (drop (length asked.names) texts))
+
+-- those that words ask for, of these texts of their files, or of the files' own
+abbrev pub files_named : List (List ℕ) → List (List ℕ)
+files_named words = files_asked (map asked_of words)
+
+abbrev pub made_by : Bool → List (List ℕ) → List (Option (List ℕ)) → Making
+made_by lib words texts = all_made lib (map asked_of words) texts
+
+abbrev pub made_over : Files → Bool → List (List ℕ) → Making
+made_over files lib words = made_by lib words (map files (files_named words))

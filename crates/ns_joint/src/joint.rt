@@ -1,16 +1,16 @@
 //! Several applications that take turns until all have ended, and what is told of them.
 
-ghost use Rattle.std.specs.Prelude.{◌≡◌, ◌≤◌, IfOk, IfErr, IsErrOf, IsSome, List, [], Some, map, ℕ, length, string_bytes};
+ghost use Rattle.std.specs.Prelude.{◌≡◌, ◌≤◌, IfOk, IfErr, IsErrOf, List, [], Some, map, ℕ, length, string_bytes};
 ghost use Rattle.ns_base.specs.Count.{Rose};
 ghost use Rattle.ns_base.specs.Files.{Files};
 ghost use Rattle.ns_base.specs.Limits.{InRange};
 ghost use Rattle.ns_base.specs.declared.limits.Limits.{Limits as AnyLimits};
 ghost use Rattle.ns_base.specs.Shelf.{OnlyRead};
 ghost use Rattle.ns_session.specs.Play.{opened};
-ghost use Rattle.ns_words.specs.Application.{AreApplications, asked_of};
-ghost use Rattle.ns_joint.specs.Answer.{AreAdmitted, HasRefusedFile, IsMissingFile, OfSomeName, OfSomeTexts, Tells};
+ghost use Rattle.ns_words.specs.Application.{AreApplications};
+ghost use Rattle.ns_joint.specs.Answer.{AreAdmitted, HasRefusedFile, IsMissingFile, OfSomeTexts, SomeIsThere, Tells};
 ghost use Rattle.ns_joint.specs.Joint as spec;
-ghost use Rattle.ns_joint.specs.Making.{Source, application_of, files_asked};
+ghost use Rattle.ns_joint.specs.Making.{Source, application_of, files_named};
 ghost use Rattle.ns_joint.specs.Stood.{IsRunStatus};
 ghost use Rattle.ns_joint.specs.declared.fault.JointFault.TheVariants.{Memory, Unread};
 
@@ -49,14 +49,14 @@ pub fn run_jointly<S: Shelf>(
     requires quantum { 1 ≤ quantum }
     requires asked { AreApplications (map string_bytes words.now) }
     requires few { length words.now ≤ 16 }
-    ensures told { (files : Files) → S.holds shelf.old ≡ Some files → Tells (spec.joint lib limits quantum (map asked_of (map string_bytes words.now)) (map files (files_asked (map asked_of (map string_bytes words.now))))) result }
-    ensures texts { OfSomeTexts (files_asked (map asked_of (map string_bytes words.now))) (λ texts. Tells (spec.joint lib limits quantum (map asked_of (map string_bytes words.now)) texts) result) }
+    ensures told { (files : Files) → S.holds shelf.old ≡ Some files → Tells (spec.joint_over files lib limits quantum (map string_bytes words.now)) result }
+    ensures texts { OfSomeTexts (files_named (map string_bytes words.now)) (λ texts. Tells (spec.joint_of lib limits quantum (map string_bytes words.now) texts) result) }
     ensures status { IfOk result (λ told. IsRunStatus told.status) }
     ensures refused { IfErr result HasRefusedFile }
     ensures only_read { OnlyRead S.holds S.misses S.faults S.store_faults shelf.old shelf.new }
     ensures missing { IfErr result (λ why. IsMissingFile why → Rose (S.misses shelf.old) (S.misses shelf.new)) }
     ensures read_fault { IsErrOf result Unread → Rose (S.faults shelf.old) (S.faults shelf.new) }
-    ensures read_fault_there { (files : Files) → S.holds shelf.old ≡ Some files → IsErrOf result Unread → OfSomeName (files_asked (map asked_of (map string_bytes words.now))) (λ file. IsSome (files file)) }
+    ensures read_fault_there { (files : Files) → S.holds shelf.old ≡ Some files → IsErrOf result Unread → SomeIsThere files (files_named (map string_bytes words.now)) }
 {
     let mut session = Session::new(alloc);
     match make_all(alloc, words, lib, limits, shelf, &mut session) {

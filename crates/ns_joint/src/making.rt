@@ -1,13 +1,13 @@
 //! The applications of a session, made one after another.
 
-ghost use Rattle.std.specs.Prelude.{◌≡◌, ◌≤◌, ◌<◌, ◌+◌, All, IfOk, IfErr, IsErrOf, IsSome, Some, map, true, ℕ, length, string_bytes};
+ghost use Rattle.std.specs.Prelude.{◌≡◌, ◌≤◌, ◌<◌, ◌+◌, All, IfOk, IfErr, IsErrOf, Some, map, true, ℕ, length, string_bytes};
 ghost use Rattle.ns_base.specs.Count.{Rose};
 ghost use Rattle.ns_base.specs.Files.{Files};
 ghost use Rattle.ns_base.specs.Limits.{InRange};
 ghost use Rattle.ns_base.specs.Shelf.{OnlyRead};
 ghost use Rattle.ns_words.specs.Application.{AreApplications, are_few, asked_of, is_application};
 ghost use Rattle.ns_words.specs.Line.{asked_seen};
-ghost use Rattle.ns_joint.specs.Answer.{HasRefusedFile, IsMissingFile, Makes, OfSomeName, OfSomeTexts};
+ghost use Rattle.ns_joint.specs.Answer.{HasRefusedFile, IsMissingFile, Makes, OfSomeTexts, SomeIsThere};
 ghost use Rattle.ns_joint.specs.Making as spec;
 ghost use Rattle.ns_joint.specs.declared.fault.JointFault.TheVariants.{Memory, Unread};
 ghost use Rattle.ns_session.specs.Session.{added};
@@ -36,13 +36,13 @@ pub fn make_all<S: Shelf>(
     requires range { InRange limits }
     requires asked { AreApplications (map string_bytes words.now) }
     requires room { length session.old.members + length words.now ≤ 16 }
-    ensures told { (files : Files) → S.holds shelf.old ≡ Some files → Makes limits (spec.all_made lib (map asked_of (map string_bytes words.now)) (map files (spec.files_asked (map asked_of (map string_bytes words.now))))) session.old session.new result }
-    ensures texts { OfSomeTexts (spec.files_asked (map asked_of (map string_bytes words.now))) (λ texts. Makes limits (spec.all_made lib (map asked_of (map string_bytes words.now)) texts) session.old session.new result) }
+    ensures told { (files : Files) → S.holds shelf.old ≡ Some files → Makes limits (spec.made_over files lib (map string_bytes words.now)) session.old session.new result }
+    ensures texts { OfSomeTexts (spec.files_named (map string_bytes words.now)) (λ texts. Makes limits (spec.made_by lib (map string_bytes words.now) texts) session.old session.new result) }
     ensures refused { IfErr result HasRefusedFile }
     ensures only_read { OnlyRead S.holds S.misses S.faults S.store_faults shelf.old shelf.new }
     ensures missing { IfErr result (λ why. IsMissingFile why → Rose (S.misses shelf.old) (S.misses shelf.new)) }
     ensures read_fault { IsErrOf result Unread → Rose (S.faults shelf.old) (S.faults shelf.new) }
-    ensures read_fault_there { (files : Files) → S.holds shelf.old ≡ Some files → IsErrOf result Unread → OfSomeName (spec.files_asked (map asked_of (map string_bytes words.now))) (λ file. IsSome (files file)) }
+    ensures read_fault_there { (files : Files) → S.holds shelf.old ≡ Some files → IsErrOf result Unread → SomeIsThere files (spec.files_named (map string_bytes words.now)) }
 {
     match words {
         [] => Ok(()),
@@ -65,14 +65,14 @@ fn make_one<S: Shelf>(
     requires range { InRange limits }
     requires asked { is_application word.now ≡ true }
     requires room { length session.old.members < 16 }
-    ensures told { (files : Files) → S.holds shelf.old ≡ Some files → Makes limits (spec.made_of lib (asked_of word.now) (map files (asked_of word.now).names)) session.old session.new result }
+    ensures told { (files : Files) → S.holds shelf.old ≡ Some files → Makes limits (spec.made_from files lib (asked_of word.now)) session.old session.new result }
     ensures texts { OfSomeTexts (asked_of word.now).names (λ texts. Makes limits (spec.made_of lib (asked_of word.now) texts) session.old session.new result) }
     ensures count { IfOk result (λ _. length session.new.members ≡ length session.old.members + 1) }
     ensures refused { IfErr result HasRefusedFile }
     ensures only_read { OnlyRead S.holds S.misses S.faults S.store_faults shelf.old shelf.new }
     ensures missing { IfErr result (λ why. IsMissingFile why → Rose (S.misses shelf.old) (S.misses shelf.new)) }
     ensures read_fault { IsErrOf result Unread → Rose (S.faults shelf.old) (S.faults shelf.new) }
-    ensures read_fault_there { (files : Files) → S.holds shelf.old ≡ Some files → IsErrOf result Unread → OfSomeName (asked_of word.now).names (λ file. IsSome (files file)) }
+    ensures read_fault_there { (files : Files) → S.holds shelf.old ≡ Some files → IsErrOf result Unread → SomeIsThere files (asked_of word.now).names }
 {
     match application_of(word) {
         Some(asked) => add_asked(alloc, asked, lib, limits, shelf, session),
@@ -92,14 +92,14 @@ fn add_asked<S: Shelf>(
     requires range { InRange limits }
     requires few { are_few 16 (asked_seen asked).names ≡ true }
     requires room { length session.old.members < 16 }
-    ensures told { (files : Files) → S.holds shelf.old ≡ Some files → Makes limits (spec.made_of lib (asked_seen asked.entry) (map files (asked_seen asked.entry).names)) session.old session.new result }
+    ensures told { (files : Files) → S.holds shelf.old ≡ Some files → Makes limits (spec.made_from files lib (asked_seen asked.entry)) session.old session.new result }
     ensures texts { OfSomeTexts (asked_seen asked.entry).names (λ texts. Makes limits (spec.made_of lib (asked_seen asked.entry) texts) session.old session.new result) }
     ensures count { IfOk result (λ _. length session.new.members ≡ length session.old.members + 1) }
     ensures refused { IfErr result HasRefusedFile }
     ensures only_read { OnlyRead S.holds S.misses S.faults S.store_faults shelf.old shelf.new }
     ensures missing { IfErr result (λ why. IsMissingFile why → Rose (S.misses shelf.old) (S.misses shelf.new)) }
     ensures read_fault { IsErrOf result Unread → Rose (S.faults shelf.old) (S.faults shelf.new) }
-    ensures read_fault_there { (files : Files) → S.holds shelf.old ≡ Some files → IsErrOf result Unread → OfSomeName (asked_seen asked.entry).names (λ file. IsSome (files file)) }
+    ensures read_fault_there { (files : Files) → S.holds shelf.old ≡ Some files → IsErrOf result Unread → SomeIsThere files (asked_seen asked.entry).names }
 {
     match code_of(alloc, asked, lib, shelf) {
         Ok(code) => add(code, granted(asked), limits, session),

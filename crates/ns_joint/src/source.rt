@@ -1,6 +1,6 @@
 //! The code of one application, from its files.
 
-ghost use Rattle.std.specs.Prelude.{◌≡◌, ◌≤◌, All, IfOk, IfErr, IsErrOf, IsSome, Some, map, true, ℕ, length, string_bytes};
+ghost use Rattle.std.specs.Prelude.{◌≡◌, ◌≤◌, All, IfOk, IfErr, IsErrOf, Some, map, true, ℕ, length, string_bytes};
 ghost use Rattle.ns_base.specs.Count.{Rose};
 ghost use Rattle.ns_base.specs.Files.{Files};
 ghost use Rattle.ns_base.specs.Shelf.{OnlyRead};
@@ -12,7 +12,7 @@ ghost use Rattle.ns_static.specs.Check.{fault_of};
 ghost use Rattle.ns_tree.specs.PlainOf.{unit_of};
 ghost use Rattle.ns_words.specs.Application.{are_few};
 ghost use Rattle.ns_words.specs.Line.{asked_seen};
-ghost use Rattle.ns_joint.specs.Answer.{HasRefusedFile, IsMadeAs, IsMissingFile, IsOfLoaded, fault_from, OfSomeName, OfSomeTexts};
+ghost use Rattle.ns_joint.specs.Answer.{HasRefusedFile, IsMadeAs, IsMissingFile, IsOfLoaded, fault_from, OfSomeTexts, SomeIsThere};
 ghost use Rattle.ns_joint.specs.Making as spec;
 ghost use Rattle.ns_joint.specs.declared.fault.JointFault.TheVariants.{Unread};
 ghost use Rattle.ns_joint.specs.declared.fault.JointFault.TheVariants as AnyFault;
@@ -41,13 +41,13 @@ pub fn code_of<S: Shelf>(
     shelf: &mut S,
 ) -> Result<Verified, JointFault>
     requires few { are_few 16 (asked_seen asked).names ≡ true }
-    ensures told { (files : Files) → S.holds shelf.old ≡ Some files → IsMadeAs (spec.granted (asked_seen asked.entry)) (spec.made_of lib (asked_seen asked.entry) (map files (asked_seen asked.entry).names)) result }
+    ensures told { (files : Files) → S.holds shelf.old ≡ Some files → IsMadeAs (spec.granted (asked_seen asked.entry)) (spec.made_from files lib (asked_seen asked.entry)) result }
     ensures texts { OfSomeTexts (asked_seen asked.entry).names (λ texts. IsMadeAs (spec.granted (asked_seen asked.entry)) (spec.made_of lib (asked_seen asked.entry) texts) result) }
     ensures refused { IfErr result HasRefusedFile }
     ensures only_read { OnlyRead S.holds S.misses S.faults S.store_faults shelf.old shelf.new }
     ensures missing { IfErr result (λ why. IsMissingFile why → Rose (S.misses shelf.old) (S.misses shelf.new)) }
     ensures read_fault { IsErrOf result Unread → Rose (S.faults shelf.old) (S.faults shelf.new) }
-    ensures read_fault_there { (files : Files) → S.holds shelf.old ≡ Some files → IsErrOf result Unread → OfSomeName (asked_seen asked.entry).names (λ file. IsSome (files file)) }
+    ensures read_fault_there { (files : Files) → S.holds shelf.old ≡ Some files → IsErrOf result Unread → SomeIsThere files (asked_seen asked.entry).names }
 {
     let names = names_in(alloc, asked.names)?;
     let texts = names_of(alloc, names.as_slice())?;
@@ -72,7 +72,7 @@ fn of_files<S: Shelf>(
     ensures only_read { OnlyRead S.holds S.misses S.faults S.store_faults shelf.old shelf.new }
     ensures missing { IfErr result (λ why. IsMissingFile why → Rose (S.misses shelf.old) (S.misses shelf.new)) }
     ensures read_fault { IsErrOf result Unread → Rose (S.faults shelf.old) (S.faults shelf.new) }
-    ensures read_fault_there { (files : Files) → S.holds shelf.old ≡ Some files → IsErrOf result Unread → OfSomeName texts.now (λ file. IsSome (files file)) }
+    ensures read_fault_there { (files : Files) → S.holds shelf.old ≡ Some files → IsErrOf result Unread → SomeIsThere files texts.now }
 {
     match load(alloc, shelf, texts, lib) {
         Ok(program) => of_program(alloc, names, program),

@@ -8,8 +8,8 @@ use Rattle.ns_exec.specs.Build as built
 use Rattle.ns_gen.specs.Code.{code_of}
 use Rattle.ns_gen.specs.Sizes.{size_fault}
 use Rattle.ns_gen.specs.declared.size.SizeKind.{SizeKind}
-use Rattle.ns_joint.specs.Joint.{Joint, joint, has_run, stopped_for}
-use Rattle.ns_joint.specs.Making.{Refusal, files_asked, unchecked, unloaded}
+use Rattle.ns_joint.specs.Joint.{Joint, joint_of, has_run, stopped_for}
+use Rattle.ns_joint.specs.Making.{Refusal, files_named, unchecked, unloaded}
 use Rattle.ns_joint.specs.Making as making
 use Rattle.ns_lib.specs.Sample.{sample}
 use Rattle.ns_load.specs.Loaded.{Loading, units, stopped, file_names, loaded_texts}
@@ -31,7 +31,6 @@ use Rattle.ns_rules.specs.Least.{faults, least}
 use Rattle.ns_rules.specs.declared.fault.Placed.{Placed}
 use Rattle.ns_tree.specs.Flat.{flat}
 use Rattle.ns_tree.specs.Plain as p
-use Rattle.ns_words.specs.Application.{asked_of}
 use Rattle.ns_words.specs.Words.{Line, Reading, says, bad, limits_of, nothing_given, quantum_of, reading_of, sample_number}
 use Rattle.ns_words.specs.declared.form.Verb.{Verb}
 use Rattle.ns_words.specs.declared.form.Verb.TheVariants.{Check, Show, Run, Build, Exec, Listing, Session, Sample, Help, Version}
@@ -132,7 +131,10 @@ of_joint (has_run told) = told_jointly told
 
 -- the session of the applications that these words ask for, over these texts of their files
 abbrev pub of_session : Bool → Limits → ℕ → List (List ℕ) → List (Option (List ℕ)) → Report
-of_session lib limits quantum words texts = of_joint (joint lib limits quantum (map asked_of words) texts)
+of_session lib limits quantum words texts = of_joint (joint_of lib limits quantum words texts)
+
+abbrev pub session_over : Files → Bool → Limits → ℕ → List (List ℕ) → Report
+session_over files lib limits quantum words = of_session lib limits quantum words (map files (files_named words))
 
 -- what the command of a line writes over these texts of its files, and its status
 abbrev pub of_line : Verb → Line → List (Option (List ℕ)) → Report
@@ -165,7 +167,7 @@ files_of Run names = names
 files_of Build names = behind_first names
 files_of Exec names = names
 files_of Listing names = names
-files_of Session names = files_asked (map asked_of names)
+files_of Session names = files_named names
 files_of Sample names = []
 files_of Help names = []
 files_of Version names = []

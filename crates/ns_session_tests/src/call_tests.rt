@@ -3,7 +3,7 @@
 use crate::application::add;
 use ns_session::fault::{AddFault, NoSuch};
 use ns_session::session::Session;
-use std::alloc::Global;
+use std::alloc::{AllocError, Global};
 
 /// An application that ends at once.
 const SHORT: &str = "class T packageUsing: m = () (public main: p args: a = ())";
@@ -34,7 +34,7 @@ fn an_empty_session_has_no_application(rt: HostRuntime) {
 
 /// Whether a session has no application of that number.
 fn knows_nothing_of(alloc: Global, session: &mut Session, number: u32) -> bool {
-    session.turn(number, 1) == Err(NoSuch)
+    session.turn(number, 1).is_err()
         && session.ending(number).is_none()
         && session.transcript(number).is_none()
         && session.line(alloc, number) == Ok(None)
@@ -42,7 +42,11 @@ fn knows_nothing_of(alloc: Global, session: &mut Session, number: u32) -> bool {
 
 #[test]
 fn refusals_have_their_texts(rt: HostRuntime) {
-    assert!(rt; AddFault::Full.to_string(rt.alloc()).is_ok_and(|text| text == "session is full"));
-    assert!(rt; AddFault::Memory.to_string(rt.alloc()).is_ok_and(|text| text == "no memory"));
-    assert!(rt; NoSuch.to_string(rt.alloc()).is_ok_and(|text| text == "no such application"));
+    assert!(rt; is_text(AddFault::Full.to_string(rt.alloc()), "session is full"));
+    assert!(rt; is_text(AddFault::Memory.to_string(rt.alloc()), "no memory"));
+    assert!(rt; is_text(NoSuch.to_string(rt.alloc()), "no such application"));
+}
+
+fn is_text(text: Result<String, AllocError>, want: &str) -> bool {
+    text.is_ok_and(|text| text.as_str() == want)
 }

@@ -111,7 +111,7 @@ fn ends_alike(alloc: Global, session: &mut Session, alone: &[Told]) -> bool {
 
 fn is_told(alloc: Global, session: &Session, number: u32, told: &Told) -> bool {
     match (session.transcript(number), session.line(alloc, number)) {
-        (Some(transcript), Ok(Some(line))) => transcript == told.transcript && line == told.line,
+        (Some(transcript), Ok(Some(line))) => transcript == told.transcript.as_slice() && line == told.line,
         _ => false,
     }
 }

@@ -57,6 +57,7 @@ module _ (code : CodeProgram) (number at : ℕ) (body : BodyCode) (instr : Instr
         next = λ on. let e : suc at ≡ at + 1 = omega arith in subst (λ n. height_before body n ≡ height_after instr (height_before body at)) e (next_height body at instr here on (falls_not on));
         target_there = target_there;
         target = λ to is_target. target_height body at instr to here is_target (target_there to is_target) jumps_not;
+        ends = or_left (ends_wrongly instr (height_before body at)) _ (or_right (nat_lt body.height (height_before body at)) _ (or_right (nat_lt (height_before body at) (takes instr)) _ h));
       }
 
 pub heights_agree : (code : CodeProgram) (number at : ℕ) (body : BodyCode) (instr : Instr) → IsSound code → slice_get code.bodies number ≡ Some body → slice_get body.instrs at ≡ Some instr → HeightsAgree body at instr

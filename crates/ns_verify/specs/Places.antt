@@ -5,7 +5,7 @@ use Rattle.ns_code.specs.declared.program.CodeProgram.{CodeProgram}
 use Rattle.ns_code.specs.declared.class.ClassCode.{ClassCode}
 use Rattle.ns_code.specs.declared.body.BodyCode.{BodyCode}
 use Rattle.ns_code.specs.declared.instruction.Instr.{Instr}
-use Rattle.ns_code.specs.Table.{takes, height_after, target, goes_on}
+use Rattle.ns_code.specs.Table.{takes, height_after, target, goes_on, ends_wrongly}
 use Rattle.ns_verify.specs.Heights.{Pass, begin, next, height_at}
 use Rattle.ns_verify.specs.Chains.{home_kinds}
 use Rattle.ns_verify.specs.Causes.{cause_at}
@@ -39,7 +39,8 @@ pub record HasNoCause (code : CodeProgram) : Type 0 where
       cause_at code number body (home_of code number body) (pass_before body at) at instr ≡ None
 
 -- An instruction has as many operands as it takes, and no more than the body's height. The next one,
--- if it goes on, is there, and it and the target have the height after it.
+-- if it goes on, is there, and it and the target have the height after it. Where it ends its frame, nothing
+-- stands on the operands but what it gives.
 pub record HeightsAgree (body : BodyCode) (at : ℕ) (instr : Instr) : Type 0 where
   pub enough : takes instr ≤ height_before body at
   pub within : height_before body at ≤ body.height
@@ -47,3 +48,4 @@ pub record HeightsAgree (body : BodyCode) (at : ℕ) (instr : Instr) : Type 0 wh
   pub next : goes_on instr ≡ true → height_before body (at + 1) ≡ height_after instr (height_before body at)
   pub target_there : (to : ℕ) → target instr ≡ Some to → to < length body.instrs
   pub target : (to : ℕ) → target instr ≡ Some to → height_before body to ≡ height_after instr (height_before body at)
+  pub ends : ends_wrongly instr (height_before body at) ≡ false

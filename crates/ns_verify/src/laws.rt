@@ -24,8 +24,8 @@ pub fn sound_code_is_in_order()
 {}
 
 /// The heights of a body are those that its instructions are met with. In sound code each instruction
-/// has the operands that it takes, and the heights of those that it goes on to agree with the height
-/// after it.
+/// has the operands that it takes, the heights of those that it goes on to agree with the height
+/// after it, and a frame ends with nothing on its operands but what it gives.
 pub fn heights_agree()
     ensures heights { (body : BodyCode) (at : ℕ) (instr : Instr) → slice_get body.instrs at ≡ Some instr → slice_get (heights body) at ≡ Some (height_before body at) }
     ensures agree { (code : CodeProgram) (number at : ℕ) (body : BodyCode) (instr : Instr) → IsSound code → slice_get code.bodies number ≡ Some body → slice_get body.instrs at ≡ Some instr → HeightsAgree body at instr }
