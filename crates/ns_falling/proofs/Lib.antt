@@ -3,3 +3,5 @@ pub mod Earlier
 pub mod Lowered
 pub mod Bounded
 pub mod Ending
+pub mod Powers
+pub mod Doubling

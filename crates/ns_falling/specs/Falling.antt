@@ -1,5 +1,5 @@
 -- What moves leave to be done, and why each run ends.
-use Rattle.std.specs.Prelude.{◌≡◌, ℕ, ◌+◌, ◌-◌, ◌*◌, ◌<◌, ◌≤◌, false}
+use Rattle.std.specs.Prelude.{◌≡◌, ℕ, ◌+◌, ◌-◌, ◌*◌, ◌^◌, ◌<◌, ◌≤◌, false}
 use Rattle.ns_base.specs.declared.limits.Limits.{Limits}
 use Rattle.ns_code.specs.declared.program.CodeProgram.{CodeProgram}
 use Rattle.ns_facets.specs.declared.row.Grants.{Grants}
@@ -32,3 +32,12 @@ run_left code state =
 -- Each move of a valid state lowers that, so each run ends.
 abbrev pub MovesLower : CodeProgram → Grants → Type 0
 MovesLower code grants = (state : State) → Valid code grants state → is_still state ≡ false → run_left code (move code state) < run_left code state
+
+-- a power of two that passes all that a run within these limits can do
+abbrev pub power_left : CodeProgram → Limits → ℕ
+power_left code limits = limits.steps + limits.depth + (2 + longest code.bodies) * (limits.cells + 1)
+
+-- No valid state has so much left.
+abbrev pub LeftIsBelowPower : CodeProgram → Grants → Type 0
+LeftIsBelowPower code grants =
+    (state : State) → Valid code grants state → run_left code state + 1 ≤ 2 ^ power_left code (world_of state).limits

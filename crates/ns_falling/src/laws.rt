@@ -3,7 +3,7 @@
 
 ghost use Rattle.ns_code.specs.declared.program.CodeProgram.{CodeProgram};
 ghost use Rattle.ns_facets.specs.declared.row.Grants.{Grants};
-ghost use Rattle.ns_falling.specs.Falling.{FreeMovesLower, LeftIsBounded, MovesLower};
+ghost use Rattle.ns_falling.specs.Falling.{FreeMovesLower, LeftIsBelowPower, LeftIsBounded, MovesLower};
 
 /// A move that charges no step lowers what a run in a valid state can do without charging one. So there are only so
 /// many such moves one after another.
@@ -24,5 +24,12 @@ pub fn moves_lower()
     ns_moves::laws::moves_go_onward();
     ns_moves::valid_frames::moves_keep_valid();
     free_moves_lower();
+    left_is_bounded();
+}
+
+/// So what is left of a run is less than two to a power that its limits and its code give.
+pub fn left_is_below_a_power()
+    ensures { (code : CodeProgram) (grants : Grants) → LeftIsBelowPower code grants }
+{
     left_is_bounded();
 }

@@ -1,4 +1,3 @@
-pub mod Powers
 pub mod Resting
 pub mod Begun
 pub mod Ends

@@ -2,15 +2,16 @@
 use Rattle.std.proofs.Common.{◌≡◌, ℕ, zero, suc, ◌+◌, ◌^◌, ◌≤◌, ◌⊎◌, inl, inr, refl, sym, ap, subst, ◌∙◌, arith, Bool, true, false, if◌then◌else◌}
 use Rattle.ns_code.specs.declared.program.CodeProgram.{CodeProgram}
 use Rattle.ns_facets.specs.declared.row.Grants.{Grants}
-use Rattle.ns_falling.specs.Falling.{LeftIsBounded, MovesLower, run_left}
+use Rattle.ns_falling.specs.Falling.{LeftIsBelowPower, MovesLower, power_left, run_left}
 use Rattle.ns_moves.specs.Laws.{MovesAdd, StaysStill}
 use Rattle.ns_moves.specs.Move.{move, moves}
 use Rattle.ns_moves.specs.Standing.{MovesKeepValid}
 use Rattle.ns_moves.specs.State.{State, world_of}
 use Rattle.ns_moves.specs.Turn.{is_still}
 use Rattle.ns_moves.specs.Valid.{Valid}
-use Rattle.ns_launch.specs.Machine.{doubled, at_rest, enough, rested}
-use Rattle.ns_launch.proofs.Powers.{pow_more, enough_is_enough}
+use Rattle.ns_falling.specs.Doubling.{times, until}
+use Rattle.ns_falling.proofs.Doubling.{leads}
+use Rattle.ns_launch.specs.Machine.{rested}
 
 -- What is known of moves.
 pub record Known (code : CodeProgram) (grants : Grants) : Type 0 where
@@ -18,50 +19,30 @@ pub record Known (code : CodeProgram) (grants : Grants) : Type 0 where
   pub stay : (s : State) → StaysStill code s
   pub keeps : MovesKeepValid code grants
   pub lower : MovesLower code grants
-  pub bounded : LeftIsBounded code grants
+  pub below : LeftIsBelowPower code grants
+
+-- moves are a step, so many times
+times_are : (code : CodeProgram) (count : ℕ) (s : State) → times (move code) count s ≡ moves code count s
+times_are code zero s = refl
+times_are code (suc count) s = times_are code count (move code s)
 
 -- Moves lead from one state to another, which is still unless so many were made.
-pub record CameToRest (code : CodeProgram) (power more : ℕ) (state rest : State) : Type 0 where
-  pub count : ℕ
-  pub is : moves code count state ≡ rest
-  pub stops : (is_still rest ≡ true) ⊎ (2 ^ (power + more) ≤ count + 2 ^ power)
+record CameToRest (code : CodeProgram) (power : ℕ) (state rest : State) : Type 0 where
+  count : ℕ
+  is : moves code count state ≡ rest
+  stops : (is_still rest ≡ true) ⊎ (2 ^ power ≤ count + 1)
 
-doubled_is : (code : CodeProgram) → ((s : State) → MovesAdd code s) → (power : ℕ) (s : State) → doubled code power s ≡ moves code (2 ^ power) s
-doubled_is code add zero s = refl
-doubled_is code add (suc power) s =
-    doubled_is code add power (doubled code power s)
-    ∙ (ap (moves code (2 ^ power)) (doubled_is code add power s)
-    ∙ (sym (add s (2 ^ power) (2 ^ power)) ∙ ap (λ n. moves code n s) (sym (pow_more power))))
-
--- one round fewer, of twice as many moves, comes as far
-up : (power more count : ℕ) (rest : State) → (is_still rest ≡ true) ⊎ (2 ^ ((power + 1) + more) ≤ count + 2 ^ (power + 1))
-    → (is_still rest ≡ true) ⊎ (2 ^ (power + suc more) ≤ (2 ^ power + count) + 2 ^ power)
-up power more count rest (inl still) = inl still
-up power more count rest (inr many) =
-    let one : power + 1 ≡ suc power = omega arith in
-    let double = ap (λ n. 2 ^ n) one ∙ pow_more power in
-    let all : (power + 1) + more ≡ power + suc more = omega arith in
-    let same = ap (λ n. 2 ^ n) all in
-    inr (omega (arith, many, double, same))
-
-came_to_rest : (code : CodeProgram) → ((s : State) → MovesAdd code s) → (power more : ℕ) (s : State)
-    → CameToRest code power more s (at_rest code power more s)
-came_to_rest code add power zero s =
-    let all : power + zero ≡ power = omega arith in
-    let same = ap (λ n. 2 ^ n) all in
-    record { count = 0; is = refl; stops = inr (omega (arith, same)) }
-came_to_rest code add power (suc more) s = tested (is_still s) refl (came_to_rest code add (power + 1) more (doubled code power s))
+came_to_rest : (code : CodeProgram) (power : ℕ) (s : State) → CameToRest code power s (until is_still (move code) 0 power s)
+came_to_rest code power s =
+    let led = leads is_still (move code) 0 power s in
+    record { count = led.count; is = sym (times_are code led.count s) ∙ led.is; stops = by led.count _ led.done }
   where
-    tested : (b : Bool) → is_still s ≡ b
-        → CameToRest code (power + 1) more (doubled code power s) (at_rest code (power + 1) more (doubled code power s))
-        → CameToRest code power (suc more) s (if b then s else at_rest code (power + 1) more (doubled code power s))
-    tested true e next = record { count = 0; is = refl; stops = inl e }
-    tested false e next =
-        record {
-          count = 2 ^ power + next.count;
-          is = add s (2 ^ power) next.count ∙ (ap (moves code next.count) (sym (doubled_is code add power s)) ∙ next.is);
-          stops = up power more next.count _ next.stops;
-        }
+    by : (count : ℕ) (rest : State) → (is_still rest ≡ true) ⊎ (2 ^ (0 + power) ≤ count + 2 ^ 0) → (is_still rest ≡ true) ⊎ (2 ^ power ≤ count + 1)
+    by count rest (inl still) = inl still
+    by count rest (inr many) =
+        let none : 0 + power ≡ power = omega arith in
+        let same = ap (λ n. 2 ^ n) none in
+        inr (omega (arith, many, same))
 
 -- moves to two states that are still lead to one
 pub one_rest : (code : CodeProgram) → ((s : State) → MovesAdd code s) → ((s : State) → StaysStill code s) → (first second : ℕ) (s one other : State)
@@ -110,18 +91,15 @@ module _ (code : CodeProgram) (grants : Grants) (known : Known code grants) wher
 
   still_rested : (s : State) → Valid code grants s → is_still (rested code s) ≡ true
   still_rested s valid =
-      by_still (is_still (rested code s)) refl (came_to_rest code known.add 0 (enough code (world_of s).limits) s)
+      let came = came_to_rest code (power_left code (world_of s).limits) s in
+      by_still (is_still (rested code s)) refl came
     where
       stopped : (count : ℕ) → count + 1 ≤ run_left code s
-          → (is_still (rested code s) ≡ true) ⊎ (2 ^ (0 + enough code (world_of s).limits) ≤ count + 2 ^ 0) → is_still (rested code s) ≡ true
+          → (is_still (rested code s) ≡ true) ⊎ (2 ^ power_left code (world_of s).limits ≤ count + 1) → is_still (rested code s) ≡ true
       stopped count few (inl still) = still
-      stopped count few (inr many) =
-          let none : 0 + enough code (world_of s).limits ≡ enough code (world_of s).limits = omega arith in
-          let same = ap (λ n. 2 ^ n) none in
-          let most = enough_is_enough code s (known.bounded s valid) in
-          absurd (omega (arith, few, many, most, same))
+      stopped count few (inr many) = let most = known.below s valid in absurd (omega (arith, few, many, most))
 
-      by_still : (b : Bool) → is_still (rested code s) ≡ b → CameToRest code 0 (enough code (world_of s).limits) s (rested code s)
+      by_still : (b : Bool) → is_still (rested code s) ≡ b → CameToRest code (power_left code (world_of s).limits) s (rested code s)
           → is_still (rested code s) ≡ true
       by_still true e came = e
       by_still false e came = stopped came.count (few_moves came.count s (rested code s) valid came.is e) came.stops
@@ -134,7 +112,7 @@ module _ (code : CodeProgram) (grants : Grants) (known : Known code grants) wher
 
   pub rests : (s : State) → Valid code grants s → Rests s
   rests s valid =
-      let came = came_to_rest code known.add 0 (enough code (world_of s).limits) s in
+      let came = came_to_rest code (power_left code (world_of s).limits) s in
       let still = still_rested s valid in
       record {
         still = still;

@@ -5,7 +5,8 @@ use Rattle.ns_code.specs.declared.program.CodeProgram.{CodeProgram}
 use Rattle.ns_world.specs.declared.ending.Ending.{Ending}
 use Rattle.ns_world.specs.declared.ending.Ending.TheVariants.{Limit}
 use Rattle.ns_world.specs.declared.ending.LimitKind.TheVariants.{Steps}
-use Rattle.ns_moves.specs.Left.{longest}
+use Rattle.ns_falling.specs.Doubling.{until}
+use Rattle.ns_falling.specs.Falling.{power_left}
 use Rattle.ns_moves.specs.Move.{move}
 use Rattle.ns_moves.specs.Starts.{new_machine, started}
 use Rattle.ns_moves.specs.State.{State, ending_of, world_of}
@@ -18,26 +19,9 @@ use Rattle.ns_launch.specs.Running.{told_of}
 abbrev pub begins_with : CodeProgram → Limits → List (List ℕ) → State
 begins_with code limits arguments = started code (new_machine code limits granted arguments)
 
--- ---- moves until the run moves no more
-
--- as many moves as two to that power
-abbrev pub doubled : CodeProgram → ℕ → State → State
-doubled code zero state = move code state
-doubled code (suc power) state = doubled code power (doubled code power state)
-
--- Moves until the run moves no more: as many as two to that power, then twice as many, and so on, in at most so many
--- rounds. A run that moves no more stays as it is, so it doesn't matter how many moves later that is seen.
-abbrev pub at_rest : CodeProgram → ℕ → ℕ → State → State
-at_rest code power zero state = state
-at_rest code power (suc more) state = if is_still state then state else at_rest code (power + 1) more (doubled code power state)
-
--- how many rounds are always enough: they are more moves than a run within these limits can make (by a law)
-abbrev pub enough : CodeProgram → Limits → ℕ
-enough code limits = limits.steps + limits.depth + (2 + longest code.bodies) * (limits.cells + 1)
-
--- where the run comes to rest
+-- where the run comes to rest: no run can make as many moves as these (by a law)
 abbrev pub rested : CodeProgram → State → State
-rested code state = at_rest code 0 (enough code (world_of state).limits) state
+rested code state = until is_still (move code) 0 (power_left code (world_of state).limits) state
 
 -- ---- what is told of it
 

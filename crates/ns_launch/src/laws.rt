@@ -15,7 +15,7 @@ pub fn code_comes_to_its_end()
     ns_moves::valid_world::opening_sends_are_valid();
     ns_moves::valid_frames::moves_keep_valid();
     ns_falling::laws::moves_lower();
-    ns_falling::laws::left_is_bounded();
+    ns_falling::laws::left_is_below_a_power();
 }
 
 /// The run of a program's code is the run that its source means, with all arguments and at all limits.

@@ -1,22 +1,25 @@
 -- The turn as a function is a turn: each move lowers what is left to be done.
-use Rattle.std.proofs.Common.{◌≡◌, ℕ, zero, suc, ◌+◌, ◌≤◌, refl, ap, ◌∙◌, inl, inr, arith, Bool, true, false, if◌then◌else◌}
+use Rattle.std.proofs.Common.{◌≡◌, ℕ, zero, suc, ◌+◌, ◌^◌, ◌≤◌, ◌⊎◌, ◌==◌, ◌&&◌, ◌||◌, refl, sym, ap, subst, ◌∙◌, inl, inr, arith, Bool, true, false, if◌then◌else◌}
 use Rattle.ns_code.specs.declared.program.CodeProgram.{CodeProgram}
 use Rattle.ns_facets.specs.declared.row.Grants.{Grants}
-use Rattle.ns_falling.specs.Falling.{MovesLower, run_left}
+use Rattle.ns_falling.specs.Doubling.{Leads, times, until}
+use Rattle.ns_falling.specs.Falling.{LeftIsBelowPower, MovesLower, power_left, run_left}
+use Rattle.ns_falling.proofs.Doubling.{leads}
 use Rattle.ns_moves.specs.Laws.{TurnsLeaveOne}
 use Rattle.ns_moves.specs.Move.{move}
 use Rattle.ns_moves.specs.Standing.{MovesKeepValid}
-use Rattle.ns_moves.specs.State.{State}
-use Rattle.ns_moves.specs.Turn.{is_still, charges, charged_in, one_if, turn_on, Turns}
+use Rattle.ns_moves.specs.State.{State, world_of}
+use Rattle.ns_moves.specs.Turn.{is_still, charges, charged_in, one_if, Turns}
 use Rattle.ns_moves.specs.Valid.{Valid}
 use Rattle.ns_rounds.specs.Laws.{TurnsAreTurned}
-use Rattle.ns_rounds.specs.Turned.{turned_in, turned}
+use Rattle.ns_rounds.specs.Turned.{Underway, is_over, moved_on, steps_behind, turned}
 
 -- What is known of moves.
 pub record Known (code : CodeProgram) (grants : Grants) : Type 0 where
   pub one : TurnsLeaveOne code
   pub keeps : MovesKeepValid code grants
   pub lower : MovesLower code grants
+  pub below : LeftIsBelowPower code grants
 
 one_if_add : (b : Bool) (m x left steps : ℕ) → m + x ≡ left → one_if b left ≡ steps → one_if b m + x ≡ steps
 one_if_add true m x left steps e f = omega (arith, e, f)
@@ -44,38 +47,116 @@ rests code steps state still = inr (record { count = 0; spared = steps; is = ref
 stops : (code : CodeProgram) (state : State) → charges code state ≡ true → Turns code 0 state state
 stops code state next = inl (record { count = 0; is = refl; charged = refl; next = next })
 
+-- ---- a turn that goes on, and one that is over
+
+abbrev at_turn : ℕ → State → Underway
+at_turn steps state = record { steps = steps; state = state }
+
+over_stays : (code : CodeProgram) (count : ℕ) (turn : Underway) → is_over code turn ≡ true → times (moved_on code) count turn ≡ turn
+over_stays code zero turn over = refl
+over_stays code (suc count) turn over =
+    let same : moved_on code turn ≡ turn
+    = ap (λ (b : Bool). if b then turn else at_turn (steps_behind (charges code turn.state) turn.steps) (move code turn.state)) over in
+    ap (times (moved_on code) count) same ∙ over_stays code count turn over
+
+goes_on : (code : CodeProgram) (turn : Underway) → is_over code turn ≡ false
+    → moved_on code turn ≡ at_turn (steps_behind (charges code turn.state) turn.steps) (move code turn.state)
+goes_on code turn on =
+    ap (λ (b : Bool). if b then turn else at_turn (steps_behind (charges code turn.state) turn.steps) (move code turn.state)) on
+
+-- a turn that is over has left its state
+over_turns : (code : CodeProgram) (steps : ℕ) (state : State) → (is_still state || (charges code state && steps == 0)) ≡ true
+    → Turns code steps state state
+over_turns code steps state over = by (is_still state) (charges code state) steps refl refl over
+  where
+    by : (still charge : Bool) (steps : ℕ) → is_still state ≡ still → charges code state ≡ charge → (still || (charge && steps == 0)) ≡ true
+        → Turns code steps state state
+    by true charge steps e f over = rests code steps state e
+    by false true zero e f over = stops code state f
+    by false true (suc steps) e f over = absurd (cc)
+    by false false steps e f over = absurd (cc)
+
+-- where a move is made, its steps and what it charges are those of the turn
+behind_is : (charge : Bool) (steps : ℕ) → (charge && steps == 0) ≡ false → one_if charge (steps_behind charge steps) ≡ steps
+behind_is true zero on = absurd (cc)
+behind_is true (suc steps) on = omega arith
+behind_is false steps on = refl
+
+not_still : (still other : Bool) → (still || other) ≡ false → still ≡ false
+not_still true other e = absurd (cc)
+not_still false other e = refl
+
+not_out : (still other : Bool) → (still || other) ≡ false → other ≡ false
+not_out true other e = absurd (cc)
+not_out false other e = e
+
+-- so many moves after which it is over are the turn
+turn_made : (code : CodeProgram) (count steps : ℕ) (state : State) (last : Underway) → times (moved_on code) count (at_turn steps state) ≡ last
+    → is_over code last ≡ true → Turns code steps state last.state
+turn_made code count steps state last is over = by count (is_over code (at_turn steps state)) refl is
+  where
+    stayed : (count : ℕ) → times (moved_on code) count (at_turn steps state) ≡ last → is_over code (at_turn steps state) ≡ true → Turns code steps state last.state
+    stayed count is e =
+        let same : at_turn steps state ≡ last = sym (over_stays code count (at_turn steps state) e) ∙ is in
+        subst (λ (t : Underway). Turns code steps state t.state) same (over_turns code steps state e)
+
+    by : (count : ℕ) (b : Bool) → is_over code (at_turn steps state) ≡ b → times (moved_on code) count (at_turn steps state) ≡ last → Turns code steps state last.state
+    by count true e is = stayed count is e
+    by zero false e is = stayed zero is (ap (is_over code) is ∙ over)
+    by (suc more) false e is =
+        let charge = charges code state in
+        let left = steps_behind charge steps in
+        let out = not_out (is_still state) (charge && steps == 0) e in
+        let next = ap (times (moved_on code) more) (sym (goes_on code (at_turn steps state) e)) ∙ is in
+        first_move code steps left state last.state (behind_is charge steps out) (turn_made code more left (move code state) last next over)
+
 module _ (code : CodeProgram) (grants : Grants) (known : Known code grants) where
-  none_left : (b : Bool) (state : State) → Valid code grants state → is_still state ≡ b → run_left code state ≤ 0 → is_still state ≡ true
-  none_left true state valid e few = e
-  none_left false state valid e few = let less = known.lower state valid e in absurd (omega (arith, few, less))
+  -- as long as a turn isn't over, each of its moves lowers what is left of the run
+  lowered : (count : ℕ) (turn : Underway) → Valid code grants turn.state → is_over code (times (moved_on code) count turn) ≡ false
+      → count + 1 ≤ run_left code turn.state
+  lowered zero turn valid on =
+      let less = known.lower turn.state valid (not_still (is_still turn.state) (charges code turn.state && turn.steps == 0) on) in
+      omega (arith, less)
+  lowered (suc count) turn valid on = by (is_over code turn) refl
+    where
+      by : (b : Bool) → is_over code turn ≡ b → suc count + 1 ≤ run_left code turn.state
+      by true e = absurd (let same = ap (is_over code) (over_stays code (suc count) turn e) in cc)
+      by false e =
+          let next = at_turn (steps_behind (charges code turn.state) turn.steps) (move code turn.state) in
+          let same : times (moved_on code) (suc count) turn ≡ times (moved_on code) count next = ap (times (moved_on code) count) (goes_on code turn e) in
+          let rest = lowered count next (known.keeps 1 turn.state valid) (ap (is_over code) (sym same) ∙ on) in
+          let first = known.lower turn.state valid (not_still (is_still turn.state) (charges code turn.state && turn.steps == 0) e) in
+          omega (arith, rest, first)
 
-  by_charge : (b : Bool) (enough steps : ℕ) (state : State) → charges code state ≡ b
-      → ((left : ℕ) → Turns code left (move code state) (turned_in code enough left (move code state)))
-      → Turns code steps state (turn_on b steps state (λ left. turned_in code enough left (move code state)))
-  by_charge true enough zero state e next = stops code state e
-  by_charge true enough (suc left) state e next =
-      first_move code (suc left) left state (turned_in code enough left (move code state)) (ap (λ b. one_if b left) e) (next left)
-  by_charge false enough steps state e next =
-      first_move code steps steps state (turned_in code enough steps (move code state)) (ap (λ b. one_if b steps) e) (next steps)
+  -- so it is over before two to a power that passes that
+  module _ (steps : ℕ) (state : State) (valid : Valid code grants state) where
+    abbrev power : ℕ
+    power = power_left code (world_of state).limits
 
-  by_still : (b : Bool) (enough steps : ℕ) (state : State) → is_still state ≡ b
-      → (is_still state ≡ false → Turns code steps state (turn_on (charges code state) steps state (λ left. turned_in code enough left (move code state))))
-      → Turns code steps state
-      (if b then state else turn_on (charges code state) steps state (λ left. turned_in code enough left (move code state)))
-  by_still true enough steps state e next = rests code steps state e
-  by_still false enough steps state e next = next e
+    abbrev last : Underway
+    last = until (is_over code) (moved_on code) 0 power (at_turn steps state)
 
-  turned_in_is : (enough steps : ℕ) (state : State) → Valid code grants state → run_left code state ≤ enough
-      → Turns code steps state (turned_in code enough steps state)
-  turned_in_is zero steps state valid few = rests code steps state (none_left (is_still state) state valid refl few)
-  turned_in_is (suc enough) steps state valid few =
-      by_still (is_still state) enough steps state refl
-      (λ on.
-      let less = known.lower state valid on in
-      by_charge (charges code state) enough steps state refl
-      (λ left. turned_in_is enough left (move code state) (known.keeps 1 state valid) (omega (arith, less, few))))
+    over : Leads (is_over code) (moved_on code) 0 power (at_turn steps state) last → is_over code last ≡ true
+    over led = by (is_over code last) refl
+      where
+        stopped : is_over code last ≡ false → (is_over code last ≡ true) ⊎ (2 ^ (0 + power) ≤ led.count + 2 ^ 0) → is_over code last ≡ true
+        stopped on (inl done) = done
+        stopped on (inr many) =
+            let few = lowered led.count (at_turn steps state) valid (ap (is_over code) led.is ∙ on) in
+            let none : 0 + power ≡ power = omega arith in
+            let same = ap (λ n. 2 ^ n) none in
+            let most = known.below state valid in
+            absurd (omega (arith, few, many, most, same))
+
+        by : (b : Bool) → is_over code last ≡ b → is_over code last ≡ true
+        by true e = e
+        by false e = stopped e led.done
+
+    turn_is_made : Turns code steps state (turned code steps state)
+    turn_is_made =
+        let led = leads (is_over code) (moved_on code) 0 power (at_turn steps state) in
+        turn_made code led.count steps state last led.is (over led)
 
   pub turns_are_turned : TurnsAreTurned code grants
   turns_are_turned steps old new valid turns =
-      let few : run_left code old ≤ run_left code old = omega arith in
-      known.one steps old new (turned code steps old) turns (turned_in_is (run_left code old) steps old valid few)
+      known.one steps old new (turned code steps old) turns (turn_is_made steps old valid)

@@ -1,22 +1,38 @@
 -- The turn of an application as a function.
-use Rattle.std.specs.Prelude.{ℕ, zero, suc, Bool, true, false, if◌then◌else◌}
+use Rattle.std.specs.Prelude.{ℕ, ◌-◌, ◌==◌, ◌&&◌, ◌||◌, Bool, true, false, if◌then◌else◌}
 use Rattle.ns_code.specs.declared.program.CodeProgram.{CodeProgram}
 use Rattle.ns_facets.specs.declared.board.Board.{Board}
-use Rattle.ns_falling.specs.Falling.{run_left}
+use Rattle.ns_falling.specs.Doubling.{until}
+use Rattle.ns_falling.specs.Falling.{power_left}
 use Rattle.ns_moves.specs.Move.{move}
-use Rattle.ns_moves.specs.State.{State, swapped}
-use Rattle.ns_moves.specs.Turn.{is_still, charges, turn_on}
+use Rattle.ns_moves.specs.State.{State, swapped, world_of}
+use Rattle.ns_moves.specs.Turn.{is_still, charges}
 use Rattle.ns_session.specs.Member.{board_of}
 
--- at most so many moves, until the run moves no more or the next move would charge more than these steps
-abbrev pub turned_in : CodeProgram → ℕ → ℕ → State → State
-turned_in code zero steps state = state
-turned_in code (suc enough) steps state =
-    if is_still state then state else turn_on (charges code state) steps state (λ left. turned_in code enough left (move code state))
+-- where a turn stands: the steps that are left of it, and the run
+pub record Underway : Type 0 where
+  pub steps : ℕ
+  pub state : State
 
--- a turn of so many steps: no run makes more moves than are left to it (by a law)
+-- whether it is over: the run moves no more, or its next move would charge a step and none is left
+abbrev pub is_over : CodeProgram → Underway → Bool
+is_over code turn = is_still turn.state || (charges code turn.state && turn.steps == 0)
+
+-- the steps that a move leaves, by whether it charges one
+abbrev pub steps_behind : Bool → ℕ → ℕ
+steps_behind true steps = steps - 1
+steps_behind false steps = steps
+
+-- a turn on by one move, unless it is over
+abbrev pub moved_on : CodeProgram → Underway → Underway
+moved_on code turn =
+    if is_over code turn then turn
+    else record { steps = steps_behind (charges code turn.state) turn.steps; state = move code turn.state }
+
+-- a turn of so many steps: moves until it is over, which it is before two to that power (by a law)
 abbrev pub turned : CodeProgram → ℕ → State → State
-turned code steps state = turned_in code (run_left code state) steps state
+turned code steps state =
+    (until (is_over code) (moved_on code) 0 (power_left code (world_of state).limits) (record { steps = steps; state = state })).state
 
 -- What a turn leaves: where the run stands, and the shared board.
 pub record AfterTurn : Type 0 where

@@ -14,6 +14,7 @@ pub fn turns_are_a_function()
     ns_moves::laws::turns_add();
     ns_moves::valid_frames::moves_keep_valid();
     ns_falling::laws::moves_lower();
+    ns_falling::laws::left_is_below_a_power();
 }
 
 /// So is the turn of an application, with the shared board or without it.

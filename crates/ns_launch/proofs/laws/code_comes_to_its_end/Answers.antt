@@ -10,5 +10,5 @@ returns c code =
       stay = c.ended_runs_stay.ensures code;
       keeps = c.moves_keep_valid.ensures code granted;
       lower = c.moves_lower.ensures code granted;
-      bounded = c.left_is_bounded.ensures code granted;
+      below = c.left_is_below_a_power.ensures code granted;
     }) (c.new_machines_are_valid.ensures code granted) (c.opening_sends_are_valid.ensures.first code granted)

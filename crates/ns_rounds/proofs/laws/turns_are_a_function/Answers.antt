@@ -7,4 +7,5 @@ returns c code grants =
       one = c.turns_add.ensures.one code;
       keeps = c.moves_keep_valid.ensures code grants;
       lower = c.moves_lower.ensures code grants;
+      below = c.left_is_below_a_power.ensures code grants;
     })

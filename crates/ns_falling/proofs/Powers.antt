@@ -3,10 +3,9 @@ use Rattle.std.proofs.Common.{◌≡◌, ℕ, zero, suc, ◌+◌, ◌*◌, ◌-�
 use Rattle.std.proofs.lemmas.Nat.{pow-add, mul-le}
 use Rattle.std.proofs.Math.Nat.{pow-suc, mul-suc, mul-zero, suc-mul, mul-le-mul_right}
 use Rattle.ns_code.specs.declared.program.CodeProgram.{CodeProgram}
-use Rattle.ns_falling.specs.Falling.{most_left, run_left}
+use Rattle.ns_falling.specs.Falling.{most_left, power_left, run_left}
 use Rattle.ns_moves.specs.Left.{longest, weight, left}
 use Rattle.ns_moves.specs.State.{State, world_of}
-use Rattle.ns_launch.specs.Machine.{enough}
 
 pub pow_more : (n : ℕ) → 2 ^ suc n ≡ 2 ^ n + 2 ^ n
 pow_more n = let e = pow-suc 2 n in omega (arith, e)
@@ -86,7 +85,7 @@ module _ (longest steps used cells depth left : ℕ) where
       let product = product_is in
       omega (arith, few, less, all, both, product)
 
-pub enough_is_enough : (code : CodeProgram) (s : State) → left code s ≤ most_left code (world_of s).limits
-    → run_left code s + 1 ≤ 2 ^ enough code (world_of s).limits
-enough_is_enough code s few =
+pub below_power : (code : CodeProgram) (s : State) → left code s ≤ most_left code (world_of s).limits
+    → run_left code s + 1 ≤ 2 ^ power_left code (world_of s).limits
+below_power code s few =
     all_below (longest code.bodies) (world_of s).limits.steps (world_of s).steps (world_of s).limits.cells (world_of s).limits.depth (left code s) few
