@@ -35,7 +35,7 @@ use Rattle.ns_engine.specs.declared.state.Next.TheVariants as next
 use Rattle.ns_engine.specs.Shown.{phase_shown, progress_in}
 use Rattle.ns_engine.specs.Standing.{height_in, greatest_of, AreStanding, ArgumentsWait}
 use Rattle.ns_engine.specs.Arriving.{shape_of, CanBegin, CanEnter, Arrives}
-use Rattle.ns_engine.proofs.Pushed.{stack_stays}
+use Rattle.ns_engine.proofs.Pushed.{stack_stays, waiting_stays}
 
 -- ---- how far frames reach
 
@@ -166,10 +166,10 @@ entered_by bodies_begin entering code core at to stack call exit entered told sa
 pub block_waits : (code : CodeProgram) (core : Core) (at : Registers) (block : Value) (site : KeptSite) (floor first : ℕ) → AreStanding code core.stack at
     → ArgumentsWait code core.stack at floor first
     → Arrives code core at floor (reached_shown code (site_shown core.places site) (drop first (in_use core.stack at)) (reached.Evaluates block given.Listed) (progress_in core))
-    core (next.Waits (pending.Evaluating block site floor first) at)
+    (record core { waiting = pending.Evaluating block site floor first }) (next.Waits at)
 block_waits code core at block site floor first stands waits = record {
   state = refl;
   stand = (stands, waits);
   run = refl;
-  stays = stack_stays core core.stack refl refl;
+  stays = waiting_stays core (pending.Evaluating block site floor first);
 }

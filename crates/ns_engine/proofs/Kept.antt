@@ -1,5 +1,6 @@
 -- What a move keeps of a machine.
 use Rattle.std.proofs.Common.{◌≡◌, ◌+◌, List, refl, ap, sym, ◌∙◌, subst, Option, All}
+use Rattle.ns_base.specs.declared.place.Place.{Place as SourcePlace}
 use Rattle.ns_code.specs.declared.program.CodeProgram.{CodeProgram}
 use Rattle.ns_facets.specs.declared.row.Grants.{Grants}
 use Rattle.ns_world.specs.declared.ending.Ending.{Ending}
@@ -17,12 +18,15 @@ use Rattle.ns_moves.specs.Onward.{MovesGoOnward}
 use Rattle.ns_moves.specs.Standing.{MovesKeepValid}
 use Rattle.ns_moves.specs.Valid.{Valid, EndsIn}
 use Rattle.ns_send.specs.Control.{Progress}
+use Rattle.ns_frames.specs.declared.frame.Pending.{Pending}
 use Rattle.ns_frames.specs.declared.frame.Pending.TheVariants as pending
 use Rattle.ns_frames.specs.declared.registers.Registers.{Registers}
+use Rattle.ns_frames.specs.declared.stack.Stack.{Stack}
 use Rattle.ns_engine.specs.declared.state.Core.{Core}
 use Rattle.ns_engine.specs.declared.state.Next.{Next}
 use Rattle.ns_engine.specs.declared.state.Next.TheVariants as next
 use Rattle.ns_frames.specs.Stack.{in_use, stood}
+use Rattle.ns_frames.specs.View.{state_shown}
 use Rattle.ns_engine.specs.Shown.{phase_shown, progress_in, shown}
 use Rattle.ns_engine.specs.Standing.{HasRooms, Stays}
 use Rattle.ns_engine.specs.Doing.{CanDo, Does}
@@ -66,13 +70,17 @@ valid_lawful code grants (Ended ending phase p) v = ended_lawful code grants end
 valid_lawful code grants (Stuck p) v = absurd v
 
 -- the world of what is shown is the machine's
+waiting_progress : (code : CodeProgram) (places : List SourcePlace) (phase : Phase) (p : Pending) (stack : Stack) (at : Registers) (progress : Progress)
+    → progress_of (state_shown code places phase p stack at progress) ≡ progress
+waiting_progress code places phase pending.Nothing stack at progress = refl
+waiting_progress code places phase (pending.Sending receiver sel site floor first) stack at progress = refl
+waiting_progress code places phase (pending.Performing receiver sel array site floor) stack at progress = refl
+waiting_progress code places phase (pending.Evaluating block site floor first) stack at progress = refl
+
 pub shown_progress : (code : CodeProgram) (core : Core) (n : Next) → progress_of (shown code core n) ≡ progress_in core
 shown_progress code core (next.On at) = refl
-shown_progress code core (next.Waits pending.Nothing at) = refl
-shown_progress code core (next.Waits (pending.Sending receiver sel site floor first) at) = refl
-shown_progress code core (next.Waits (pending.Performing receiver sel array site floor) at) = refl
-shown_progress code core (next.Waits (pending.Evaluating block site floor first) at) = refl
-shown_progress code core (next.Ends ending) = refl
+shown_progress code core (next.Waits at) = waiting_progress code core.places (phase_shown core.phase) core.waiting core.stack at (progress_in core)
+shown_progress code core next.Ended = refl
 
 pub ready_lawful : (code : CodeProgram) (grants : Grants) (core : Core) (n : Next) → Valid code grants (shown code core n) → IsLawful (progress_in core).world code
 ready_lawful code grants core n valid =

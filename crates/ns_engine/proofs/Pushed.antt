@@ -19,6 +19,8 @@ use Rattle.ns_frames.specs.Standing.{Stood, Runs, Loops, pushed, standing, at_ne
 use Rattle.ns_frames.specs.Stack.{stood, put_at, IsLaid}
 use Rattle.ns_frames.specs.Room.{AreWithin}
 use Rattle.ns_frames.specs.View.{frames_shown}
+use Rattle.ns_frames.specs.declared.frame.Pending.{Pending}
+use Rattle.ns_world.specs.declared.ending.Ending.{Ending}
 use Rattle.ns_engine.specs.declared.state.Core.{Core}
 use Rattle.ns_engine.specs.declared.state.Next.TheVariants as next
 use Rattle.ns_engine.specs.Shown.{phase_shown, progress_in, shown}
@@ -34,6 +36,13 @@ stack_stays core stack values frames = record {
   frames = frames;
   places = refl;
 }
+
+-- or where a run has ended, or something waits in it
+pub ended_stays : (core : Core) (ending : Ending) → Stays core (record core { ending = ending })
+ended_stays core ending = record { world = record { limits = refl; room = (refl, refl) }; values = refl; frames = refl; places = refl }
+
+pub waiting_stays : (core : Core) (waiting : Pending) → Stays core (record core { waiting = waiting })
+waiting_stays core waiting = record { world = record { limits = refl; room = (refl, refl) }; values = refl; frames = refl; places = refl }
 
 pub value_pushed : (code : CodeProgram) (core : Core) (at to : Registers) (stack : Stack) (value : Value) → AreStanding code core.stack at
     → stood stack to ≡ pushed value (stood core.stack at) → IsLaid stack to → stack ≡ put_at at.top value core.stack

@@ -17,7 +17,7 @@ use Rattle.ns_engine.specs.declared.state.Core.{Core}
 use Rattle.ns_engine.specs.declared.state.Next.TheVariants as next
 use Rattle.ns_engine.specs.Shown.{phase_shown, progress_in, shown}
 use Rattle.ns_engine.specs.Doing.{IsRunning, Pushed, IsSettled}
-use Rattle.ns_engine.proofs.Pushed.{stack_stays}
+use Rattle.ns_engine.proofs.Pushed.{ended_stays}
 
 pub given : (code : CodeProgram) (old new : Core) (at to : Registers) (site : KeptSite) (value : Value) → IsRunning old.stack.frames.items
     → Pushed code old at value new to → IsSettled code old at site (Ok value) new (next.On to)
@@ -40,5 +40,5 @@ given code old new at to site value runs is = record {
     by_frames (Running frame ∷ frames) runs = refl
 
 pub ended : (code : CodeProgram) (core : Core) (at : Registers) (site : KeptSite) (fault : Fault)
-    → IsSettled code core at site (Err fault) core (next.Ends (fault_ending fault (site_shown core.places site)))
-ended code core at site fault = record { state = refl; stand = tt; run = refl; stays = stack_stays core core.stack refl refl }
+    → IsSettled code core at site (Err fault) (record core { ending = fault_ending fault (site_shown core.places site) }) next.Ended
+ended code core at site fault = record { state = refl; stand = tt; run = refl; stays = ended_stays core (fault_ending fault (site_shown core.places site)) }

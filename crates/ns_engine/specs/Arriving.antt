@@ -51,6 +51,6 @@ pub record CanEnter (code : CodeProgram) (core : Core) (at : Registers) (call : 
 -- Control is where an action led it, from frames that stand at a floor.
 pub record Arrives (code : CodeProgram) (old : Core) (at : Registers) (floor : ℕ) (control : Control) (new : Core) (next : Next) : Type 0 where
   pub state : shown code new next ≡ arrived code (phase_shown old.phase) control (frames_shown code old.places (stood old.stack (with_top floor at)))
-  pub stand : StandAt code new.stack next
+  pub stand : StandAt code new next
   pub run : new.run ≡ old.run
   pub stays : Stays old new

@@ -105,13 +105,13 @@ pub record IsSettled (code : CodeProgram) (old : Core) (at : Registers) (site : 
   pub state : shown code new next ≡
       settled code (phase_shown old.phase) (answer_shown (site_shown old.places site) answer (progress_in old))
       (frames_shown code old.places (stood old.stack at))
-  pub stand : StandAt code new.stack next
+  pub stand : StandAt code new next
   pub run : new.run ≡ old.run
   pub stays : Stays old new
 
 -- The instruction is done: the state is the one that it leads to, and the machine's memory stays as it should.
 pub record Does (code : CodeProgram) (instr : Instr) (place : Option SourcePlace) (old : Core) (at : Registers) (new : Core) (next : Next) : Type 0 where
   pub state : shown code new next ≡ done code old.places (phase_shown old.phase) instr place (stood old.stack at) (progress_in old)
-  pub stand : StandAt code new.stack next
+  pub stand : StandAt code new next
   pub stays : Stays old new
   pub kept : KeepsRightIn code old new

@@ -43,7 +43,7 @@ pub record CanJump (code : CodeProgram) (core : Core) (at : Registers) (target :
 -- It was taken.
 pub record Jumps (code : CodeProgram) (old : Core) (at : Registers) (target : ℕ) (new : Core) (next : Next) : Type 0 where
   pub state : shown code new next ≡ jump_taken code old.places (phase_shown old.phase) target (stood old.stack at) (progress_in old)
-  pub stand : StandAt code new.stack next
+  pub stand : StandAt code new next
   pub memo : new.run.memo ≡ old.run.memo
   pub stays : Stays old new
 

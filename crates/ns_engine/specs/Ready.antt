@@ -19,13 +19,13 @@ use Rattle.ns_engine.specs.Moving.{behind, IsNextStep}
 pub record IsReady (code : CodeProgram) (grants : Grants) (core : Core) (next : Next) : Type 0 where
   pub valid : Valid code grants (shown code core next)
   pub rooms : HasRooms code core
-  pub stand : StandAt code core.stack next
+  pub stand : StandAt code core next
   pub kept : KeepsRightIn code core core
 
 -- A move of it: the state that it shows is the next one, and the memory is as it was.
 pub record Moves (code : CodeProgram) (old : Core) (from : Next) (new : Core) (next : Next) : Type 0 where
   pub state : shown code new next ≡ move code (shown code old from)
-  pub stand : StandAt code new.stack next
+  pub stand : StandAt code new next
   pub stays : Stays old new
   pub kept : KeepsRightIn code old new
 

@@ -71,10 +71,10 @@ Wait code (pending.Performing receiver sel array site floor) stack at = SendWait
 Wait code (pending.Evaluating block site floor first) stack at = ArgumentsWait code stack at floor first
 
 -- The frames stand where the run goes next.
-abbrev pub StandAt : CodeProgram → Stack → Next → Type 0
-StandAt code stack (next.On at) = AreStanding code stack at
-StandAt code stack (next.Waits pending at) = AreStanding code stack at × Wait code pending stack at
-StandAt code stack (next.Ends ending) = Unit {0}
+abbrev pub StandAt : CodeProgram → Core → Next → Type 0
+StandAt code core (next.On at) = AreStanding code core.stack at
+StandAt code core (next.Waits at) = AreStanding code core.stack at × Wait code core.waiting core.stack at
+StandAt code core next.Ended = Unit {0}
 
 -- What an action leaves of a machine: as much room, the same limits and the places of sites.
 pub record Stays (old new : Core) : Type 0 where

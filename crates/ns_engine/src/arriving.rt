@@ -88,14 +88,11 @@ pub fn wait_for_block(
     ensures { Arrives code.now core.old at floor (reached_at code.now core.old site (drop first (in_use core.old.stack at)) (reached.Evaluates block Listed)) core.new result }
 {
     let _code = code;
-    let _core = core;
-    Next::Waits {
-        pending: Pending::Evaluating {
-            block,
-            site,
-            floor,
-            first,
-        },
-        at,
-    }
+    core.waiting = Pending::Evaluating {
+        block,
+        site,
+        floor,
+        first,
+    };
+    Next::Waits(at)
 }

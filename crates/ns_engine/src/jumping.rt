@@ -32,7 +32,10 @@ fn take(code: &CodeProgram, core: &mut Core, at: Registers, target: u32) -> Next
     }
     match core.run.world.step() {
         Ok(()) => Next::On(to),
-        Err(limit) => Next::Ends(Ending::Limit(limit)),
+        Err(limit) => {
+            core.ending = Ending::Limit(limit);
+            Next::Ended
+        }
     }
 }
 
@@ -65,7 +68,10 @@ pub fn jump_false(code: &CodeProgram, core: &mut Core, at: Registers, target: u3
     match value {
         Value::False => take(code, core, below, target),
         Value::True => Next::On(below),
-        _ => Next::Ends(no_boolean(&mut core.stack, &mut core.places)),
+        _ => {
+            core.ending = no_boolean(&mut core.stack, &mut core.places);
+            Next::Ended
+        }
     }
 }
 
@@ -80,6 +86,9 @@ pub fn jump_true(code: &CodeProgram, core: &mut Core, at: Registers, target: u32
     match value {
         Value::True => take(code, core, below, target),
         Value::False => Next::On(below),
-        _ => Next::Ends(no_boolean(&mut core.stack, &mut core.places)),
+        _ => {
+            core.ending = no_boolean(&mut core.stack, &mut core.places);
+            Next::Ended
+        }
     }
 }

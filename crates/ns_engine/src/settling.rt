@@ -90,6 +90,9 @@ pub fn settle(
 {
     match answer {
         Ok(value) => Next::On(push(code, core, at, value)),
-        Err(fault) => Next::Ends(ending_at(&mut core.places, site, fault)),
+        Err(fault) => {
+            core.ending = ending_at(&mut core.places, site, fault);
+            Next::Ended
+        }
     }
 }

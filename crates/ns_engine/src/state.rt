@@ -18,20 +18,23 @@ pub enum Phase {
     Hosted,
 }
 
-/// What has been done, the frames with their values, the places that sites name by their numbers, and how far the run
-/// has come.
+/// What has been done, the frames with their values, the places that sites name by their numbers, how far the run has
+/// come, what waits in it or waited last, and, once it has ended, how.
 #[derive(Drop)]
 pub struct Core {
     pub run: Run,
     pub stack: Stack,
     pub places: Items<Place>,
     pub phase: Phase,
+    pub waiting: Pending,
+    pub ending: Ending,
 }
 
-/// Where a run goes next: on with its topmost frame, on with what waits, or to its end.
+/// Where a run goes next: on with its topmost frame, on with what waits in it, or nowhere, since it has ended. Every move
+/// gives it back, so it is small: what waits and how the run ended stand in the core.
 #[derive(Clone, Copy)]
 pub enum Next {
     On(Registers),
-    Waits { pending: Pending, at: Registers },
-    Ends(Ending),
+    Waits(Registers),
+    Ended,
 }

@@ -19,7 +19,8 @@ use Rattle.ns_frames.specs.declared.frame.Pending.TheVariants as pending
 use Rattle.ns_engine.specs.declared.state.Core.{Core}
 use Rattle.ns_engine.specs.declared.state.Next.{Next}
 use Rattle.ns_engine.specs.declared.state.Next.TheVariants as next
-use Rattle.ns_engine.specs.Shown.{shown, progress_in}
+use Rattle.ns_frames.specs.View.{state_shown}
+use Rattle.ns_engine.specs.Shown.{phase_shown, shown, progress_in}
 use Rattle.ns_engine.specs.Ready.{IsReady}
 use Rattle.ns_engine.specs.Standing.{Stays}
 use Rattle.ns_engine.proofs.Kept.{ready_lawful, shown_progress}
@@ -118,20 +119,21 @@ must_end code grants onward stay old new from n steps before after stays is (inl
     omega (arith, taken, here, most, range, limit, is)
 must_end code grants onward stay old new from n steps before after stays is (inr turned) going = let still = turned.still in absurd (cc)
 
-waits_go : (code : CodeProgram) (core : Core) (p : Pending) (at : Registers) → is_still (shown code core (next.Waits p at)) ≡ false
+waits_go : (code : CodeProgram) (core : Core) (p : Pending) (at : Registers)
+    → is_still (state_shown code core.places (phase_shown core.phase) p core.stack at (progress_in core)) ≡ false
 waits_go code core pending.Nothing at = refl
 waits_go code core (pending.Sending receiver sel site floor first) at = refl
 waits_go code core (pending.Performing receiver sel array site floor) at = refl
 waits_go code core (pending.Evaluating block site floor first) at = refl
 
 -- the moves of a turn that has led to an end
-pub has_ran : (code : CodeProgram) (steps : ℕ) (old : State) (core : Core) (ending : Ending) → Turns code steps old (shown code core (next.Ends ending))
-    → Ran code old ending (shown code core (next.Ends ending))
-has_ran code steps old core ending (inl turned) = record { count = turned.count; is = turned.is; ends = refl }
-has_ran code steps old core ending (inr turned) = record { count = turned.count; is = turned.is; ends = refl }
+pub has_ran : (code : CodeProgram) (steps : ℕ) (old : State) (core : Core) → Turns code steps old (shown code core next.Ended)
+    → Ran code old core.ending (shown code core next.Ended)
+has_ran code steps old core (inl turned) = record { count = turned.count; is = turned.is; ends = refl }
+has_ran code steps old core (inr turned) = record { count = turned.count; is = turned.is; ends = refl }
 
 -- a run that goes on is not still
 pub goes_on : (code : CodeProgram) (core : Core) (n : Next)
-    → ((at : Registers) × n ≡ next.On at) ⊎ ((p : Pending) × (at : Registers) × n ≡ next.Waits p at) → is_still (shown code core n) ≡ false
+    → ((at : Registers) × n ≡ next.On at) ⊎ ((at : Registers) × n ≡ next.Waits at) → is_still (shown code core n) ≡ false
 goes_on code core n (inl on) = ap (λ (k : Next). is_still (shown code core k)) on.1
-goes_on code core n (inr waits) = ap (λ (k : Next). is_still (shown code core k)) waits.2 ∙ waits_go code core waits.0 waits.1
+goes_on code core n (inr waits) = ap (λ (k : Next). is_still (shown code core k)) waits.1 ∙ waits_go code core core.waiting waits.0

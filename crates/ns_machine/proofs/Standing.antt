@@ -21,6 +21,7 @@ use Rattle.ns_engine.specs.Shown.{phase_shown, progress_in}
 use Rattle.ns_engine.proofs.Kept.{valid_lawful, shown_progress, rooms_stay}
 use Rattle.ns_engine.specs.declared.state.Phase.{Phase as KeptPhase}
 use Rattle.ns_engine.specs.declared.state.Phase.TheVariants.{Start, Hosted}
+use Rattle.ns_world.specs.declared.ending.Ending.{Ending}
 use Rattle.ns_world.specs.declared.ending.Ending.TheVariants.{Limit}
 use Rattle.ns_world.specs.declared.ending.LimitKind.TheVariants.{Cells}
 use Rattle.std.proofs.Common.{Option, None, Bool, if◌then◌else◌, ◌≤◌, ◌++◌, length, append-nil}
@@ -48,7 +49,10 @@ use Rattle.ns_find.specs.Memo.{IsRight}
 use Rattle.ns_act.specs.declared.run.Run.{Run}
 use Rattle.ns_moves.specs.Steps.{opening_place}
 use Rattle.ns_moves.specs.WorldStays.{SwapsKeepValid}
+use Rattle.ns_frames.specs.declared.frame.Pending.{Pending}
 use Rattle.ns_frames.specs.declared.frame.Pending.TheVariants as pending
+use Rattle.ns_frames.specs.declared.registers.Registers.{Registers}
+use Rattle.ns_frames.specs.View.{state_shown}
 use Rattle.ns_plan.specs.declared.plan.Plan.{Plan}
 use Rattle.ns_engine.specs.declared.own.OwnSends.{OwnSends}
 use Rattle.ns_engine.specs.declared.state.Next.TheVariants as next
@@ -80,10 +84,12 @@ stage_lawful code grants core stage valid =
 abbrev pub with_world : Core → WorldView → Core
 with_world core world = record core { run = record core.run { world = world } }
 
-stage_unbegun : (code : CodeProgram) (core : Core) (made : Result ℕ CellLimit) → core.phase ≡ Start
+stage_unbegun : (code : CodeProgram) (core : Core) (made : Result ℕ CellLimit) → core.phase ≡ Start → core.ending ≡ Limit Cells
     → stage_shown code core (stage_after made) ≡ unbegun (start_shown made (progress_in core))
-stage_unbegun code core (Ok arguments) phase = refl
-stage_unbegun code core (Err limit) phase = ap (λ (p : KeptPhase). Ended (Limit Cells) (phase_shown p) (progress_in core)) phase
+stage_unbegun code core (Ok arguments) phase ending = refl
+stage_unbegun code core (Err limit) phase ending =
+    ap (λ (p : KeptPhase). Ended core.ending (phase_shown p) (progress_in core)) phase
+    ∙ ap (λ (e : Ending). Ended e state.Start (progress_in core)) ending
 
 -- where it stands after its start
 pub stage_started : (code : CodeProgram) (limits : Limits) (grants : Grants) (arguments : List (List ℕ)) (core : Core) (world : WorldView) (made : Result ℕ CellLimit)
@@ -93,7 +99,7 @@ pub stage_started : (code : CodeProgram) (limits : Limits) (grants : Grants) (ar
 stage_started code limits grants arguments core world made fresh is =
     let same : core.run.world.world.limits ≡ limits = ap (λ (p : Progress). p.world.limits) fresh.progress in
     let done : progress_in (with_world core world) ≡ in_world (nothing_done limits) world.world = ap (λ (p : Progress). in_world p world.world) fresh.progress in
-    stage_unbegun code (with_world core world) made fresh.phase
+    stage_unbegun code (with_world core world) made fresh.phase fresh.ending
     ∙ (ap (λ (p : Progress). unbegun (start_shown made p)) done
     ∙ ap unbegun (subst (λ (l : Limits). start_shown made (in_world (nothing_done l) world.world) ≡ start_made code grants arguments l) same is))
 
@@ -104,22 +110,33 @@ abbrev pub with_board_of : Core → Board → Core
 with_board_of core board = record core { run = record core.run { board = board } }
 
 -- it shows the same state with that board
+waiting_swapped : (code : CodeProgram) (core : Core) (board : Board) (p : Pending) (at : Registers)
+    → state_shown code core.places (phase_shown core.phase) p core.stack at (progress_in (with_board_of core board))
+    ≡ swapped board (state_shown code core.places (phase_shown core.phase) p core.stack at (progress_in core))
+waiting_swapped code core board pending.Nothing at = refl
+waiting_swapped code core board (pending.Sending receiver sel site floor first) at = refl
+waiting_swapped code core board (pending.Performing receiver sel array site floor) at = refl
+waiting_swapped code core board (pending.Evaluating block site floor first) at = refl
+
 pub stage_swapped : (code : CodeProgram) (core : Core) (board : Board) (stage : Stage)
     → stage_shown code (with_board_of core board) stage ≡ swapped board (stage_shown code core stage)
 stage_swapped code core board (stage.Unbegun arguments) = refl
 stage_swapped code core board (stage.Begun (next.On at)) = refl
-stage_swapped code core board (stage.Begun (next.Waits pending.Nothing at)) = refl
-stage_swapped code core board (stage.Begun (next.Waits (pending.Sending receiver sel site floor first) at)) = refl
-stage_swapped code core board (stage.Begun (next.Waits (pending.Performing receiver sel array site floor) at)) = refl
-stage_swapped code core board (stage.Begun (next.Waits (pending.Evaluating block site floor first) at)) = refl
-stage_swapped code core board (stage.Begun (next.Ends ending)) = refl
+stage_swapped code core board (stage.Begun (next.Waits at)) = waiting_swapped code core board core.waiting at
+stage_swapped code core board (stage.Begun next.Ended) = refl
+
+stand_swapped : (code : CodeProgram) (core : Core) (board : Board) (stage : Stage) → StandIn code core stage → StandIn code (with_board_of core board) stage
+stand_swapped code core board (stage.Unbegun arguments) stand = tt
+stand_swapped code core board (stage.Begun (next.On at)) stand = stand
+stand_swapped code core board (stage.Begun (next.Waits at)) stand = stand
+stand_swapped code core board (stage.Begun next.Ended) stand = tt
 
 pub swapped_machine : (code : CodeProgram) (grants : Grants) (plan : Plan) (core : Core) (own : OwnSends) (stage : Stage) (board : Board)
     → SwapsKeepValid code grants → IsMachine code grants plan core own stage → IsMachine code grants plan (with_board_of core board) own stage
 swapped_machine code grants plan core own stage board keeps is = record {
   valid = subst (Valid code grants) (sym (stage_swapped code core board stage)) (keeps board (stage_shown code core stage) is.valid);
   rooms = record { cells = is.rooms.cells; out = is.rooms.out; frames = is.rooms.frames; values = is.rooms.values; sends = is.rooms.sends };
-  stand = is.stand;
+  stand = stand_swapped code core board stage is.stand;
   kept = is.kept;
   prepared = is.prepared;
   places = is.places;
@@ -139,7 +156,7 @@ with_phase core phase = record core { phase = phase }
 
 -- a machine in which a send waits, which is a valid state
 waiting_machine : (code : CodeProgram) (grants : Grants) (plan : Plan) (old new : Core) (phase : KeptPhase) (own : OwnSends) (before after : Stage)
-    → IsMachine code grants plan old own before → Valid code grants (stage_shown code new after) → StandIn code new.stack after → new.run ≡ old.run
+    → IsMachine code grants plan old own before → Valid code grants (stage_shown code new after) → StandIn code new after → new.run ≡ old.run
     → Stays (with_phase old phase) new → IsMachine code grants plan new own after
 waiting_machine code grants plan old new phase own before after is valid stand run stays = record {
   valid = valid;

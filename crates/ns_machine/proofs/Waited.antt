@@ -45,8 +45,8 @@ none_standing code stack at top none laid low = record {
 pub send_waits : (code : CodeProgram) (core : Core) (stack : Stack) (at : Registers) (receiver : Value) (sel : Sel) (site : KeptSite) (place : ℕ) (arguments : List Value)
     → site ≡ record { place = place; class = class_name_of core.run.world.world.cells receiver; sel = sel } → in_use stack at ≡ arguments
     → stack.frames.items ≡ [] → IsLaid stack at → stack.values.room ≡ core.stack.values.room → stack.frames.room ≡ core.stack.frames.room
-    → SendWaits code core receiver sel (slice_get core.places place) arguments (record core { stack = stack })
-    (next.Waits (pending.Sending receiver sel site 0 0) at)
+    → SendWaits code core receiver sel (slice_get core.places place) arguments
+    (record core { stack = stack; waiting = pending.Sending receiver sel site 0 0 }) (next.Waits at)
 send_waits code core stack at receiver sel site place arguments site_is used none laid values frames = record {
   state =
       ap (λ (f : List state.Frame). state.Pends (phase_shown core.phase) (state.Sending receiver sel (drop 0 (in_use stack at)) (site_shown core.places site)) f (progress_in core))

@@ -2,6 +2,8 @@
 use Rattle.std.specs.Prelude.{◌≡◌, All}
 use Rattle.ns_base.specs.declared.limits.Limits.{Limits}
 use Rattle.ns_code.specs.declared.program.CodeProgram.{CodeProgram}
+use Rattle.ns_world.specs.declared.ending.Ending.TheVariants.{Limit}
+use Rattle.ns_world.specs.declared.ending.LimitKind.TheVariants.{Cells}
 use Rattle.ns_find.specs.Memo.{IsEmpty}
 use Rattle.ns_send.specs.Start.{nothing_done}
 use Rattle.ns_plan.specs.Steps.{places_of}
@@ -10,10 +12,12 @@ use Rattle.ns_engine.specs.declared.state.Phase.TheVariants.{Start}
 use Rattle.ns_engine.specs.Shown.{progress_in}
 use Rattle.ns_engine.specs.Standing.{HasRooms}
 
--- Nothing was done and no lookup is kept, but memory was taken for all that a run can need.
+-- Nothing was done and no lookup is kept, but memory was taken for all that a run can need. A start ends the run only by the
+-- limit on cells.
 pub record IsFresh (code : CodeProgram) (limits : Limits) (core : Core) : Type 0 where
   pub progress : progress_in core ≡ nothing_done limits
   pub phase : core.phase ≡ Start
+  pub ending : core.ending ≡ Limit Cells
   pub rooms : HasRooms code core
   pub memo : All IsEmpty core.run.memo
   pub places : core.places ≡ places_of code

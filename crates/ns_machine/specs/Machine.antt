@@ -2,10 +2,7 @@
 use Rattle.std.specs.Prelude.{◌≡◌, ℕ, Result, Ok, Err}
 use Rattle.ns_code.specs.declared.program.CodeProgram.{CodeProgram}
 use Rattle.ns_world.specs.declared.cell.CellLimit.{CellLimit}
-use Rattle.ns_world.specs.declared.ending.Ending.TheVariants.{Limit}
-use Rattle.ns_world.specs.declared.ending.LimitKind.TheVariants.{Cells}
 use Rattle.ns_facets.specs.declared.row.Grants.{Grants}
-use Rattle.ns_frames.specs.declared.stack.Stack.{Stack}
 use Rattle.ns_moves.specs.State.{State, Unbegun}
 use Rattle.ns_moves.specs.Valid.{Valid}
 use Rattle.ns_plan.specs.declared.plan.Plan.{Plan}
@@ -31,22 +28,22 @@ abbrev pub stage_shown : CodeProgram → Core → Stage → State
 stage_shown code core (stage.Unbegun arguments) = Unbegun arguments (progress_in core)
 stage_shown code core (stage.Begun next) = shown code core next
 
--- where it stands after its start
+-- where it stands after its start, which ends it at the limit on cells
 abbrev pub stage_after : Result ℕ CellLimit → Stage
 stage_after (Ok arguments) = stage.Unbegun arguments
-stage_after (Err limit) = stage.Begun (next.Ends (Limit Cells))
+stage_after (Err limit) = stage.Begun next.Ended
 
 -- Where a run was begun, its frames stand where it goes next.
-abbrev pub StandIn : CodeProgram → Stack → Stage → Type 0
-StandIn code stack (stage.Unbegun arguments) = Unit {0}
-StandIn code stack (stage.Begun next) = StandAt code stack next
+abbrev pub StandIn : CodeProgram → Core → Stage → Type 0
+StandIn code core (stage.Unbegun arguments) = Unit {0}
+StandIn code core (stage.Begun next) = StandAt code core next
 
 -- The state that it shows is one that a run of the code reaches, memory was taken for all that a run can need, the
 -- frames stand in theirs, the lookups that it keeps are right, and what was prepared of the code is the code's.
 pub record IsMachine (code : CodeProgram) (grants : Grants) (plan : Plan) (core : Core) (own : OwnSends) (stage : Stage) : Type 0 where
   pub valid : Valid code grants (stage_shown code core stage)
   pub rooms : HasRooms code core
-  pub stand : StandIn code core.stack stage
+  pub stand : StandIn code core stage
   pub kept : KeepsRightIn code core core
   pub prepared : IsPlanOf code plan
   pub places : core.places ≡ places_of code

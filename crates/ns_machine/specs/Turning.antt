@@ -7,7 +7,7 @@ use Rattle.ns_moves.specs.State.{State, Unbegun, Going, Pends, Ended, Stuck, end
 use Rattle.ns_moves.specs.Move.{moves}
 use Rattle.ns_engine.specs.declared.state.Core.{Core}
 use Rattle.ns_engine.specs.declared.state.Next.{Next}
-use Rattle.ns_engine.specs.declared.state.Next.TheVariants.{Ends}
+use Rattle.ns_engine.specs.declared.state.Next.TheVariants as next
 use Rattle.ns_engine.specs.Shown.{shown}
 use Rattle.ns_engine.specs.Ready.{IsReady}
 use Rattle.ns_engine.specs.Standing.{Stays}
@@ -30,6 +30,6 @@ pub record Ran (code : CodeProgram) (old : State) (ending : Ending) (new : State
 
 -- A machine that was ready has run to that end.
 pub record RunsOut (code : CodeProgram) (old : Core) (from : Next) (new : Core) (ending : Ending) : Type 0 where
-  pub ran : Ran code (shown code old from) ending (shown code new (Ends ending))
-  pub ready : (grants : Grants) → IsReady code grants old from → IsReady code grants new (Ends ending)
+  pub ran : Ran code (shown code old from) ending (shown code new next.Ended)
+  pub ready : (grants : Grants) → IsReady code grants old from → IsReady code grants new next.Ended
   pub stays : Stays old new

@@ -16,6 +16,6 @@ pub record SendWaits (code : CodeProgram) (old : Core) (receiver : Value) (sel :
     : Type 0 where
   pub state : shown code new next ≡
       Pends (phase_shown old.phase) (Sending receiver sel arguments (site_at old.run.world.world.cells place receiver sel)) [] (progress_in old)
-  pub stand : StandAt code new.stack next
+  pub stand : StandAt code new next
   pub run : new.run ≡ old.run
   pub stays : Stays old new

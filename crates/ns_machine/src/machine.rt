@@ -98,7 +98,7 @@ impl Machine {
     {
         match self.stage {
             Stage::Unbegun { .. } => true,
-            Stage::Begun(Next::Ends(Ending::Done(_))) => true,
+            Stage::Begun(Next::Ended) => matches!(self.core.ending, Ending::Done(_)),
             Stage::Begun(_) => false,
         }
     }
@@ -154,7 +154,7 @@ impl Machine {
                     self.own,
                 );
                 self.stage = Stage::Begun(next);
-                turn_at(next)
+                turn_at(&self.core, next)
             }
         }
     }
@@ -176,7 +176,7 @@ impl Machine {
             arguments,
         );
         let ending = run_out(&self.plan, self.code.code(), &mut self.core, next, self.own);
-        self.stage = Stage::Begun(Next::Ends(ending));
+        self.stage = Stage::Begun(Next::Ended);
         ending
     }
 
@@ -190,7 +190,7 @@ impl Machine {
             Stage::Unbegun { .. } => unreachable!(),
             Stage::Begun(from) => {
                 let ending = run_out(&self.plan, self.code.code(), &mut self.core, from, self.own);
-                self.stage = Stage::Begun(Next::Ends(ending));
+                self.stage = Stage::Begun(Next::Ended);
                 ending
             }
         }
@@ -202,7 +202,7 @@ impl Machine {
         ensures live { IfSome result (λ ending. IsLiveEnding (world_of self.now.state).cells self.now.code ending) }
     {
         match self.stage {
-            Stage::Begun(Next::Ends(ending)) => Some(ending),
+            Stage::Begun(Next::Ended) => Some(self.core.ending),
             Stage::Begun(_) | Stage::Unbegun { .. } => None,
         }
     }

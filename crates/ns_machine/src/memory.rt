@@ -20,8 +20,10 @@ use ns_code::selector::text_arity;
 use ns_engine::state::{Core, Phase};
 use ns_facets::board::Board;
 use ns_find::memo::Memo;
+use ns_frames::frame::Pending;
 use ns_frames::stack::Stack;
 use ns_plan::plan::Plan;
+use ns_world::ending::{Ending, LimitKind};
 use ns_world::world::World;
 use std::alloc::Global;
 
@@ -34,7 +36,7 @@ const OWN_ARGUMENTS: usize = 2;
 /// The most values that can be numbered.
 const MOST_VALUES: u64 = 4_294_967_295;
 
-/// The memory of a run in which nothing was done.
+/// The memory of a run in which nothing was done. Where it ends at once, its start has passed the limit on cells.
 pub fn memory_for(
     alloc: Global,
     code: &CodeProgram,
@@ -59,6 +61,8 @@ pub fn memory_for(
         stack,
         places,
         phase: Phase::Start,
+        waiting: Pending::Nothing,
+        ending: Ending::Limit(LimitKind::Cells),
     })
 }
 

@@ -26,7 +26,7 @@ pub fn run_out(
     moves_go_onward();
     let steps = core.run.world.limits().steps.saturating_add(1);
     match turn(plan, code, core, next, steps, own) {
-        Next::Ends(ending) => ending,
-        Next::On(_) | Next::Waits { .. } => unreachable!(),
+        Next::Ended => core.ending,
+        Next::On(_) | Next::Waits(_) => unreachable!(),
     }
 }

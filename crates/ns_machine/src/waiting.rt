@@ -72,16 +72,14 @@ pub fn wait_for_send(
     let bottom = core.stack.reset();
     core.stack.make_room(bottom, arguments.len() as u32);
     let at = core.stack.push_all(bottom, arguments);
-    Next::Waits {
-        pending: Pending::Sending {
-            receiver,
-            sel,
-            site,
-            floor: 0,
-            first: 0,
-        },
-        at,
-    }
+    core.waiting = Pending::Sending {
+        receiver,
+        sel,
+        site,
+        floor: 0,
+        first: 0,
+    };
+    Next::Waits(at)
 }
 
 /// The site of a send to a receiver.

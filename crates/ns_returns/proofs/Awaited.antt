@@ -56,8 +56,8 @@ pub record IsArgued (core : Core) (at : Registers) (looping : LoopingFrame) (arg
 pub awaits : (code : CodeProgram) (core : Core) (at above : Registers) (looping : LoopingFrame) (block : Value) (argument : Option Value) (state : KState)
     (stack : Stack) → Stands code core at → core.stack.frames.items ≡ Looping looping ∷ below core.stack.frames.items
     → IsArgued core at looping argument state stack above
-    → Awaits code core at looping block argument state (record core { stack = stack })
-    (next.Waits (pending.Evaluating block looping.site looping.floor looping.floor) above)
+    → Awaits code core at looping block argument state
+    (record core { stack = stack; waiting = pending.Evaluating block looping.site looping.floor looping.floor }) (next.Waits above)
 awaits code core at above looping block argument state stack stands top argued = record {
   is = ap (λ (arguments : List Value). Pends (phase_shown core.phase) (Evaluating block arguments (site_shown core.places looping.site))
       (frames_shown code core.places (stood stack (with_top looping.floor above))) (progress_in core)) arguments_are

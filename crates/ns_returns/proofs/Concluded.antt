@@ -29,7 +29,7 @@ use Rattle.ns_engine.specs.declared.own.OwnSends.{OwnSends}
 use Rattle.ns_engine.specs.Shown.{phase_shown, progress_in}
 use Rattle.ns_engine.specs.Standing.{HasRooms, AreStanding}
 use Rattle.ns_engine.specs.Own.{AreOwn}
-use Rattle.ns_engine.proofs.Pushed.{stack_stays}
+use Rattle.ns_engine.proofs.Pushed.{ended_stays}
 use Rattle.ns_returns.specs.Handing.{IsHanded}
 
 stood_none : (stack : Stack) (at : Registers) → stack.frames.items ≡ [] → stood stack at ≡ []
@@ -44,24 +44,24 @@ alone code core at value none =
 
 run_ends : (code : CodeProgram) (core : Core) (at : Registers) (value : Value) (p : Phase) → core.phase ≡ p → core.stack.frames.items ≡ []
     → concluded code (phase_shown p) value (progress_in core) ≡ Ended (Done value) (phase_shown p) (progress_in core)
-    → IsHanded code core at value core (next.Ends (Done value))
+    → IsHanded code core at value (record core { ending = Done value }) next.Ended
 run_ends code core at value p is none ends = record {
   state = sym (alone code core at value none ∙ subst (λ (q : Phase). concluded code (phase_shown q) value (progress_in core) ≡ Ended (Done value) (phase_shown q) (progress_in core)) (sym is) ends);
   stand = tt;
   run = refl;
-  stays = stack_stays core core.stack refl refl;
+  stays = ended_stays core (Done value);
 }
 
 pub start_ends : (code : CodeProgram) (core : Core) (at : Registers) (value : Value) → core.phase ≡ phase.Start → core.stack.frames.items ≡ []
-    → IsHanded code core at value core (next.Ends (Done value))
+    → IsHanded code core at value (record core { ending = Done value }) next.Ended
 start_ends code core at value is none = run_ends code core at value phase.Start is none refl
 
 pub second_ends : (code : CodeProgram) (core : Core) (at : Registers) (value : Value) → core.phase ≡ phase.Second → core.stack.frames.items ≡ []
-    → IsHanded code core at value core (next.Ends (Done value))
+    → IsHanded code core at value (record core { ending = Done value }) next.Ended
 second_ends code core at value is none = run_ends code core at value phase.Second is none refl
 
 pub hosted_ends : (code : CodeProgram) (core : Core) (at : Registers) (value : Value) → core.phase ≡ phase.Hosted → core.stack.frames.items ≡ []
-    → IsHanded code core at value core (next.Ends (Done value))
+    → IsHanded code core at value (record core { ending = Done value }) next.Ended
 hosted_ends code core at value is none = run_ends code core at value phase.Hosted is none refl
 
 -- ---- the second opening send
@@ -82,8 +82,13 @@ pub second_opens : (code : CodeProgram) (core : Core) (at both : Registers) (sta
     → AreOwn code core.places own → core.stack.frames.items ≡ [] → core.phase ≡ phase.First arguments
     → class ≡ class_name_of core.run.world.world.cells receiver → stack.frames.items ≡ [] → in_use stack both ≡ platform ∷ Ref arguments ∷ [] → IsLaid stack both
     → stack.values.room ≡ core.stack.values.room → stack.frames.room ≡ core.stack.frames.room
-    → IsHanded code core at receiver (record core { stack = stack; phase = phase.Second })
-    (next.Waits (pending.Sending receiver own.main_args (record { place = own.opening; class = class; sel = own.main_args }) 0 0) both)
+    → IsHanded code core at receiver
+    (record core {
+      stack = stack;
+      phase = phase.Second;
+      waiting = pending.Sending receiver own.main_args (record { place = own.opening; class = class; sel = own.main_args }) 0 0;
+    })
+    (next.Waits both)
 second_opens code core at both stack own receiver arguments class owns none is_first is_class bare used laid values frames = record {
   state = waits ∙ sym (alone code core at receiver none ∙ ap (λ (p : Phase). concluded code (phase_shown p) receiver (progress_in core)) is_first);
   stand =

@@ -26,14 +26,14 @@ use Rattle.ns_engine.specs.Shown.{phase_shown, progress_in}
 use Rattle.ns_engine.specs.Standing.{height_in, greatest_of}
 use Rattle.ns_engine.specs.Framed.{HasRoomOnTop}
 use Rattle.ns_engine.specs.Doing.{IsSettled}
-use Rattle.ns_engine.proofs.Pushed.{stack_stays, operands_count}
+use Rattle.ns_engine.proofs.Pushed.{stack_stays, ended_stays, operands_count}
 use Rattle.ns_returns.specs.Handing.{CanTake, IsHanded}
 
 -- ---- a fault
 
 pub ended : (code : CodeProgram) (core : Core) (at : Registers) (site : KeptSite) (fault : Fault)
-    → IsSettled code core at site (Err fault) core (next.Ends (fault_ending fault (site_shown core.places site)))
-ended code core at site fault = record { state = refl; stand = tt; run = refl; stays = stack_stays core core.stack refl refl }
+    → IsSettled code core at site (Err fault) (record core { ending = fault_ending fault (site_shown core.places site) }) next.Ended
+ended code core at site fault = record { state = refl; stand = tt; run = refl; stays = ended_stays core (fault_ending fault (site_shown core.places site)) }
 
 pub given : (code : CodeProgram) (old new : Core) (at : Registers) (site : KeptSite) (value : Value) (n : Next) → IsHanded code old at value new n
     → IsSettled code old at site (Ok value) new n

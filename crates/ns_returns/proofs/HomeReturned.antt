@@ -25,7 +25,7 @@ use Rattle.ns_engine.specs.declared.state.Next.TheVariants as next
 use Rattle.ns_engine.specs.Shown.{phase_shown, progress_in}
 use Rattle.ns_engine.specs.Framed.{AreFramed}
 use Rattle.ns_engine.specs.Doing.{done, Finds, CanDo, Does}
-use Rattle.ns_engine.proofs.Pushed.{stack_stays, top_stands}
+use Rattle.ns_engine.proofs.Pushed.{ended_stays, top_stands}
 use Rattle.ns_returns.specs.Unwinding.{CanUnwind, IsUnwound}
 use Rattle.ns_returns.proofs.Returned.{unpushed}
 
@@ -103,12 +103,13 @@ pub dead_returned : ((code : CodeProgram) (places : List SourcePlace) → FindsH
     → (code : CodeProgram) (core : Core) (at to : Registers) (frame : RunningFrame) (value : Value) (place : Option SourcePlace)
     → CanDo code core at instr.ReturnHome → core.stack.frames.items ≡ Running frame ∷ below core.stack.frames.items
     → stood core.stack at ≡ pushed value (stood core.stack to) → frames_to frame.activation.home core.stack.frames.items ≡ None
-    → Does code instr.ReturnHome place core at core (next.Ends (fault_ending (fault.Kind DeadReturn) (site_shown core.places frame.activation.site)))
+    → Does code instr.ReturnHome place core at
+    (record core { ending = fault_ending (fault.Kind DeadReturn) (site_shown core.places frame.activation.site) }) next.Ended
 dead_returned law code core at to frame value place can top e gone = record {
   state = ap (by_home code core to frame.activation value)
       (sym (law code core.places frame.activation.home to.next core.stack.frames.items (take to.top core.stack.values.items) ∙ ap is_there gone))
       ∙ leads code core at to frame value place can top e;
   stand = tt;
-  stays = stack_stays core core.stack refl refl;
+  stays = ended_stays core (fault_ending (fault.Kind DeadReturn) (site_shown core.places frame.activation.site));
   kept = can.kept;
 }

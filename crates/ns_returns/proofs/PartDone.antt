@@ -96,11 +96,12 @@ pub part_failed : ((missing : State) → AreTaken missing) → (code : CodeProgr
     → core.stack.frames.items ≡ Running frame ∷ below core.stack.frames.items
     → stood core.stack at ≡ pushed_all items (stood core.stack (with_top (at.top - argc) at)) → length items ≡ argc
     → IsReached code core world frame.activation items (part.Fails fault)
-    → Does code (instr.InitSuper argc) place core at (in_other core world) (next.Ends (fault_ending fault (site_shown core.places frame.activation.site)))
+    → Does code (instr.InitSuper argc) place core at
+    (record (in_other core world) { ending = fault_ending fault (site_shown core.places frame.activation.site) }) next.Ended
 part_failed taken code core world at argc place frame items fault can top e many is = record {
   state = leads taken code core world at argc place frame items (part.Fails fault) can top e many is;
   stand = tt;
-  stays = world_stays core world is.rest;
+  stays = record { world = is.rest; values = refl; frames = refl; places = refl };
   kept = can.kept;
 }
 

@@ -57,6 +57,6 @@ pub record Awaits (code : CodeProgram) (old : Core) (at : Registers) (looping : 
   pub is : shown code new next ≡
       Pends (phase_shown old.phase) (Evaluating block (listed argument) (site_shown old.places looping.site))
       (frames_shown code old.places (turned state (stood old.stack at))) (progress_in old)
-  pub stand : StandAt code new.stack next
+  pub stand : StandAt code new next
   pub run : new.run ≡ old.run
   pub stays : Stays old new

@@ -33,7 +33,7 @@ pub record IsEnded (code : CodeProgram) (old : Core) (at : Registers) (frame : R
   pub state : shown code new next ≡
       returned code (phase_shown old.phase) (leaving_shown frame.leaving frame.activation) (activation_shown old.places frame.activation) value
       (frames_shown code old.places (below (stood old.stack at))) (progress_in old)
-  pub stand : StandAt code new.stack next
+  pub stand : StandAt code new next
   pub stays : Stays old new
   pub kept : KeepsRightIn code old new
 
@@ -41,6 +41,6 @@ pub record IsEnded (code : CodeProgram) (old : Core) (at : Registers) (frame : R
 pub record IsAnswered (code : CodeProgram) (old : Core) (at : Registers) (value : Value) (new : Core) (next : Next) : Type 0 where
   pub state : shown code new next ≡
       delivered code (phase_shown old.phase) value (frames_shown code old.places (below (stood old.stack at))) (part_ended (progress_in old))
-  pub stand : StandAt code new.stack next
+  pub stand : StandAt code new next
   pub stays : Stays old new
   pub kept : KeepsRightIn code old new

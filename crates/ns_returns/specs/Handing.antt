@@ -29,6 +29,6 @@ GivesLive heap code (Err fault) = Unit {0}
 -- A value has come to what stood on top, or to what comes after the last frame.
 pub record IsHanded (code : CodeProgram) (old : Core) (at : Registers) (value : Value) (new : Core) (next : Next) : Type 0 where
   pub state : shown code new next ≡ delivered code (phase_shown old.phase) value (frames_shown code old.places (stood old.stack at)) (progress_in old)
-  pub stand : StandAt code new.stack next
+  pub stand : StandAt code new next
   pub run : new.run ≡ old.run
   pub stays : Stays old new

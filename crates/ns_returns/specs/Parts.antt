@@ -31,6 +31,6 @@ pub record PartBegins (code : CodeProgram) (old : Core) (at : Registers) (first 
       part_arrived code (phase_shown old.phase)
       (part_shown code (site_shown old.places site) (drop first (in_use old.stack at)) (part.Enters (listed entered)) (progress_in old))
       (frames_shown code old.places (stood old.stack (with_top first at)))
-  pub stand : StandAt code new.stack next
+  pub stand : StandAt code new next
   pub run : new.run ≡ old.run
   pub stays : Stays old new

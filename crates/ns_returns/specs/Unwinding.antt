@@ -27,6 +27,6 @@ pub record CanUnwind (code : CodeProgram) (core : Core) (at : Registers) (home c
 pub record IsUnwound (code : CodeProgram) (old : Core) (at : Registers) (home : ℕ) (value : Value) (new : Core) (next : Next) : Type 0 where
   pub state : shown code new next ≡
       unwound code (phase_shown old.phase) home value (frames_shown code old.places (stood old.stack at)) (progress_in old)
-  pub stand : StandAt code new.stack next
+  pub stand : StandAt code new next
   pub stays : Stays old new
   pub kept : KeepsRightIn code old new

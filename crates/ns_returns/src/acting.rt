@@ -83,15 +83,13 @@ fn evaluate(
     };
     core.stack.make_room(here, 1);
     let above = push_argument(&mut core.stack, here, argument);
-    Next::Waits {
-        pending: Pending::Evaluating {
-            block,
-            site: looping.site,
-            floor: looping.floor,
-            first: looping.floor,
-        },
-        at: above,
-    }
+    core.waiting = Pending::Evaluating {
+        block,
+        site: looping.site,
+        floor: looping.floor,
+        first: looping.floor,
+    };
+    Next::Waits(above)
 }
 
 /// Puts the argument of an evaluation, if there is one, behind the values in use.

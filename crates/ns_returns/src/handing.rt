@@ -41,7 +41,10 @@ pub fn bring(
 {
     match answer {
         Ok(value) => hand(code, core, at, own, value),
-        Err(fault) => Next::Ends(ending_at(&core.places, site, fault)),
+        Err(fault) => {
+            core.ending = ending_at(&core.places, site, fault);
+            Next::Ended
+        }
     }
 }
 
@@ -72,9 +75,10 @@ fn conclude(code: &CodeProgram, core: &mut Core, at: Registers, own: OwnSends, v
 {
     match core.phase {
         Phase::First { arguments } => open_second(code, core, at, own, value, arguments),
-        Phase::Start => Next::Ends(Ending::Done(value)),
-        Phase::Second => Next::Ends(Ending::Done(value)),
-        Phase::Hosted => Next::Ends(Ending::Done(value)),
+        Phase::Start | Phase::Second | Phase::Hosted => {
+            core.ending = Ending::Done(value);
+            Next::Ended
+        }
     }
 }
 
@@ -104,14 +108,12 @@ fn open_second(
     core.stack.make_room(bare, 2);
     let one = core.stack.push(bare, PLATFORM);
     let both = core.stack.push(one, Value::Ref(arguments));
-    Next::Waits {
-        pending: Pending::Sending {
-            receiver,
-            sel: own.main_args,
-            site,
-            floor: 0,
-            first: 0,
-        },
-        at: both,
-    }
+    core.waiting = Pending::Sending {
+        receiver,
+        sel: own.main_args,
+        site,
+        floor: 0,
+        first: 0,
+    };
+    Next::Waits(both)
 }

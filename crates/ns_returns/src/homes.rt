@@ -34,11 +34,11 @@ pub fn return_home(code: &CodeProgram, core: &mut Core, at: Registers, own: OwnS
     let (value, below) = core.stack.pop(at);
     match core.stack.frames_to(home) {
         Some(count) => unwind(code, core, below, own, home, count, value),
-        None => Next::Ends(ending_at(
-            &core.places,
-            frame.activation.site,
-            Fault::Kind(Kind::DeadReturn),
-        )),
+        None => {
+            let fault = Fault::Kind(Kind::DeadReturn);
+            core.ending = ending_at(&core.places, frame.activation.site, fault);
+            Next::Ended
+        }
     }
 }
 

@@ -57,7 +57,8 @@ fn begin_part(code: &CodeProgram, core: &mut Core, at: Registers, count: u32) ->
     match reached {
         PartReached::Skips => Next::On(Registers { top: first, ..at }),
         PartReached::Fails(fault) => {
-            Next::Ends(ending_at(&core.places, frame.activation.site, fault))
+            core.ending = ending_at(&core.places, frame.activation.site, fault);
+            Next::Ended
         }
         PartReached::Enters(entered) => Next::On(enter_part(
             code,

@@ -19,7 +19,7 @@ use Rattle.ns_engine.specs.Shown.{phase_shown, progress_in}
 use Rattle.ns_engine.specs.Standing.{ArgumentsWait}
 use Rattle.ns_engine.specs.Arriving.{CanBegin, Arrives}
 use Rattle.ns_engine.specs.Doing.{IsSettled}
-use Rattle.ns_engine.proofs.Pushed.{stack_stays}
+use Rattle.ns_engine.proofs.Pushed.{waiting_stays}
 use Rattle.ns_sends.specs.declared.sent.Sent.{Sent}
 use Rattle.ns_sends.specs.Going.{control_at, IsLeft}
 
@@ -48,8 +48,8 @@ can_begin code core at sent left room = begins_at code core at sent sent.floor l
 
 pub send_waits : (code : CodeProgram) (core : Core) (at : Registers) (sent : Sent) (receiver : Value) (sel : Sel) (array : ℕ) (class : ClassName)
     → IsLeft code core at sent → class ≡ class_name_of core.run.world.world.cells receiver
-    → Arrives code core at sent.floor (control_at code core at sent (reached.Performs receiver sel array)) core
-    (next.Waits (pending.Performing receiver sel array (record { place = sent.site.place; class = class; sel = sel }) sent.floor) at)
+    → Arrives code core at sent.floor (control_at code core at sent (reached.Performs receiver sel array))
+    (record core { waiting = pending.Performing receiver sel array (record { place = sent.site.place; class = class; sel = sel }) sent.floor }) (next.Waits at)
 send_waits code core at sent receiver sel array class left same = record {
   state = ap (λ (c : ClassName). Pends (phase_shown core.phase)
       (Performing receiver sel array (site_shown core.places (record { place = sent.site.place; class = c; sel = sel })))
@@ -67,5 +67,5 @@ send_waits code core at sent receiver sel array class left same = record {
     },
   );
   run = refl;
-  stays = stack_stays core core.stack refl refl;
+  stays = waiting_stays core (pending.Performing receiver sel array (record { place = sent.site.place; class = class; sel = sel }) sent.floor);
 }

@@ -33,8 +33,11 @@ use Rattle.ns_send.specs.Lawful.{LawfulRun, LawfulControl}
 use Rattle.ns_send.specs.Fitting.{GoesOnAt, home_in, Asks, HandsOn}
 use Rattle.ns_send.specs.Spending.{Spends}
 use Rattle.ns_moves.specs.Arrivals.{arrived}
+use Rattle.ns_moves.specs.Move.{move}
+use Rattle.ns_moves.specs.Valid.{Valid}
 use Rattle.ns_act.specs.declared.run.Run.{Run}
 use Rattle.ns_act.specs.Room.{SameRest}
+use Rattle.ns_frames.specs.declared.frame.Pending.{Pending}
 use Rattle.ns_frames.specs.declared.frame.Pending.TheVariants as pending
 use Rattle.ns_frames.specs.View.{site_shown}
 use Rattle.ns_engine.specs.declared.state.Next.{Next}
@@ -52,9 +55,9 @@ use Rattle.ns_frames.specs.Row.{FrameRow}
 use Rattle.ns_frames.specs.Room.{AreWithin, bound}
 use Rattle.ns_frames.specs.Standing.{Stood, standing, at_next, AreLaid}
 use Rattle.ns_frames.specs.Stack.{in_use, stood, with_top, IsLaid, KeepsRoom}
-use Rattle.ns_frames.specs.View.{frames_shown}
+use Rattle.ns_frames.specs.View.{frames_shown, state_shown}
 use Rattle.ns_engine.specs.declared.state.Core.{Core}
-use Rattle.ns_engine.specs.Standing.{height_in, greatest_of, AreStanding, ArgumentsWait}
+use Rattle.ns_engine.specs.Standing.{height_in, greatest_of, AreStanding, ArgumentsWait, Wait}
 use Rattle.ns_engine.proofs.Pushed.{stack_stays}
 use Rattle.ns_sends.specs.declared.sent.Sent.{Sent}
 use Rattle.ns_sends.specs.Going.{arguments_in, control_at, ComesToBody, GoesOn, IsLeft, Leads}
@@ -125,31 +128,43 @@ pub many_shown : (code : CodeProgram) (places : List SourcePlace) (stood : List 
 many_shown code places [] = refl
 many_shown code places (one ∷ stood) = ap suc (many_shown code places stood)
 
+-- what the machine shows, and where its arguments stand
+valid_there : (code : CodeProgram) (grants : Grants) (core : Core) (at : Registers) (sent : Sent) (block : Value) → BlockWaits code grants core at sent block
+    → Valid code grants (state_shown code core.places (phase_shown core.phase) (pending.Evaluating block sent.site sent.floor sent.first) core.stack at (progress_in core))
+valid_there code grants core at sent block waits =
+    subst (λ (p : Pending). Valid code grants (state_shown code core.places (phase_shown core.phase) p core.stack at (progress_in core))) waits.is waits.ready.valid
+
+pub stand_there : (code : CodeProgram) (grants : Grants) (core : Core) (at : Registers) (sent : Sent) (block : Value) → BlockWaits code grants core at sent block
+    → AreStanding code core.stack at × ArgumentsWait code core.stack at sent.floor sent.first
+stand_there code grants core at sent block waits =
+    subst (λ (p : Pending). AreStanding code core.stack at × Wait code p core.stack at) waits.is waits.ready.stand
+
 pub waiting : (code : CodeProgram) (grants : Grants) (core : Core) (at : Registers) (sent : Sent) (block : Value) → BlockWaits code grants core at sent block
     → IsWaiting code core at sent block
-waiting code grants core at sent block ready = record {
-  sound = ready.valid.0.world.sound;
-  lawful = ready.valid.0.world.lawful;
-  depth = ready.valid.0.depth ∙ (many_shown code core.places (stood core.stack (with_top sent.floor at))
+waiting code grants core at sent block waits = let valid = valid_there code grants core at sent block waits in record {
+  sound = valid.0.world.sound;
+  lawful = valid.0.world.lawful;
+  depth = valid.0.depth ∙ (many_shown code core.places (stood core.stack (with_top sent.floor at))
       ∙ (many_stand (at_next at.next core.stack.frames.items) (take sent.floor core.stack.values.items) ∙ many_next at.next core.stack.frames.items));
-  block_is = ready.valid.1.0;
-  few = ready.valid.1.1;
-  live = ready.valid.1.2;
+  block_is = valid.1.0;
+  few = valid.1.1;
+  live = valid.1.2;
 }
 
 -- the arguments end within what was taken
 pub place_fits : (code : CodeProgram) (grants : Grants) (core : Core) (at : Registers) (sent : Sent) (block : Value) → BlockWaits code grants core at sent block
     → at.top + 1 ≤ core.stack.values.room
-place_fits code grants core at sent block ready =
-    let is = waiting code grants core at sent block ready in
+place_fits code grants core at sent block waits =
+    let is = waiting code grants core at sent block waits in
+    let stand = stand_there code grants core at sent block waits in
     let few = is.few in
     let size : length (arguments_in core at sent) ≡ at.top - sent.first = length-drop sent.first (take at.top core.stack.values.items)
-    ∙ ap (λ (n : ℕ). n - sent.first) (length-take-le at.top core.stack.values.items ready.stand.0.laid.filled) in
-    let reach = ready.stand.1.reach in
+    ∙ ap (λ (n : ℕ). n - sent.first) (length-take-le at.top core.stack.values.items stand.0.laid.filled) in
+    let reach = stand.1.reach in
     let depth = is.depth in
     let within = is.lawful.within.depth in
     let all = reach_all (greatest_of code.bodies) core.run.world.world.limits.depth core.stack.frames.items (omega (arith, depth, within)) in
-    let room = ready.rooms.values in
+    let room = waits.ready.rooms.values in
     omega (arith, few, size, reach, all, room)
 
 pub place_made : (code : CodeProgram) (core : Core) (at : Registers) (sent : Sent) (stack : Stack) → AreStanding code core.stack at
@@ -278,11 +293,11 @@ evaluation_leads code core new at sent block world r next same rest is = record 
 
 pub place_left : (code : CodeProgram) (grants : Grants) (core mid : Core) (at : Registers) (sent : Sent) (block : Value) → BlockWaits code grants core at sent block
     → HasMadePlace code core at sent mid → IsLeft code mid at sent
-place_left code grants core mid at sent block ready made =
-    let is = waiting code grants core at sent block ready in
+place_left code grants core mid at sent block waits made =
+    let is = waiting code grants core at sent block waits in
     record {
       sound = is.sound;
-      rooms = rooms_stay code core mid ready.rooms made.stays;
+      rooms = rooms_stay code core mid waits.ready.rooms made.stays;
       depth =
           let depth = is.depth in
           let within = is.lawful.within.depth in
@@ -296,8 +311,8 @@ place_left code grants core mid at sent block ready made =
 
 pub place_waiting : (code : CodeProgram) (grants : Grants) (core mid : Core) (at : Registers) (sent : Sent) (block : Value) → BlockWaits code grants core at sent block
     → HasMadePlace code core at sent mid → IsWaiting code mid at sent block
-place_waiting code grants core mid at sent block ready made =
-    let is = waiting code grants core at sent block ready in
+place_waiting code grants core mid at sent block waits made =
+    let is = waiting code grants core at sent block waits in
     record {
       sound = is.sound;
       lawful = rw made.run is.lawful;
@@ -310,9 +325,9 @@ place_waiting code grants core mid at sent block ready made =
 pub evaluation_moves : (code : CodeProgram) (grants : Grants) (core mid new : Core) (at : Registers) (sent : Sent) (block : Value) (n : Next)
     → BlockWaits code grants core at sent block → HasMadePlace code core at sent mid
     → Leads code mid at sent.floor (evaluated_at code mid at sent block) new n
-    → Moves code core (next.Waits (pending.Evaluating block sent.site sent.floor sent.first) at) new n
-evaluation_moves code grants core mid new at sent block n ready made is = record {
-  state = is.state ∙ same;
+    → Moves code core (next.Waits at) new n
+evaluation_moves code grants core mid new at sent block n waits made is = record {
+  state = is.state ∙ (same ∙ ap (λ (p : Pending). move code (state_shown code core.places (phase_shown core.phase) p core.stack at (progress_in core))) (sym waits.is));
   stand = is.stand;
   stays = record {
     world = record {
@@ -323,7 +338,7 @@ evaluation_moves code grants core mid new at sent block n ready made is = record
     frames = is.stays.frames ∙ made.stays.frames;
     places = is.stays.places ∙ made.stays.places;
   };
-  kept = subst (λ (memo : List (Option Kept)). All (IsRight core.run.world.world.cells code) memo) (sym (is.memo ∙ ap (λ (run : Run). run.memo) made.run)) ready.kept;
+  kept = subst (λ (memo : List (Option Kept)). All (IsRight core.run.world.world.cells code) memo) (sym (is.memo ∙ ap (λ (run : Run). run.memo) made.run)) waits.ready.kept;
 }
   where
     same : arrived code (phase_shown mid.phase) (evaluated_at code mid at sent block) (frames_shown code mid.places (stood mid.stack (with_top sent.floor at)))

@@ -41,7 +41,7 @@ use Rattle.ns_engine.specs.declared.state.Core.{Core}
 use Rattle.ns_engine.specs.declared.state.Next.{Next}
 use Rattle.ns_engine.specs.declared.state.Next.TheVariants as next
 use Rattle.ns_engine.specs.Shown.{phase_shown, progress_in}
-use Rattle.ns_engine.proofs.Pushed.{stack_stays}
+use Rattle.ns_engine.proofs.Pushed.{stack_stays, ended_stays}
 use Rattle.ns_engine.proofs.Made.{in_other}
 use Rattle.ns_sends.specs.declared.led.Led.{Led}
 use Rattle.ns_sends.specs.declared.led.Led.TheVariants as led
@@ -239,13 +239,13 @@ on_leads code core new at sent receiver world (led.Gives value) e room is = reco
 
 pub no_step_leads : (code : CodeProgram) (core : Core) (at : Registers) (sent : Sent) (receiver : Value) → stepped core.run.world.world ≡ None
     → CanSendOn code core at sent receiver
-    → LeadsTo code core at sent.floor (sent_on_at code core at sent receiver) core (led.Goes (next.Ends (ending.Limit Steps)))
+    → LeadsTo code core at sent.floor (sent_on_at code core at sent receiver) (record core { ending = ending.Limit Steps }) (led.Goes next.Ended)
 no_step_leads code core at sent receiver e can = record {
   state = ap (λ (c : Control). arrived code (phase_shown core.phase) c (frames_shown code core.places (stood core.stack (with_top sent.floor at))))
       (sym (ap (λ (o : Option World). charged halts Steps o (progress_in core)
       (answered_by code (found_from core.run.world.world.cells code (start_of core.run.world.world.cells receiver) sent.site.sel.0 Plain) sent.site.sel receiver
       (arguments_in core at sent) (site_shown core.places sent.site))) e));
   stand = tt;
-  stays = stack_stays core core.stack refl refl;
+  stays = ended_stays core (ending.Limit Steps);
   kept = can.kept;
 }

@@ -39,7 +39,7 @@ use Rattle.ns_engine.specs.declared.state.Next.{Next}
 use Rattle.ns_engine.specs.declared.state.Next.TheVariants as next
 use Rattle.ns_engine.specs.Shown.{phase_shown, progress_in}
 use Rattle.ns_engine.specs.Standing.{HasRooms}
-use Rattle.ns_engine.proofs.Pushed.{stack_stays}
+use Rattle.ns_engine.proofs.Pushed.{ended_stays}
 use Rattle.ns_engine.proofs.Made.{in_other}
 use Rattle.ns_sends.specs.declared.sent.Sent.{Sent}
 use Rattle.ns_sends.specs.Going.{arguments_in, GoesOn, IsLeft, answered_at, CanAsk, CanAnswer, Leads}
@@ -168,7 +168,7 @@ step_sends steps code core new at sent receiver activation target world next e r
 -- without a step left it ends the run
 pub no_step_sends : StepAndAnswer → (code : CodeProgram) (core : Core) (at : Registers) (sent : Sent) (receiver : Value) (activation : Activation) (target : Target)
     → stepped core.run.world.world ≡ None → CanSend code core at sent receiver
-    → Sends code core at sent.floor (sent_at code core at sent activation target) core (next.Ends (ending.Limit Steps))
+    → Sends code core at sent.floor (sent_at code core at sent activation target) (record core { ending = ending.Limit Steps }) next.Ended
 no_step_sends steps code core at sent receiver activation target e can = record {
   state = ap (λ (c : Control). arrived code (phase_shown core.phase) c (frames_shown code core.places (stood core.stack (with_top sent.floor at)))) (sym
       (steps code activation target sent.site.sel (arguments_in core at sent) (site_shown core.places sent.site).place (progress_in core)
@@ -176,7 +176,7 @@ no_step_sends steps code core at sent receiver activation target e can = record 
       (answered code activation target sent.site.sel (arguments_in core at sent)
       (site_at core.run.world.world.cells (site_shown core.places sent.site).place (receiver_of core.run.world.world.cells activation target) sent.site.sel))) e));
   stand = tt;
-  stays = stack_stays core core.stack refl refl;
+  stays = ended_stays core (ending.Limit Steps);
   kept = can.kept;
 }
 

@@ -130,6 +130,6 @@ CanAnswer code core at sent receiver (answers.Row number) = CanAsk code core at 
 -- Control is where an action led it, from frames that stand at a floor; lookups are kept as they were.
 pub record Leads (code : CodeProgram) (old : Core) (at : Registers) (floor : ℕ) (control : Control) (new : Core) (next : Next) : Type 0 where
   pub state : shown code new next ≡ arrived code (phase_shown old.phase) control (frames_shown code old.places (stood old.stack (with_top floor at)))
-  pub stand : StandAt code new.stack next
+  pub stand : StandAt code new next
   pub memo : new.run.memo ≡ old.run.memo
   pub stays : Stays old new

@@ -42,6 +42,6 @@ pub record SendsToTop (code : CodeProgram) (old : Core) (at : Registers) (sel : 
   pub state : (activation : Activation) → shown code new next ≡
       arrived code (phase_shown old.phase) (sent code activation (To receiver kind) sel (topmost old at argc) (slice_get old.places place) (progress_in old))
       (frames_shown code old.places under)
-  pub stand : StandAt code new.stack next
+  pub stand : StandAt code new next
   pub stays : Stays old new
   pub kept : KeepsRightIn code old new

@@ -47,6 +47,6 @@ sent_at code core at sent activation target =
 -- Control is where it led; the lookups that are kept are right in the world before.
 pub record Sends (code : CodeProgram) (old : Core) (at : Registers) (floor : ℕ) (control : Control) (new : Core) (next : Next) : Type 0 where
   pub state : shown code new next ≡ arrived code (phase_shown old.phase) control (frames_shown code old.places (stood old.stack (with_top floor at)))
-  pub stand : StandAt code new.stack next
+  pub stand : StandAt code new next
   pub stays : Stays old new
   pub kept : KeepsRightIn code old new

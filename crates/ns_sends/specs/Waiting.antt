@@ -28,8 +28,9 @@ use Rattle.ns_sends.specs.Going.{arguments_in, IsLeft, Leads}
 use Rattle.ns_sends.specs.Sending.{Sends}
 
 -- The evaluation of a block waits in a machine that is ready.
-abbrev pub BlockWaits : CodeProgram → Grants → Core → Registers → Sent → Value → Type 0
-BlockWaits code grants core at sent block = IsReady code grants core (next.Waits (pending.Evaluating block sent.site sent.floor sent.first) at)
+pub record BlockWaits (code : CodeProgram) (grants : Grants) (core : Core) (at : Registers) (sent : Sent) (block : Value) : Type 0 where
+  pub is : core.waiting ≡ pending.Evaluating block sent.site sent.floor sent.first
+  pub ready : IsReady code grants core (next.Waits at)
 
 -- There is a place at the floor, and nothing that is in use has changed.
 pub record HasMadePlace (code : CodeProgram) (old : Core) (at : Registers) (sent : Sent) (new : Core) : Type 0 where

@@ -86,7 +86,10 @@ fn step_above(
     sites_stay();
     match core.run.world.step() {
         Ok(()) => look_above(code, core, at, sent, running, own),
-        Err(limit) => Next::Ends(Ending::Limit(limit)),
+        Err(limit) => {
+            core.ending = Ending::Limit(limit);
+            Next::Ended
+        }
     }
 }
 
@@ -186,7 +189,10 @@ fn step_around(
     sites_stay();
     match core.run.world.step() {
         Ok(()) => look_around(code, core, at, sent, running, level, receiver, own),
-        Err(limit) => Next::Ends(Ending::Limit(limit)),
+        Err(limit) => {
+            core.ending = Ending::Limit(limit);
+            Next::Ended
+        }
     }
 }
 

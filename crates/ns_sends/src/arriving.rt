@@ -84,16 +84,14 @@ pub fn perform(
         class: class_of(&mut core.run.world, code, receiver),
         sel,
     };
-    Next::Waits {
-        pending: Pending::Performing {
-            receiver,
-            sel,
-            array,
-            site,
-            floor: sent.floor,
-        },
-        at,
-    }
+    core.waiting = Pending::Performing {
+        receiver,
+        sel,
+        array,
+        site,
+        floor: sent.floor,
+    };
+    Next::Waits(at)
 }
 
 /// Goes where an action has led.

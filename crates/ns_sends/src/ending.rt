@@ -22,7 +22,8 @@ pub fn fail(code: &CodeProgram, core: &mut Core, at: Registers, sent: Sent, faul
 {
     let _code = code;
     let _at = at;
-    Next::Ends(ending_at(&mut core.places, sent.site, fault))
+    core.ending = ending_at(&mut core.places, sent.site, fault);
+    Next::Ended
 }
 
 /// Ends the run by the refusal of a Message of that selector.
@@ -34,5 +35,6 @@ pub fn refuse(code: &CodeProgram, core: &mut Core, at: Registers, sent: Sent, se
     let _code = code;
     let _at = at;
     let site = KeptSite { sel, ..sent.site };
-    Next::Ends(ending_at(&mut core.places, site, Fault::Kind(Kind::NotUnderstood)))
+    core.ending = ending_at(&mut core.places, site, Fault::Kind(Kind::NotUnderstood));
+    Next::Ended
 }

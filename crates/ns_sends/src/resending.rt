@@ -43,7 +43,10 @@ pub fn send_on(
     sends_that_waited_go_on();
     match core.run.world.step() {
         Ok(()) => look_on(code, core, at, sent, receiver, own),
-        Err(limit) => Led::Goes(Next::Ends(Ending::Limit(limit))),
+        Err(limit) => {
+            core.ending = Ending::Limit(limit);
+            Led::Goes(Next::Ended)
+        }
     }
 }
 

@@ -51,7 +51,10 @@ pub fn send_to(
     sites_stay();
     match core.run.world.step() {
         Ok(()) => look_up(code, core, at, sent, receiver, kind, own),
-        Err(limit) => Next::Ends(Ending::Limit(limit)),
+        Err(limit) => {
+            core.ending = Ending::Limit(limit);
+            Next::Ended
+        }
     }
 }
 

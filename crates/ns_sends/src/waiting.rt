@@ -2,7 +2,6 @@
 
 ghost use Rattle.std.specs.Prelude.{◌≡◌, ◌+◌, ◌≤◌};
 ghost use Rattle.ns_facets.specs.declared.row.Grants.{Grants};
-ghost use Rattle.ns_frames.specs.declared.frame.Pending.TheVariants as pending;
 ghost use Rattle.ns_engine.specs.declared.state.Next.TheVariants as next;
 ghost use Rattle.ns_engine.specs.Ready.{Moves};
 ghost use Rattle.ns_engine.specs.Standing.{AreStanding, ArgumentsWait};
@@ -27,7 +26,7 @@ pub fn evaluate(
     block: Value,
 ) -> Next
     requires { (grants : Grants) × BlockWaits code.now grants core.old at sent block }
-    ensures { Moves code.now core.old (next.Waits (pending.Evaluating block sent.site sent.floor sent.first) at) core.new result }
+    ensures { Moves code.now core.old (next.Waits at) core.new result }
 {
     make_place(code, core, at, sent);
     enter_block(code, core, at, sent, block)

@@ -23,7 +23,9 @@ use Rattle.ns_moves.specs.State as state
 use Rattle.ns_moves.specs.Arrivals.{arrived}
 use Rattle.ns_moves.specs.Move.{move}
 use Rattle.ns_moves.specs.Returns.{delivered}
+use Rattle.ns_moves.specs.Valid.{Valid}
 use Rattle.ns_frames.specs.declared.frame.KeptSite.{KeptSite}
+use Rattle.ns_frames.specs.declared.frame.Pending.{Pending}
 use Rattle.ns_frames.specs.declared.frame.Pending.TheVariants as pending
 use Rattle.ns_frames.specs.declared.registers.Registers.{Registers}
 use Rattle.ns_frames.specs.declared.stack.Stack.{Stack}
@@ -31,7 +33,7 @@ use Rattle.ns_frames.specs.Row.{FrameRow}
 use Rattle.ns_frames.specs.Room.{bound}
 use Rattle.ns_frames.specs.Standing.{Stood, standing, at_next}
 use Rattle.ns_frames.specs.Stack.{in_use, stood, with_top, IsLaid}
-use Rattle.ns_frames.specs.View.{site_shown, frames_shown}
+use Rattle.ns_frames.specs.View.{site_shown, frames_shown, state_shown}
 use Rattle.ns_find.specs.declared.memo.Kept.{Kept}
 use Rattle.ns_find.specs.Memo.{IsRight}
 use Rattle.ns_act.specs.declared.run.Run.{Run}
@@ -43,7 +45,7 @@ use Rattle.ns_engine.specs.declared.own.OwnSends.{OwnSends}
 use Rattle.ns_engine.specs.Own.{AreOwn}
 use Rattle.ns_engine.specs.Ready.{IsReady, Moves}
 use Rattle.ns_engine.specs.Framed.{HasRoomOnTop, WaitingHasRoom, ArgumentsAreFew}
-use Rattle.ns_engine.specs.Standing.{greatest_of, most_arguments, AreStanding, ArgumentsWait, HasRooms, Stays, KeepsRightIn}
+use Rattle.ns_engine.specs.Standing.{greatest_of, most_arguments, AreStanding, ArgumentsWait, SendWaits, Wait, HasRooms, Stays, KeepsRightIn}
 use Rattle.ns_engine.proofs.Kept.{rooms_stay}
 use Rattle.ns_returns.specs.Handing.{CanTake, IsHanded}
 use Rattle.ns_sends.specs.declared.sent.Sent.{Sent}
@@ -106,37 +108,65 @@ frames_many code core at floor =
     many_shown code core.places (stood core.stack (with_top floor at))
     ∙ (many_stand (at_next at.next core.stack.frames.items) (take floor core.stack.values.items) ∙ many_next at.next core.stack.frames.items)
 
+-- what a machine shows in which this waits
+pub valid_there : (code : CodeProgram) (grants : Grants) (core : Core) (at : Registers) (p : Pending) → core.waiting ≡ p → IsReady code grants core (next.Waits at)
+    → Valid code grants (state_shown code core.places (phase_shown core.phase) p core.stack at (progress_in core))
+valid_there code grants core at p is ready =
+    subst (λ (q : Pending). Valid code grants (state_shown code core.places (phase_shown core.phase) q core.stack at (progress_in core))) is ready.valid
+
+-- and what its next move is
+move_there : (code : CodeProgram) (core : Core) (at : Registers) (p : Pending) → core.waiting ≡ p
+    → move code (state_shown code core.places (phase_shown core.phase) p core.stack at (progress_in core)) ≡ move code (shown code core (next.Waits at))
+move_there code core at p is =
+    ap (λ (q : Pending). move code (state_shown code core.places (phase_shown core.phase) q core.stack at (progress_in core))) (sym is)
+
+pub sending_stands : (code : CodeProgram) (grants : Grants) (core : Core) (at : Registers) (sent : Sent) (receiver : Value) (sel : Sel)
+    → core.waiting ≡ pending.Sending receiver sel sent.site sent.floor sent.first → IsReady code grants core (next.Waits at)
+    → SendWaits code core.stack at sent.site sel sent.floor sent.first
+sending_stands code grants core at sent receiver sel is ready = subst (λ (p : Pending). Wait code p core.stack at) is ready.stand.1
+
+pub performing_stands : (code : CodeProgram) (grants : Grants) (core : Core) (at : Registers) (site : KeptSite) (floor : ℕ) (receiver : Value) (sel : Sel) (array : ℕ)
+    → core.waiting ≡ pending.Performing receiver sel array site floor → IsReady code grants core (next.Waits at)
+    → SendWaits code core.stack at site sel floor floor
+performing_stands code grants core at site floor receiver sel array is ready = subst (λ (p : Pending). Wait code p core.stack at) is ready.stand.1
+
 pub sending_known : (code : CodeProgram) (grants : Grants) → WaitingHasRoom code grants → (core : Core) (at : Registers) (sent : Sent) (receiver : Value) (sel : Sel)
-    → IsReady code grants core (next.Waits (pending.Sending receiver sel sent.site sent.floor sent.first) at)
+    → core.waiting ≡ pending.Sending receiver sel sent.site sent.floor sent.first → IsReady code grants core (next.Waits at)
     → WaitsToSend code core at sent receiver (arguments_in core at sent)
-sending_known code grants law core at sent receiver sel ready = record {
-  sound = ready.valid.0.world.sound;
-  lawful = ready.valid.0.world.lawful;
-  begun = ready.valid.0.world.begun;
-  kept = ready.kept;
-  rooms = ready.rooms;
-  depth = ready.valid.0.depth ∙ frames_many code core at sent.floor;
-  live = ready.valid.1.1.live;
-  selector = subst (λ (s : Sel). FitsSelector core.run.world.world.cells code s (arguments_in core at sent)) (sym ready.stand.1.named) ready.valid.1.2;
-  room = law core.places (phase_shown core.phase) (state.Sending receiver sel (arguments_in core at sent) (site_shown core.places sent.site))
-      (stood core.stack (with_top sent.floor at)) (progress_in core) refl ready.valid;
-}
+sending_known code grants law core at sent receiver sel is ready =
+    let valid = valid_there code grants core at (pending.Sending receiver sel sent.site sent.floor sent.first) is ready in
+    let named = (sending_stands code grants core at sent receiver sel is ready).named in
+    record {
+      sound = valid.0.world.sound;
+      lawful = valid.0.world.lawful;
+      begun = valid.0.world.begun;
+      kept = ready.kept;
+      rooms = ready.rooms;
+      depth = valid.0.depth ∙ frames_many code core at sent.floor;
+      live = valid.1.1.live;
+      selector = subst (λ (s : Sel). FitsSelector core.run.world.world.cells code s (arguments_in core at sent)) (sym named) valid.1.2;
+      room = law core.places (phase_shown core.phase) (state.Sending receiver sel (arguments_in core at sent) (site_shown core.places sent.site))
+          (stood core.stack (with_top sent.floor at)) (progress_in core) refl valid;
+    }
 
 pub performing_known : (code : CodeProgram) (grants : Grants) → WaitingHasRoom code grants → (core : Core) (at : Registers) (site : KeptSite) (floor : ℕ) (receiver : Value)
-    (sel : Sel) (array : ℕ) → IsReady code grants core (next.Waits (pending.Performing receiver sel array site floor) at)
+    (sel : Sel) (array : ℕ) → core.waiting ≡ pending.Performing receiver sel array site floor → IsReady code grants core (next.Waits at)
     → WaitsToSend code core at (sent_from_floor site floor) receiver (items_of core.run.world.world.cells (Ref array))
-performing_known code grants law core at site floor receiver sel array ready = record {
-  sound = ready.valid.0.world.sound;
-  lawful = ready.valid.0.world.lawful;
-  begun = ready.valid.0.world.begun;
-  kept = ready.kept;
-  rooms = ready.rooms;
-  depth = ready.valid.0.depth ∙ frames_many code core at floor;
-  live = ready.valid.1.0;
-  selector = subst (λ (s : Sel). FitsSelector core.run.world.world.cells code s (items_of core.run.world.world.cells (Ref array))) (sym ready.stand.1.named) ready.valid.1.2;
-  room = law core.places (phase_shown core.phase) (state.Performing receiver sel array (site_shown core.places site)) (stood core.stack (with_top floor at))
-      (progress_in core) refl ready.valid;
-}
+performing_known code grants law core at site floor receiver sel array is ready =
+    let valid = valid_there code grants core at (pending.Performing receiver sel array site floor) is ready in
+    let named = (performing_stands code grants core at site floor receiver sel array is ready).named in
+    record {
+      sound = valid.0.world.sound;
+      lawful = valid.0.world.lawful;
+      begun = valid.0.world.begun;
+      kept = ready.kept;
+      rooms = ready.rooms;
+      depth = valid.0.depth ∙ frames_many code core at floor;
+      live = valid.1.0;
+      selector = subst (λ (s : Sel). FitsSelector core.run.world.world.cells code s (items_of core.run.world.world.cells (Ref array))) (sym named) valid.1.2;
+      room = law core.places (phase_shown core.phase) (state.Performing receiver sel array (site_shown core.places site)) (stood core.stack (with_top floor at))
+          (progress_in core) refl valid;
+    }
 
 cell_there : (o : Option Cell) → IsTrue (is_array_shape (option_map_or shape_of o (new.Mirror Nil))) → IsSome o
 cell_there (Some cell) is = refl
@@ -242,27 +272,28 @@ standing_set code core mid at sent made = record {
 }
 
 pub sending_moves : (code : CodeProgram) (grants : Grants) → WaitingHasRoom code grants → (core mid new : Core) (at : Registers) (sent : Sent) (receiver : Value) (sel : Sel)
-    (n : Next) → IsReady code grants core (next.Waits (pending.Sending receiver sel sent.site sent.floor sent.first) at) → HasMadePlace code core at sent mid
-    → Sends code mid at sent.floor (sent_on_at code mid at sent receiver) new n
-    → Moves code core (next.Waits (pending.Sending receiver sel sent.site sent.floor sent.first) at) new n
-sending_moves code grants law core mid new at sent receiver sel n ready made sends =
-    sent_moves code core mid new at at sent receiver (arguments_in core at sent) (next.Waits (pending.Sending receiver sel sent.site sent.floor sent.first) at) n
-    (sending_known code grants law core at sent receiver sel ready) (standing_set code core mid at sent made) sends
+    (n : Next) → core.waiting ≡ pending.Sending receiver sel sent.site sent.floor sent.first → IsReady code grants core (next.Waits at)
+    → HasMadePlace code core at sent mid → Sends code mid at sent.floor (sent_on_at code mid at sent receiver) new n
+    → Moves code core (next.Waits at) new n
+sending_moves code grants law core mid new at sent receiver sel n is ready made sends =
+    sent_moves code core mid new at at sent receiver (arguments_in core at sent) (next.Waits at) n
+    (sending_known code grants law core at sent receiver sel is ready) (standing_set code core mid at sent made) sends
     (ap (λ (s : Sel). arrived code (phase_shown core.phase) (sent_from code receiver s (arguments_in core at sent) (site_shown core.places sent.site) (progress_in core))
-    (frames_shown code core.places (stood core.stack (with_top sent.floor at)))) ready.stand.1.named)
+    (frames_shown code core.places (stood core.stack (with_top sent.floor at)))) (sending_stands code grants core at sent receiver sel is ready).named
+    ∙ move_there code core at (pending.Sending receiver sel sent.site sent.floor sent.first) is)
 
 pub performing_moves : (code : CodeProgram) (grants : Grants) → WaitingHasRoom code grants → (core mid new : Core) (at to : Registers) (site : KeptSite) (floor : ℕ)
-    (receiver : Value) (sel : Sel) (array : ℕ) (n : Next) → IsReady code grants core (next.Waits (pending.Performing receiver sel array site floor) at)
+    (receiver : Value) (sel : Sel) (array : ℕ) (n : Next) → core.waiting ≡ pending.Performing receiver sel array site floor → IsReady code grants core (next.Waits at)
     → IsSet code core at (sent_from_floor site floor) (items_of core.run.world.world.cells (Ref array)) mid to
     → Sends code mid to floor (sent_on_at code mid to (sent_from_floor site floor) receiver) new n
-    → Moves code core (next.Waits (pending.Performing receiver sel array site floor) at) new n
-performing_moves code grants law core mid new at to site floor receiver sel array n ready set sends =
+    → Moves code core (next.Waits at) new n
+performing_moves code grants law core mid new at to site floor receiver sel array n is ready set sends =
     sent_moves code core mid new at to (sent_from_floor site floor) receiver (items_of core.run.world.world.cells (Ref array))
-    (next.Waits (pending.Performing receiver sel array site floor) at) n
-    (performing_known code grants law core at site floor receiver sel array ready) set sends
+    (next.Waits at) n (performing_known code grants law core at site floor receiver sel array is ready) set sends
     (ap (λ (s : Sel). arrived code (phase_shown core.phase)
     (sent_from code receiver s (items_of core.run.world.world.cells (Ref array)) (site_shown core.places site) (progress_in core))
-    (frames_shown code core.places (stood core.stack (with_top floor at)))) ready.stand.1.named)
+    (frames_shown code core.places (stood core.stack (with_top floor at)))) (performing_stands code grants core at site floor receiver sel array is ready).named
+    ∙ move_there code core at (pending.Performing receiver sel array site floor) is)
 
 -- ---- elements of an array
 

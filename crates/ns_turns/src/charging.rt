@@ -42,8 +42,8 @@ pub fn charges(plan: &Plan, code: &CodeProgram, core: &Core, next: Next) -> bool
 {
     match next {
         Next::On(at) => frame_charges(plan, code, core, at),
-        Next::Waits { pending, at } => pending_charges(plan, code, core, pending, at),
-        Next::Ends(_) => false,
+        Next::Waits(at) => pending_charges(plan, code, core, at),
+        Next::Ended => false,
     }
 }
 
@@ -103,18 +103,12 @@ fn action_charges(action: KAction) -> bool
 }
 
 /// Whether what waits charges: a send, and the evaluation of a block with as many arguments as it takes.
-fn pending_charges(
-    plan: &Plan,
-    code: &CodeProgram,
-    core: &Core,
-    pending: Pending,
-    at: Registers,
-) -> bool
+fn pending_charges(plan: &Plan, code: &CodeProgram, core: &Core, at: Registers) -> bool
     requires prepared { IsPrepared code.now plan.now core.now.places }
-    requires can { CanRun code.now core.now (next.Waits pending at) }
-    ensures { result ≡ will_charge code.now (shown code.now core.now (next.Waits pending at)) }
+    requires can { CanRun code.now core.now (next.Waits at) }
+    ensures { result ≡ will_charge code.now (shown code.now core.now (next.Waits at)) }
 {
-    match pending {
+    match core.waiting {
         Pending::Nothing => frame_charges(plan, code, core, at),
         Pending::Evaluating { block, first, .. } => {
             u32::from(arity(code, &core.run.world, block)) == at.top - first

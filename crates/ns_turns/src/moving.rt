@@ -28,8 +28,8 @@ pub fn step(plan: &Plan, code: &CodeProgram, core: &mut Core, next: Next, own: O
 {
     match next {
         Next::On(at) => go_on(plan, code, core, at, own),
-        Next::Waits { pending, at } => take_up(plan, code, core, pending, at, own),
-        Next::Ends(_) => unreachable!(),
+        Next::Waits(at) => take_up(plan, code, core, at, own),
+        Next::Ended => unreachable!(),
     }
 }
 
@@ -38,14 +38,13 @@ pub fn take_up(
     plan: &Plan,
     code: &CodeProgram,
     core: &mut Core,
-    pending: Pending,
     at: Registers,
     own: OwnSends,
 ) -> Next
-    requires { RunsBy code.now plan.now own core.old (next.Waits pending at) }
-    ensures { Moves code.now core.old (next.Waits pending at) core.new result }
+    requires { RunsBy code.now plan.now own core.old (next.Waits at) }
+    ensures { Moves code.now core.old (next.Waits at) core.new result }
 {
-    match pending {
+    match core.waiting {
         Pending::Nothing => go_on(plan, code, core, at, own),
         Pending::Evaluating {
             block,

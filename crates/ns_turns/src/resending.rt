@@ -41,9 +41,10 @@ pub fn send_waiting(
     sel: Sel,
     own: OwnSends,
 ) -> Next
-    requires can { CanRun code.now core.old (next.Waits (pending.Sending receiver sel sent.site sent.floor sent.first) at) }
+    requires can { CanRun code.now core.old (next.Waits at) }
+    requires waits { core.old.waiting ≡ pending.Sending receiver sel sent.site sent.floor sent.first }
     requires own { AreOwn code.now core.old.places own }
-    ensures { Moves code.now core.old (next.Waits (pending.Sending receiver sel sent.site sent.floor sent.first) at) core.new result }
+    ensures { Moves code.now core.old (next.Waits at) core.new result }
 {
     valid_frames_are_framed();
     arguments_are_few();
@@ -64,9 +65,10 @@ pub fn perform_waiting(
     array: u32,
     own: OwnSends,
 ) -> Next
-    requires can { CanRun code.now core.old (next.Waits (pending.Performing receiver sel array site floor) at) }
+    requires can { CanRun code.now core.old (next.Waits at) }
+    requires waits { core.old.waiting ≡ pending.Performing receiver sel array site floor }
     requires own { AreOwn code.now core.old.places own }
-    ensures { Moves code.now core.old (next.Waits (pending.Performing receiver sel array site floor) at) core.new result }
+    ensures { Moves code.now core.old (next.Waits at) core.new result }
 {
     valid_frames_are_framed();
     arguments_are_few();

@@ -88,8 +88,8 @@ fn go_along(
     moves_go_along();
     match next {
         Next::On(at) => run_along(plan, code, core, at, left, own),
-        Next::Waits { pending, at } => take_up(plan, code, core, pending, at, own),
-        Next::Ends(_) => unreachable!(),
+        Next::Waits(at) => take_up(plan, code, core, at, own),
+        Next::Ended => unreachable!(),
     }
 }
 
@@ -120,7 +120,7 @@ fn run_along(
                 }
                 here = to;
             }
-            Next::Waits { .. } | Next::Ends(_) => return moved,
+            Next::Waits(_) | Next::Ended => return moved,
         }
     }
 }
@@ -140,7 +140,7 @@ fn is_ended(next: Next) -> bool
     ensures { (code : CodeProgram) (core : AnyCore) → result ≡ is_still (shown code core next) }
 {
     match next {
-        Next::On(_) | Next::Waits { .. } => false,
-        Next::Ends(_) => true,
+        Next::On(_) | Next::Waits(_) => false,
+        Next::Ended => true,
     }
 }

@@ -14,7 +14,7 @@ unreachable-requires c =
 
 pub returns : goal.returns
 returns c = record {
-  ran = has_ran c.args.code.now c.saturating_add-steps.result (shown c.args.code.now c.args.core.now c.args.next) c.turn.new.core c.in-Ends.ending c.in-Ends.ensures.turns;
-  ready = c.in-Ends.ensures.ready;
-  stays = c.in-Ends.ensures.stays;
+  ran = has_ran c.args.code.now c.saturating_add-steps.result (shown c.args.code.now c.args.core.now c.args.next) c.turn.new.core c.in-Ended.ensures.turns;
+  ready = c.in-Ended.ensures.ready;
+  stays = c.in-Ended.ensures.stays;
 }

@@ -18,6 +18,6 @@ returns-in-Some c place =
 
 pub returns-in-None : goal.returns-in-None
 returns-in-None c place =
-    subst (λ (ending : Ending). Does c.args.code.now instr.ReturnHome place c.args.core.now c.args.at c.args.core.now (next.Ends ending)) (sym c.ending_at.ensures)
+    subst (λ (ending : Ending). Does c.args.code.now instr.ReturnHome place c.args.core.now c.args.at (record c.args.core.now { ending = ending }) next.Ended) (sym c.ending_at-core.ensures)
     (dead_returned c.returns_unwind.ensures.finds c.args.code.now c.args.core.now c.args.at c.pop-value.result.1 c.running-frame.result
     c.pop-value.result.0 place c.requires.can c.running-frame.ensures c.pop-value.ensures.stood (sym c.in-None.ensures))

@@ -59,7 +59,7 @@ returns-in-Skips c place =
 pub returns-in-Fails : goal.returns-in-Fails
 returns-in-Fails c place =
     subst (λ (ending : Ending). Does c.args.code.now (instr.InitSuper c.args.count) place c.args.core.now c.args.at
-    (in_other c.args.core.now c.super_part-reached.new.world) (next.Ends ending)) (sym c.ending_at.ensures)
+    (record (in_other c.args.core.now c.super_part-reached.new.world) { ending = ending }) next.Ended) (sym c.ending_at-core.ensures)
     (part_failed c.operands_are_taken.ensures.taken c.args.code.now c.args.core.now c.super_part-reached.new.world c.args.at c.args.count place c.running-frame.result
     c.operands-arguments.result.now c.in-Fails.fault c.requires c.running-frame.ensures c.operands-arguments.ensures.stood c.operands-arguments.ensures.length
     (record {

@@ -1,11 +1,11 @@
-use Rattle.ns_sends.proofs.Evaluated.{place_fits, place_left, place_waiting, evaluation_moves}
+use Rattle.ns_sends.proofs.Evaluated.{stand_there, place_fits, place_left, place_waiting, evaluation_moves}
 use Rattle.ns_sends.proofs.waiting.evaluate.Goals as goal
 
 pub make_place-requires-clause-stands : goal.make_place-requires-clause-stands
-make_place-requires-clause-stands c = c.requires.1.stand.0
+make_place-requires-clause-stands c = (stand_there c.args.code.now c.requires.0 c.args.core.now c.args.at c.args.sent c.args.block c.requires.1).0
 
 pub make_place-requires-clause-waits : goal.make_place-requires-clause-waits
-make_place-requires-clause-waits c = c.requires.1.stand.1
+make_place-requires-clause-waits c = (stand_there c.args.code.now c.requires.0 c.args.core.now c.args.at c.args.sent c.args.block c.requires.1).1
 
 pub make_place-requires-clause-room : goal.make_place-requires-clause-room
 make_place-requires-clause-room c =

@@ -1,7 +1,7 @@
 use Rattle.std.proofs.Common.{sym, subst}
 use Rattle.ns_code.specs.declared.program.CodeProgram.{CodeProgram}
 use Rattle.ns_engine.specs.Ready.{IsReady}
-use Rattle.ns_engine.specs.declared.state.Next.TheVariants.{Ends}
+use Rattle.ns_engine.specs.declared.state.Next.TheVariants as next
 use Rattle.ns_turns.specs.Turning.{RunsBy}
 use Rattle.ns_machine.specs.Machine.{IsMachine}
 use Rattle.ns_machine.specs.declared.stage.Stage.{Stage}
@@ -19,8 +19,8 @@ pub invariant_of-self : goal.invariant_of-self
 invariant_of-self c =
     let m = c.self.inside in
     let is = subst (λ (s : Stage). IsMachine m.code m.grants m.plan m.core m.own s) c.in-Begun.is c.self.invariant in
-    machine_on m.code m.grants m.plan m.core c.run_out-ending.new.core m.own c.in-Begun.from (Ends c.run_out-ending.result) is
+    machine_on m.code m.grants m.plan m.core c.run_out-ending.new.core m.own c.in-Begun.from next.Ended is
     (subst (λ (code : CodeProgram). IsReady code m.grants m.core c.in-Begun.from
-    → IsReady code m.grants c.run_out-ending.new.core (Ends c.run_out-ending.result)) c.code.ensures.code (c.run_out-ending.ensures.ready m.grants)
+    → IsReady code m.grants c.run_out-ending.new.core next.Ended) c.code.ensures.code (c.run_out-ending.ensures.ready m.grants)
     (machine_ready m.code m.grants m.plan m.core m.own c.in-Begun.from is))
     c.run_out-ending.ensures.stays

@@ -6,7 +6,7 @@ use Rattle.ns_moves.specs.Beginning.{MayBegin}
 use Rattle.ns_moves.specs.State.{State}
 use Rattle.ns_moves.specs.Starts.{begun}
 use Rattle.ns_plan.specs.Steps.{no_place}
-use Rattle.ns_engine.specs.declared.state.Next.TheVariants.{Ends}
+use Rattle.ns_engine.specs.declared.state.Next.TheVariants as next
 use Rattle.ns_engine.specs.declared.state.Phase.TheVariants.{Hosted}
 use Rattle.ns_engine.specs.Ready.{IsReady}
 use Rattle.ns_engine.specs.Shown.{shown}
@@ -44,16 +44,16 @@ invariant_of-self c =
     (subst (λ (code : CodeProgram). SendWaits code (with_phase m.core Hosted) c.args.receiver c.args.sel (slice_get m.core.places no_place) c.args.arguments.now
     c.wait_for_send-next.new.core c.wait_for_send-next.result)
     c.code.ensures.code c.wait_for_send-next.ensures) in
-    machine_on m.code m.grants m.plan c.wait_for_send-next.new.core c.run_out-ending.new.core m.own c.wait_for_send-next.result (Ends c.run_out-ending.result) is
+    machine_on m.code m.grants m.plan c.wait_for_send-next.new.core c.run_out-ending.new.core m.own c.wait_for_send-next.result next.Ended is
     (subst (λ (code : CodeProgram). IsReady code m.grants c.wait_for_send-next.new.core c.wait_for_send-next.result
-    → IsReady code m.grants c.run_out-ending.new.core (Ends c.run_out-ending.result)) c.code-2.ensures.code (c.run_out-ending.ensures.ready m.grants)
+    → IsReady code m.grants c.run_out-ending.new.core next.Ended) c.code-2.ensures.code (c.run_out-ending.ensures.ready m.grants)
     (machine_ready m.code m.grants m.plan c.wait_for_send-next.new.core m.own c.wait_for_send-next.result is))
     c.run_out-ending.ensures.stays
 
 pub returns-clause-ran : goal.returns-clause-ran
 returns-clause-ran c =
     let m = c.self.inside in
-    let last = shown m.code c.run_out-ending.new.core (Ends c.run_out-ending.result) in
+    let last = shown m.code c.run_out-ending.new.core next.Ended in
     subst (λ (view : MachineView). Ran view.code (begun c.args.receiver c.args.sel c.args.arguments.now view.state) c.run_out-ending.result last) c.self.view_is
     (subst (λ (s : State). Ran m.code s c.run_out-ending.result last)
     (host_shown m.code m.grants m.plan m.core c.wait_for_send-next.new.core m.own m.stage c.wait_for_send-next.result c.args.receiver c.args.sel c.args.arguments.now
@@ -63,4 +63,4 @@ returns-clause-ran c =
     c.wait_for_send-next.new.core c.wait_for_send-next.result)
     c.code.ensures.code c.wait_for_send-next.ensures))
     (subst (λ (code : CodeProgram). Ran code (shown code c.wait_for_send-next.new.core c.wait_for_send-next.result) c.run_out-ending.result
-    (shown code c.run_out-ending.new.core (Ends c.run_out-ending.result))) c.code-2.ensures.code c.run_out-ending.ensures.ran))
+    (shown code c.run_out-ending.new.core next.Ended)) c.code-2.ensures.code c.run_out-ending.ensures.ran))
