@@ -5,3 +5,4 @@ pub mod Selector
 pub mod Fits
 pub mod Soundness
 pub mod Selectors
+pub mod LocalNames

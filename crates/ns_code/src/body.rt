@@ -1,9 +1,9 @@
 //! What the code keeps of a body, which is a method, a block, an initialiser or a clause's head.
 
 use crate::instruction::Instr;
+use crate::local_names::LocalNames;
 use ns_base::items::Items;
 use ns_base::place::Place;
-use ns_base::text::Text;
 
 /// A body. Its kind is 0 for a method, 1 for a block, 2 for an initialiser and 3 for a clause;
 /// its side is 0 for instances and 1 for the class. `locals` counts its parameters too, `height`
@@ -21,5 +21,5 @@ pub struct BodyCode {
     pub height: u16,
     pub instrs: Items<Instr>,
     pub places: Items<(u32, Place)>,
-    pub local_names: Items<Text>,
+    pub local_names: LocalNames,
 }

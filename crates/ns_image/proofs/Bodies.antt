@@ -7,6 +7,7 @@ use Rattle.std.proofs.lemmas.List.Folds.{concat-append}
 use Rattle.ns_base.specs.declared.place.Place.{Place}
 use Rattle.ns_code.specs.declared.body.BodyCode.{BodyCode}
 use Rattle.ns_code.specs.Fits.{IsByte, IsHalf, IsWord, IsLocalName, InstrFits}
+use Rattle.ns_code.specs.LocalNames.{numbered_names}
 use Rattle.ns_image.specs.Bytes as b
 use Rattle.ns_image.specs.Read.{Reader, times}
 use Rattle.ns_image.specs.Reading as r
@@ -110,10 +111,10 @@ body_format files few =
 
 -- what is good of a body of version 1
 abbrev pub OldGood : BodyCode → Type 0
-OldGood x = (x.places ≡ []) × ((x.local_names ≡ b.numbered_names x.locals) × HeadGood x)
+OldGood x = (x.places ≡ []) × ((x.local_names ≡ numbered_names x.locals) × HeadGood x)
 
 abbrev named : BodyCode → BodyCode
-named x = record x { local_names = b.numbered_names x.locals }
+named x = record x { local_names = numbered_names x.locals }
 
 abbrev nameless : BodyCode → BodyCode
 nameless x = record x { local_names = [] }

@@ -1,19 +1,16 @@
 -- Names that are numbers are names of locals.
-use Rattle.std.proofs.Common.{◌≡◌, ℕ, zero, suc, ◌+◌, ◌^◌, ◌<◌, ◌≤◌, ◌∷◌, ◌++◌, [], List, length, map, All, Bool, true, false, eqb, refl, sym, ap, subst, ◌∙◌, arith}
+use Rattle.std.proofs.Common.{◌≡◌, ℕ, zero, suc, ◌+◌, ◌^◌, ◌<◌, ◌≤◌, ◌∷◌, [], List, length, map, All, Bool, true, false, eqb, refl, sym, ap, subst, ◌∙◌, arith}
 use Rattle.std.specs.Prelude.{◌&&◌, ◌||◌, nat_le, not, decimal}
 use Rattle.std.specs.List.{list_all}
 use Rattle.std.specs.Int.Digits.{digits_of, AllBelowBase}
 use Rattle.std.proofs.lemmas.Bool.{le-leb, leb-true, eqb-true}
 use Rattle.std.proofs.lemmas.Fmt.{decimal_digit, decimal-digits_of, length-decimal-le}
 use Rattle.std.proofs.lemmas.Int.Digits.{all_below_base_digits_of}
-use Rattle.std.proofs.lemmas.List.FromFn.{map-range_with_len_more, get_or-map-range_with_len, length-map-range_with_len}
+use Rattle.std.proofs.lemmas.List.FromFn.{get_or-map-range_with_len, length-map-range_with_len}
 use Rattle.ns_code.specs.Spelling.{begins_name, goes_on_name, is_identifier, is_reserved}
 use Rattle.ns_code.specs.Fits.{IsByte, IsLocalName}
-use Rattle.ns_image.specs.Bytes.{numbered_name, numbered_names}
+use Rattle.ns_code.specs.LocalNames.{numbered_name, numbered_names}
 use Rattle.ns_image.proofs.Texts.{both, together}
-
-pub numbered_names_more : (n : ℕ) → numbered_names (n + 1) ≡ numbered_names n ++ numbered_name n ∷ []
-numbered_names_more n = map-range_with_len_more numbered_name 0 n n (omega arith)
 
 abbrev is_digit : ℕ → Bool
 is_digit byte = nat_le 48 byte && nat_le byte 57

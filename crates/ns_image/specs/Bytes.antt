@@ -1,7 +1,7 @@
 -- The layout of an image, field by field. Numbers are big-endian; a list has its count before it.
-use Rattle.std.specs.Prelude.{ℕ, ℤ, ◌+◌, ◌∷◌, ◌++◌, [], List, Option, Some, None, Bool, if◌then◌else◌, length, map, codes, decimal}
+use Rattle.std.specs.Prelude.{ℕ, ℤ, ◌+◌, ◌∷◌, ◌++◌, [], List, Option, Some, None, Bool, if◌then◌else◌, length, map, codes}
 use Rattle.std.specs.Int.{w8, w16, w32, w64, to_be_bytes, cast_unsigned}
-use Rattle.std.specs.List.{concat, flat_map, range_with_len}
+use Rattle.std.specs.List.{concat, flat_map}
 use Rattle.ns_base.specs.declared.place.Place.{Place}
 use Rattle.ns_code.specs.declared.program.CodeProgram.{CodeProgram}
 use Rattle.ns_code.specs.declared.class.ClassCode.{ClassCode}
@@ -9,6 +9,7 @@ use Rattle.ns_code.specs.declared.class.SlotCode.{SlotCode}
 use Rattle.ns_code.specs.declared.class.NestedCode.{NestedCode}
 use Rattle.ns_code.specs.declared.class.MethodCode.{MethodCode}
 use Rattle.ns_code.specs.declared.body.BodyCode.{BodyCode}
+use Rattle.ns_code.specs.LocalNames.{numbered_names}
 use Rattle.ns_code.specs.declared.instruction.Instr.{Instr}
 use Rattle.ns_code.specs.declared.instruction.Instr.TheVariants as i
 
@@ -170,13 +171,6 @@ bytes_of code = mark ++ (half 2 ++ program code)
 -- the image of code in version 1, which leaves out files, local names and places
 abbrev pub old_bytes_of : CodeProgram → List ℕ
 old_bytes_of code = mark ++ (half 1 ++ old_program code)
-
--- `t0`, `t1` and so on
-abbrev pub numbered_name : ℕ → List ℕ
-numbered_name k = 116 ∷ decimal k
-
-abbrev pub numbered_names : ℕ → List (List ℕ)
-numbered_names count = map numbered_name (range_with_len 0 count)
 
 -- a body without places, whose locals have numbers for names
 abbrev pub bare_body : BodyCode → BodyCode

@@ -17,7 +17,8 @@ use Rattle.ns_code.specs.declared.instruction.Instr.TheVariants as i
 use Rattle.ns_code.specs.Spelling.{is_selector, is_identifier, is_reserved}
 use Rattle.ns_image.specs.declared.fault.ImageFault.{ImageFault}
 use Rattle.ns_image.specs.declared.fault.ImageFault.TheVariants as f
-use Rattle.ns_image.specs.Bytes.{numbered_names, mark}
+use Rattle.ns_code.specs.LocalNames.{numbered_names}
+use Rattle.ns_image.specs.Bytes.{mark}
 use Rattle.ns_image.specs.Read.{Outcome, got, truncated, Reader, ◌>>=◌, given, pair, and_then, bad, checked, byte, half, word, byte_up_to, word_up_to, long, reference, flag, text, times, chained}
 
 -- ---- texts

@@ -13,6 +13,7 @@ use ns_base::no_memory::NoMemory;
 use ns_base::selector::Sel;
 use ns_base::text::Text;
 use ns_code::body::BodyCode;
+use ns_code::local_names::LocalNames;
 use ns_code::class::{ClassCode, MethodCode, NestedCode, SlotCode};
 use ns_code::instruction::Instr;
 use ns_code::program::CodeProgram;
@@ -288,7 +289,7 @@ fn body_code(alloc: Global, body: Body) -> Result<BodyCode, NoMemory> {
         height: body.height,
         instrs: Items::from_vec(Vec::from_slice(alloc, body.instrs)?),
         places: Items::from_vec(Vec::new(alloc)),
-        local_names: Items::from_vec(Vec::new(alloc)),
+        local_names: LocalNames::numbered(0),
     })
 }
 

@@ -10,6 +10,7 @@ use ns_base::text::Text;
 use ns_code::body::BodyCode;
 use ns_code::class::ClassCode;
 use ns_code::instruction::Instr;
+use ns_code::local_names::{LocalNames, numbered_texts};
 use ns_code::program::CodeProgram;
 use std::alloc::Global;
 
@@ -65,7 +66,7 @@ fn put_body(
     ensures { OnOk result (out.new.items ≡ out.old.items ++ spec.body_lines code.now place body.now) }
 {
     put_body_line(out, place, body)?;
-    put_locals(out, body.local_names.as_slice())?;
+    put_local_names(out, &body.local_names)?;
     put_instructions(out, code, body.instrs.as_slice())
 }
 
@@ -101,6 +102,19 @@ fn kind_shown(kind: u8) -> &'static [u8]
         2 => b"init".as_slice(),
         _ => b"clause".as_slice(),
     }
+}
+
+/// Their lines, from the names that are there, or from as many as are made of numbers.
+fn put_local_names(out: &mut Vec<u8>, names: &LocalNames) -> Result<(), NoMemory>
+    ensures { OnOk result (out.new.items ≡ out.old.items ++ spec.numbered spec.local_line 0 names.now) }
+{
+    let (given, count) = names.parts();
+    if given.is_empty() {
+        let alloc = *out.allocator();
+        let made = numbered_texts(alloc, count)?;
+        return put_locals(out, &made);
+    }
+    put_locals(out, given)
 }
 
 fn put_locals(out: &mut Vec<u8>, names: &[Text]) -> Result<(), NoMemory>

@@ -1,6 +1,7 @@
 //! Bodies and the places of their instructions.
 
-ghost use Rattle.std.specs.Prelude.{◌≡◌, ◌++◌, OnOk};
+ghost use Rattle.std.specs.Prelude.{◌≡◌, ◌++◌, All, OnOk, flat_map};
+ghost use Rattle.ns_code.specs.Fits.{IsShort};
 ghost use Rattle.ns_image.specs.Bytes as spec;
 ghost use Rattle.ns_export.specs.Room.{HasRoom};
 
@@ -10,6 +11,7 @@ use crate::write::output::{
 use ns_base::no_memory::NoMemory;
 use ns_base::place::Place;
 use ns_code::body::BodyCode;
+use ns_code::local_names::{LocalNames, numbered_texts};
 
 /// A place behind the number of its instruction.
 impl Part for (u32, Place) {
@@ -33,9 +35,23 @@ impl Part for BodyCode {
     fn put(&self, out: &mut Vec<u8>) -> Result<(), NoMemory> {
         put_fields(out, self)?;
         put_counted(out, self.instrs.as_slice())?;
-        put_all(out, self.local_names.as_slice())?;
+        put_local_names(out, &self.local_names)?;
         put_counted(out, self.places.as_slice())
     }
+}
+
+/// The names of locals, those that are given or made of numbers.
+fn put_local_names(out: &mut Vec<u8>, names: &LocalNames) -> Result<(), NoMemory>
+    requires { All IsShort names.now }
+    ensures { OnOk result (out.new.items ≡ out.old.items ++ flat_map spec.text names.now) }
+{
+    let (given, count) = names.parts();
+    if given.is_empty() {
+        let alloc = *out.allocator();
+        let made = numbered_texts(alloc, count)?;
+        return put_all(out, &made);
+    }
+    put_all(out, given)
 }
 
 fn put_fields(out: &mut Vec<u8>, body: &BodyCode) -> Result<(), NoMemory>

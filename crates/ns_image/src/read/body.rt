@@ -1,8 +1,5 @@
 //! Bodies.
 
-ghost use Rattle.std.specs.Prelude.{◌≡◌, IfOk, map};
-ghost use Rattle.std.specs.List.{range_with_len};
-ghost use Rattle.ns_image.specs.Bytes.{numbered_name, numbered_names};
 ghost use Rattle.ns_image.specs.Reading as spec;
 ghost use Rattle.ns_image.specs.Reads.{Reads};
 
@@ -13,9 +10,8 @@ use crate::read::instruction::Instruction;
 use crate::read::place::places;
 use crate::read::text::LocalName;
 use ns_base::items::Items;
-use ns_base::no_memory::NoMemory;
-use ns_base::text::Text;
 use ns_code::body::BodyCode;
+use ns_code::local_names::LocalNames;
 use std::alloc::Global;
 
 /// The greatest kind: 0 is a method, 1 a block, 2 an initialiser and 3 a clause.
@@ -55,7 +51,8 @@ fn with_local_names(
 ) -> Result<BodyCode, Fault>
     ensures { Reads (spec.with_local_names files body input.old.rest.now) result input.new.rest.now }
 {
-    body.local_names = times(alloc, input, &LocalName, u32::from(body.locals))?;
+    let names = times(alloc, input, &LocalName, u32::from(body.locals))?;
+    body.local_names = LocalNames::given(names);
     with_places(alloc, input, files, body)
 }
 
@@ -84,8 +81,7 @@ impl Format for OldBody {
     #[tactic(auto, unfolding(crate::specs::Reading::old_body))]
     fn read(&self, alloc: Global, input: &mut Input<'_>) -> Result<BodyCode, Fault> {
         let mut body = head(alloc, input)?;
-        let local_names = numbered_names(alloc, body.locals)?;
-        body.local_names = local_names;
+        body.local_names = LocalNames::numbered(body.locals);
         Ok(body)
     }
 }
@@ -130,28 +126,6 @@ fn head_from_params(
         height,
         instrs,
         places: Items::from_vec(Vec::new(alloc)),
-        local_names: Items::from_vec(Vec::new(alloc)),
+        local_names: LocalNames::numbered(0),
     })
-}
-
-/// `t0`, `t1` and so on.
-#[tactic(auto, using(crate::proofs::Numbered::numbered_names_more))]
-fn numbered_names(alloc: Global, count: u8) -> Result<Items<Text>, NoMemory>
-    ensures { IfOk result (λ names. names ≡ numbered_names count) }
-{
-    let mut names = Vec::new(alloc);
-    'names: for number in 0..count {
-        names.push(numbered_name(alloc, number)?)?;
-    }
-    Ok(Items::from_vec(names))
-}
-
-fn numbered_name(alloc: Global, number: u8) -> Result<Text, NoMemory>
-    ensures { IfOk result (λ name. name ≡ numbered_name number) }
-{
-    let digits = number.to_string(alloc)?;
-    let mut name = Vec::new(alloc);
-    name.push(b't')?;
-    name.extend_from_slice(digits.as_bytes())?;
-    Ok(Text::from_vec(name))
 }
