@@ -1,4 +1,5 @@
 pub mod Privates
+pub mod Members
 pub mod Steps
 pub mod Rows
 pub mod Making
