@@ -7,3 +7,4 @@ pub mod Finding
 mod Sorting
 mod Named
 mod Sending
+mod Outward

@@ -17,6 +17,7 @@ use Rattle.ns_plan.specs.declared.members.Members.{Members}
 use Rattle.ns_plan.specs.declared.members.Privates.{Privates}
 use Rattle.ns_plan.specs.declared.step.Member.{Member}
 use Rattle.ns_plan.specs.declared.step.Member.TheVariants.{Method, Getter, Setter, Nested}
+use Rattle.ns_plan.specs.Outers.{AreOutersOf}
 use Rattle.ns_plan.specs.Privates.{side_member}
 
 -- the first member under a number
@@ -74,6 +75,7 @@ found_on members ClassSide number = first_under number members.side
 abbrev pub AreMembersOf : CodeProgram → ClassCode → Members → Type 0
 AreMembersOf code class members = (side : Side) (number : ℕ) → number < length code.names → found_on members side number ≡ side_member code side number class
 
--- The same of all declarations.
-abbrev pub ArePrivatesOf : CodeProgram → Privates → Type 0
-ArePrivatesOf code privates = AllZip (AreMembersOf code) code.classes privates.classes
+-- The same of all declarations, and those around them.
+pub record ArePrivatesOf (code : CodeProgram) (privates : Privates) : Type 0 where
+  pub members : AllZip (AreMembersOf code) code.classes privates.classes
+  pub outers : AreOutersOf code privates.outers

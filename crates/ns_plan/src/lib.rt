@@ -5,6 +5,7 @@ mod index;
 pub mod laws;
 mod making;
 mod members;
+mod outers;
 pub mod plan;
 mod privates;
 pub mod row;

@@ -1,4 +1,4 @@
-//! The private members of all declarations, found once before any send looks for one.
+//! The private members of all declarations, and what stands around these, found once before any send looks for one.
 
 ghost use Rattle.std.specs.Prelude.{◌≡◌, ◌<◌, [], ◌∷◌, ◌++◌, length, IfOk, OnOk};
 ghost use Rattle.std.specs.List.{AllZip};
@@ -6,9 +6,10 @@ ghost use Rattle.ns_code.specs.Fits.{Fits, ClassFits};
 ghost use Rattle.ns_find.specs.Find.{side_of};
 ghost use Rattle.ns_members.specs.Numbers.{IsNameTable};
 ghost use Rattle.ns_plan.specs.Members as spec;
-ghost use Rattle.ns_plan.specs.Privates.{private_member};
+ghost use Rattle.ns_plan.specs.Privates.{declaration_out, private_member};
 
 use crate::index::{Entry, Index};
+use crate::outers::Outers;
 use crate::step::Member;
 use ns_base::items::Items;
 use ns_base::no_memory::NoMemory;
@@ -28,10 +29,11 @@ pub struct Members {
     pub side: Index,
 }
 
-/// Those of all declarations, by number.
+/// Those of all declarations, by number, and the declarations around these.
 #[derive(Drop)]
 pub struct Privates {
     classes: Items<Members>,
+    outers: Outers,
 }
 
 impl Privates {
@@ -47,7 +49,16 @@ impl Privates {
         }
         Ok(Privates {
             classes: Items::from_vec(classes),
+            outers: Outers::new(alloc, code)?,
         })
+    }
+
+    /// The declaration so many levels out from one, where there are as many.
+    pub fn declaration_out(&self, code: &CodeProgram, decl: u32, level: u8) -> Option<u32>
+        requires { spec.ArePrivatesOf code.now self.now }
+        ensures { result ≡ declaration_out code.now decl level }
+    {
+        self.outers.declaration_out(code, decl, level)
     }
 
     /// The private member of that name of a declaration.

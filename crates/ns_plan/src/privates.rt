@@ -1,8 +1,7 @@
 //! The private member that a selector names in a declaration around a body.
 
-ghost use Rattle.std.specs.Prelude.{◌≡◌, ◌<◌, length, Some};
+ghost use Rattle.std.specs.Prelude.{◌≡◌, ◌<◌, length};
 ghost use Rattle.ns_find.specs.Find.{side_of};
-ghost use Rattle.ns_send.specs.Lawful.{outer_of};
 ghost use Rattle.ns_plan.specs.Members.{ArePrivatesOf};
 ghost use Rattle.ns_plan.specs.Privates as spec;
 
@@ -24,33 +23,9 @@ pub fn member_at(
     requires name { sel.0 < length code.now.names }
     ensures { result ≡ spec.member_at code.now body.now level sel }
 {
-    match declaration_out(code, body.class, level) {
+    match privates.declaration_out(code, body.class, level) {
         Some(decl) => privates.member(code, is_side_at(body, level), sel, decl),
         None => Member::Absent,
-    }
-}
-
-/// The declaration so many levels out from one, where there are as many.
-fn declaration_out(code: &CodeProgram, decl: u32, level: u8) -> Option<u32>
-    ensures { result ≡ spec.declaration_out code.now decl level }
-{
-    let mut found = Some(decl);
-    'levels: for _passed in 0..level {
-        found = match found {
-            Some(inner) => outer(code, inner),
-            None => None,
-        };
-    }
-    found
-}
-
-/// The declaration around another.
-fn outer(code: &CodeProgram, decl: u32) -> Option<u32>
-    ensures { result ≡ outer_of code.now (Some decl) }
-{
-    match code.classes.as_slice().get(decl as usize) {
-        Some(class) => class.outer,
-        None => None,
     }
 }
 

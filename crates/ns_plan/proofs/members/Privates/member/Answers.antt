@@ -17,7 +17,7 @@ returns-in-Some c =
     let there = rw c.as_slice.ensures at c.in-Some.ensures.lookup in
     let at = slice_get_read all (length all) c.args.decl c.in-Some.members.now refl (ltb-true c.args.decl (length all) (sym there.0)) there.1 in
     let found = sym (ap (λ o. option_map_or (λ (members : Members). found_on members side c.args.sel.0) o None) at)
-    ∙ found_by_number c.args.code.now side c.args.sel.0 c.args.decl c.args.code.now.classes all c.requires.privates c.requires.name in
+    ∙ found_by_number c.args.code.now side c.args.sel.0 c.args.decl c.args.code.now.classes all c.requires.privates.members c.requires.name in
     c.unwrap_or.ensures ∙ ap (λ o. unwrap_or o Absent) (c.find.ensures ∙ found)
 
 pub returns-in-None : goal.returns-in-None
@@ -27,5 +27,5 @@ returns-in-None c =
     let there = rw c.as_slice.ensures at c.in-None.ensures.lookup in
     let at = slice_get_past all c.args.decl there.3 in
     let found = sym (ap (λ o. option_map_or (λ (members : Members). found_on members side c.args.sel.0) o None) at)
-    ∙ found_by_number c.args.code.now side c.args.sel.0 c.args.decl c.args.code.now.classes all c.requires.privates c.requires.name in
+    ∙ found_by_number c.args.code.now side c.args.sel.0 c.args.decl c.args.code.now.classes all c.requires.privates.members c.requires.name in
     ap (λ o. unwrap_or o Absent) found
