@@ -4,3 +4,7 @@ pub mod Rows
 pub mod Lookup
 pub mod Following
 pub mod Finding
+mod Sorting
+mod Named
+mod Sending
+mod Outward

@@ -1,4 +1,6 @@
 pub mod Privates
+pub mod Members
+pub mod Outers
 pub mod Steps
 pub mod Rows
 pub mod Making

@@ -1,8 +1,10 @@
 -- How a plan is made: along the instructions of a body with the places that are left of it, and body by body.
-use Rattle.std.specs.Prelude.{◌≡◌, ℕ, ◌+◌, ◌-◌, ◌≤◌, List, [], ◌∷◌, ◌++◌, length, max, ◌==◌, if◌then◌else◌}
+use Rattle.std.specs.Prelude.{◌≡◌, ℕ, ◌+◌, ◌-◌, ◌≤◌, ◌<◌, List, [], ◌∷◌, ◌++◌, length, max, ◌==◌, if◌then◌else◌}
 use Rattle.ns_base.specs.declared.place.Place.{Place as SourcePlace}
 use Rattle.ns_code.specs.declared.program.CodeProgram.{CodeProgram}
 use Rattle.ns_code.specs.declared.body.BodyCode.{BodyCode}
+use Rattle.ns_code.specs.declared.instruction.Instr.{Instr}
+use Rattle.ns_code.specs.declared.instruction.Instr.TheVariants.{SendPrivate}
 use Rattle.ns_plan.specs.declared.making.Draft.{Draft}
 use Rattle.ns_plan.specs.Steps.{no_place, prepared, places_in}
 use Rattle.ns_plan.specs.Rows.{row_of}
@@ -29,3 +31,8 @@ pub record IsAdded (code : CodeProgram) (body : BodyCode) (old new : Draft) : Ty
   pub places : new.places.items ≡ old.places.items ++ places_in body
   pub few : length new.places.items ≤ no_place
   pub greatest : new.greatest ≡ max old.greatest (body.locals + body.height)
+
+-- A private send is of a name.
+abbrev pub SendsAName : CodeProgram → Instr → Type 0
+SendsAName code (SendPrivate level sel argc) = sel.0 < length code.names
+SendsAName code other = Unit {0}

@@ -1,8 +1,11 @@
 //! Code prepared for running: made once from verified code, and read in constant time from then on.
 #![tactic(auto)]
 
+mod index;
 pub mod laws;
 mod making;
+mod members;
+mod outers;
 pub mod plan;
 mod privates;
 pub mod row;

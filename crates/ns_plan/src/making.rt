@@ -1,11 +1,13 @@
 //! Making a plan, body by body.
 
-ghost use Rattle.std.specs.Prelude.{◌≡◌, ◌+◌, ◌<◌, ◌≤◌, [], ◌++◌, length, max, OnOk};
-ghost use Rattle.ns_code.specs.Fits.{Fits, BodyFits};
+ghost use Rattle.std.specs.Prelude.{◌≡◌, ◌+◌, ◌<◌, ◌≤◌, [], ◌++◌, length, max, All, OnOk};
+ghost use Rattle.ns_code.specs.Fits.{BodyFits};
 ghost use Rattle.ns_plan.specs.Steps.{no_place, places_in};
 ghost use Rattle.ns_plan.specs.Rows.{row_of};
-ghost use Rattle.ns_plan.specs.Making.{IsAdded};
+ghost use Rattle.ns_plan.specs.Making.{IsAdded, SendsAName};
+ghost use Rattle.ns_plan.specs.Members.{ArePrivatesOf};
 
+use crate::members::Privates;
 use crate::row::Row;
 use crate::step::{NO_PLACE, Step};
 use crate::steps::add_steps;
@@ -41,9 +43,15 @@ impl Draft {
     }
 
     /// Adds a body. More places than have numbers find no memory.
-    pub fn add(&mut self, code: &CodeProgram, body: &BodyCode) -> Result<(), NoMemory>
-        requires fits { Fits code.now }
+    pub fn add(
+        &mut self,
+        code: &CodeProgram,
+        privates: &Privates,
+        body: &BodyCode,
+    ) -> Result<(), NoMemory>
+        requires privates { ArePrivatesOf code.now privates.now }
         requires body { BodyFits code.now body.now }
+        requires names { All (SendsAName code.now) body.now.instrs }
         requires number { length self.old.bodies.items < 65536 }
         requires room { length self.old.places.items ≤ no_place }
         ensures { OnOk result (IsAdded code.now body.now self.old self.new) }
@@ -52,7 +60,13 @@ impl Draft {
             return Err(NoMemory);
         }
         let row = row_of(self.bodies.len() as u32, self.steps.len(), body);
-        add_steps(&mut self.steps, code, body, self.places.len() as u32)?;
+        add_steps(
+            &mut self.steps,
+            code,
+            privates,
+            body,
+            self.places.len() as u32,
+        )?;
         add_places(&mut self.places, body)?;
         self.bodies.push(row)?;
         self.greatest = greater(self.greatest, frame_size(body));

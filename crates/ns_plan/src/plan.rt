@@ -10,6 +10,7 @@ ghost use Rattle.ns_plan.specs.Rows.{entry_of, greatest_frame, IsRowOf};
 ghost use Rattle.ns_plan.specs.Steps.{places_of};
 
 use crate::making::Draft;
+use crate::members::Privates;
 use crate::row::Row;
 use crate::step::Step;
 use ns_base::items::Items;
@@ -19,6 +20,7 @@ use ns_base::selector::Sel;
 use ns_code::own::Own;
 use ns_code::program::CodeProgram;
 use ns_code::selectors::SelectorTable;
+use ns_verify::laws::sound_instructions_are_usable;
 use ns_verify::verify::Verified;
 use std::alloc::Global;
 
@@ -40,9 +42,11 @@ impl Plan {
     {
         let code = verified.code();
         let selectors = SelectorTable::new(alloc, code)?;
+        let privates = Privates::new(alloc, code)?;
+        sound_instructions_are_usable();
         let mut draft = Draft::new(alloc);
         'bodies: for body in code.bodies.as_slice() {
-            draft.add(code, body)?;
+            draft.add(code, &privates, body)?;
         }
         Ok(Plan {
             steps: Items::from_vec(draft.steps),

@@ -1,12 +1,13 @@
 //! The steps of one body.
 
-ghost use Rattle.std.specs.Prelude.{◌≡◌, ◌+◌, ◌++◌, ◌≤◌, length, OnOk};
-ghost use Rattle.ns_code.specs.Fits.{Fits};
+ghost use Rattle.std.specs.Prelude.{◌≡◌, ◌+◌, ◌++◌, ◌≤◌, ◌<◌, length, All, OnOk};
 ghost use Rattle.ns_plan.specs.declared.step.Step.TheVariants as made;
+ghost use Rattle.ns_plan.specs.Members.{ArePrivatesOf};
 ghost use Rattle.ns_plan.specs.Privates.{member_at};
 ghost use Rattle.ns_plan.specs.Steps as spec;
-ghost use Rattle.ns_plan.specs.Making.{AreFrom, number_at, behind};
+ghost use Rattle.ns_plan.specs.Making.{AreFrom, SendsAName, number_at, behind};
 
+use crate::members::Privates;
 use crate::privates::member_at;
 use crate::step::{NO_PLACE, Step};
 use ns_base::no_memory::NoMemory;
@@ -21,10 +22,12 @@ use ns_find::found::Sending;
 pub fn add_steps(
     steps: &mut Vec<Step>,
     code: &CodeProgram,
+    privates: &Privates,
     body: &BodyCode,
     first: u32,
 ) -> Result<(), NoMemory>
-    requires fits { Fits code.now }
+    requires privates { ArePrivatesOf code.now privates.now }
+    requires names { All (SendsAName code.now) body.now.instrs }
     requires few { length body.now.instrs ≤ 65536 }
     requires order { AreFrom 0 body.now.places }
     requires numbers { first + length body.now.places ≤ spec.no_place }
@@ -34,7 +37,7 @@ pub fn add_steps(
     let mut left = body.places.as_slice();
     let mut at: u32 = 0;
     'instrs: for instr in body.instrs.as_slice() {
-        steps.push(step_of(code, body, number_at(left, end, at), *instr))?;
+        steps.push(step_of(code, privates, body, number_at(left, end, at), *instr))?;
         left = behind(left, at);
         at += 1;
     }
@@ -69,8 +72,15 @@ fn behind(left: &[(u32, Place)], at: u32) -> &[(u32, Place)]
 }
 
 /// An instruction of a body as a step, whose place has that number.
-fn step_of(code: &CodeProgram, body: &BodyCode, place: u32, instr: Instr) -> Step
-    requires { Fits code.now }
+fn step_of(
+    code: &CodeProgram,
+    privates: &Privates,
+    body: &BodyCode,
+    place: u32,
+    instr: Instr,
+) -> Step
+    requires privates { ArePrivatesOf code.now privates.now }
+    requires name { SendsAName code.now instr }
     ensures { result ≡ spec.step_of code.now body.now place instr }
 {
     match instr {
@@ -91,7 +101,7 @@ fn step_of(code: &CodeProgram, body: &BodyCode, place: u32, instr: Instr) -> Ste
         Instr::Send { sel, argc } => send(Sending::Plain, sel, argc, place),
         Instr::SendInner { sel, argc } => send(Sending::Inner, sel, argc, place),
         Instr::SendPrivate { level, sel, argc } => send_private(
-            code, body, level, sel, argc, place,
+            code, privates, body, level, sel, argc, place,
         ),
         Instr::SendSuper { sel, argc } => Step::SendSuper { sel, argc, place },
         Instr::InitSuper(argc) => Step::InitSuper { argc, place },
@@ -120,13 +130,15 @@ fn send(kind: Sending, sel: Sel, argc: u8, place: u32) -> Step
 /// A private send, with the member that it finds.
 fn send_private(
     code: &CodeProgram,
+    privates: &Privates,
     body: &BodyCode,
     level: u8,
     sel: Sel,
     argc: u8,
     place: u32,
 ) -> Step
-    requires { Fits code.now }
+    requires privates { ArePrivatesOf code.now privates.now }
+    requires name { sel.0 < length code.now.names }
     ensures { result ≡ made.SendPrivate level sel argc place (member_at code.now body.now level sel) }
 {
     Step::SendPrivate {
@@ -134,6 +146,6 @@ fn send_private(
         sel,
         argc,
         place,
-        member: member_at(code, body, level, sel),
+        member: member_at(code, privates, body, level, sel),
     }
 }

@@ -10,8 +10,9 @@ use crate::read::format::Format;
 use crate::read::input::Input;
 use crate::spelling::{is_file_name, is_local_name};
 use ns_base::items::Items;
-use ns_base::names::{MOST_NAMES, Names};
+use ns_base::names::MOST_NAMES;
 use ns_base::text::Text;
+use ns_base::text_set::TextSet;
 use ns_spelling::spelling::is_selector;
 use std::alloc::Global;
 
@@ -69,7 +70,7 @@ impl Format for LocalName {
 }
 
 /// A name that no earlier one equals, and which then is one of the earlier ones.
-fn name<'a>(input: &mut Input<'a>, earlier: &mut Names) -> Result<&'a [u8], Fault>
+fn name<'a>(alloc: Global, input: &mut Input<'a>, earlier: &mut TextSet) -> Result<&'a [u8], Fault>
     ensures reads { ReadsAs (λ name. name.now) (spec.name_after earlier.old input.old.rest.now) result input.new.rest.now }
     ensures earlier { IfOk result (λ name. earlier.new ≡ spec.with_name earlier.old name.now) }
 {
@@ -81,11 +82,8 @@ fn name<'a>(input: &mut Input<'a>, earlier: &mut Names) -> Result<&'a [u8], Faul
     if earlier.find(name).is_some() {
         return Err(Fault::Bad(left));
     }
-    match earlier.intern(name) {
-        Ok(_) => Ok(name),
-        // An image has no more names than a table holds.
-        Err(_) => Err(Fault::Memory),
-    }
+    earlier.add(Text::of(alloc, name)?)?;
+    Ok(name)
 }
 
 /// Names behind their count: each has a selector's form, and no two are equal.
@@ -93,7 +91,7 @@ pub fn names(alloc: Global, input: &mut Input<'_>) -> Result<Items<Text>, Fault>
     ensures { Reads (spec.names input.old.rest.now) result input.new.rest.now }
 {
     let count = input.word_up_to(MOST_NAMES as u32)?;
-    let mut earlier = Names::new(alloc);
+    let mut earlier = TextSet::new(alloc);
     names_of(alloc, input, &mut earlier, count)
 }
 
@@ -101,14 +99,14 @@ pub fn names(alloc: Global, input: &mut Input<'_>) -> Result<Items<Text>, Fault>
 fn names_of(
     alloc: Global,
     input: &mut Input<'_>,
-    earlier: &mut Names,
+    earlier: &mut TextSet,
     count: u32,
 ) -> Result<Items<Text>, Fault>
     ensures { Reads (fields.chained spec.name_after spec.with_name count earlier.old input.old.rest.now) result input.new.rest.now }
 {
     let mut names = Vec::new(alloc);
     'names: for _ in 0..count {
-        let text = name(input, earlier)?;
+        let text = name(alloc, input, earlier)?;
         let text = Text::of(alloc, text)?;
         names.push(text)?;
     }

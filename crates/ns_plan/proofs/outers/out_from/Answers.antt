@@ -1,6 +1,6 @@
 use Rattle.std.proofs.Common.{refl, arith}
 use Rattle.std.proofs.lemmas.Grind.{common_steps}
-use Rattle.ns_plan.proofs.privates.declaration_out.Goals as goal
+use Rattle.ns_plan.proofs.outers.out_from.Goals as goal
 
 pub levels-init : goal.levels-init
 levels-init c = refl
