@@ -5,5 +5,5 @@ pub mod fault;
 pub mod joint;
 pub mod laws;
 mod making;
-mod source;
+pub mod source;
 mod telling;
