@@ -1,5 +1,6 @@
 -- The turn as a function is a turn: each move lowers what is left to be done.
 use Rattle.std.proofs.Common.{◌≡◌, ℕ, zero, suc, ◌+◌, ◌^◌, ◌≤◌, ◌⊎◌, ◌==◌, ◌&&◌, ◌||◌, refl, sym, ap, subst, ◌∙◌, inl, inr, arith, Bool, true, false, if◌then◌else◌}
+use Rattle.std.proofs.lemmas.Bool.{eqb-true}
 use Rattle.ns_code.specs.declared.program.CodeProgram.{CodeProgram}
 use Rattle.ns_facets.specs.declared.row.Grants.{Grants}
 use Rattle.ns_falling.specs.Doubling.{Leads, times, until}
@@ -64,6 +65,12 @@ goes_on : (code : CodeProgram) (turn : Underway) → is_over code turn ≡ false
 goes_on code turn on =
     ap (λ (b : Bool). if b then turn else at_turn (steps_behind (charges code turn.state) turn.steps) (move code turn.state)) on
 
+none_more : (steps : ℕ) → (suc steps == 0) ≡ true → ⊥
+none_more steps e = let same : suc steps ≡ 0 = eqb-true (suc steps) 0 e in absurd (omega (arith, same))
+
+never : false ≡ true → ⊥
+never e = absurd (cc (e))
+
 -- a turn that is over has left its state
 over_turns : (code : CodeProgram) (steps : ℕ) (state : State) → (is_still state || (charges code state && steps == 0)) ≡ true
     → Turns code steps state state
@@ -73,8 +80,8 @@ over_turns code steps state over = by (is_still state) (charges code state) step
         → Turns code steps state state
     by true charge steps e f over = rests code steps state e
     by false true zero e f over = stops code state f
-    by false true (suc steps) e f over = absurd (cc)
-    by false false steps e f over = absurd (cc)
+    by false true (suc steps) e f over = absurd (none_more steps over)
+    by false false steps e f over = absurd (never over)
 
 -- where a move is made, its steps and what it charges are those of the turn
 behind_is : (charge : Bool) (steps : ℕ) → (charge && steps == 0) ≡ false → one_if charge (steps_behind charge steps) ≡ steps
@@ -93,22 +100,23 @@ not_out false other e = e
 -- so many moves after which it is over are the turn
 turn_made : (code : CodeProgram) (count steps : ℕ) (state : State) (last : Underway) → times (moved_on code) count (at_turn steps state) ≡ last
     → is_over code last ≡ true → Turns code steps state last.state
-turn_made code count steps state last is over = by count (is_over code (at_turn steps state)) refl is
+turn_made code zero steps state last is over =
+    subst (λ (t : Underway). Turns code steps state t.state) is (over_turns code steps state (ap (is_over code) is ∙ over))
+turn_made code (suc more) steps state last is over =
+    by (is_over code (at_turn steps state)) refl is
+    (λ next. turn_made code more (steps_behind (charges code state) steps) (move code state) last next over)
   where
-    stayed : (count : ℕ) → times (moved_on code) count (at_turn steps state) ≡ last → is_over code (at_turn steps state) ≡ true → Turns code steps state last.state
-    stayed count is e =
-        let same : at_turn steps state ≡ last = sym (over_stays code count (at_turn steps state) e) ∙ is in
+    by : (b : Bool) → is_over code (at_turn steps state) ≡ b → times (moved_on code) (suc more) (at_turn steps state) ≡ last
+        → (times (moved_on code) more (at_turn (steps_behind (charges code state) steps) (move code state)) ≡ last
+        → Turns code (steps_behind (charges code state) steps) (move code state) last.state)
+        → Turns code steps state last.state
+    by true e is rest =
+        let same : at_turn steps state ≡ last = sym (over_stays code (suc more) (at_turn steps state) e) ∙ is in
         subst (λ (t : Underway). Turns code steps state t.state) same (over_turns code steps state e)
-
-    by : (count : ℕ) (b : Bool) → is_over code (at_turn steps state) ≡ b → times (moved_on code) count (at_turn steps state) ≡ last → Turns code steps state last.state
-    by count true e is = stayed count is e
-    by zero false e is = stayed zero is (ap (is_over code) is ∙ over)
-    by (suc more) false e is =
-        let charge = charges code state in
-        let left = steps_behind charge steps in
-        let out = not_out (is_still state) (charge && steps == 0) e in
+    by false e is rest =
+        let out = not_out (is_still state) (charges code state && steps == 0) e in
         let next = ap (times (moved_on code) more) (sym (goes_on code (at_turn steps state) e)) ∙ is in
-        first_move code steps left state last.state (behind_is charge steps out) (turn_made code more left (move code state) last next over)
+        first_move code steps (steps_behind (charges code state) steps) state last.state (behind_is (charges code state) steps out) (rest next)
 
 module _ (code : CodeProgram) (grants : Grants) (known : Known code grants) where
   -- as long as a turn isn't over, each of its moves lowers what is left of the run
@@ -117,16 +125,21 @@ module _ (code : CodeProgram) (grants : Grants) (known : Known code grants) wher
   lowered zero turn valid on =
       let less = known.lower turn.state valid (not_still (is_still turn.state) (charges code turn.state && turn.steps == 0) on) in
       omega (arith, less)
-  lowered (suc count) turn valid on = by (is_over code turn) refl
+  lowered (suc count) turn valid on =
+      by (is_over code turn) refl
+      (λ over. lowered count (at_turn (steps_behind (charges code turn.state) turn.steps) (move code turn.state)) (known.keeps 1 turn.state valid) over)
     where
-      by : (b : Bool) → is_over code turn ≡ b → suc count + 1 ≤ run_left code turn.state
-      by true e = absurd (let same = ap (is_over code) (over_stays code (suc count) turn e) in cc)
-      by false e =
-          let next = at_turn (steps_behind (charges code turn.state) turn.steps) (move code turn.state) in
-          let same : times (moved_on code) (suc count) turn ≡ times (moved_on code) count next = ap (times (moved_on code) count) (goes_on code turn e) in
-          let rest = lowered count next (known.keeps 1 turn.state valid) (ap (is_over code) (sym same) ∙ on) in
+      by : (b : Bool) → is_over code turn ≡ b
+          → (is_over code (times (moved_on code) count (at_turn (steps_behind (charges code turn.state) turn.steps) (move code turn.state))) ≡ false
+          → count + 1 ≤ run_left code (move code turn.state))
+          → suc count + 1 ≤ run_left code turn.state
+      by true e rest =
+          absurd (never (sym on ∙ (ap (is_over code) (over_stays code (suc count) turn e) ∙ e)))
+      by false e rest =
+          let same = ap (times (moved_on code) count) (goes_on code turn e) in
+          let fewer = rest (ap (is_over code) (sym same) ∙ on) in
           let first = known.lower turn.state valid (not_still (is_still turn.state) (charges code turn.state && turn.steps == 0) e) in
-          omega (arith, rest, first)
+          omega (arith, fewer, first)
 
   -- so it is over before two to a power that passes that
   module _ (steps : ℕ) (state : State) (valid : Valid code grants state) where
