@@ -3,6 +3,7 @@
 #![tactic(auto)]
 
 pub mod arriving;
+pub mod blocks;
 pub mod giving;
 pub mod jumping;
 pub mod laws;
