@@ -10,9 +10,12 @@ use ns_code::program::CodeProgram;
 use ns_engine::blocks::push_block;
 use ns_engine::leaping::{jump, jump_false, jump_true};
 use ns_engine::locals::{push_local, store_local};
-use ns_engine::pushing::{push_false, push_int, push_nil, push_self, push_true};
+use ns_engine::pushing::{
+    push_false, push_int, push_nil, push_outer, push_self, push_sym, push_true,
+};
 use ns_engine::state::Core;
-use ns_engine::taking::pop;
+use ns_engine::storing::store_slot;
+use ns_engine::taking::{pick, pop};
 use ns_find::found::Sending;
 use ns_frames::registers::Registers;
 use ns_plan::step::Step;
@@ -31,17 +34,21 @@ pub fn perform(code: &CodeProgram, core: &mut Core, at: Registers, step: Step) -
         Step::PushTrue => Some(push_true(code, core, at)),
         Step::PushFalse => Some(push_false(code, core, at)),
         Step::PushInt(number) => Some(push_int(code, core, at, number)),
+        Step::PushSym(sel) => Some(push_sym(code, core, at, sel)),
         Step::PushSelf => Some(push_self(code, core, at)),
+        Step::PushOuter(level) => Some(push_outer(code, core, at, level)),
         Step::PushLocal { hops, index } => Some(push_local(code, core, at, hops, index)),
         Step::StoreLocal { hops, index } => Some(store_local(code, core, at, hops, index)),
         Step::PushBlock(block) => push_block(code, core, at, block),
         Step::Pop => Some(pop(code, core, at)),
+        Step::Pick(number) => Some(pick(code, core, at, number)),
         Step::Send {
             sel,
             argc,
             kind,
             place,
         } => send_as(code, core, at, sel, argc, kind, place),
+        Step::StoreSlot(slot) => Some(store_slot(code, core, at, slot)),
         Step::Return => return_value(code, core, at),
         Step::ReturnSelf => return_self(code, core, at),
         Step::Jump(target) => jump(code, core, at, target),

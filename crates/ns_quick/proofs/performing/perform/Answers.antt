@@ -43,3 +43,15 @@ returns-in-JumpFalse c = rw c.in-JumpFalse.is (c.jump_false.ensures None)
 
 pub returns-in-JumpTrue : goal.returns-in-JumpTrue
 returns-in-JumpTrue c = rw c.in-JumpTrue.is (c.jump_true.ensures None)
+
+pub returns-in-PushSym : goal.returns-in-PushSym
+returns-in-PushSym c = rw c.in-PushSym.is (c.push_sym.ensures None)
+
+pub returns-in-PushOuter : goal.returns-in-PushOuter
+returns-in-PushOuter c = rw c.in-PushOuter.is (c.push_outer.ensures None)
+
+pub returns-in-Pick : goal.returns-in-Pick
+returns-in-Pick c = rw c.in-Pick.is (c.pick.ensures None)
+
+pub returns-in-StoreSlot : goal.returns-in-StoreSlot
+returns-in-StoreSlot c = rw c.in-StoreSlot.is (c.store_slot.ensures None)
