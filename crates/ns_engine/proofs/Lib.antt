@@ -13,3 +13,4 @@ pub mod LocalsDone
 pub mod Enclosed
 pub mod Framed
 pub mod Arguments
+pub mod Unmade

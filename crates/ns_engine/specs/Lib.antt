@@ -1,5 +1,6 @@
 pub mod Shown
 pub mod Doing
+pub mod Tried
 pub mod Standing
 pub mod Moving
 pub mod Ready

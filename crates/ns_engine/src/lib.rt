@@ -3,8 +3,11 @@
 #![tactic(auto)]
 
 pub mod arriving;
+pub mod blocks;
+pub mod giving;
 pub mod jumping;
 pub mod laws;
+pub mod leaping;
 pub mod locals;
 pub mod making;
 pub mod own;

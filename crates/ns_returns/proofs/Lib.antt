@@ -16,3 +16,4 @@ pub mod PartBegun
 pub mod PartFound
 pub mod PartDone
 pub mod PartEntered
+pub mod Unended

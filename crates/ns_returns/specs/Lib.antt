@@ -3,3 +3,4 @@ pub mod Ending
 pub mod Unwinding
 pub mod Acting
 pub mod Parts
+pub mod Answering

@@ -4,6 +4,7 @@
 #![tactic(auto)]
 
 pub mod acting;
+pub mod answering;
 pub mod ending;
 pub mod handing;
 pub mod homes;

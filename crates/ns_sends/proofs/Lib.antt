@@ -12,3 +12,5 @@ pub mod Received
 pub mod Selves
 pub mod Evaluated
 pub mod Resent
+pub mod Given
+pub mod Opened

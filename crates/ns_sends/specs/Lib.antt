@@ -1,4 +1,6 @@
 pub mod Going
+pub mod Given
+pub mod Opening
 pub mod Sending
 pub mod Operands
 pub mod Waiting

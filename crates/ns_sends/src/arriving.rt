@@ -113,7 +113,9 @@ pub fn arrive(
         Reached::Gives(value) => answer(code, core, at, sent, value),
         Reached::Fails(fault) => fail(code, core, at, sent, fault),
         Reached::Refused(sel) => refuse(code, core, at, sent, sel),
-        Reached::Enters { exit, entered } => enter_reached(code, core, at, sent, exit, entered),
+        Reached::Enters { exit, entered } => {
+            Next::On(enter_reached(code, core, at, sent, exit, entered))
+        }
         Reached::Evaluates { block, given } => wait_for(code, core, at, sent, block, given),
         Reached::Begins { method, state } => begin_method(code, core, at, sent, method, state),
         Reached::Performs {

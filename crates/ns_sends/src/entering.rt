@@ -3,6 +3,7 @@
 ghost use Rattle.std.specs.Prelude.{length};
 ghost use Rattle.ns_send.specs.declared.control.Reached.TheVariants as reached;
 ghost use Rattle.ns_act.specs.Plain.{IsOwnGiven};
+ghost use Rattle.ns_engine.specs.declared.state.Next.TheVariants as next;
 ghost use Rattle.ns_engine.specs.Arriving.{Arrives};
 ghost use Rattle.ns_sends.specs.Going.{arguments_in, control_at, GoesOn, IsLeft, TakesNone, AreTaken};
 
@@ -10,7 +11,7 @@ use crate::sent::Sent;
 use ns_code::program::CodeProgram;
 use ns_engine::arriving::enter;
 use ns_engine::laws::what_is_reached_can_be_entered;
-use ns_engine::state::{Core, Next};
+use ns_engine::state::Core;
 use ns_frames::calls::{Call, leaving_of};
 use ns_frames::registers::Registers;
 use ns_send::control::{Entered, Exit, Given};
@@ -25,11 +26,11 @@ pub fn enter_on_arguments(
     sent: Sent,
     exit: Exit,
     entered: Entered,
-) -> Next
+) -> Registers
     requires left { IsLeft code.now core.old at sent }
     requires goes { GoesOn code.now (length core.old.stack.frames.items) (control_at code.now core.old at sent (reached.Enters exit entered)) }
     requires taken { AreTaken core.old exit entered.given (arguments_in core.old at sent) }
-    ensures { Arrives code.now core.old at sent.floor (control_at code.now core.old at sent (reached.Enters exit entered)) core.new result }
+    ensures { Arrives code.now core.old at sent.floor (control_at code.now core.old at sent (reached.Enters exit entered)) core.new (next.On result) }
 {
     what_is_reached_can_be_entered();
     let call = Call {
@@ -38,7 +39,7 @@ pub fn enter_on_arguments(
         floor: sent.floor,
         first: sent.first,
     };
-    Next::On(enter(code, core, at, call, exit, entered))
+    enter(code, core, at, call, exit, entered)
 }
 
 /// Enters a body on none of the arguments.
@@ -51,11 +52,11 @@ pub fn enter_without(
     sent: Sent,
     exit: Exit,
     entered: Entered,
-) -> Next
+) -> Registers
     requires left { IsLeft code.now core.old at sent }
     requires goes { GoesOn code.now (length core.old.stack.frames.items) (control_at code.now core.old at sent (reached.Enters exit entered)) }
     requires none { TakesNone entered.given exit }
-    ensures { Arrives code.now core.old at sent.floor (control_at code.now core.old at sent (reached.Enters exit entered)) core.new result }
+    ensures { Arrives code.now core.old at sent.floor (control_at code.now core.old at sent (reached.Enters exit entered)) core.new (next.On result) }
 {
     let below = Registers {
         top: sent.floor,
@@ -77,11 +78,11 @@ pub fn enter_reached(
     sent: Sent,
     exit: Exit,
     entered: Entered,
-) -> Next
+) -> Registers
     requires left { IsLeft code.now core.old at sent }
     requires goes { GoesOn code.now (length core.old.stack.frames.items) (control_at code.now core.old at sent (reached.Enters exit entered)) }
     requires given { IsOwnGiven entered.given }
-    ensures { Arrives code.now core.old at sent.floor (control_at code.now core.old at sent (reached.Enters exit entered)) core.new result }
+    ensures { Arrives code.now core.old at sent.floor (control_at code.now core.old at sent (reached.Enters exit entered)) core.new (next.On result) }
 {
     match entered.given {
         Given::Listed => match exit {

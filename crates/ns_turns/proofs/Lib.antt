@@ -3,3 +3,4 @@ pub mod Charged
 pub mod Turned
 pub mod Resent
 pub mod Along
+pub mod Untouched

@@ -2,3 +2,4 @@ pub mod Prepared
 pub mod Charging
 pub mod Turning
 pub mod Resending
+pub mod Quickly

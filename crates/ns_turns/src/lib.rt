@@ -6,6 +6,7 @@ pub mod charging;
 pub mod fetching;
 pub mod laws;
 mod moving;
+pub mod quickly;
 pub mod resending;
 pub mod stepping;
 pub mod turning;

@@ -14,6 +14,7 @@ ghost use Rattle.ns_turns.specs.Turning.{RunsBy, HasGone};
 use crate::charging::charges;
 use crate::laws::moves_go_along;
 use crate::moving::{step, take_up};
+use crate::quickly::go_quickly;
 use crate::stepping::go_on;
 use ns_code::program::CodeProgram;
 use ns_engine::laws::{moves_keep_machines_ready, turns_go_by_moves};
@@ -93,8 +94,8 @@ fn go_along(
     }
 }
 
-/// Moves with so many steps left, for as long as the topmost frame goes on. Its registers stay in local variables: no other
-/// way on is carried from one move to the next.
+/// Moves with so many steps left, for as long as the topmost frame goes on, by the quick way where that does it. The registers
+/// stay in local variables: no other way on is carried from one move to the next.
 #[inline(always)]
 fn run_along(
     plan: &Plan,
@@ -112,17 +113,36 @@ fn run_along(
     let begun = core.run.world.counters().steps;
     let mut here = at;
     'along: loop {
-        let moved = go_on(plan, code, core, here, own);
-        match moved {
-            Next::On(to) => {
+        match go_quickly(plan, code, core, here) {
+            Some(to) => {
                 if left <= core.run.world.counters().steps - begun {
-                    return moved;
+                    return Next::On(to);
                 }
                 here = to;
             }
-            Next::Waits(_) | Next::Ended => return moved,
+            None => {
+                let moved = go_apart(plan, code, core, here, own);
+                match moved {
+                    Next::On(to) => {
+                        if left <= core.run.world.counters().steps - begun {
+                            return moved;
+                        }
+                        here = to;
+                    }
+                    Next::Waits(_) | Next::Ended => return moved,
+                }
+            }
         }
     }
+}
+
+/// Goes on with the topmost frame, apart from the loop in which that is done where the quick way doesn't do it.
+#[inline(never)]
+fn go_apart(plan: &Plan, code: &CodeProgram, core: &mut Core, at: Registers, own: OwnSends) -> Next
+    requires { RunsBy code.now plan.now own core.old (next.On at) }
+    ensures { Moves code.now core.old (next.On at) core.new result }
+{
+    go_on(plan, code, core, at, own)
 }
 
 /// One move, apart from the loop in which it is made for as long as steps are left.

@@ -1,0 +1,25 @@
+-- Ends of bodies that the quick way leaves to the general one.
+use Rattle.std.proofs.Common.{◌≡◌, ◌<◌, ◌∷◌, List, [], length, refl, ap, subst, sym, arith}
+use Rattle.ns_code.specs.declared.program.CodeProgram.{CodeProgram}
+use Rattle.ns_world.specs.declared.value.Value.{Value}
+use Rattle.ns_frames.specs.declared.frame.Frame.{Frame}
+use Rattle.ns_frames.specs.declared.frame.RunningFrame.{RunningFrame}
+use Rattle.ns_frames.specs.declared.registers.Registers.{Registers}
+use Rattle.ns_frames.specs.declared.stack.Stack.{Stack}
+use Rattle.ns_frames.specs.Row.{FrameRow}
+use Rattle.ns_frames.specs.Standing.{below}
+use Rattle.ns_engine.specs.declared.state.Core.{Core}
+use Rattle.ns_engine.specs.Tried.{IsUntouched}
+use Rattle.ns_returns.specs.Ending.{CanEnd}
+
+pub unended : (code : CodeProgram) (core : Core) (at : Registers) (frame : RunningFrame) (value : Value) → CanEnd code core at frame value → IsUntouched code core core
+unended code core at frame value can = record { same = refl; kept = can.kept }
+
+-- Where two frames stand, one is left.
+pub some_below : (old new : Stack) → 1 < length old.frames.items → new.frames ≡ record old.frames { items = below old.frames.items } → 0 < length new.frames.items
+some_below old new some is = subst (λ (row : FrameRow). 0 < length row.items) (sym is) (by_frames old.frames.items some)
+  where
+    by_frames : (frames : List Frame) → 1 < length frames → 0 < length (below frames)
+    by_frames [] low = absurd (omega (arith, low))
+    by_frames (one ∷ []) low = absurd (omega (arith, low))
+    by_frames (one ∷ other ∷ frames) low = omega arith
