@@ -5,13 +5,11 @@ use Rattle.ns_code.specs.declared.instruction.Instr.TheVariants as instr
 use Rattle.ns_world.specs.declared.ending.Ending.{Ending}
 use Rattle.ns_world.specs.declared.ending.Fault.{Fault}
 use Rattle.ns_world.specs.declared.ending.LimitKind.TheVariants.{Cells}
-use Rattle.ns_world.specs.declared.value.Value.TheVariants.{Ref}
 use Rattle.ns_world.specs.Cell.{BlockCell}
-use Rattle.ns_world.specs.Heap.{heap_size}
 use Rattle.ns_world.specs.World.{World, WorldView, made}
 use Rattle.ns_send.specs.declared.site.Site.{Site}
 use Rattle.ns_send.specs.Blocks.{new_block}
-use Rattle.ns_send.specs.Control.{Activation, After, Progress, Gives, Halts, charged, in_world}
+use Rattle.ns_send.specs.Control.{After, Progress, Halts, charged, in_world}
 use Rattle.ns_send.specs.Shown.{answer_shown}
 use Rattle.ns_act.specs.Room.{SameRest}
 use Rattle.ns_act.specs.Running.{activation_at}

@@ -1,5 +1,5 @@
 -- Values that rows of Integer give at once.
-use Rattle.std.proofs.Common.{◌≡◌, ℕ, List, ap, sym, ◌∙◌, refl, subst, Option, All, Ok, Result}
+use Rattle.std.proofs.Common.{◌≡◌, ap, sym, ◌∙◌, subst, All, Ok, Result}
 use Rattle.ns_code.specs.declared.program.CodeProgram.{CodeProgram}
 use Rattle.ns_world.specs.declared.ending.Fault.{Fault}
 use Rattle.ns_world.specs.declared.value.Value.{Value}
@@ -18,7 +18,6 @@ use Rattle.ns_send.specs.Sends.{Target, To, answered_by}
 use Rattle.ns_moves.specs.Arrivals.{arrived}
 use Rattle.ns_act.specs.declared.run.Run.{Run}
 use Rattle.ns_act.specs.Run.{progress_of}
-use Rattle.ns_frames.specs.declared.frame.KeptSite.{KeptSite}
 use Rattle.ns_frames.specs.declared.registers.Registers.{Registers}
 use Rattle.ns_frames.specs.Stack.{stood, with_top}
 use Rattle.ns_frames.specs.View.{site_shown, frames_shown}

@@ -14,3 +14,4 @@ pub mod Evaluated
 pub mod Resent
 pub mod Given
 pub mod Opened
+pub mod Slotted

@@ -1,4 +1,5 @@
-//! Sends of operands that find a method, or a row of Integer that gives a value, by the quick way: registers alone come back.
+//! Sends of operands that find a method, a slot, or a row of Integer that gives a value, by the quick way: registers alone
+//! come back.
 
 ghost use Rattle.std.specs.Prelude.{◌≡◌, ◌+◌, IfSome, slice_get, true};
 ghost use Rattle.ns_code.specs.declared.instruction.Instr.TheVariants as instr;
@@ -18,6 +19,7 @@ ghost use Rattle.ns_sends.specs.Sending.{CanSend, looked_up, Sends};
 use crate::going::row_numbered;
 use crate::opening::send_method;
 use crate::sent::Sent;
+use crate::slots::{send_getter, send_setter};
 use ns_act::answering::found_of;
 use ns_act::laws::a_send_is_its_step_and_its_answer;
 use ns_act::targets::class_of;
@@ -104,7 +106,7 @@ fn send_operands(
     }
 }
 
-/// Sends to a value that finds a method, or a row of Integer that gives a value.
+/// Sends to a value that finds a method, a slot, or a row of Integer that gives a value.
 #[inline(always)]
 fn send_to(
     code: &CodeProgram,
@@ -124,7 +126,7 @@ fn send_to(
     }
 }
 
-/// Goes on with what was found, where that is a method or a row of Integer that gives a value.
+/// Goes on with what was found, where that is a method, a slot, or a row of Integer that gives a value.
 #[inline(always)]
 fn do_found(
     code: &CodeProgram,
@@ -142,6 +144,12 @@ fn do_found(
     match found {
         Found::Method { body, holder } => {
             send_method(code, core, at, sent, receiver, kind, body, holder)
+        }
+        Found::Getter { holder, word } => {
+            send_getter(code, core, at, sent, receiver, kind, holder, word)
+        }
+        Found::Setter { holder, word } => {
+            send_setter(code, core, at, sent, receiver, kind, holder, word)
         }
         Found::Kernel(_) => send_integer(code, core, at, sent, receiver, kind, found),
         _ => None,

@@ -15,4 +15,5 @@ pub mod resending;
 mod sending;
 pub mod sends;
 pub mod sent;
+mod slots;
 pub mod waiting;

@@ -1,4 +1,4 @@
-use Rattle.std.proofs.Common.{subst, sym, ◌∙◌}
+use Rattle.std.proofs.Common.{subst, sym}
 use Rattle.ns_send.specs.declared.control.Reached.TheVariants as reached
 use Rattle.ns_send.specs.Sends.{To}
 use Rattle.ns_act.specs.declared.sends.Answered.TheVariants.{Comes}

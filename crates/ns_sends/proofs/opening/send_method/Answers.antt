@@ -1,7 +1,6 @@
 use Rattle.std.proofs.Common.{refl}
 use Rattle.ns_send.specs.Sends.{To}
 use Rattle.ns_engine.specs.declared.state.Next.TheVariants.{On}
-use Rattle.ns_sends.proofs.Goes.{SendsKnown}
 use Rattle.ns_sends.proofs.Stepped.{step_goes, step_sends}
 use Rattle.ns_sends.proofs.opening.send_method.Goals as goal
 
