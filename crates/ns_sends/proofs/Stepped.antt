@@ -1,5 +1,5 @@
 -- Sends from their step on.
-use Rattle.std.proofs.Common.{◌≡◌, ◌+◌, ◌≤◌, ℕ, List, length, ap, sym, ◌∙◌, refl, subst, arith, Option, Some, None, Bool, true, false, cond, All}
+use Rattle.std.proofs.Common.{◌≡◌, ◌+◌, ◌≤◌, ℕ, List, length, ap, sym, ◌∙◌, subst, arith, Option, Some, None, Bool, true, false, cond, All}
 use Rattle.std.specs.Prelude.{nat_lt}
 use Rattle.ns_base.specs.declared.place.Place.{Place as SourcePlace}
 use Rattle.ns_base.specs.declared.selector.Sel.{Sel}
