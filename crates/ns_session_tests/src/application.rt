@@ -46,9 +46,6 @@ fn code(alloc: Global, source: &str) -> Option<Verified> {
 /// A shelf of one file, which has this text.
 fn shelf(alloc: Global, source: &str) -> Result<MemShelf, NoMemory> {
     let mut files = Vec::new(alloc);
-    files.push((
-        Text::of(alloc, b"T.ns")?,
-        source.as_bytes().to_vec(alloc)?,
-    ))?;
+    files.push((Text::of(alloc, b"T.ns")?, source.as_bytes().to_vec(alloc)?))?;
     Ok(MemShelf::new(alloc, files))
 }

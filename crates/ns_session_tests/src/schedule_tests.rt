@@ -14,7 +14,7 @@ const SOURCES: [&str; 3] = [
 
 /// What an application has printed, and the line that reports its end.
 #[derive(Drop)]
-struct Told {
+struct Outcome {
     transcript: Vec<u8>,
     line: Vec<u8>,
 }
@@ -33,7 +33,7 @@ fn all_agree(alloc: Global) -> bool {
 }
 
 /// What each application is told of alone.
-fn alone(alloc: Global) -> Option<Vec<Told>> {
+fn alone(alloc: Global) -> Option<Vec<Outcome>> {
     let mut all = Vec::new(alloc);
     for source in SOURCES {
         let mut session = Session::new(alloc);
@@ -45,14 +45,14 @@ fn alone(alloc: Global) -> Option<Vec<Told>> {
 }
 
 /// What is told of an application that has ended.
-fn told(alloc: Global, session: &Session, number: u32) -> Option<Told> {
+fn told(alloc: Global, session: &Session, number: u32) -> Option<Outcome> {
     let transcript = session.transcript(number)?.to_vec(alloc).ok()?;
     let line = session.line(alloc, number).ok()??;
-    Some(Told { transcript, line })
+    Some(Outcome { transcript, line })
 }
 
 /// Whether all applications together, in random turns until all have ended, do what each does alone.
-fn agrees(alloc: Global, seed: u64, alone: &[Told]) -> bool {
+fn agrees(alloc: Global, seed: u64, alone: &[Outcome]) -> bool {
     match together(alloc) {
         Some(mut session) => {
             play(&mut session, seed, alone) && ends_alike(alloc, &mut session, alone)
@@ -71,7 +71,7 @@ fn together(alloc: Global) -> Option<Session> {
 }
 
 /// Whether after each of 40 random turns each application has printed a beginning of what it prints alone.
-fn play(session: &mut Session, seed: u64, alone: &[Told]) -> bool {
+fn play(session: &mut Session, seed: u64, alone: &[Outcome]) -> bool {
     let mut random = seed;
     for _ in 0..40 {
         random = next(random);
@@ -91,7 +91,7 @@ fn next(random: u64) -> u64 {
         .wrapping_add(1_442_695_040_888_963_407)
 }
 
-fn are_begun(session: &Session, alone: &[Told]) -> bool {
+fn are_begun(session: &Session, alone: &[Outcome]) -> bool {
     (0..).zip(alone).all(|(number, told)| match session.transcript(number) {
         Some(transcript) => told.transcript.starts_with(transcript),
         None => false,
@@ -99,7 +99,7 @@ fn are_begun(session: &Session, alone: &[Told]) -> bool {
 }
 
 /// Whether with a last turn each application has printed and reports what it does alone.
-fn ends_alike(alloc: Global, session: &mut Session, alone: &[Told]) -> bool {
+fn ends_alike(alloc: Global, session: &mut Session, alone: &[Outcome]) -> bool {
     for (number, told) in (0..).zip(alone) {
         let _turn = session.turn(number, u64::MAX);
         if !is_told(alloc, session, number, told) {
@@ -109,9 +109,10 @@ fn ends_alike(alloc: Global, session: &mut Session, alone: &[Told]) -> bool {
     true
 }
 
-fn is_told(alloc: Global, session: &Session, number: u32, told: &Told) -> bool {
+fn is_told(alloc: Global, session: &Session, number: u32, told: &Outcome) -> bool {
     match (session.transcript(number), session.line(alloc, number)) {
-        (Some(transcript), Ok(Some(line))) => transcript == told.transcript.as_slice() && line == told.line,
+        (Some(transcript), Ok(Some(line))) => transcript == told.transcript.as_slice()
+            && line == told.line,
         _ => false,
     }
 }
