@@ -21,6 +21,7 @@ use ns_frames::registers::Registers;
 use ns_plan::step::Step;
 use ns_returns::answering::{return_self, return_value};
 use ns_sends::giving::{send, send_inner};
+use ns_sends::private::send_private;
 
 /// Does a step, behind which the registers stand, where it is one of those that are taken most and goes on with the
 /// topmost frame; else nothing is done.
@@ -48,6 +49,13 @@ pub fn perform(code: &CodeProgram, core: &mut Core, at: Registers, step: Step) -
             kind,
             place,
         } => send_as(code, core, at, sel, argc, kind, place),
+        Step::SendPrivate {
+            level,
+            sel,
+            argc,
+            place,
+            ..
+        } => send_private(code, core, at, level, sel, argc, place),
         Step::StoreSlot(slot) => Some(store_slot(code, core, at, slot)),
         Step::Return => return_value(code, core, at),
         Step::ReturnSelf => return_self(code, core, at),

@@ -9,9 +9,9 @@ use Rattle.ns_world.specs.declared.value.Value.{Value}
 use Rattle.ns_world.specs.declared.value.Value.TheVariants.{Nil, Ref}
 use Rattle.ns_world.specs.Cell.{Cell, EnvironmentCell, cell_size}
 use Rattle.ns_world.specs.Heap.{heap_size}
-use Rattle.ns_world.specs.World.{World, entered, made}
+use Rattle.ns_world.specs.World.{World, WorldView, entered, made, stepped}
 use Rattle.ns_find.specs.declared.found.Found.{Found}
-use Rattle.ns_find.specs.declared.found.Sending.{Sending}
+use Rattle.ns_find.specs.declared.found.Found.TheVariants.{Method}
 use Rattle.ns_send.specs.declared.control.Entered.{Entered}
 use Rattle.ns_send.specs.declared.control.Exit.{Exit}
 use Rattle.ns_send.specs.declared.control.Reached.{Reached}
@@ -19,7 +19,7 @@ use Rattle.ns_send.specs.declared.control.Reached.TheVariants as reached
 use Rattle.ns_send.specs.declared.site.Site.{Site}
 use Rattle.ns_send.specs.Bodies.{first_locals, has_environment, locals_of, parameters_of, opened}
 use Rattle.ns_send.specs.Control.{Activation, Control, Now, Enter, Evaluate, Begin, Perform, FromMethod, Progress, charged, halts, in_world}
-use Rattle.ns_send.specs.Sends.{To, Listed, one_more, method_entered, answered_by}
+use Rattle.ns_send.specs.Sends.{Target, Listed, found_at, receiver_of, one_more, method_entered, answered_by}
 use Rattle.ns_send.specs.Shown.{reached_shown}
 use Rattle.ns_act.specs.declared.run.Run.{Run}
 use Rattle.ns_act.specs.declared.sends.Answered.TheVariants.{Comes}
@@ -30,20 +30,44 @@ use Rattle.ns_engine.specs.declared.state.Core.{Core}
 use Rattle.ns_engine.specs.Shown.{progress_in}
 use Rattle.ns_sends.specs.declared.sent.Sent.{Sent}
 use Rattle.ns_sends.specs.Going.{arguments_in, answered_at}
-use Rattle.ns_sends.specs.Opening.{HasRoomFor, FindsMethod}
+use Rattle.ns_sends.specs.Opening.{HasRoomFor, begun_at}
 use Rattle.ns_sends.specs.Sending.{looked_up}
-use Rattle.ns_sends.proofs.Stepped.{with_values}
+use Rattle.ns_sends.proofs.Stepped.{step_is}
 
 -- ---- what the send came to
 
-pub method_comes : (code : CodeProgram) (core : Core) (at : Registers) (sent : Sent) (receiver : Value) (kind : Sending) (body holder : ℕ) (run : Run) (r : Reached)
-    (activation : Activation) (values : List Value) → FindsMethod code core sent receiver kind body holder → values ≡ arguments_in core at sent
+pub method_comes : (code : CodeProgram) (core : Core) (at : Registers) (sent : Sent) (receiver : Value) (body holder : ℕ) (run : Run) (r : Reached)
+    (values : List Value) → values ≡ arguments_in core at sent
     → reached_shown code (site_shown core.places sent.site) values r (progress_of run)
     ≡ method_entered code body holder receiver (Listed values) (site_shown core.places sent.site) (progress_in core)
-    → answered_at code (record core { run = run }) at sent receiver (Comes r) ≡ looked_up code core at sent activation (To receiver kind)
-method_comes code core at sent receiver kind body holder run r activation values finds same is =
-    with_values code core at sent receiver run (Comes r) activation (To receiver kind) values same
-    (is ∙ ap (λ (f : Found). answered_by code f sent.site.sel receiver values (site_shown core.places sent.site) (progress_in core)) (sym finds))
+    → answered_at code (record core { run = run }) at sent receiver (Comes r) ≡ begun_at code core at sent receiver body holder
+method_comes code core at sent receiver body holder run r values same is =
+    subst (λ (vs : List Value). reached_shown code (site_shown core.places sent.site) vs r (progress_of run)
+    ≡ method_entered code body holder receiver (Listed vs) (site_shown core.places sent.site) (progress_in core)) same is
+
+-- a send that found it begins it
+pub method_found : (code : CodeProgram) (core : Core) (at : Registers) (sent : Sent) (receiver : Value) (body holder : ℕ) (activation : Activation) (target : Target)
+    → found_at core.run.world.world.cells code activation target sent.site.sel.0 ≡ Method body holder → receiver_of core.run.world.world.cells activation target ≡ receiver
+    → looked_up code core at sent activation target ≡ begun_at code core at sent receiver body holder
+method_found code core at sent receiver body holder activation target finds to =
+    ap (λ (f : Found). answered_by code f sent.site.sel (receiver_of core.run.world.world.cells activation target) (arguments_in core at sent)
+    (site_shown core.places sent.site) (progress_in core)) finds
+    ∙ ap (λ (r : Value). method_entered code body holder r (Listed (arguments_in core at sent)) (site_shown core.places sent.site) (progress_in core)) to
+
+-- the machine in the world after a step
+abbrev pub stepped_to : Core → WorldView → Core
+stepped_to core world = record core { run = record core.run { world = world } }
+
+-- and so it does once its step is charged
+pub found_later : (code : CodeProgram) (core : Core) (at : Registers) (sent : Sent) (receiver : Value) (body holder : ℕ) (activation : Activation) (target : Target)
+    (world : WorldView) → stepped core.run.world.world ≡ Some world.world
+    → found_at core.run.world.world.cells code activation target sent.site.sel.0 ≡ Method body holder → receiver_of core.run.world.world.cells activation target ≡ receiver
+    → looked_up code (stepped_to core world) at sent activation target ≡ begun_at code (stepped_to core world) at sent receiver body holder
+found_later code core at sent receiver body holder activation target world e finds to =
+    method_found code (stepped_to core world) at sent receiver body holder activation target (rw cells finds) (rw cells to)
+  where
+    cells : world.world.cells ≡ core.run.world.world.cells
+    cells = ap (λ (w : World). w.cells) (step_is core.run.world.world world.world e)
 
 -- ---- that it is a body
 

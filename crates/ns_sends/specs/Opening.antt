@@ -1,21 +1,38 @@
 -- Sends that find a method or a slot, by the quick way.
-use Rattle.std.specs.Prelude.{◌≡◌, ℕ, ◌+◌, ◌-◌, ◌<◌, ◌≤◌}
+use Rattle.std.specs.Prelude.{◌≡◌, ℕ, ◌+◌, ◌-◌, ◌<◌, ◌≤◌, length, Option, Some, None}
 use Rattle.ns_code.specs.declared.program.CodeProgram.{CodeProgram}
 use Rattle.ns_world.specs.declared.value.Value.{Value}
 use Rattle.ns_world.specs.Heap.{heap_size}
 use Rattle.ns_world.specs.Starts.{start_of}
 use Rattle.ns_world.specs.World.{World}
+use Rattle.ns_find.specs.declared.found.Found.{Found}
 use Rattle.ns_find.specs.declared.found.Found.TheVariants.{Method, Getter, Setter}
 use Rattle.ns_find.specs.declared.found.Sending.{Sending}
 use Rattle.ns_find.specs.Find.{found_from}
 use Rattle.ns_send.specs.Bodies.{locals_of, parameters_of}
+use Rattle.ns_send.specs.Control.{Control}
+use Rattle.ns_send.specs.Sends.{Listed, ToPrivate, found_at, method_entered}
+use Rattle.ns_act.specs.declared.running.Running.{Running}
+use Rattle.ns_act.specs.Running.{code_of}
+use Rattle.ns_frames.specs.declared.registers.Registers.{Registers}
+use Rattle.ns_frames.specs.View.{site_shown}
 use Rattle.ns_engine.specs.declared.state.Core.{Core}
+use Rattle.ns_engine.specs.declared.state.Next.TheVariants.{On}
+use Rattle.ns_engine.specs.Shown.{progress_in}
+use Rattle.ns_engine.specs.Tried.{IsUntouched}
 use Rattle.ns_sends.specs.declared.sent.Sent.{Sent}
+use Rattle.ns_sends.specs.Going.{arguments_in}
+use Rattle.ns_sends.specs.Sending.{sent_at, Sends}
 
 -- The limits of a world leave room for the frame of a body with so many arguments, and for its environment.
 pub record HasRoomFor (world : World) (code : CodeProgram) (body count : ℕ) : Type 0 where
   pub depth : world.depth < world.limits.depth
   pub cells : heap_size world.cells + (1 + (count + (locals_of code body - parameters_of code body))) ≤ world.limits.cells
+
+-- where a method begins with the arguments of a send, whose step is charged
+abbrev pub begun_at : CodeProgram → Core → Registers → Sent → Value → ℕ → ℕ → Control
+begun_at code core at sent receiver body holder =
+    method_entered code body holder receiver (Listed (arguments_in core at sent)) (site_shown core.places sent.site) (progress_in core)
 
 -- A send to a value finds that method.
 abbrev pub FindsMethod : CodeProgram → Core → Sent → Value → Sending → ℕ → ℕ → Type 0
@@ -30,3 +47,12 @@ FindsGetter code core sent receiver kind holder word =
 abbrev pub FindsSetter : CodeProgram → Core → Sent → Value → Sending → ℕ → ℕ → Type 0
 FindsSetter code core sent receiver kind holder word =
     found_from core.run.world.world.cells code (start_of core.run.world.world.cells receiver) sent.site.sel.0 kind ≡ Setter holder word
+
+-- The private send finds that method, or the getter of that word.
+abbrev pub FindsAround : CodeProgram → Core → Running → ℕ → Sent → Found → Type 0
+FindsAround code core running level sent found = found ≡ found_at core.run.world.world.cells code (code_of running) (ToPrivate level) sent.site.sel.0
+
+-- A private send has led on with the topmost frame at those registers; or nothing is done.
+abbrev pub AroundOrNot : CodeProgram → Core → Registers → Sent → Running → ℕ → Core → Option Registers → Type 0
+AroundOrNot code old at sent running level new (Some to) = Sends code old at sent.floor (sent_at code old at sent (code_of running) (ToPrivate level)) new (On to)
+AroundOrNot code old at sent running level new None = IsUntouched code old new

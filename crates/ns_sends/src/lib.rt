@@ -11,6 +11,7 @@ mod going;
 pub mod led;
 mod opening;
 pub mod placing;
+pub mod private;
 pub mod resending;
 mod sending;
 pub mod sends;

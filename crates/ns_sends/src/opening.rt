@@ -1,13 +1,11 @@
 //! Sends that find a method whose frame and environment fit, by the quick way: registers alone come back.
 
 ghost use Rattle.std.specs.Prelude.{◌≡◌, length, true};
-ghost use Rattle.ns_send.specs.Control.{Activation};
-ghost use Rattle.ns_send.specs.Sends.{To};
 ghost use Rattle.ns_engine.specs.declared.state.Next.TheVariants as next;
 ghost use Rattle.ns_sends.specs.Given.{SendsOrNot};
 ghost use Rattle.ns_sends.specs.Going.{arguments_in, GoesOn};
-ghost use Rattle.ns_sends.specs.Opening.{HasRoomFor, FindsMethod};
-ghost use Rattle.ns_sends.specs.Sending.{CanSend, looked_up, Sends};
+ghost use Rattle.ns_sends.specs.Opening.{HasRoomFor, FindsMethod, begun_at};
+ghost use Rattle.ns_sends.specs.Sending.{CanSend, Sends};
 
 use crate::entering::enter_reached;
 use crate::sent::Sent;
@@ -50,14 +48,14 @@ pub fn send_method(
         return None;
     }
     match core.run.world.step() {
-        Ok(()) => Some(begin(code, core, at, sent, receiver, kind, body, holder)),
+        Ok(()) => Some(begin(code, core, at, sent, receiver, body, holder)),
         Err(_) => None,
     }
 }
 
 /// Whether the limits leave room for the frame and the environment of a body with so many arguments.
 #[inline(always)]
-fn has_room(world: &World, code: &CodeProgram, body: u32, count: u32) -> bool
+pub fn has_room(world: &World, code: &CodeProgram, body: u32, count: u32) -> bool
     ensures { result ≡ true → HasRoomFor world.now.world code.now body count }
 {
     let used = world.counters();
@@ -66,25 +64,22 @@ fn has_room(world: &World, code: &CodeProgram, body: u32, count: u32) -> bool
     used.depth < limits.depth && cells <= limits.cells.saturating_sub(used.cells)
 }
 
-/// Begins the method that was found.
+/// Begins a method, whose step is charged.
 #[inline(always)]
-fn begin(
+pub fn begin(
     code: &CodeProgram,
     core: &mut Core,
     at: Registers,
     sent: Sent,
     receiver: Value,
-    kind: Sending,
     body: u32,
     holder: u32,
 ) -> Registers
     requires can { CanSend code.now core.old at sent receiver }
-    requires finds { FindsMethod code.now core.old sent receiver kind body holder }
     requires room { HasRoomFor core.old.run.world.world code.now body (length (arguments_in core.old at sent)) }
-    requires goes { (activation : Activation) → GoesOn code.now (length core.old.stack.frames.items) (looked_up code.now core.old at sent activation (To receiver kind)) }
-    ensures { (activation : Activation) → Sends code.now core.old at sent.floor (looked_up code.now core.old at sent activation (To receiver kind)) core.new (next.On result) }
+    requires goes { GoesOn code.now (length core.old.stack.frames.items) (begun_at code.now core.old at sent receiver body holder) }
+    ensures { Sends code.now core.old at sent.floor (begun_at code.now core.old at sent receiver body holder) core.new (next.On result) }
 {
-    let _kind = kind;
     let arguments = core.stack.from(at, sent.first);
     match enter_method(&mut core.run, code, body, holder, receiver, arguments) {
         Reached::Enters { exit, entered } => enter_reached(code, core, at, sent, exit, entered),

@@ -1,24 +1,23 @@
 use Rattle.std.proofs.Common.{subst, sym}
 use Rattle.ns_send.specs.declared.control.Reached.TheVariants as reached
-use Rattle.ns_send.specs.Sends.{To}
 use Rattle.ns_act.specs.declared.sends.Answered.TheVariants.{Comes}
 use Rattle.ns_frames.specs.View.{site_shown}
 use Rattle.ns_engine.specs.declared.state.Next.TheVariants.{On}
 use Rattle.ns_engine.specs.Shown.{progress_in}
-use Rattle.ns_sends.specs.Sending.{looked_up}
+use Rattle.ns_sends.specs.Opening.{begun_at}
 use Rattle.ns_sends.proofs.Leads.{comes_leads}
 use Rattle.ns_sends.proofs.Opened.{method_comes, method_begins, none_else, IsEntered}
-use Rattle.ns_sends.proofs.Stepped.{answer_goes, answer_sends, no_one}
+use Rattle.ns_sends.proofs.Stepped.{answer_goes, answer_sends}
 use Rattle.ns_sends.proofs.opening.begin.Goals as goal
 
 pub enter_reached-requires-clause-goes : goal.enter_reached-requires-clause-goes
 enter_reached-requires-clause-goes c =
     answer_goes c.args.code.now c.args.core.now c.args.at c.args.sent c.args.receiver c.enter_method.new.run (Comes (reached.Enters c.in-Enters.exit c.in-Enters.entered))
-    (looked_up c.args.code.now c.args.core.now c.args.at c.args.sent no_one (To c.args.receiver c.args.kind))
-    (method_comes c.args.code.now c.args.core.now c.args.at c.args.sent c.args.receiver c.args.kind c.args.body c.args.holder c.enter_method.new.run
-    (reached.Enters c.in-Enters.exit c.in-Enters.entered) no_one c.from-arguments.result.now c.requires.finds c.from-arguments.ensures
+    (begun_at c.args.code.now c.args.core.now c.args.at c.args.sent c.args.receiver c.args.body c.args.holder)
+    (method_comes c.args.code.now c.args.core.now c.args.at c.args.sent c.args.receiver c.args.body c.args.holder c.enter_method.new.run
+    (reached.Enters c.in-Enters.exit c.in-Enters.entered) c.from-arguments.result.now c.from-arguments.ensures
     (c.in-Enters.ensures.reached (site_shown c.args.core.now.places c.args.sent.site)))
-    (c.requires.goes no_one)
+    c.requires.goes
 
 pub unreachable-requires : goal.unreachable-requires
 unreachable-requires c =
@@ -28,12 +27,12 @@ unreachable-requires c =
     c.from-arguments.result.now (rw c.from-arguments.ensures c.requires.room)))
 
 pub returns : goal.returns
-returns c activation =
+returns c =
     answer_sends c.args.code.now c.args.core.now c.enter_reached.new.core c.args.at c.args.sent c.args.receiver c.enter_method.new.run
     (Comes (reached.Enters c.in-Enters.exit c.in-Enters.entered))
-    (looked_up c.args.code.now c.args.core.now c.args.at c.args.sent activation (To c.args.receiver c.args.kind)) (On c.enter_reached.result)
-    (method_comes c.args.code.now c.args.core.now c.args.at c.args.sent c.args.receiver c.args.kind c.args.body c.args.holder c.enter_method.new.run
-    (reached.Enters c.in-Enters.exit c.in-Enters.entered) activation c.from-arguments.result.now c.requires.finds c.from-arguments.ensures
+    (begun_at c.args.code.now c.args.core.now c.args.at c.args.sent c.args.receiver c.args.body c.args.holder) (On c.enter_reached.result)
+    (method_comes c.args.code.now c.args.core.now c.args.at c.args.sent c.args.receiver c.args.body c.args.holder c.enter_method.new.run
+    (reached.Enters c.in-Enters.exit c.in-Enters.entered) c.from-arguments.result.now c.from-arguments.ensures
     (c.in-Enters.ensures.reached (site_shown c.args.core.now.places c.args.sent.site)))
     c.enter_method.ensures.rest (rw c.enter_method.ensures.memo c.requires.can.kept)
     (comes_leads c.args.code.now _ c.enter_reached.new.core c.args.at c.args.sent _ (On c.enter_reached.result) c.enter_reached.ensures)

@@ -1,0 +1,152 @@
+//! Private sends that find a method, by the quick way: registers alone come back.
+
+ghost use Rattle.std.specs.Prelude.{◌≡◌, slice_get, IsSome};
+ghost use Rattle.ns_code.specs.declared.instruction.Instr.TheVariants as instr;
+ghost use Rattle.ns_world.specs.Lawful.{IsLawful};
+ghost use Rattle.ns_find.specs.Find.{side_of};
+ghost use Rattle.ns_find.specs.declared.found.Found.TheVariants as found;
+ghost use Rattle.ns_send.specs.Bodies as bodies;
+ghost use Rattle.ns_send.specs.Lawful.{FitsActivation, declaration_at};
+ghost use Rattle.ns_send.specs.Sends.{ToPrivate, found_at, receiver_of};
+ghost use Rattle.ns_act.specs.Running.{code_of};
+ghost use Rattle.ns_engine.specs.Doing.{CanDo};
+ghost use Rattle.ns_engine.specs.Tried.{DoesOrNot};
+ghost use Rattle.ns_sends.specs.Opening.{FindsAround, AroundOrNot};
+ghost use Rattle.ns_sends.specs.Sending.{CanSend};
+
+use crate::opening::{begin, has_room};
+use crate::sent::Sent;
+use ns_act::enclosing::enclosing;
+use ns_act::laws::a_send_is_its_step_and_its_answer;
+use ns_act::running::{Running, is_on_class_side};
+use ns_act::targets::class_of;
+use ns_base::selector::Sel;
+use ns_code::program::CodeProgram;
+use ns_engine::settling::{running, running_code};
+use ns_engine::state::Core;
+use ns_find::find::find_private;
+use ns_find::found::Found;
+use ns_frames::frame::KeptSite;
+use ns_frames::laws::operands_are_taken;
+use ns_frames::registers::Registers;
+use ns_send::finding::enclosing_objects_are_there;
+use ns_send::laws::{actions_spend_exactly, sends_keep_lawful, sites_stay, what_is_handed_on_fits};
+use ns_world::lawful::charging_keeps_lawful;
+use ns_world::value::Value;
+use ns_world::world::World;
+
+/// Sends to the private member of the declaration so many levels out.
+pub fn send_private(
+    code: &CodeProgram,
+    core: &mut Core,
+    at: Registers,
+    level: u8,
+    sel: Sel,
+    argc: u8,
+    place: u32,
+) -> Option<Registers>
+    requires { CanDo code.now core.old at (instr.SendPrivate level sel argc) }
+    ensures { DoesOrNot code.now (instr.SendPrivate level sel argc) (slice_get core.old.places place) core.old at core.new result }
+{
+    operands_are_taken();
+    enclosing_objects_are_there();
+    let code_here = running_code(running(&core.stack).activation);
+    let first = at.top - u32::from(argc);
+    let receiver = enclosing(&core.run.world, code, code_here, level).object;
+    let class = class_of(&core.run.world, code, receiver);
+    let sent = Sent {
+        site: KeptSite { place, class, sel },
+        floor: first,
+        first,
+    };
+    match send_around(code, core, at, sent, code_here, level, receiver) {
+        Some(to) => Some(to),
+        None => None,
+    }
+}
+
+/// Looks the selector up among the private members, and begins the method that is found.
+#[inline(always)]
+fn send_around(
+    code: &CodeProgram,
+    core: &mut Core,
+    at: Registers,
+    sent: Sent,
+    running: Running,
+    level: u8,
+    receiver: Value,
+) -> Option<Registers>
+    requires can { CanSend code.now core.old at sent receiver }
+    requires receiver { receiver ≡ receiver_of core.old.run.world.world.cells (code_of running) (ToPrivate level) }
+    requires runs { FitsActivation core.old.run.world.world.cells code.now (code_of running) }
+    requires level { IsSome (declaration_at code.now running.body level) }
+    ensures { AroundOrNot code.now core.old at sent running level core.new result }
+{
+    match found_around(&core.run.world, code, running, level, sent.site.sel) {
+        Found::Method { body, holder } => {
+            begin_around(code, core, at, sent, running, level, receiver, body, holder)
+        }
+        _ => None,
+    }
+}
+
+/// What a selector finds among the private members of a declaration around running code.
+#[inline(always)]
+fn found_around(world: &World, code: &CodeProgram, running: Running, level: u8, sel: Sel) -> Found
+    requires lawful { IsLawful world.now.world code.now }
+    requires runs { FitsActivation world.now.world.cells code.now (code_of running) }
+    requires level { IsSome (declaration_at code.now running.body level) }
+    ensures { result ≡ found_at world.now.world.cells code.now (code_of running) (ToPrivate level) sel.0 }
+{
+    enclosing_objects_are_there();
+    let holder = enclosing(world, code, running, level).holder;
+    find_private(world, code, holder, is_side_at(code, running, level), sel)
+}
+
+/// Whether the members of the class side count at a level: only those of the code itself may.
+#[inline(always)]
+fn is_side_at(code: &CodeProgram, running: Running, level: u8) -> bool
+    ensures { bodies.side_at code.now (code_of running) level ≡ side_of result }
+{
+    match level {
+        0 => is_on_class_side(code, running.body),
+        _ => false,
+    }
+}
+
+/// Begins the method that a private send has found, where a step is left and the limits leave room for its body.
+#[inline(always)]
+fn begin_around(
+    code: &CodeProgram,
+    core: &mut Core,
+    at: Registers,
+    sent: Sent,
+    running: Running,
+    level: u8,
+    receiver: Value,
+    body: u32,
+    holder: u32,
+) -> Option<Registers>
+    requires can { CanSend code.now core.old at sent receiver }
+    requires receiver { receiver ≡ receiver_of core.old.run.world.world.cells (code_of running) (ToPrivate level) }
+    requires runs { FitsActivation core.old.run.world.world.cells code.now (code_of running) }
+    requires level { IsSome (declaration_at code.now running.body level) }
+    requires finds { FindsAround code.now core.old running level sent (found.Method body holder) }
+    ensures { AroundOrNot code.now core.old at sent running level core.new result }
+{
+    a_send_is_its_step_and_its_answer();
+    charging_keeps_lawful();
+    sends_keep_lawful();
+    what_is_handed_on_fits();
+    actions_spend_exactly();
+    sites_stay();
+    let _running = running;
+    let _level = level;
+    if !has_room(&core.run.world, code, body, at.top - sent.first) {
+        return None;
+    }
+    match core.run.world.step() {
+        Ok(()) => Some(begin(code, core, at, sent, receiver, body, holder)),
+        Err(_) => None,
+    }
+}
