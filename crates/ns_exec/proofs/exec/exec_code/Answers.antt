@@ -7,4 +7,4 @@ pub returns-in_ok-ran-in-Ok-clause-ran : goal.returns-in_ok-ran-in-Ok-clause-ran
 returns-in_ok-ran-in-Ok-clause-ran c =
     ap (of_code c.args.limits c.args.arguments.now c.args.code) c.in-Ok.ensures.exact
     ∙ (ap (λ code. has_run (machine_run code c.args.limits c.args.arguments.now)) (sym c.in-Ok.ensures.code)
-    ∙ ap has_run (sym (c.in_ok-ran-in-Ok.ensures tt)))
+    ∙ ap has_run (sym c.in_ok-ran-in-Ok.ensures))
