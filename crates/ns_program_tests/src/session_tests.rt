@@ -32,7 +32,7 @@ const TOLD: &str = "app 0
 a
 => object A
 app 1
-B.ns:1:61: NotUnderstood Platform console
+B.ns:1:60: NotUnderstood Platform console
 ";
 
 const ROWS: &[Row] = &[
