@@ -9,8 +9,8 @@ use ns_base::no_memory::NoMemory;
 use ns_base::selector::Sel;
 use ns_base::text::Text;
 use ns_code::body::BodyCode;
-use ns_code::local_names::LocalNames;
 use ns_code::class::{ClassCode, MethodCode, NestedCode, SlotCode};
+use ns_code::local_names::LocalNames;
 use ns_code::program::CodeProgram;
 use std::alloc::Global;
 
