@@ -8,3 +8,4 @@ mod Sorting
 mod Named
 mod Sending
 mod Outward
+pub mod Admitted

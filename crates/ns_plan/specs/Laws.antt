@@ -1,14 +1,17 @@
 -- What steps of sound code can rely on, and what the machine's definitions say of them.
-use Rattle.std.specs.Prelude.{◌≡◌, ℕ, ◌+◌, ◌<◌, ◌≤◌, List, length, Some, IsSome, slice_get, true}
+use Rattle.std.specs.Prelude.{◌≡◌, ◌≢◌, ℕ, ◌+◌, ◌<◌, ◌≤◌, List, length, Some, IsSome, slice_get, true}
 use Rattle.ns_base.specs.declared.selector.Sel.{Sel}
 use Rattle.ns_code.specs.declared.program.CodeProgram.{CodeProgram}
 use Rattle.ns_code.specs.declared.body.BodyCode.{BodyCode}
+use Rattle.ns_code.specs.declared.instruction.Instr.TheVariants.{SendPrivate}
+use Rattle.ns_code.specs.Fits.{Fits}
 use Rattle.ns_code.specs.Table.{goes_on, target}
 use Rattle.ns_verify.specs.Verify.{IsSound}
 use Rattle.ns_verify.specs.Uses.{IsUsable}
 use Rattle.ns_world.specs.declared.value.Value.{Value}
 use Rattle.ns_world.specs.Lawful.{IsLawful}
 use Rattle.ns_world.specs.World.{World}
+use Rattle.ns_find.specs.declared.found.Found.TheVariants as found
 use Rattle.ns_send.specs.Bodies.{enclosing, locals_of}
 use Rattle.ns_send.specs.Control.{Progress, Activation}
 use Rattle.ns_send.specs.Lawful.{FitsActivation, declaration_at}
@@ -18,6 +21,7 @@ use Rattle.ns_moves.specs.Steps as moves
 use Rattle.ns_moves.specs.Steps.{steps_from}
 use Rattle.ns_moves.specs.ValidFrames.{Nothing, RunningIsValid}
 use Rattle.ns_plan.specs.declared.step.Step.{Step}
+use Rattle.ns_plan.specs.declared.step.Member.TheVariants.{Absent}
 use Rattle.ns_plan.specs.Privates.{found_in, member_at}
 use Rattle.ns_plan.specs.Steps.{instr_of}
 use Rattle.ns_plan.specs.Rows.{height_of, greatest_frame}
@@ -59,6 +63,20 @@ MembersAreFound code =
     → FitsActivation world.cells code activation → slice_get code.bodies activation.body ≡ Some b → IsSome (declaration_at code activation.body level)
     → found_at world.cells code activation (ToPrivate level) sel.0
     ≡ found_in world.cells code (enclosing world.cells activation level).holder (member_at code b level sel)
+
+-- A private send of sound code has a member.
+abbrev pub PrivateSendsHaveMembers : CodeProgram → Type 0
+PrivateSendsHaveMembers code =
+    (body at level argc : ℕ) (sel : Sel) (b : BodyCode) → Fits code → slice_get code.bodies body ≡ Some b
+    → IsUsable code body b at (SendPrivate level sel argc) → member_at code b level sel ≢ Absent
+
+-- So its lookup finds one, in each lawful world.
+abbrev pub PrivateSendsFind : CodeProgram → Type 0
+PrivateSendsFind code =
+    (world : World) (activation : Activation) (at level argc : ℕ) (sel : Sel) (b : BodyCode) → Fits code → IsLawful world code
+    → FitsActivation world.cells code activation → slice_get code.bodies activation.body ≡ Some b
+    → IsUsable code activation.body b at (SendPrivate level sel argc)
+    → found_at world.cells code activation (ToPrivate level) sel.0 ≢ found.Absent
 
 -- No body has more locals and operands than the greatest frame.
 abbrev pub FramesAreWithin : CodeProgram → Type 0

@@ -1,7 +1,7 @@
 //! Laws of steps. Each function does nothing, and its contract is the law.
 
 ghost use Rattle.ns_code.specs.declared.program.CodeProgram.{CodeProgram};
-ghost use Rattle.ns_plan.specs.Laws.{BodiesBegin, StepsGoOn, JumpsLand, StepsAreUsable, RunningHasStep, MembersAreFound, FramesAreWithin};
+ghost use Rattle.ns_plan.specs.Laws.{BodiesBegin, StepsGoOn, JumpsLand, StepsAreUsable, RunningHasStep, MembersAreFound, PrivateSendsHaveMembers, PrivateSendsFind, FramesAreWithin};
 
 use ns_send::finding::enclosing_objects_are_there;
 use ns_verify::laws::{heights_agree, sound_code_has_no_cause, sound_instructions_are_usable};
@@ -34,6 +34,14 @@ pub fn members_are_found()
     ensures { (code : CodeProgram) → MembersAreFound code }
 {
     enclosing_objects_are_there();
+}
+
+/// A private send of sound code has a member, which its lookup finds: what the verifier admits isn't sent in vain.
+pub fn private_sends_find()
+    ensures member { (code : CodeProgram) → PrivateSendsHaveMembers code }
+    ensures finds { (code : CodeProgram) → PrivateSendsFind code }
+{
+    members_are_found();
 }
 
 /// No body has more locals and operands than the greatest frame.
