@@ -1,5 +1,5 @@
 -- Rows of the kernel that are found suit the receiver.
-use Rattle.std.proofs.Common.{◌≡◌, ℕ, ◌+◌, List, [], ◌∷◌, ◌++◌, refl, Option, Some, None, Bool, true, slice_get}
+use Rattle.std.proofs.Common.{◌≡◌, ℕ, ◌+◌, List, [], ◌∷◌, ◌++◌, refl, ap, Option, Some, None, Bool, true, slice_get}
 use Rattle.std.specs.Option.{option_map_or}
 use Rattle.ns_code.specs.declared.program.CodeProgram.{CodeProgram}
 use Rattle.ns_code.specs.declared.class.ClassCode.{ClassCode}
@@ -36,7 +36,7 @@ use Rattle.ns_find.proofs.Named.{EachNamed, named_append, search_named}
 use Rattle.ns_kdata.specs.Arguments.{is_array}
 use Rattle.ns_send.specs.Blocks.{is_block, is_integer}
 use Rattle.ns_send.specs.Fitting.{is_boolean}
-use Rattle.ns_send.specs.Suiting.{is_reference, FoundSuits}
+use Rattle.ns_send.specs.Suiting.{is_reference, facet_in, facet_at, FoundSuits}
 
 -- What is known of a receiver by the class of the kernel at which its lookups start.
 abbrev IsOfKind : Heap → Value → KernelRow → Type 0
@@ -44,13 +44,18 @@ IsOfKind heap self row.Boolean = is_boolean self ≡ true
 IsOfKind heap self row.Integer = is_integer self ≡ true
 IsOfKind heap self row.Array = is_array heap self ≡ true
 IsOfKind heap self row.Block = is_block heap self ≡ true
+IsOfKind heap self row.Manifest = facet_at heap self ≡ Some kinds.Manifest
+IsOfKind heap self row.Platform = facet_at heap self ≡ Some kinds.Platform
+IsOfKind heap self row.Kernel = facet_at heap self ≡ Some kinds.Kernel
+IsOfKind heap self row.Console = facet_at heap self ≡ Some kinds.Console
+IsOfKind heap self row.Board = facet_at heap self ≡ Some kinds.Board
 IsOfKind heap self row.Mirrors = is_reference self ≡ true
 IsOfKind heap self row.Mirror = is_reference self ≡ true
 IsOfKind heap self other = Unit {0}
 
-tops_suit : (heap : Heap) (code : CodeProgram) (self : Value) (sel number : ℕ) (classes : List ClassCode) → EachNamed (FoundSuits heap self) code sel (top_rows heap number classes)
-tops_suit heap code self sel number [] = tt
-tops_suit heap code self sel number (class ∷ classes) = ((λ n. tt), tops_suit heap code self sel (number + 1) classes)
+tops_suit : (heap : Heap) (code : CodeProgram) (self : Value) (sel number : ℕ) (classes : List ClassCode) → facet_at heap self ≡ Some kinds.Manifest → EachNamed (FoundSuits heap self) code sel (top_rows heap number classes)
+tops_suit heap code self sel number [] kind = tt
+tops_suit heap code self sel number (class ∷ classes) kind = ((λ n. kind), tops_suit heap code self sel (number + 1) classes kind)
 
 rows_suit : (heap : Heap) (code : CodeProgram) (self : Value) (sel : ℕ) (r : KernelRow) → IsOfKind heap self r → EachNamed (FoundSuits heap self) code sel (kernel_rows heap code r)
 rows_suit heap code self sel row.ObjectClass kind = ((λ n. tt), tt)
@@ -63,15 +68,15 @@ rows_suit heap code self sel row.String kind = ((λ n. tt), ((λ n. tt), ((λ n.
 rows_suit heap code self sel row.Symbol kind = ((λ n. tt), ((λ n. tt), ((λ n. tt), ((λ n. tt), tt))))
 rows_suit heap code self sel row.Array kind = ((λ n. tt), ((λ n. tt), ((λ n. tt), ((λ n. kind), tt))))
 rows_suit heap code self sel row.Block kind = ((λ n. kind), ((λ n. kind), ((λ n. kind), ((λ n. kind), ((λ n. kind), ((λ n. tt), ((λ n. kind), ((λ n. kind), tt))))))))
-rows_suit heap code self sel row.Kernel kind = ((λ n. tt), ((λ n. tt), tt))
-rows_suit heap code self sel row.Console kind = ((λ n. tt), ((λ n. tt), tt))
-rows_suit heap code self sel row.Board kind = ((λ n. tt), ((λ n. tt), tt))
+rows_suit heap code self sel row.Kernel kind = ((λ n. kind), ((λ n. kind), tt))
+rows_suit heap code self sel row.Console kind = ((λ n. kind), ((λ n. kind), tt))
+rows_suit heap code self sel row.Board kind = ((λ n. kind), ((λ n. kind), tt))
 rows_suit heap code self sel row.Mirrors kind = ((λ n. kind), tt)
 rows_suit heap code self sel row.Mirror kind = ((λ n. kind), ((λ n. kind), ((λ n. kind), ((λ n. kind), ((λ n. kind), ((λ n. kind), ((λ n. kind), tt)))))))
 rows_suit heap code self sel row.Message kind = ((λ n. tt), ((λ n. tt), tt))
 rows_suit heap code self sel row.Object kind = ((λ n. tt), ((λ n. tt), ((λ n. tt), ((λ n. tt), ((λ n. tt), ((λ n. tt), tt))))))
-rows_suit heap code self sel row.Manifest kind = tops_suit heap code self sel 0 code.classes
-rows_suit heap code self sel row.Platform kind = ((λ n. tt), ((λ n. tt), ((λ n. tt), ((λ n. tt), tt))))
+rows_suit heap code self sel row.Manifest kind = tops_suit heap code self sel 0 code.classes kind
+rows_suit heap code self sel row.Platform kind = ((λ n. kind), ((λ n. kind), ((λ n. kind), ((λ n. kind), tt))))
 
 slots_suit : (heap : Heap) (code : CodeProgram) (self : Value) (sel : ℕ) (wanted : Wanted) (holder entry : ℕ) (slots : List SlotCode) → EachNamed (FoundSuits heap self) code sel (slots_members heap code wanted holder entry slots)
 slots_suit heap code self sel wanted holder entry [] = tt
@@ -129,13 +134,13 @@ from_suits heap code self (start.Kernel r) sel kind known =
     search_named (FoundSuits heap self) code sel kind (members_from heap code (start.Kernel r)) tt tt
     (named_append (FoundSuits heap self) code sel (kernel_rows heap code r) (kernel_rows heap code row.Object) (rows_suit heap code self sel r known) (rows_suit heap code self sel row.Object tt))
 
-facet_kind : (heap : Heap) (at : ℕ) (k : FacetKind) → IsOfKind heap (value.Ref at) (facet_row k)
-facet_kind heap at kinds.Manifest = tt
-facet_kind heap at kinds.Platform = tt
-facet_kind heap at kinds.Console = tt
-facet_kind heap at kinds.Mirrors = refl
-facet_kind heap at kinds.Kernel = tt
-facet_kind heap at kinds.Board = tt
+facet_kind : (heap : Heap) (at : ℕ) (k : FacetKind) → find_cell heap at ≡ Some (FacetCell k) → IsOfKind heap (value.Ref at) (facet_row k)
+facet_kind heap at kinds.Manifest e = ap facet_in e
+facet_kind heap at kinds.Platform e = ap facet_in e
+facet_kind heap at kinds.Console e = ap facet_in e
+facet_kind heap at kinds.Mirrors e = refl
+facet_kind heap at kinds.Kernel e = ap facet_in e
+facet_kind heap at kinds.Board e = ap facet_in e
 
 class_kind : (heap : Heap) (self : Value) (k : KClass) → IsOfKind heap self (kernel_class_row k)
 class_kind heap self kernel.Object = tt
@@ -152,7 +157,7 @@ starts_as heap (value.Ref at) = cell (find_cell heap at) refl
     cell (Some (EnvironmentCell parent locals)) e = tt
     cell (Some (ArrayCell items)) e = rw e refl
     cell (Some (TextCell bytes)) e = tt
-    cell (Some (FacetCell k)) e = facet_kind heap at k
+    cell (Some (FacetCell k)) e = facet_kind heap at k e
     cell (Some (MirrorCell shown)) e = refl
     cell (Some (MessageCell name args)) e = tt
 starts_as heap value.Nil = tt

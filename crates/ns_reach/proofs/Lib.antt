@@ -1,0 +1,11 @@
+pub mod Cells
+pub mod Keeping
+pub mod Reading
+pub mod Rows
+pub mod Facets
+pub mod Actions
+pub mod Blocks
+pub mod Sends
+pub mod Moves
+pub mod Reaching
+pub mod Staying
