@@ -109,15 +109,18 @@ module _ (Has : ℕ → Type 0) (first : Progress) where
   bytes_printed now bytes kept it = by (nat_le (length now.world.output + length bytes) now.world.limits.out)
     where
       by : (b : Bool) → OutcomeIn Has first now (console.printed_as (cond b (Some (record now.world { output = now.world.output ++ bytes })) None))
-      by true = (tt, record {
-        size = kept.size;
-        closed = kept.closed;
-        outside = kept.outside;
-        facets = kept.facets;
-        manifest = kept.manifest;
-        quiet = λ lacks. absurd (there_at_first now kinds.Console kept it lacks);
-        board = kept.board;
-      })
+      by true = (
+        tt,
+        record {
+          size = kept.size;
+          closed = kept.closed;
+          outside = kept.outside;
+          facets = kept.facets;
+          manifest = kept.manifest;
+          quiet = λ lacks. absurd (there_at_first now kinds.Console kept it lacks);
+          board = kept.board;
+        },
+      )
       by false = tt
 
   text_printed : (now : Progress) (text : Value) (tail : List ℕ) → Kept Has first now → IsTheFacet now kinds.Console → OutcomeIn Has first now (console.printed_text now.world text tail)

@@ -269,16 +269,20 @@ module _ (Has : ℕ → Type 0) where
   frame_from : (frame : Frame) → AllHave (frame_roots frame) → FrameIn Has frame
   frame_from (Running leaving activation locals rest stack) all =
       let inner = right_have (leaving_roots leaving) (activation_roots activation ++ (all_referred locals ++ all_referred stack)) all in
-      let values = right_have (activation_roots activation) (all_referred locals ++ all_referred stack) inner in
-      (leaving_from leaving (left_have (leaving_roots leaving) (activation_roots activation ++ (all_referred locals ++ all_referred stack)) all),
-      activation_from activation (left_have (activation_roots activation) (all_referred locals ++ all_referred stack) inner),
-      all_in_from locals (left_have (all_referred locals) (all_referred stack) values), all_in_from stack (right_have (all_referred locals) (all_referred stack) values))
+      let values = right_have (activation_roots activation) (all_referred locals ++ all_referred stack) inner in (
+        leaving_from leaving (left_have (leaving_roots leaving) (activation_roots activation ++ (all_referred locals ++ all_referred stack)) all),
+        activation_from activation (left_have (activation_roots activation) (all_referred locals ++ all_referred stack) inner),
+        all_in_from locals (left_have (all_referred locals) (all_referred stack) values),
+        all_in_from stack (right_have (all_referred locals) (all_referred stack) values),
+      )
   frame_from (Looping method state site) all =
       let two = right_have (referred state.receiver) (referred state.first ++ (referred state.second ++ last_roots state.last)) all in
-      let three = right_have (referred state.first) (referred state.second ++ last_roots state.last) two in
-      (in_from state.receiver (left_have (referred state.receiver) (referred state.first ++ (referred state.second ++ last_roots state.last)) all),
-      in_from state.first (left_have (referred state.first) (referred state.second ++ last_roots state.last) two),
-      in_from state.second (left_have (referred state.second) (last_roots state.last) three), last_from state.last (right_have (referred state.second) (last_roots state.last) three))
+      let three = right_have (referred state.first) (referred state.second ++ last_roots state.last) two in (
+        in_from state.receiver (left_have (referred state.receiver) (referred state.first ++ (referred state.second ++ last_roots state.last)) all),
+        in_from state.first (left_have (referred state.first) (referred state.second ++ last_roots state.last) two),
+        in_from state.second (left_have (referred state.second) (last_roots state.last) three),
+        last_from state.last (right_have (referred state.second) (last_roots state.last) three),
+      )
 
   from_frame : (frame : Frame) → FrameIn Has frame → AllHave (frame_roots frame)
   from_frame (Running leaving activation locals rest stack) f =

@@ -158,7 +158,7 @@ module _ (code : CodeProgram) (grants : Grants) (laws : Laws code grants) where
           silent = λ lacks. kept.quiet (λ number has e. lacks number (has (rw e refl)) e);
           board = λ lacks. kept.board (λ number has e. lacks number (has (rw e refl)) e);
           reached = λ number is. reached_in Has (world_of after).cells (roots_of before ++ roots_of after) number kept.closed
-          (both_have Has (roots_of before) (roots_of after) (roots_are_reached heap (roots_of before)) (from_state Has (progress_of before) after inside)) is;
+              (both_have Has (roots_of before) (roots_of after) (roots_are_reached heap (roots_of before)) (from_state Has (progress_of before) after inside)) is;
           holds = λ number other cell has e among. has_each Has (held (world_of after).cells cell) other (from_cell Has (world_of after).cells cell (kept.closed number cell has e)) among;
         }
 

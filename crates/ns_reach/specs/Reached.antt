@@ -90,28 +90,32 @@ LacksFacet kind heap roots = (number : ℕ) → Reach heap roots number → find
 
 -- ---- the law
 
--- A run that stood at one state has come to a later one. It changed no cell that was not reached from where it stood; it printed nothing
--- where no Console was reached, and changed no board where no Board was; and what is reached now, from where it stood and from where it
--- stands, was reached then or was made since, and holds such cells alone.
+-- A run that stood at one state has come to a later one. It changed no cell that was not reached from where it stood; it printed
+-- nothing where no Console was reached, and changed no board where no Board was; and what is reached now, from where it stood and
+-- from where it stands, was reached then or was made since, and holds such cells alone.
 pub record StaysInReach (before after : State) : Type 0 where
   pub untouched : (number : ℕ) (cell : Cell) → (Reach (world_of before).cells (roots_of before) number → ⊥)
       → find_cell (world_of before).cells number ≡ Some cell → find_cell (world_of after).cells number ≡ Some cell
   pub silent : LacksFacet Console (world_of before).cells (roots_of before) → (world_of after).output ≡ (world_of before).output
   pub board : LacksFacet Board (world_of before).cells (roots_of before) → (progress_of after).board ≡ (progress_of before).board
-  pub reached : (number : ℕ) → Reach (world_of after).cells (roots_of before ++ roots_of after) number → InReach (world_of before).cells (roots_of before) number
-  pub holds : (number other : ℕ) (cell : Cell) → InReach (world_of before).cells (roots_of before) number → find_cell (world_of after).cells number ≡ Some cell
-      → Contains (held (world_of after).cells cell) other → InReach (world_of before).cells (roots_of before) other
+  pub reached : (number : ℕ) → Reach (world_of after).cells (roots_of before ++ roots_of after) number
+      → InReach (world_of before).cells (roots_of before) number
+  pub holds : (number other : ℕ) (cell : Cell) → InReach (world_of before).cells (roots_of before) number
+      → find_cell (world_of after).cells number ≡ Some cell → Contains (held (world_of after).cells cell) other → InReach (world_of before).cells (roots_of before) other
 
 -- So do moves from a valid state that goes on.
 abbrev pub MovesStayInReach : CodeProgram → Grants → Type 0
-MovesStayInReach code grants = (count : ℕ) (state : State) → Valid code grants state → is_still state ≡ false → StaysInReach state (moves code count state)
+MovesStayInReach code grants =
+    (count : ℕ) (state : State) → Valid code grants state → is_still state ≡ false → StaysInReach state (moves code count state)
 
 -- So do turns.
 abbrev pub TurnsStayInReach : CodeProgram → Grants → Type 0
-TurnsStayInReach code grants = (steps : ℕ) (before after : State) → Valid code grants before → is_still before ≡ false → Turns code steps before after → StaysInReach before after
+TurnsStayInReach code grants =
+    (steps : ℕ) (before after : State) → Valid code grants before → is_still before ≡ false → Turns code steps before after
+    → StaysInReach before after
 
 -- So does the send of a host from an idle state, whose roots are its receiver and its arguments.
 abbrev pub SendsStayInReach : CodeProgram → Grants → Type 0
 SendsStayInReach code grants =
-    (receiver : Value) (sel : Sel) (arguments : List Value) (steps : ℕ) (idle after : State) → Valid code grants idle → MayBegin code receiver sel arguments idle
-    → Turns code steps (begun receiver sel arguments idle) after → StaysInReach (begun receiver sel arguments idle) after
+    (receiver : Value) (sel : Sel) (arguments : List Value) (steps : ℕ) (idle after : State) → Valid code grants idle
+    → MayBegin code receiver sel arguments idle → Turns code steps (begun receiver sel arguments idle) after → StaysInReach (begun receiver sel arguments idle) after

@@ -83,8 +83,10 @@ module _ (Has : ℕ → Type 0) where
   pub record Kept (first now : Progress) : Type 0 where
     pub size : heap_size first.world.cells ≤ heap_size now.world.cells
     pub closed : (n : ℕ) (cell : Cell) → Has n → find_cell now.world.cells n ≡ Some cell → CellIn now.world.cells cell
-    pub outside : (n : ℕ) (cell : Cell) → (Has n → ⊥) → find_cell first.world.cells n ≡ Some cell → find_cell now.world.cells n ≡ Some cell
-    pub facets : (n : ℕ) (kind : FacetKind) → find_cell now.world.cells n ≡ Some (FacetCell kind) → find_cell first.world.cells n ≡ Some (FacetCell kind)
+    pub outside : (n : ℕ) (cell : Cell) → (Has n → ⊥) → find_cell first.world.cells n ≡ Some cell
+        → find_cell now.world.cells n ≡ Some cell
+    pub facets : (n : ℕ) (kind : FacetKind) → find_cell now.world.cells n ≡ Some (FacetCell kind)
+        → find_cell first.world.cells n ≡ Some (FacetCell kind)
     pub manifest : find_cell now.world.cells 0 ≡ Some (FacetCell Manifest)
     pub quiet : Lacks Has Console first.world.cells → now.world.output ≡ first.world.output
     pub board : Lacks Has Board first.world.cells → now.board ≡ first.board
