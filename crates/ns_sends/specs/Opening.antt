@@ -6,12 +6,14 @@ use Rattle.ns_world.specs.Heap.{heap_size}
 use Rattle.ns_world.specs.Starts.{start_of}
 use Rattle.ns_world.specs.World.{World}
 use Rattle.ns_find.specs.declared.found.Found.{Found}
-use Rattle.ns_find.specs.declared.found.Found.TheVariants.{Method, Getter, Setter}
+use Rattle.ns_find.specs.declared.found.Found.TheVariants.{Method, Getter, Setter, Kernel}
 use Rattle.ns_find.specs.declared.found.Sending.{Sending}
 use Rattle.ns_find.specs.Find.{found_from}
+use Rattle.ns_kdata.specs.Rows.{stored}
+use Rattle.ns_mirror.specs.Slots.{word_of_object}
 use Rattle.ns_send.specs.Bodies.{locals_of, parameters_of}
-use Rattle.ns_send.specs.Control.{Control}
-use Rattle.ns_send.specs.Sends.{Listed, ToPrivate, found_at, method_entered}
+use Rattle.ns_send.specs.Control.{Control, gives, in_world}
+use Rattle.ns_send.specs.Sends.{Listed, ToPrivate, found_at, first_of, method_entered}
 use Rattle.ns_act.specs.declared.running.Running.{Running}
 use Rattle.ns_act.specs.Running.{code_of}
 use Rattle.ns_frames.specs.declared.registers.Registers.{Registers}
@@ -34,6 +36,14 @@ abbrev pub begun_at : CodeProgram → Core → Registers → Sent → Value → 
 begun_at code core at sent receiver body holder =
     method_entered code body holder receiver (Listed (arguments_in core at sent)) (site_shown core.places sent.site) (progress_in core)
 
+-- where the word of a receiver is given, and where the first argument is stored there
+abbrev pub got_at : Core → Value → ℕ → Control
+got_at core receiver word = gives (word_of_object core.run.world.world.cells receiver word) (progress_in core)
+
+abbrev pub set_at : Core → Registers → Sent → Value → ℕ → Control
+set_at core at sent receiver word =
+    gives receiver (in_world (progress_in core) (stored core.run.world.world receiver word (first_of (arguments_in core at sent))))
+
 -- A send to a value finds that method.
 abbrev pub FindsMethod : CodeProgram → Core → Sent → Value → Sending → ℕ → ℕ → Type 0
 FindsMethod code core sent receiver kind body holder =
@@ -48,7 +58,12 @@ abbrev pub FindsSetter : CodeProgram → Core → Sent → Value → Sending →
 FindsSetter code core sent receiver kind holder word =
     found_from core.run.world.world.cells code (start_of core.run.world.world.cells receiver) sent.site.sel.0 kind ≡ Setter holder word
 
--- The private send finds that method, or the getter of that word.
+-- It finds the row of the kernel of that number.
+abbrev pub FindsKernel : CodeProgram → Core → Sent → Value → Sending → ℕ → Type 0
+FindsKernel code core sent receiver kind number =
+    found_from core.run.world.world.cells code (start_of core.run.world.world.cells receiver) sent.site.sel.0 kind ≡ Kernel number
+
+-- The private send finds that member.
 abbrev pub FindsAround : CodeProgram → Core → Running → ℕ → Sent → Found → Type 0
 FindsAround code core running level sent found = found ≡ found_at core.run.world.world.cells code (code_of running) (ToPrivate level) sent.site.sel.0
 

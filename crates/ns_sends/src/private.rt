@@ -1,4 +1,4 @@
-//! Private sends that find a method, by the quick way: registers alone come back.
+//! Private sends that find a method or a slot, by the quick way: registers alone come back.
 
 ghost use Rattle.std.specs.Prelude.{◌≡◌, slice_get, IsSome};
 ghost use Rattle.ns_code.specs.declared.instruction.Instr.TheVariants as instr;
@@ -16,6 +16,7 @@ ghost use Rattle.ns_sends.specs.Sending.{CanSend};
 
 use crate::opening::{begin, has_room};
 use crate::sent::Sent;
+use crate::slots::{get, set};
 use ns_act::enclosing::enclosing;
 use ns_act::laws::a_send_is_its_step_and_its_answer;
 use ns_act::running::{Running, is_on_class_side};
@@ -29,7 +30,7 @@ use ns_find::found::Found;
 use ns_frames::frame::KeptSite;
 use ns_frames::laws::operands_are_taken;
 use ns_frames::registers::Registers;
-use ns_send::finding::enclosing_objects_are_there;
+use ns_send::finding::{enclosing_objects_are_there, what_is_found_suits};
 use ns_send::laws::{actions_spend_exactly, sends_keep_lawful, sites_stay, what_is_handed_on_fits};
 use ns_world::lawful::charging_keeps_lawful;
 use ns_world::value::Value;
@@ -65,7 +66,7 @@ pub fn send_private(
     }
 }
 
-/// Looks the selector up among the private members, and begins the method that is found.
+/// Looks the selector up among the private members, and does what was found, where that is a method or a slot.
 #[inline(always)]
 fn send_around(
     code: &CodeProgram,
@@ -85,6 +86,12 @@ fn send_around(
     match found_around(&core.run.world, code, running, level, sent.site.sel) {
         Found::Method { body, holder } => {
             begin_around(code, core, at, sent, running, level, receiver, body, holder)
+        }
+        Found::Getter { holder, word } => {
+            get_around(code, core, at, sent, running, level, receiver, holder, word)
+        }
+        Found::Setter { holder, word } => {
+            set_around(code, core, at, sent, running, level, receiver, holder, word)
         }
         _ => None,
     }
@@ -147,6 +154,68 @@ fn begin_around(
     }
     match core.run.world.step() {
         Ok(()) => Some(begin(code, core, at, sent, receiver, body, holder)),
+        Err(_) => None,
+    }
+}
+
+/// Brings the word of the slot that a private send has found, where a step is left.
+#[inline(always)]
+fn get_around(
+    code: &CodeProgram,
+    core: &mut Core,
+    at: Registers,
+    sent: Sent,
+    running: Running,
+    level: u8,
+    receiver: Value,
+    holder: u32,
+    word: u32,
+) -> Option<Registers>
+    requires can { CanSend code.now core.old at sent receiver }
+    requires receiver { receiver ≡ receiver_of core.old.run.world.world.cells (code_of running) (ToPrivate level) }
+    requires runs { FitsActivation core.old.run.world.world.cells code.now (code_of running) }
+    requires level { IsSome (declaration_at code.now running.body level) }
+    requires finds { FindsAround code.now core.old running level sent (found.Getter holder word) }
+    ensures { AroundOrNot code.now core.old at sent running level core.new result }
+{
+    a_send_is_its_step_and_its_answer();
+    charging_keeps_lawful();
+    what_is_found_suits();
+    let _running = running;
+    let _level = level;
+    match core.run.world.step() {
+        Ok(()) => Some(get(code, core, at, sent, receiver, holder, word)),
+        Err(_) => None,
+    }
+}
+
+/// Stores the argument in the slot that a private send has found, where a step is left.
+#[inline(always)]
+fn set_around(
+    code: &CodeProgram,
+    core: &mut Core,
+    at: Registers,
+    sent: Sent,
+    running: Running,
+    level: u8,
+    receiver: Value,
+    holder: u32,
+    word: u32,
+) -> Option<Registers>
+    requires can { CanSend code.now core.old at sent receiver }
+    requires receiver { receiver ≡ receiver_of core.old.run.world.world.cells (code_of running) (ToPrivate level) }
+    requires runs { FitsActivation core.old.run.world.world.cells code.now (code_of running) }
+    requires level { IsSome (declaration_at code.now running.body level) }
+    requires finds { FindsAround code.now core.old running level sent (found.Setter holder word) }
+    ensures { AroundOrNot code.now core.old at sent running level core.new result }
+{
+    a_send_is_its_step_and_its_answer();
+    charging_keeps_lawful();
+    what_is_found_suits();
+    let _running = running;
+    let _level = level;
+    match core.run.world.step() {
+        Ok(()) => Some(set(code, core, at, sent, receiver, holder, word)),
         Err(_) => None,
     }
 }
