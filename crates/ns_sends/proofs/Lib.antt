@@ -16,3 +16,4 @@ pub mod Given
 pub mod Opened
 pub mod Slotted
 pub mod Valued
+pub mod Members
