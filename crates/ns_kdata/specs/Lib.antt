@@ -3,6 +3,7 @@ pub mod Arguments
 pub mod Texts
 pub mod Rows
 pub mod Datum
+pub mod Giving
 pub mod Living
 pub mod Lawful
 pub mod Leading

@@ -42,6 +42,7 @@ pub fn truth(test: bool) -> Value
 }
 
 /// The fault of an argument that isn't of the kind that the row names.
+#[inline(always)]
 pub fn wrong_kind() -> Fault
     ensures { result ≡ outcome.wrong_kind }
 {
@@ -49,6 +50,7 @@ pub fn wrong_kind() -> Fault
 }
 
 /// The fault of an index or a size outside the row's range.
+#[inline(always)]
 pub fn out_of_range() -> Fault
     ensures { result ≡ outcome.out_of_range }
 {
@@ -57,6 +59,7 @@ pub fn out_of_range() -> Fault
 
 /// The kind and the sizes of the cell that a value refers to; those of a mirror of nil where it
 /// refers to none.
+#[inline(always)]
 pub fn shape_of_value(world: &World, value: Value) -> NewCell
     requires { IsThere world.now.world.cells value }
     ensures { result ≡ spec.shape_of_value world.now.world.cells value }
@@ -69,6 +72,7 @@ pub fn shape_of_value(world: &World, value: Value) -> NewCell
 
 /// The kind and the size of the cell that a value refers to; those of a mirror where it refers to
 /// none.
+#[inline(always)]
 fn head_of_value(world: &World, value: Value) -> Head
     requires { IsThere world.now.world.cells value }
     ensures { result ≡ head_of_shape (spec.shape_of_value world.now.world.cells value) }
@@ -80,6 +84,7 @@ fn head_of_value(world: &World, value: Value) -> Head
 }
 
 /// Whether a value is a String.
+#[inline(always)]
 #[tactic(auto, using(crate::proofs::Heads::text_head))]
 pub fn is_text(world: &World, value: Value) -> bool
     requires { IsThere world.now.world.cells value }
@@ -88,6 +93,7 @@ pub fn is_text(world: &World, value: Value) -> bool
     is_text_head(head_of_value(world, value))
 }
 
+#[inline(always)]
 fn is_text_head(head: Head) -> bool
     ensures { result ≡ spec.is_text_head head }
 {
@@ -98,6 +104,7 @@ fn is_text_head(head: Head) -> bool
 }
 
 /// Whether a value is an Array.
+#[inline(always)]
 #[tactic(auto, using(crate::proofs::Heads::array_head))]
 pub fn is_array(world: &World, value: Value) -> bool
     requires { IsThere world.now.world.cells value }
@@ -106,6 +113,7 @@ pub fn is_array(world: &World, value: Value) -> bool
     is_array_head(head_of_value(world, value))
 }
 
+#[inline(always)]
 fn is_array_head(head: Head) -> bool
     ensures { result ≡ spec.is_array_head head }
 {
@@ -134,6 +142,7 @@ fn is_message_head(head: Head) -> bool
 }
 
 /// How many bytes a String has.
+#[inline(always)]
 #[tactic(auto, using(crate::proofs::Shapes::text_size_told, crate::proofs::Heads::text_size_head))]
 pub fn text_size(world: &World, text: Value) -> u32
     requires { IsThere world.now.world.cells text }
@@ -142,6 +151,7 @@ pub fn text_size(world: &World, text: Value) -> u32
     text_size_at(head_of_value(world, text))
 }
 
+#[inline(always)]
 fn text_size_at(head: Head) -> u32
     ensures { result ≡ spec.text_size_at head }
 {
@@ -152,6 +162,7 @@ fn text_size_at(head: Head) -> u32
 }
 
 /// A byte of a String.
+#[inline(always)]
 pub fn text_byte(world: &World, text: Value, place: u32) -> u8
     requires { place < length (bytes_of world.now.world.cells text) }
     ensures { result ≡ slice_index (bytes_of world.now.world.cells text) place }
@@ -174,6 +185,7 @@ pub fn text_row(world: &World, text: Value, row: u32) -> [u8; 8]
 }
 
 /// How many elements an Array has.
+#[inline(always)]
 #[tactic(auto, using(crate::proofs::Shapes::array_size_told, crate::proofs::Heads::array_size_head))]
 pub fn array_size(world: &World, array: Value) -> u32
     requires { IsThere world.now.world.cells array }
@@ -182,6 +194,7 @@ pub fn array_size(world: &World, array: Value) -> u32
     array_size_at(head_of_value(world, array))
 }
 
+#[inline(always)]
 fn array_size_at(head: Head) -> u32
     ensures { result ≡ spec.array_size_at head }
 {
@@ -192,6 +205,7 @@ fn array_size_at(head: Head) -> u32
 }
 
 /// An element of an Array.
+#[inline(always)]
 #[tactic(auto, using(crate::proofs::Shapes::items_are_words))]
 pub fn array_item(world: &World, array: Value, place: u32) -> Value
     requires { place < length (items_of world.now.world.cells array) }
@@ -226,6 +240,7 @@ pub fn number_of(value: Value) -> i64
 
 /// The place that an argument names, counted from 0; WrongKind where it is no Integer, OutOfRange
 /// where it is none of so many.
+#[inline(always)]
 pub fn place_in(value: Value, size: u32) -> Result<u32, Fault>
     ensures place { result ≡ spec.place_in value size }
     ensures below { IfOk result (λ p. p < size) }
@@ -236,6 +251,7 @@ pub fn place_in(value: Value, size: u32) -> Result<u32, Fault>
     }
 }
 
+#[inline(always)]
 fn place_of_number(number: i64, size: u32) -> Result<u32, Fault>
     ensures place { result ≡ spec.place_of_number number size }
     ensures below { IfOk result (λ p. p < size) }

@@ -1,7 +1,7 @@
 //! The rows of Array but `do:`.
 
-ghost use Rattle.std.specs.Prelude.{◌≡◌, ◌<◌, length};
-ghost use Rattle.ns_kdata.specs.Arguments.{IsThere, items_of};
+ghost use Rattle.std.specs.Prelude.{◌≡◌, ◌<◌, length, IfSome, Ok};
+ghost use Rattle.ns_kdata.specs.Arguments.{IsThere, items_of, place_in};
 ghost use Rattle.ns_kdata.specs.Outcome.{Gives};
 ghost use Rattle.ns_kdata.specs.Rows as spec;
 
@@ -11,6 +11,7 @@ use ns_world::value::Value;
 use ns_world::world::World;
 
 /// `size`.
+#[inline(always)]
 pub fn array_size(world: &World, array: Value) -> Value
     requires { IsThere world.now.world.cells array }
     ensures { result ≡ spec.array_size world.now.world.cells array }
@@ -19,6 +20,7 @@ pub fn array_size(world: &World, array: Value) -> Value
 }
 
 /// `at:`.
+#[inline(always)]
 pub fn array_at(world: &World, array: Value, place: Value) -> Result<Value, Fault>
     requires { IsThere world.now.world.cells array }
     ensures { result ≡ spec.array_at world.now.world.cells array place }
@@ -42,9 +44,23 @@ pub fn array_put(
     Ok(value)
 }
 
+/// The place that an argument names, counted from 0, none where `at:put:` has a fault.
+#[inline(always)]
+pub fn place_at(world: &World, array: Value, place: Value) -> Option<u32>
+    requires { IsThere world.now.world.cells array }
+    ensures place { IfSome result (λ p. place_in place (length (items_of world.now.world.cells array)) ≡ Ok p) }
+    ensures below { IfSome result (λ p. p < length (items_of world.now.world.cells array)) }
+{
+    match place_in(place, items_in(world, array)) {
+        Ok(place) => Some(place),
+        Err(_) => None,
+    }
+}
+
 /// Stores an element.
+#[inline(always)]
 #[tactic(auto, using(crate::proofs::Shapes::items_are_words))]
-fn store(world: &mut World, array: Value, place: u32, value: Value)
+pub fn store(world: &mut World, array: Value, place: u32, value: Value)
     requires { place < length (items_of world.old.world.cells array) }
     ensures { world.new ≡ record world.old { world = spec.stored world.old.world array place value } }
 {

@@ -54,6 +54,7 @@ pub fn integer_print(world: &mut World, value: Value) -> Result<Value, Fault>
 }
 
 /// `not`.
+#[inline(always)]
 pub fn negation(value: Value) -> Value
     ensures { result ≡ spec.negation value }
 {
@@ -64,6 +65,7 @@ pub fn negation(value: Value) -> Value
 }
 
 /// `&`: the receiver where the argument is true.
+#[inline(always)]
 pub fn conjunction(receiver: Value, value: Value) -> Result<Value, Fault>
     ensures { result ≡ spec.conjunction receiver value }
 {
@@ -75,6 +77,7 @@ pub fn conjunction(receiver: Value, value: Value) -> Result<Value, Fault>
 }
 
 /// `|`: the receiver where the argument is false.
+#[inline(always)]
 pub fn disjunction(receiver: Value, value: Value) -> Result<Value, Fault>
     ensures { result ≡ spec.disjunction receiver value }
 {
@@ -86,6 +89,7 @@ pub fn disjunction(receiver: Value, value: Value) -> Result<Value, Fault>
 }
 
 /// True where a value is true, else false.
+#[inline(always)]
 fn only_true(value: Value) -> Value
     ensures { result ≡ spec.only_true value }
 {

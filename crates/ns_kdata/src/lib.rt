@@ -2,10 +2,11 @@
 #![tactic(auto)]
 
 pub mod arguments;
-mod arrays;
+pub mod arrays;
 mod booleans;
 pub mod datum;
 pub mod decimal;
+pub mod giving;
 pub mod laws;
 pub mod making;
 mod messages;

@@ -14,6 +14,7 @@ use ns_world::value::{KClass, Value};
 use ns_world::world::World;
 
 /// Whether two values are the same: the same cell for references.
+#[inline(always)]
 pub fn same_value(one: Value, other: Value) -> bool
     ensures { result ≡ spec.same_value one other }
 {
@@ -29,6 +30,7 @@ pub fn same_value(one: Value, other: Value) -> bool
     }
 }
 
+#[inline(always)]
 fn same_kernel_class(one: KClass, other: KClass) -> bool
     ensures { result ≡ spec.same_kernel_class one other }
 {
@@ -40,6 +42,7 @@ fn same_kernel_class(one: KClass, other: KClass) -> bool
 }
 
 /// Whether a value is nil.
+#[inline(always)]
 pub fn is_nil(value: Value) -> bool
     ensures { result ≡ spec.is_nil value }
 {

@@ -16,6 +16,7 @@ use ns_world::value::Value;
 use ns_world::world::World;
 
 /// `size`.
+#[inline(always)]
 pub fn text_size(world: &World, text: Value) -> Value
     requires { IsThere world.now.world.cells text }
     ensures { result ≡ spec.text_size world.now.world.cells text }
@@ -24,6 +25,7 @@ pub fn text_size(world: &World, text: Value) -> Value
 }
 
 /// `at:`.
+#[inline(always)]
 pub fn text_at(world: &World, text: Value, place: Value) -> Result<Value, Fault>
     requires { IsThere world.now.world.cells text }
     ensures { result ≡ spec.text_at world.now.world.cells text place }

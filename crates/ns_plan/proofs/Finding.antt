@@ -93,7 +93,7 @@ side_is : (code : CodeProgram) (activation : Activation) (b : BodyCode) (level :
 side_is code activation b zero is = ap (λ o. side_of (option_map_or (λ (x : BodyCode). x.side == class_side) o false)) is
 side_is code activation b (suc level) is = refl
 
-abbrev Declared : Type 0
+abbrev pub Declared : Type 0
 Declared =
     (world : World) (code : CodeProgram) (activation : Activation) (level decl : ℕ) → IsLawful world code → FitsActivation world.cells code activation
     → declaration_at code activation.body level ≡ Some decl → declaration_of world.cells (enclosing world.cells activation level).holder ≡ decl

@@ -4,6 +4,7 @@ pub mod Rows
 pub mod Lookup
 pub mod Following
 pub mod Finding
+pub mod Among
 mod Sorting
 mod Named
 mod Sending

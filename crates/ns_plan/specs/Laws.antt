@@ -12,6 +12,7 @@ use Rattle.ns_world.specs.declared.value.Value.{Value}
 use Rattle.ns_world.specs.Lawful.{IsLawful}
 use Rattle.ns_world.specs.World.{World}
 use Rattle.ns_find.specs.declared.found.Found.TheVariants as found
+use Rattle.ns_world.specs.Layout.{declaration_of, entries_of}
 use Rattle.ns_send.specs.Bodies.{enclosing, locals_of}
 use Rattle.ns_send.specs.Control.{Progress, Activation}
 use Rattle.ns_send.specs.Lawful.{FitsActivation, declaration_at}
@@ -22,7 +23,7 @@ use Rattle.ns_moves.specs.Steps.{steps_from}
 use Rattle.ns_moves.specs.ValidFrames.{Nothing, RunningIsValid}
 use Rattle.ns_plan.specs.declared.step.Step.{Step}
 use Rattle.ns_plan.specs.declared.step.Member.TheVariants.{Absent}
-use Rattle.ns_plan.specs.Privates.{found_in, member_at}
+use Rattle.ns_plan.specs.Privates.{IsAmong, found_in, member_at}
 use Rattle.ns_plan.specs.Steps.{instr_of}
 use Rattle.ns_plan.specs.Rows.{height_of, greatest_frame}
 use Rattle.ns_plan.specs.Plan.{IsStep, IsStepAt}
@@ -77,6 +78,13 @@ PrivateSendsFind code =
     → FitsActivation world.cells code activation → slice_get code.bodies activation.body ≡ Some b
     → IsUsable code activation.body b at (SendPrivate level sel argc)
     → found_at world.cells code activation (ToPrivate level) sel.0 ≢ found.Absent
+
+-- Where it is that of a slot, the slot is an entry of the declaration of that holder.
+abbrev pub MembersAreEntries : CodeProgram → Type 0
+MembersAreEntries code =
+    (world : World) (activation : Activation) (b : BodyCode) (level : ℕ) (sel : Sel) → IsLawful world code
+    → FitsActivation world.cells code activation → slice_get code.bodies activation.body ≡ Some b → IsSome (declaration_at code activation.body level)
+    → IsAmong (entries_of code (declaration_of world.cells (enclosing world.cells activation level).holder)) (member_at code b level sel)
 
 -- No body has more locals and operands than the greatest frame.
 abbrev pub FramesAreWithin : CodeProgram → Type 0

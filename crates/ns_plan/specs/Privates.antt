@@ -1,5 +1,5 @@
 -- The private member that a selector names in a declaration, before it has a holder.
-use Rattle.std.specs.Prelude.{ℕ, zero, suc, ◌+◌, List, [], ◌∷◌, Bool, ◌==◌, ◌&&◌, Option, Some, None, slice_get, unwrap_or, if◌then◌else◌}
+use Rattle.std.specs.Prelude.{ℕ, zero, suc, ◌+◌, ◌<◌, List, [], ◌∷◌, Bool, ◌==◌, ◌&&◌, Option, Some, None, slice_get, unwrap_or, if◌then◌else◌}
 use Rattle.std.specs.Option.{option_map_or, option_or}
 use Rattle.ns_base.specs.declared.selector.Sel.{Sel}
 use Rattle.ns_code.specs.declared.program.CodeProgram.{CodeProgram}
@@ -28,6 +28,14 @@ found_in heap code holder (Getter entry) = found.Getter holder (entry_word heap 
 found_in heap code holder (Setter entry) = found.Setter holder (entry_word heap code holder entry)
 found_in heap code holder (Nested class) = found.Nested class holder
 found_in heap code holder Absent = found.Absent
+
+-- The slot of a member is one of so many entries.
+abbrev pub IsAmong : ℕ → Member → Type 0
+IsAmong count (Method body) = Unit {0}
+IsAmong count (Getter entry) = entry < count
+IsAmong count (Setter entry) = entry < count
+IsAmong count (Nested class) = Unit {0}
+IsAmong count Absent = Unit {0}
 
 -- whether a selector reads a private slot
 abbrev pub reads : ℕ → SlotCode → Bool

@@ -1,7 +1,7 @@
 //! Laws of steps. Each function does nothing, and its contract is the law.
 
 ghost use Rattle.ns_code.specs.declared.program.CodeProgram.{CodeProgram};
-ghost use Rattle.ns_plan.specs.Laws.{BodiesBegin, StepsGoOn, JumpsLand, StepsAreUsable, RunningHasStep, MembersAreFound, PrivateSendsHaveMembers, PrivateSendsFind, FramesAreWithin};
+ghost use Rattle.ns_plan.specs.Laws.{BodiesBegin, StepsGoOn, JumpsLand, StepsAreUsable, RunningHasStep, MembersAreFound, MembersAreEntries, PrivateSendsHaveMembers, PrivateSendsFind, FramesAreWithin};
 
 use ns_send::finding::enclosing_objects_are_there;
 use ns_verify::laws::{heights_agree, sound_code_has_no_cause, sound_instructions_are_usable};
@@ -29,9 +29,10 @@ pub fn running_bodies_have_steps()
     ensures { (code : CodeProgram) → RunningHasStep code }
 {}
 
-/// What was found for a private send when the code was prepared is what its lookup finds.
+/// What was found for a private send when the code was prepared is what its lookup finds, and its slot is an entry.
 pub fn members_are_found()
-    ensures { (code : CodeProgram) → MembersAreFound code }
+    ensures found { (code : CodeProgram) → MembersAreFound code }
+    ensures entries { (code : CodeProgram) → MembersAreEntries code }
 {
     enclosing_objects_are_there();
 }

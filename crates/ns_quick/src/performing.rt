@@ -4,6 +4,7 @@ ghost use Rattle.ns_plan.specs.Steps.{instr_of, place_of, send_instr};
 ghost use Rattle.std.specs.Prelude.{slice_get};
 ghost use Rattle.ns_engine.specs.Doing.{CanDo};
 ghost use Rattle.ns_engine.specs.Tried.{DoesOrNot};
+ghost use Rattle.ns_quick.specs.Above.{HasMemberAbove};
 
 use ns_base::selector::Sel;
 use ns_code::program::CodeProgram;
@@ -27,7 +28,8 @@ use ns_sends::private::send_private;
 /// topmost frame; else nothing is done.
 #[inline(always)]
 pub fn perform(code: &CodeProgram, core: &mut Core, at: Registers, step: Step) -> Option<Registers>
-    requires { CanDo code.now core.old at (instr_of step) }
+    requires can { CanDo code.now core.old at (instr_of step) }
+    requires member { HasMemberAbove code.now core.old.stack.frames.items step }
     ensures { DoesOrNot code.now (instr_of step) (place_of core.old.places step) core.old at core.new result }
 {
     match step {
@@ -54,8 +56,8 @@ pub fn perform(code: &CodeProgram, core: &mut Core, at: Registers, step: Step) -
             sel,
             argc,
             place,
-            ..
-        } => send_private(code, core, at, level, sel, argc, place),
+            member,
+        } => send_private(code, core, at, level, sel, argc, place, member),
         Step::StoreSlot(slot) => Some(store_slot(code, core, at, slot)),
         Step::Return => return_value(code, core, at),
         Step::ReturnSelf => return_self(code, core, at),

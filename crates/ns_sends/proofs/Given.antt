@@ -1,20 +1,11 @@
--- Values that rows of Integer give at once.
-use Rattle.std.proofs.Common.{◌≡◌, ap, sym, ◌∙◌, subst, All, Ok, Result}
+-- Sends after their lookup.
+use Rattle.std.proofs.Common.{◌≡◌, ap, ◌∙◌, subst, All}
 use Rattle.ns_code.specs.declared.program.CodeProgram.{CodeProgram}
-use Rattle.ns_world.specs.declared.ending.Fault.{Fault}
-use Rattle.ns_world.specs.declared.value.Value.{Value}
-use Rattle.ns_world.specs.Starts.{start_of}
 use Rattle.ns_world.specs.World.{WorldView}
-use Rattle.ns_find.specs.declared.found.Found.{Found}
-use Rattle.ns_find.specs.declared.found.Sending.{Sending}
-use Rattle.ns_find.specs.Find.{found_from}
 use Rattle.ns_find.specs.Memo.{IsRight}
-use Rattle.ns_kdata.specs.Arguments.{argument}
-use Rattle.ns_send.specs.declared.row.Row.{Row}
-use Rattle.ns_send.specs.Control.{Activation, Control, Progress, gives}
-use Rattle.ns_send.specs.Kernel.{row_reached, answer_reached}
+use Rattle.ns_send.specs.Control.{Activation, Progress}
 use Rattle.ns_send.specs.Sends as sends
-use Rattle.ns_send.specs.Sends.{Target, To, answered_by}
+use Rattle.ns_send.specs.Sends.{Target}
 use Rattle.ns_moves.specs.Arrivals.{arrived}
 use Rattle.ns_act.specs.declared.run.Run.{Run}
 use Rattle.ns_act.specs.Run.{progress_of}
@@ -23,43 +14,12 @@ use Rattle.ns_frames.specs.Stack.{stood, with_top}
 use Rattle.ns_frames.specs.View.{site_shown, frames_shown}
 use Rattle.ns_engine.specs.declared.state.Core.{Core}
 use Rattle.ns_engine.specs.declared.state.Next.{Next}
-use Rattle.ns_engine.specs.Shown.{phase_shown, progress_in}
-use Rattle.ns_engine.specs.Doing.{IsSettled}
+use Rattle.ns_engine.specs.Shown.{phase_shown}
 use Rattle.ns_engine.specs.Tried.{IsUntouched}
 use Rattle.ns_sends.specs.declared.sent.Sent.{Sent}
-use Rattle.ns_sends.specs.Given.{GivesInteger}
 use Rattle.ns_sends.specs.Going.{arguments_in}
-use Rattle.ns_sends.specs.Sending.{CanSend, looked_up, sent_at, Sends}
+use Rattle.ns_sends.specs.Sending.{sent_at, Sends}
 use Rattle.ns_sends.proofs.Looked.{looked}
-
--- ---- the value
-
--- what a lookup that found such a row answers
-pub given_is : (code : CodeProgram) (core : Core) (at : Registers) (sent : Sent) (receiver : Value) (kind : Sending) (found : Found) (value : Value) (activation : Activation)
-    → found ≡ found_from core.run.world.world.cells code (start_of core.run.world.world.cells receiver) sent.site.sel.0 kind
-    → GivesInteger found receiver (argument (arguments_in core at sent) 0) value
-    → gives value (progress_in core) ≡ looked_up code core at sent activation (To receiver kind)
-given_is code core at sent receiver kind found value activation same given =
-    sym (ap (λ (f : Found). answered_by code f sent.site.sel receiver (arguments_in core at sent) (site_shown core.places sent.site) (progress_in core)) (sym same ∙ given.is)
-    ∙ (ap (λ (r : Row). row_reached code r sent.site.sel receiver (arguments_in core at sent) (site_shown core.places sent.site) (progress_in core)) given.row_is
-    ∙ ap (λ (r : Result Value Fault). answer_reached r (site_shown core.places sent.site) (progress_in core)) given.gives))
-
-pub given_sends : (code : CodeProgram) (core new : Core) (at : Registers) (sent : Sent) (receiver : Value) (kind : Sending) (found : Found) (value : Value) (next : Next)
-    (activation : Activation) → CanSend code core at sent receiver
-    → found ≡ found_from core.run.world.world.cells code (start_of core.run.world.world.cells receiver) sent.site.sel.0 kind
-    → GivesInteger found receiver (argument (arguments_in core at sent) 0) value
-    → IsSettled code core (with_top sent.floor at) sent.site (Ok value) new next
-    → Sends code core at sent.floor (looked_up code core at sent activation (To receiver kind)) new next
-given_sends code core new at sent receiver kind found value next activation can same given is = record {
-  state = is.state
-      ∙ ap (λ (c : Control). arrived code (phase_shown core.phase) c (frames_shown code core.places (stood core.stack (with_top sent.floor at))))
-      (given_is code core at sent receiver kind found value activation same given);
-  stand = is.stand;
-  stays = is.stays;
-  kept = rw is.run can.kept;
-}
-
--- ---- after a lookup
 
 -- A send after its lookup is the send.
 pub kept_sends : (code : CodeProgram) (core new : Core) (at : Registers) (sent : Sent) (run : Run) (activation : Activation) (target : Target) (next : Next)

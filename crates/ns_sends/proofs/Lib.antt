@@ -15,3 +15,5 @@ pub mod Resent
 pub mod Given
 pub mod Opened
 pub mod Slotted
+pub mod Valued
+pub mod Members

@@ -1,21 +1,20 @@
 -- Slots that a send reads or writes.
-use Rattle.std.proofs.Common.{◌≡◌, ℕ, ◌<◌, List, [], ◌∷◌, length, ap, sym, ◌∙◌, refl, subst, arith, Ok, Option, All}
+use Rattle.std.proofs.Common.{◌≡◌, ℕ, ◌<◌, List, [], ◌∷◌, length, ap, sym, ◌∙◌, refl, subst, arith, Ok, Some}
 use Rattle.ns_code.specs.declared.program.CodeProgram.{CodeProgram}
 use Rattle.ns_world.specs.declared.value.Value.{Value}
 use Rattle.ns_world.specs.declared.value.Value.TheVariants as value
 use Rattle.ns_world.specs.declared.value.Value.TheVariants.{Ref}
 use Rattle.ns_world.specs.Heap.{Heap, words_at, open_words_at}
 use Rattle.ns_world.specs.Lawful.{IsLawful, HasHolder}
-use Rattle.ns_world.specs.World.{World, WorldView}
+use Rattle.ns_world.specs.World.{World, WorldView, stepped}
 use Rattle.ns_find.specs.declared.found.Found.{Found}
 use Rattle.ns_find.specs.declared.found.Found.TheVariants.{Getter, Setter}
-use Rattle.ns_find.specs.declared.found.Sending.{Sending}
 use Rattle.ns_find.specs.Belonging.{HasSlot}
 use Rattle.ns_kdata.specs.Arguments.{argument}
 use Rattle.ns_kdata.specs.Rows.{stored}
 use Rattle.ns_mirror.specs.Slots.{word_of_object}
-use Rattle.ns_send.specs.Control.{Activation, Control, gives, in_world}
-use Rattle.ns_send.specs.Sends.{To, answered_by, first_of}
+use Rattle.ns_send.specs.Control.{Activation, gives, in_world}
+use Rattle.ns_send.specs.Sends.{Target, answered_by, first_of, found_at, receiver_of}
 use Rattle.ns_send.specs.Suits.{Suits}
 use Rattle.ns_moves.specs.Arrivals.{arrived}
 use Rattle.ns_frames.specs.declared.registers.Registers.{Registers}
@@ -27,8 +26,10 @@ use Rattle.ns_engine.specs.Doing.{IsSettled}
 use Rattle.ns_engine.specs.Shown.{phase_shown, progress_in}
 use Rattle.ns_sends.specs.declared.sent.Sent.{Sent}
 use Rattle.ns_sends.specs.Going.{arguments_in}
-use Rattle.ns_sends.specs.Opening.{FindsGetter, FindsSetter}
+use Rattle.ns_sends.specs.Opening.{got_at, set_at}
 use Rattle.ns_sends.specs.Sending.{CanSend, looked_up, Sends}
+use Rattle.ns_sends.proofs.Opened.{stepped_to}
+use Rattle.ns_sends.proofs.Stepped.{step_is}
 
 -- ---- the word
 
@@ -40,30 +41,77 @@ SlotsInside =
 abbrev AllOpen : Type 0
 AllOpen = (world : World) (at holder : ℕ) → HasHolder world.cells (Ref at) holder → open_words_at world.cells at ≡ words_at world.cells at
 
-pub getter_there : SlotsInside → AllOpen → (world : World) (code : CodeProgram) (receiver : Value) (found : Found) (holder word : ℕ) → IsLawful world code
-    → Suits world.cells code receiver found → found ≡ Getter holder word → (at : ℕ) → receiver ≡ Ref at → word < length (words_at world.cells at)
-getter_there inside all world code receiver found holder word lawful suits is at ref =
-    let member : Suits world.cells code receiver (Getter holder word) = subst (Suits world.cells code receiver) is suits in
-    let has : HasHolder world.cells (Ref at) holder = subst (λ v. HasHolder world.cells v holder) ref member.0 in
-    omega (arith, inside world code at holder word lawful has member.2, ap length (all world at holder has))
+pub setter_there : SlotsInside → (world : World) (code : CodeProgram) (receiver : Value) (holder word : ℕ) → IsLawful world code
+    → HasHolder world.cells receiver holder → HasSlot world.cells code holder word → (at : ℕ) → receiver ≡ Ref at → word < length (open_words_at world.cells at)
+setter_there inside world code receiver holder word lawful has slot at ref =
+    inside world code at holder word lawful (subst (λ v. HasHolder world.cells v holder) ref has) slot
 
-pub setter_there : SlotsInside → (world : World) (code : CodeProgram) (receiver : Value) (found : Found) (holder word : ℕ) → IsLawful world code
-    → Suits world.cells code receiver found → found ≡ Setter holder word → (at : ℕ) → receiver ≡ Ref at → word < length (open_words_at world.cells at)
-setter_there inside world code receiver found holder word lawful suits is at ref =
-    let member : Suits world.cells code receiver (Setter holder word) = subst (Suits world.cells code receiver) is suits in
-    inside world code at holder word lawful (subst (λ v. HasHolder world.cells v holder) ref member.0) member.2
+pub getter_there : SlotsInside → AllOpen → (world : World) (code : CodeProgram) (receiver : Value) (holder word : ℕ) → IsLawful world code
+    → HasHolder world.cells receiver holder → HasSlot world.cells code holder word → (at : ℕ) → receiver ≡ Ref at → word < length (words_at world.cells at)
+getter_there inside all world code receiver holder word lawful has slot at ref =
+    let there = setter_there inside world code receiver holder word lawful has slot at ref in
+    omega (arith, there, ap length (all world at holder (subst (λ v. HasHolder world.cells v holder) ref has)))
+
+-- ---- what the send came to
+
+-- what was found suits its receiver once the step is charged
+pub suits_later : (code : CodeProgram) (core : Core) (sent : Sent) (receiver : Value) (found : Found) (activation : Activation) (target : Target) (world : WorldView)
+    → stepped core.run.world.world ≡ Some world.world
+    → Suits core.run.world.world.cells code (receiver_of core.run.world.world.cells activation target)
+    (found_at core.run.world.world.cells code activation target sent.site.sel.0)
+    → found_at core.run.world.world.cells code activation target sent.site.sel.0 ≡ found → receiver_of core.run.world.world.cells activation target ≡ receiver
+    → Suits world.world.cells code receiver found
+suits_later code core sent receiver found activation target world e suits finds to =
+    subst (λ (h : Heap). Suits h code receiver found) (sym (ap (λ (w : World). w.cells) (step_is core.run.world.world world.world e)))
+    (subst (λ (f : Found). Suits core.run.world.world.cells code receiver f) finds
+    (subst (λ (v : Value). Suits core.run.world.world.cells code v (found_at core.run.world.world.cells code activation target sent.site.sel.0)) to suits))
+
+-- a send that found a getter or a setter
+getter_found : (code : CodeProgram) (core : Core) (at : Registers) (sent : Sent) (receiver : Value) (holder word : ℕ) (activation : Activation) (target : Target)
+    → found_at core.run.world.world.cells code activation target sent.site.sel.0 ≡ Getter holder word → receiver_of core.run.world.world.cells activation target ≡ receiver
+    → looked_up code core at sent activation target ≡ got_at core receiver word
+getter_found code core at sent receiver holder word activation target finds to =
+    ap (λ (f : Found). answered_by code f sent.site.sel (receiver_of core.run.world.world.cells activation target) (arguments_in core at sent)
+    (site_shown core.places sent.site) (progress_in core)) finds
+    ∙ ap (λ (r : Value). got_at core r word) to
+
+setter_found : (code : CodeProgram) (core : Core) (at : Registers) (sent : Sent) (receiver : Value) (holder word : ℕ) (activation : Activation) (target : Target)
+    → found_at core.run.world.world.cells code activation target sent.site.sel.0 ≡ Setter holder word → receiver_of core.run.world.world.cells activation target ≡ receiver
+    → looked_up code core at sent activation target ≡ set_at core at sent receiver word
+setter_found code core at sent receiver holder word activation target finds to =
+    ap (λ (f : Found). answered_by code f sent.site.sel (receiver_of core.run.world.world.cells activation target) (arguments_in core at sent)
+    (site_shown core.places sent.site) (progress_in core)) finds
+    ∙ ap (λ (r : Value). set_at core at sent r word) to
+
+-- and so it does once its step is charged
+pub getter_later : (code : CodeProgram) (core : Core) (at : Registers) (sent : Sent) (receiver : Value) (holder word : ℕ) (activation : Activation) (target : Target)
+    (world : WorldView) → stepped core.run.world.world ≡ Some world.world
+    → found_at core.run.world.world.cells code activation target sent.site.sel.0 ≡ Getter holder word → receiver_of core.run.world.world.cells activation target ≡ receiver
+    → looked_up code (stepped_to core world) at sent activation target ≡ got_at (stepped_to core world) receiver word
+getter_later code core at sent receiver holder word activation target world e finds to =
+    getter_found code (stepped_to core world) at sent receiver holder word activation target (rw cells finds) (rw cells to)
+  where
+    cells : world.world.cells ≡ core.run.world.world.cells
+    cells = ap (λ (w : World). w.cells) (step_is core.run.world.world world.world e)
+
+pub setter_later : (code : CodeProgram) (core : Core) (at : Registers) (sent : Sent) (receiver : Value) (holder word : ℕ) (activation : Activation) (target : Target)
+    (world : WorldView) → stepped core.run.world.world ≡ Some world.world
+    → found_at core.run.world.world.cells code activation target sent.site.sel.0 ≡ Setter holder word → receiver_of core.run.world.world.cells activation target ≡ receiver
+    → looked_up code (stepped_to core world) at sent activation target ≡ set_at (stepped_to core world) at sent receiver word
+setter_later code core at sent receiver holder word activation target world e finds to =
+    setter_found code (stepped_to core world) at sent receiver holder word activation target (rw cells finds) (rw cells to)
+  where
+    cells : world.world.cells ≡ core.run.world.world.cells
+    cells = ap (λ (w : World). w.cells) (step_is core.run.world.world world.world e)
 
 -- ---- the send
 
-pub getter_sends : (code : CodeProgram) (core new : Core) (at : Registers) (sent : Sent) (receiver : Value) (kind : Sending) (holder word : ℕ) (v : Value) (next : Next)
-    (activation : Activation) → CanSend code core at sent receiver → FindsGetter code core sent receiver kind holder word
-    → v ≡ word_of_object core.run.world.world.cells receiver word → IsSettled code core (with_top sent.floor at) sent.site (Ok v) new next
-    → Sends code core at sent.floor (looked_up code core at sent activation (To receiver kind)) new next
-getter_sends code core new at sent receiver kind holder word v next activation can finds same is = record {
+pub getter_sends : (code : CodeProgram) (core new : Core) (at : Registers) (sent : Sent) (receiver : Value) (word : ℕ) (v : Value) (next : Next)
+    → CanSend code core at sent receiver → v ≡ word_of_object core.run.world.world.cells receiver word
+    → IsSettled code core (with_top sent.floor at) sent.site (Ok v) new next → Sends code core at sent.floor (got_at core receiver word) new next
+getter_sends code core new at sent receiver word v next can same is = record {
   state = is.state
-      ∙ ap (λ (c : Control). arrived code (phase_shown core.phase) c (frames_shown code core.places (stood core.stack (with_top sent.floor at))))
-      (ap (λ (w : Value). gives w (progress_in core)) same
-      ∙ ap (λ (f : Found). answered_by code f sent.site.sel receiver (arguments_in core at sent) (site_shown core.places sent.site) (progress_in core)) (sym finds));
+      ∙ ap (λ (w : Value). arrived code (phase_shown core.phase) (gives w (progress_in core)) (frames_shown code core.places (stood core.stack (with_top sent.floor at)))) same;
   stand = is.stand;
   stays = is.stays;
   kept = rw is.run can.kept;
@@ -73,7 +121,7 @@ first_is : (values : List Value) → argument values 0 ≡ first_of values
 first_is [] = refl
 first_is (one ∷ values) = refl
 
-stored_limits : (world : World) (receiver : Value) (word : ℕ) (v : Value) → (stored world receiver word v).limits ≡ world.limits
+pub stored_limits : (world : World) (receiver : Value) (word : ℕ) (v : Value) → (stored world receiver word v).limits ≡ world.limits
 stored_limits world (Ref at) word v = refl
 stored_limits world value.Nil word v = refl
 stored_limits world value.True word v = refl
@@ -87,17 +135,14 @@ abbrev pub with_stored : Core → Value → ℕ → Value → Core
 with_stored core receiver word v =
     record core { run = record core.run { world = record core.run.world { world = stored core.run.world.world receiver word v } } }
 
-pub setter_sends : (code : CodeProgram) (core new : Core) (at : Registers) (sent : Sent) (receiver : Value) (kind : Sending) (holder word : ℕ) (v : Value) (values : List Value)
-    (next : Next) (activation : Activation) → CanSend code core at sent receiver → FindsSetter code core sent receiver kind holder word
-    → values ≡ arguments_in core at sent → v ≡ argument values 0
+pub setter_sends : (code : CodeProgram) (core new : Core) (at : Registers) (sent : Sent) (receiver : Value) (word : ℕ) (v : Value) (values : List Value)
+    (next : Next) → CanSend code core at sent receiver → values ≡ arguments_in core at sent → v ≡ argument values 0
     → IsSettled code (with_stored core receiver word v) (with_top sent.floor at) sent.site (Ok receiver) new next
-    → Sends code core at sent.floor (looked_up code core at sent activation (To receiver kind)) new next
-setter_sends code core new at sent receiver kind holder word v values next activation can finds all same is = record {
+    → Sends code core at sent.floor (set_at core at sent receiver word) new next
+setter_sends code core new at sent receiver word v values next can all same is = record {
   state = is.state
-      ∙ ap (λ (c : Control). arrived code (phase_shown core.phase) c (frames_shown code core.places (stood core.stack (with_top sent.floor at))))
-      (ap (λ (w : Value). gives receiver (in_world (progress_in core) (stored core.run.world.world receiver word w)))
-      (same ∙ (first_is values ∙ ap first_of all))
-      ∙ ap (λ (f : Found). answered_by code f sent.site.sel receiver (arguments_in core at sent) (site_shown core.places sent.site) (progress_in core)) (sym finds));
+      ∙ ap (λ (w : Value). arrived code (phase_shown core.phase) (gives receiver (in_world (progress_in core) (stored core.run.world.world receiver word w)))
+      (frames_shown code core.places (stood core.stack (with_top sent.floor at)))) (same ∙ (first_is values ∙ ap first_of all));
   stand = is.stand;
   stays = record {
     world = record { limits = is.stays.world.limits ∙ stored_limits core.run.world.world receiver word v; room = is.stays.world.room };

@@ -1,18 +1,11 @@
 -- Sends that give a value at once, by the quick way.
-use Rattle.std.specs.Prelude.{◌≡◌, ℕ, Option, Some, None, Ok}
+use Rattle.std.specs.Prelude.{ℕ, Option, Some, None}
 use Rattle.ns_base.specs.declared.selector.Sel.{Sel}
 use Rattle.ns_code.specs.declared.program.CodeProgram.{CodeProgram}
 use Rattle.ns_world.specs.declared.value.Value.{Value}
-use Rattle.ns_find.specs.declared.found.Found.{Found}
-use Rattle.ns_find.specs.declared.found.Found.TheVariants.{Kernel}
 use Rattle.ns_find.specs.declared.found.Sending.{Sending}
-use Rattle.ns_kdata.specs.Arguments.{number_of}
-use Rattle.ns_kint.specs.declared.row.IntRow.{IntRow}
-use Rattle.ns_kint.specs.Integer.{integer}
 use Rattle.ns_send.specs.Control.{Activation}
 use Rattle.ns_send.specs.Sends.{To}
-use Rattle.ns_send.specs.Rows.{row_at}
-use Rattle.ns_send.specs.declared.row.Row.TheVariants.{Integer}
 use Rattle.ns_frames.specs.declared.registers.Registers.{Registers}
 use Rattle.ns_engine.specs.declared.state.Core.{Core}
 use Rattle.ns_engine.specs.declared.state.Next.TheVariants.{On}
@@ -20,14 +13,6 @@ use Rattle.ns_engine.specs.Tried.{IsUntouched}
 use Rattle.ns_sends.specs.declared.sent.Sent.{Sent}
 use Rattle.ns_sends.specs.Operands.{SendsToTop}
 use Rattle.ns_sends.specs.Sending.{sent_at, Sends}
-
--- What was found is a row of Integer, which gives the value with that receiver and that argument.
-pub record GivesInteger (found : Found) (receiver right value : Value) : Type 0 where
-  pub number : ℕ
-  pub row : IntRow
-  pub is : found ≡ Kernel number
-  pub row_is : row_at number ≡ Integer row
-  pub gives : integer row (number_of receiver) right ≡ Ok value
 
 -- A send to a value has led on with the topmost frame at those registers; or nothing is done.
 abbrev pub SendsOrNot : CodeProgram → Core → Registers → Sent → Value → Sending → Core → Option Registers → Type 0

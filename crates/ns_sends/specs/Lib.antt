@@ -1,6 +1,7 @@
 pub mod Going
 pub mod Given
 pub mod Opening
+pub mod Rows
 pub mod Sending
 pub mod Operands
 pub mod Waiting

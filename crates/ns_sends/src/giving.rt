@@ -1,27 +1,21 @@
-//! Sends of operands that find a method, a slot, or a row of Integer that gives a value, by the quick way: registers alone
-//! come back.
+//! Sends of operands that find a method, a slot, or a row of the kernel that gives a value at once, by the quick way:
+//! registers alone come back.
 
-ghost use Rattle.std.specs.Prelude.{◌≡◌, ◌+◌, IfSome, slice_get, true};
+ghost use Rattle.std.specs.Prelude.{◌≡◌, ◌+◌, slice_get};
 ghost use Rattle.ns_code.specs.declared.instruction.Instr.TheVariants as instr;
 ghost use Rattle.ns_world.specs.Starts.{start_of};
 ghost use Rattle.ns_find.specs.Find.{found_from};
-ghost use Rattle.ns_kdata.specs.Arguments.{argument as argument_at};
-ghost use Rattle.ns_send.specs.Control.{Activation};
-ghost use Rattle.ns_send.specs.Sends.{To};
-ghost use Rattle.ns_engine.specs.declared.state.Next.TheVariants as next;
 ghost use Rattle.ns_engine.specs.Doing.{CanDo};
 ghost use Rattle.ns_engine.specs.Tried.{DoesOrNot};
-ghost use Rattle.ns_sends.specs.Going.{arguments_in};
-ghost use Rattle.ns_sends.specs.Given.{GivesInteger, SendsOrNot, ToTopOrNot};
+ghost use Rattle.ns_sends.specs.Given.{SendsOrNot, ToTopOrNot};
 ghost use Rattle.ns_sends.specs.Operands.{SendsOperands};
-ghost use Rattle.ns_sends.specs.Sending.{CanSend, looked_up, Sends};
+ghost use Rattle.ns_sends.specs.Sending.{CanSend};
 
-use crate::going::row_numbered;
 use crate::opening::send_method;
+use crate::rows::send_row;
 use crate::sent::Sent;
 use crate::slots::{send_getter, send_setter};
 use ns_act::answering::found_of;
-use ns_act::laws::a_send_is_its_step_and_its_answer;
 use ns_act::targets::class_of;
 use ns_base::selector::Sel;
 use ns_code::program::CodeProgram;
@@ -30,10 +24,6 @@ use ns_find::found::{Found, Sending};
 use ns_frames::frame::KeptSite;
 use ns_frames::laws::operands_are_taken;
 use ns_frames::registers::Registers;
-use ns_kdata::arguments::{argument, number_of};
-use ns_kint::integer::integer;
-use ns_send::row::Row;
-use ns_world::lawful::charging_keeps_lawful;
 use ns_world::value::Value;
 
 /// Sends to a value, whose public members alone it reaches.
@@ -106,7 +96,7 @@ fn send_operands(
     }
 }
 
-/// Sends to a value that finds a method, a slot, or a row of Integer that gives a value.
+/// Sends to a value that finds a method, a slot, or a row of the kernel.
 #[inline(always)]
 fn send_to(
     code: &CodeProgram,
@@ -126,7 +116,7 @@ fn send_to(
     }
 }
 
-/// Goes on with what was found, where that is a method, a slot, or a row of Integer that gives a value.
+/// Goes on with what was found, where that is a method, a slot, or a row of the kernel.
 #[inline(always)]
 fn do_found(
     code: &CodeProgram,
@@ -151,100 +141,7 @@ fn do_found(
         Found::Setter { holder, word } => {
             send_setter(code, core, at, sent, receiver, kind, holder, word)
         }
-        Found::Kernel(_) => send_integer(code, core, at, sent, receiver, kind, found),
+        Found::Kernel(number) => send_row(code, core, at, sent, receiver, kind, number),
         _ => None,
     }
-}
-
-/// Brings the value of a row of Integer, where that was found and gives one.
-#[inline(always)]
-fn send_integer(
-    code: &CodeProgram,
-    core: &mut Core,
-    at: Registers,
-    sent: Sent,
-    receiver: Value,
-    kind: Sending,
-    found: Found,
-) -> Option<Registers>
-    requires can { CanSend code.now core.old at sent receiver }
-    requires found { found ≡ found_from core.old.run.world.world.cells code.now (start_of core.old.run.world.world.cells receiver) sent.site.sel.0 kind }
-    ensures { SendsOrNot code.now core.old at sent receiver kind core.new result }
-{
-    let right = argument(core.stack.from(at, sent.first), 0);
-    match value_of(found, receiver, right) {
-        Some(value) => charge(code, core, at, sent, receiver, kind, found, value),
-        None => None,
-    }
-}
-
-/// The value that a row of Integer gives, where that was found and has no fault.
-#[inline(always)]
-fn value_of(found: Found, receiver: Value, right: Value) -> Option<Value>
-    ensures { IfSome result (λ value. GivesInteger found receiver right value) }
-{
-    let number = match found {
-        Found::Kernel(number) => number,
-        _ => return None,
-    };
-    let row = match row_numbered(number) {
-        Row::Integer(row) => row,
-        _ => return None,
-    };
-    match integer(row, number_of(receiver), right) {
-        Ok(value) => Some(value),
-        Err(_) => None,
-    }
-}
-
-/// Charges the step of a send and brings the value that was found to the body that runs, unless no step is left.
-#[inline(always)]
-fn charge(
-    code: &CodeProgram,
-    core: &mut Core,
-    at: Registers,
-    sent: Sent,
-    receiver: Value,
-    kind: Sending,
-    found: Found,
-    value: Value,
-) -> Option<Registers>
-    requires can { CanSend code.now core.old at sent receiver }
-    requires found { found ≡ found_from core.old.run.world.world.cells code.now (start_of core.old.run.world.world.cells receiver) sent.site.sel.0 kind }
-    requires gives { GivesInteger found receiver (argument_at (arguments_in core.old at sent) 0) value }
-    ensures { SendsOrNot code.now core.old at sent receiver kind core.new result }
-{
-    a_send_is_its_step_and_its_answer();
-    charging_keeps_lawful();
-    match core.run.world.step() {
-        Ok(()) => Some(give(code, core, at, sent, receiver, kind, found, value)),
-        Err(_) => None,
-    }
-}
-
-/// Brings the value that was found to the body that runs.
-#[inline(always)]
-fn give(
-    code: &CodeProgram,
-    core: &mut Core,
-    at: Registers,
-    sent: Sent,
-    receiver: Value,
-    kind: Sending,
-    found: Found,
-    value: Value,
-) -> Registers
-    requires can { CanSend code.now core.old at sent receiver }
-    requires found { found ≡ found_from core.old.run.world.world.cells code.now (start_of core.old.run.world.world.cells receiver) sent.site.sel.0 kind }
-    requires gives { GivesInteger found receiver (argument_at (arguments_in core.old at sent) 0) value }
-    ensures { (activation : Activation) → Sends code.now core.old at sent.floor (looked_up code.now core.old at sent activation (To receiver kind)) core.new (next.On result) }
-{
-    let _receiver = receiver;
-    let _kind = kind;
-    let _found = found;
-    let below = Registers {
-        top: sent.floor,
-        ..at
-    };
-    ns_engine::giving::give(code, core, below, value)
 }

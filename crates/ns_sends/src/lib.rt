@@ -13,6 +13,7 @@ mod opening;
 pub mod placing;
 pub mod private;
 pub mod resending;
+mod rows;
 mod sending;
 pub mod sends;
 pub mod sent;

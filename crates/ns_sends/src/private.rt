@@ -1,35 +1,39 @@
-//! Private sends that find a method, by the quick way: registers alone come back.
+//! Private sends that find a method or a slot, by the quick way: registers alone come back.
 
-ghost use Rattle.std.specs.Prelude.{◌≡◌, slice_get, IsSome};
+ghost use Rattle.std.specs.Prelude.{◌≡◌, slice_get, IsSome, IsTrue};
 ghost use Rattle.ns_code.specs.declared.instruction.Instr.TheVariants as instr;
+ghost use Rattle.ns_world.specs.Heap.{find_cell, is_class};
 ghost use Rattle.ns_world.specs.Lawful.{IsLawful};
-ghost use Rattle.ns_find.specs.Find.{side_of};
+ghost use Rattle.ns_world.specs.Layout.{declaration_of, entries_of};
 ghost use Rattle.ns_find.specs.declared.found.Found.TheVariants as found;
-ghost use Rattle.ns_send.specs.Bodies as bodies;
 ghost use Rattle.ns_send.specs.Lawful.{FitsActivation, declaration_at};
 ghost use Rattle.ns_send.specs.Sends.{ToPrivate, found_at, receiver_of};
 ghost use Rattle.ns_act.specs.Running.{code_of};
+ghost use Rattle.ns_plan.specs.Privates.{IsAmong, found_in};
 ghost use Rattle.ns_engine.specs.Doing.{CanDo};
 ghost use Rattle.ns_engine.specs.Tried.{DoesOrNot};
-ghost use Rattle.ns_sends.specs.Opening.{FindsAround, AroundOrNot};
+ghost use Rattle.ns_sends.specs.Opening.{FindsAround, AroundOrNot, IsMemberAbove, IsMemberAt};
 ghost use Rattle.ns_sends.specs.Sending.{CanSend};
 
 use crate::opening::{begin, has_room};
 use crate::sent::Sent;
+use crate::slots::{get, set};
 use ns_act::enclosing::enclosing;
 use ns_act::laws::a_send_is_its_step_and_its_answer;
-use ns_act::running::{Running, is_on_class_side};
+use ns_act::running::Running;
 use ns_act::targets::class_of;
 use ns_base::selector::Sel;
+use ns_classes::layout::word;
 use ns_code::program::CodeProgram;
 use ns_engine::settling::{running, running_code};
 use ns_engine::state::Core;
-use ns_find::find::find_private;
 use ns_find::found::Found;
 use ns_frames::frame::KeptSite;
 use ns_frames::laws::operands_are_taken;
 use ns_frames::registers::Registers;
-use ns_send::finding::enclosing_objects_are_there;
+use ns_plan::laws::members_are_found;
+use ns_plan::step::Member;
+use ns_send::finding::{enclosing_objects_are_there, what_is_found_suits};
 use ns_send::laws::{actions_spend_exactly, sends_keep_lawful, sites_stay, what_is_handed_on_fits};
 use ns_world::lawful::charging_keeps_lawful;
 use ns_world::value::Value;
@@ -44,8 +48,10 @@ pub fn send_private(
     sel: Sel,
     argc: u8,
     place: u32,
+    member: Member,
 ) -> Option<Registers>
-    requires { CanDo code.now core.old at (instr.SendPrivate level sel argc) }
+    requires can { CanDo code.now core.old at (instr.SendPrivate level sel argc) }
+    requires member { IsMemberAbove code.now core.old.stack.frames.items level sel member }
     ensures { DoesOrNot code.now (instr.SendPrivate level sel argc) (slice_get core.old.places place) core.old at core.new result }
 {
     operands_are_taken();
@@ -59,13 +65,13 @@ pub fn send_private(
         floor: first,
         first,
     };
-    match send_around(code, core, at, sent, code_here, level, receiver) {
+    match send_around(code, core, at, sent, code_here, level, receiver, member) {
         Some(to) => Some(to),
         None => None,
     }
 }
 
-/// Looks the selector up among the private members, and begins the method that is found.
+/// Looks the selector up among the private members, and does what was found, where that is a method or a slot.
 #[inline(always)]
 fn send_around(
     code: &CodeProgram,
@@ -75,42 +81,72 @@ fn send_around(
     running: Running,
     level: u8,
     receiver: Value,
+    member: Member,
 ) -> Option<Registers>
     requires can { CanSend code.now core.old at sent receiver }
     requires receiver { receiver ≡ receiver_of core.old.run.world.world.cells (code_of running) (ToPrivate level) }
     requires runs { FitsActivation core.old.run.world.world.cells code.now (code_of running) }
     requires level { IsSome (declaration_at code.now running.body level) }
+    requires member { IsMemberAt code.now running.body level sent.site.sel member }
     ensures { AroundOrNot code.now core.old at sent running level core.new result }
 {
-    match found_around(&core.run.world, code, running, level, sent.site.sel) {
+    match found_around(&core.run.world, code, running, level, sent.site.sel, member) {
         Found::Method { body, holder } => {
             begin_around(code, core, at, sent, running, level, receiver, body, holder)
+        }
+        Found::Getter { holder, word } => {
+            get_around(code, core, at, sent, running, level, receiver, holder, word)
+        }
+        Found::Setter { holder, word } => {
+            set_around(code, core, at, sent, running, level, receiver, holder, word)
         }
         _ => None,
     }
 }
 
-/// What a selector finds among the private members of a declaration around running code.
+/// What a selector finds among the private members of a declaration around running code, where that is this member.
 #[inline(always)]
-fn found_around(world: &World, code: &CodeProgram, running: Running, level: u8, sel: Sel) -> Found
+fn found_around(
+    world: &World,
+    code: &CodeProgram,
+    running: Running,
+    level: u8,
+    sel: Sel,
+    member: Member,
+) -> Found
     requires lawful { IsLawful world.now.world code.now }
     requires runs { FitsActivation world.now.world.cells code.now (code_of running) }
     requires level { IsSome (declaration_at code.now running.body level) }
+    requires member { IsMemberAt code.now running.body level sel member }
     ensures { result ≡ found_at world.now.world.cells code.now (code_of running) (ToPrivate level) sel.0 }
 {
     enclosing_objects_are_there();
+    members_are_found();
+    let _sel = sel;
     let holder = enclosing(world, code, running, level).holder;
-    find_private(world, code, holder, is_side_at(code, running, level), sel)
+    found_with(world, code, holder, member)
 }
 
-/// Whether the members of the class side count at a level: only those of the code itself may.
+/// What is found with a member and its holder.
 #[inline(always)]
-fn is_side_at(code: &CodeProgram, running: Running, level: u8) -> bool
-    ensures { bodies.side_at code.now (code_of running) level ≡ side_of result }
+fn found_with(world: &World, code: &CodeProgram, holder: u32, member: Member) -> Found
+    requires lawful { IsLawful world.now.world code.now }
+    requires holder { IsTrue (is_class (find_cell world.now.world.cells holder)) }
+    requires among { IsAmong (entries_of code.now (declaration_of world.now.world.cells holder)) member }
+    ensures { result ≡ found_in world.now.world.cells code.now holder member }
 {
-    match level {
-        0 => is_on_class_side(code, running.body),
-        _ => false,
+    match member {
+        Member::Method { body } => Found::Method { body, holder },
+        Member::Getter { entry } => Found::Getter {
+            holder,
+            word: word(world, code, holder, entry),
+        },
+        Member::Setter { entry } => Found::Setter {
+            holder,
+            word: word(world, code, holder, entry),
+        },
+        Member::Nested { class } => Found::Nested { class, holder },
+        Member::Absent => Found::Absent,
     }
 }
 
@@ -147,6 +183,68 @@ fn begin_around(
     }
     match core.run.world.step() {
         Ok(()) => Some(begin(code, core, at, sent, receiver, body, holder)),
+        Err(_) => None,
+    }
+}
+
+/// Brings the word of the slot that a private send has found, where a step is left.
+#[inline(always)]
+fn get_around(
+    code: &CodeProgram,
+    core: &mut Core,
+    at: Registers,
+    sent: Sent,
+    running: Running,
+    level: u8,
+    receiver: Value,
+    holder: u32,
+    word: u32,
+) -> Option<Registers>
+    requires can { CanSend code.now core.old at sent receiver }
+    requires receiver { receiver ≡ receiver_of core.old.run.world.world.cells (code_of running) (ToPrivate level) }
+    requires runs { FitsActivation core.old.run.world.world.cells code.now (code_of running) }
+    requires level { IsSome (declaration_at code.now running.body level) }
+    requires finds { FindsAround code.now core.old running level sent (found.Getter holder word) }
+    ensures { AroundOrNot code.now core.old at sent running level core.new result }
+{
+    a_send_is_its_step_and_its_answer();
+    charging_keeps_lawful();
+    what_is_found_suits();
+    let _running = running;
+    let _level = level;
+    match core.run.world.step() {
+        Ok(()) => Some(get(code, core, at, sent, receiver, holder, word)),
+        Err(_) => None,
+    }
+}
+
+/// Stores the argument in the slot that a private send has found, where a step is left.
+#[inline(always)]
+fn set_around(
+    code: &CodeProgram,
+    core: &mut Core,
+    at: Registers,
+    sent: Sent,
+    running: Running,
+    level: u8,
+    receiver: Value,
+    holder: u32,
+    word: u32,
+) -> Option<Registers>
+    requires can { CanSend code.now core.old at sent receiver }
+    requires receiver { receiver ≡ receiver_of core.old.run.world.world.cells (code_of running) (ToPrivate level) }
+    requires runs { FitsActivation core.old.run.world.world.cells code.now (code_of running) }
+    requires level { IsSome (declaration_at code.now running.body level) }
+    requires finds { FindsAround code.now core.old running level sent (found.Setter holder word) }
+    ensures { AroundOrNot code.now core.old at sent running level core.new result }
+{
+    a_send_is_its_step_and_its_answer();
+    charging_keeps_lawful();
+    what_is_found_suits();
+    let _running = running;
+    let _level = level;
+    match core.run.world.step() {
+        Ok(()) => Some(set(code, core, at, sent, receiver, holder, word)),
         Err(_) => None,
     }
 }

@@ -1,11 +1,11 @@
 //! Sends that find a getter or a setter, by the quick way: registers alone come back.
 
-ghost use Rattle.ns_send.specs.Control.{Activation};
-ghost use Rattle.ns_send.specs.Sends.{To};
+ghost use Rattle.ns_find.specs.declared.found.Found.TheVariants as found;
+ghost use Rattle.ns_send.specs.Suits.{Suits};
 ghost use Rattle.ns_engine.specs.declared.state.Next.TheVariants as next;
 ghost use Rattle.ns_sends.specs.Given.{SendsOrNot};
-ghost use Rattle.ns_sends.specs.Opening.{FindsGetter, FindsSetter};
-ghost use Rattle.ns_sends.specs.Sending.{CanSend, looked_up, Sends};
+ghost use Rattle.ns_sends.specs.Opening.{FindsGetter, FindsSetter, got_at, set_at};
+ghost use Rattle.ns_sends.specs.Sending.{CanSend, Sends};
 
 use crate::sent::Sent;
 use ns_act::laws::a_send_is_its_step_and_its_answer;
@@ -38,31 +38,29 @@ pub fn send_getter(
 {
     a_send_is_its_step_and_its_answer();
     charging_keeps_lawful();
+    what_is_found_suits();
     match core.run.world.step() {
-        Ok(()) => Some(get(code, core, at, sent, receiver, kind, holder, word)),
+        Ok(()) => Some(get(code, core, at, sent, receiver, holder, word)),
         Err(_) => None,
     }
 }
 
-/// Brings the word of the receiver to the body that runs.
+/// Brings the word of a slot of the receiver to the body that runs.
 #[inline(always)]
-fn get(
+pub fn get(
     code: &CodeProgram,
     core: &mut Core,
     at: Registers,
     sent: Sent,
     receiver: Value,
-    kind: Sending,
     holder: u32,
     word: u32,
 ) -> Registers
     requires can { CanSend code.now core.old at sent receiver }
-    requires finds { FindsGetter code.now core.old sent receiver kind holder word }
-    ensures { (activation : Activation) → Sends code.now core.old at sent.floor (looked_up code.now core.old at sent activation (To receiver kind)) core.new (next.On result) }
+    requires suits { Suits core.old.run.world.world.cells code.now receiver (found.Getter holder word) }
+    ensures { Sends code.now core.old at sent.floor (got_at core.old receiver word) core.new (next.On result) }
 {
-    what_is_found_suits();
     entries_are_inside();
-    let _kind = kind;
     let _holder = holder;
     let value = word_of_object(&core.run.world, receiver, word);
     let below = Registers {
@@ -90,31 +88,29 @@ pub fn send_setter(
 {
     a_send_is_its_step_and_its_answer();
     charging_keeps_lawful();
+    what_is_found_suits();
     match core.run.world.step() {
-        Ok(()) => Some(set(code, core, at, sent, receiver, kind, holder, word)),
+        Ok(()) => Some(set(code, core, at, sent, receiver, holder, word)),
         Err(_) => None,
     }
 }
 
-/// Stores the argument in the word of the receiver, which comes to the body that runs.
+/// Stores the argument in the word of a slot of the receiver, which comes to the body that runs.
 #[inline(always)]
-fn set(
+pub fn set(
     code: &CodeProgram,
     core: &mut Core,
     at: Registers,
     sent: Sent,
     receiver: Value,
-    kind: Sending,
     holder: u32,
     word: u32,
 ) -> Registers
     requires can { CanSend code.now core.old at sent receiver }
-    requires finds { FindsSetter code.now core.old sent receiver kind holder word }
-    ensures { (activation : Activation) → Sends code.now core.old at sent.floor (looked_up code.now core.old at sent activation (To receiver kind)) core.new (next.On result) }
+    requires suits { Suits core.old.run.world.world.cells code.now receiver (found.Setter holder word) }
+    ensures { Sends code.now core.old at sent.floor (set_at core.old at sent receiver word) core.new (next.On result) }
 {
-    what_is_found_suits();
     entries_are_inside();
-    let _kind = kind;
     let _holder = holder;
     let value = argument(core.stack.from(at, sent.first), 0);
     store(&mut core.run.world, receiver, word, value);

@@ -215,6 +215,7 @@ impl Heap {
     }
 
     /// The kind, the sizes and the fixed parts with which a cell was made.
+    #[inline(always)]
     pub fn cell(&self, at: u32) -> NewCell
         requires { IsSome (find_cell self.now.cells at) }
         ensures { result ≡ shape_at self.now.cells at }
@@ -300,6 +301,7 @@ fn bound_with(first: bool, number: usize, bound: usize) -> usize
 }
 
 /// The word of that place, and the word of nil past the end.
+#[inline(always)]
 fn word_or_nil(words: &[Word], at: usize) -> Word
     ensures { result ≡ slice_index_or words.now at Nil }
 {
@@ -310,6 +312,7 @@ fn word_or_nil(words: &[Word], at: usize) -> Word
 }
 
 /// What a head and the three words behind it tell.
+#[inline(always)]
 fn shape_in(head: Word, next: Word, second: Word, third: Word) -> NewCell
     ensures { result ≡ shape_in head (next ∷ second ∷ third ∷ []) }
 {

@@ -192,6 +192,7 @@ impl World {
     }
 
     /// The kind, the sizes and the fixed parts with which a live cell was made.
+    #[inline(always)]
     pub fn cell(&self, at: u32) -> NewCell
         requires { IsSome (find_cell self.now.world.cells at) }
         ensures { result ≡ shape_at self.now.world.cells at }

@@ -1,4 +1,6 @@
-use Rattle.std.proofs.Common.{None, rules, w64, SFits, to_z-of_z}
+use Rattle.std.proofs.Common.{None, rules, w64, SFits, subst, to_z-of_z}
+use Rattle.ns_plan.specs.declared.step.Step.{Step}
+use Rattle.ns_plan.specs.Steps.{HasItsMember}
 use Rattle.ns_quick.proofs.performing.perform.Goals as goal
 
 pub returns-in-PushNil : goal.returns-in-PushNil
@@ -55,3 +57,7 @@ returns-in-Pick c = rw c.in-Pick.is (c.pick.ensures None)
 
 pub returns-in-StoreSlot : goal.returns-in-StoreSlot
 returns-in-StoreSlot c = rw c.in-StoreSlot.is (c.store_slot.ensures None)
+
+pub send_private-requires-clause-member : goal.send_private-requires-clause-member
+send_private-requires-clause-member c frame others e b there =
+    subst (λ (s : Step). HasItsMember c.args.code.now b s) c.in-SendPrivate.is (c.requires.member frame others b e there)

@@ -4,7 +4,9 @@ use Rattle.ns_world.specs.declared.value.Value.{Value}
 use Rattle.ns_world.specs.Lawful.{IsLiveValue}
 use Rattle.ns_send.specs.Bodies.{Place}
 use Rattle.ns_send.specs.Sends.{ToPrivate, receiver_of}
+use Rattle.ns_act.specs.declared.running.Running.{Running}
 use Rattle.ns_act.specs.Running.{code_of, nowhere}
+use Rattle.ns_sends.specs.Opening.{IsMemberAt}
 use Rattle.ns_sends.specs.Sending.{sent_at, Sends}
 use Rattle.ns_engine.specs.declared.state.Next.TheVariants.{On}
 use Rattle.ns_sends.specs.Operands.{SendsOperands}
@@ -20,10 +22,10 @@ class_of-class-requires-clause-live c =
     subst (λ (v : Value). IsLiveValue c.args.core.now.run.world.world.cells c.args.code.now v)
     (sym (ap (λ (p : Place). p.object) (c.enclosing-receiver.ensures nowhere)))
     (c.enclosing_objects_are_there.ensures.levels c.args.core.now.run.world.world c.args.code.now (code_of c.running_code-code_here.result) c.args.level
-    (here_lawful c.args.code.now c.args.core.now c.args.at (instr.SendPrivate c.args.level c.args.sel c.args.argc) c.requires)
+    (here_lawful c.args.code.now c.args.core.now c.args.at (instr.SendPrivate c.args.level c.args.sel c.args.argc) c.requires.can)
     (here_fits c.args.code.now c.args.core.now c.args.at (instr.SendPrivate c.args.level c.args.sel c.args.argc) c.running.result c.running_code-code_here.result
-    c.requires c.running.ensures c.running_code-code_here.ensures)
-    (level_there c.args.code.now c.args.core.now c.args.at c.args.level c.args.sel c.args.argc c.running.result c.running_code-code_here.result c.requires
+    c.requires.can c.running.ensures c.running_code-code_here.ensures)
+    (level_there c.args.code.now c.args.core.now c.args.at c.args.level c.args.sel c.args.argc c.running.result c.running_code-code_here.result c.requires.can
     c.running.ensures c.running_code-code_here.ensures)).live
 
 pub send_around-requires-clause-can : goal.send_around-requires-clause-can
@@ -32,23 +34,28 @@ send_around-requires-clause-can c =
     let same = c.from.ensures in
     can_send_own c.args.code.now c.args.core.now c.args.at c.args.sel c.from.result
     (subst (λ (n : ℕ). SendsOperands c.args.code.now c.args.core.now c.args.at c.args.sel n n) (sym c.from.ensures)
-    (private_operands c.args.code.now c.args.core.now c.args.at c.args.level c.args.sel c.args.argc c.requires))
+    (private_operands c.args.code.now c.args.core.now c.args.at c.args.level c.args.sel c.args.argc c.requires.can))
     (omega (arith, few, same)) c.args.place c.class_of-class.result c.enclosing-receiver.result.object
     (subst (λ (v : Value). IsLiveValue c.args.core.now.run.world.world.cells c.args.code.now v)
     (sym (ap (λ (p : Place). p.object) (c.enclosing-receiver.ensures nowhere)))
     (c.enclosing_objects_are_there.ensures.levels c.args.core.now.run.world.world c.args.code.now (code_of c.running_code-code_here.result) c.args.level
-    (here_lawful c.args.code.now c.args.core.now c.args.at (instr.SendPrivate c.args.level c.args.sel c.args.argc) c.requires)
+    (here_lawful c.args.code.now c.args.core.now c.args.at (instr.SendPrivate c.args.level c.args.sel c.args.argc) c.requires.can)
     (here_fits c.args.code.now c.args.core.now c.args.at (instr.SendPrivate c.args.level c.args.sel c.args.argc) c.running.result c.running_code-code_here.result
-    c.requires c.running.ensures c.running_code-code_here.ensures)
-    (level_there c.args.code.now c.args.core.now c.args.at c.args.level c.args.sel c.args.argc c.running.result c.running_code-code_here.result c.requires
+    c.requires.can c.running.ensures c.running_code-code_here.ensures)
+    (level_there c.args.code.now c.args.core.now c.args.at c.args.level c.args.sel c.args.argc c.running.result c.running_code-code_here.result c.requires.can
     c.running.ensures c.running_code-code_here.ensures)).live)
     c.class_of-class.ensures
 
 pub returns-in-Some : goal.returns-in-Some
 returns-in-Some c =
     private_does c.operands_are_taken.ensures.taken c.args.code.now c.args.core.now c.send_around.new.core c.args.at c.args.level c.args.sel c.args.argc c.args.place
-    c.class_of-class.result c.running_code-code_here.result c.running.result (On c.in-Some.to) c.requires c.running.ensures c.running_code-code_here.ensures
+    c.class_of-class.result c.running_code-code_here.result c.running.result (On c.in-Some.to) c.requires.can c.running.ensures c.running_code-code_here.ensures
     (subst (λ (n : ℕ). Sends c.args.code.now c.args.core.now c.args.at (c.args.at.top - n)
     (sent_at c.args.code.now c.args.core.now c.args.at (own_sent c.args.at n c.args.place c.class_of-class.result c.args.sel)
     (code_of c.running_code-code_here.result) (ToPrivate c.args.level)) c.send_around.new.core (On c.in-Some.to))
     c.from.ensures c.in-Some.ensures)
+
+pub send_around-requires-clause-member : goal.send_around-requires-clause-member
+send_around-requires-clause-member c =
+    subst (λ (body : ℕ). IsMemberAt c.args.code.now body c.args.level c.args.sel c.args.member) (sym (ap (λ (r : Running). r.body) c.running_code-code_here.ensures))
+    (c.requires.member c.running.result _ c.running.ensures)

@@ -2,7 +2,7 @@ use Rattle.std.proofs.Common.{refl}
 use Rattle.ns_send.specs.Sends.{To}
 use Rattle.ns_engine.specs.declared.state.Next.TheVariants.{On}
 use Rattle.ns_sends.proofs.Stepped.{step_sends}
-use Rattle.ns_sends.proofs.giving.charge.Goals as goal
+use Rattle.ns_sends.proofs.rows.charge.Goals as goal
 
 pub returns-in-Ok : goal.returns-in-Ok
 returns-in-Ok c activation =

@@ -1,0 +1,16 @@
+use Rattle.std.proofs.Common.{subst, Ok}
+use Rattle.ns_world.specs.World.{WorldView}
+use Rattle.ns_frames.specs.Stack.{with_top}
+use Rattle.ns_engine.specs.declared.state.Core.{Core}
+use Rattle.ns_engine.specs.declared.state.Next.TheVariants.{On}
+use Rattle.ns_engine.specs.Doing.{IsSettled}
+use Rattle.ns_sends.proofs.Valued.{put_sends}
+use Rattle.ns_sends.proofs.rows.put.Goals as goal
+
+pub returns : goal.returns
+returns c activation =
+    put_sends c.args.code.now c.args.core.now c.give.new.core c.args.at c.args.sent c.args.receiver c.args.kind c.args.place c.from.result.now
+    c.argument-value.result (On c.give.result) activation c.requires.can c.requires.finds c.requires.names c.from.ensures c.argument-value.ensures
+    (subst (λ (world : WorldView). let stored : Core = record c.args.core.now { run = record c.args.core.now.run { world = world } } in
+    IsSettled c.args.code.now stored (with_top c.args.sent.floor c.args.at) c.args.sent.site (Ok c.argument-value.result) c.give.new.core (On c.give.result))
+    c.store.ensures (c.give.ensures c.args.sent.site))
