@@ -15,3 +15,4 @@ pub mod Resent
 pub mod Given
 pub mod Opened
 pub mod Slotted
+pub mod Begun

@@ -17,6 +17,7 @@ ghost use Rattle.ns_sends.specs.Operands.{SendsOperands};
 ghost use Rattle.ns_sends.specs.Sending.{CanSend, looked_up, Sends};
 
 use crate::going::row_numbered;
+use crate::looping::{loops, send_looping};
 use crate::opening::send_method;
 use crate::sent::Sent;
 use crate::slots::{send_getter, send_setter};
@@ -150,6 +151,9 @@ fn do_found(
         }
         Found::Setter { holder, word } => {
             send_setter(code, core, at, sent, receiver, kind, holder, word)
+        }
+        Found::Kernel(number) if loops(number) => {
+            send_looping(code, core, at, sent, receiver, kind, number)
         }
         Found::Kernel(_) => send_integer(code, core, at, sent, receiver, kind, found),
         _ => None,
