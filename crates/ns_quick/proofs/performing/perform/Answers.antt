@@ -55,3 +55,6 @@ returns-in-Pick c = rw c.in-Pick.is (c.pick.ensures None)
 
 pub returns-in-StoreSlot : goal.returns-in-StoreSlot
 returns-in-StoreSlot c = rw c.in-StoreSlot.is (c.store_slot.ensures None)
+
+pub returns-in-ReturnHome : goal.returns-in-ReturnHome
+returns-in-ReturnHome c = rw c.in-ReturnHome.is (c.return_home.ensures None)
