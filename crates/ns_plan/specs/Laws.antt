@@ -65,6 +65,13 @@ MembersAreFound code =
     → found_at world.cells code activation (ToPrivate level) sel.0
     ≡ found_in world.cells code (enclosing world.cells activation level).holder (member_at code b level sel)
 
+-- Where it is that of a slot, the slot is an entry of the declaration of that holder.
+abbrev pub MembersAreEntries : CodeProgram → Type 0
+MembersAreEntries code =
+    (world : World) (activation : Activation) (b : BodyCode) (level : ℕ) (sel : Sel) → IsLawful world code
+    → FitsActivation world.cells code activation → slice_get code.bodies activation.body ≡ Some b → IsSome (declaration_at code activation.body level)
+    → IsAmong (entries_of code (declaration_of world.cells (enclosing world.cells activation level).holder)) (member_at code b level sel)
+
 -- A private send of sound code has a member.
 abbrev pub PrivateSendsHaveMembers : CodeProgram → Type 0
 PrivateSendsHaveMembers code =
@@ -78,13 +85,6 @@ PrivateSendsFind code =
     → FitsActivation world.cells code activation → slice_get code.bodies activation.body ≡ Some b
     → IsUsable code activation.body b at (SendPrivate level sel argc)
     → found_at world.cells code activation (ToPrivate level) sel.0 ≢ found.Absent
-
--- Where it is that of a slot, the slot is an entry of the declaration of that holder.
-abbrev pub MembersAreEntries : CodeProgram → Type 0
-MembersAreEntries code =
-    (world : World) (activation : Activation) (b : BodyCode) (level : ℕ) (sel : Sel) → IsLawful world code
-    → FitsActivation world.cells code activation → slice_get code.bodies activation.body ≡ Some b → IsSome (declaration_at code activation.body level)
-    → IsAmong (entries_of code (declaration_of world.cells (enclosing world.cells activation level).holder)) (member_at code b level sel)
 
 -- No body has more locals and operands than the greatest frame.
 abbrev pub FramesAreWithin : CodeProgram → Type 0

@@ -21,6 +21,7 @@ use ns_find::found::Sending;
 use ns_frames::registers::Registers;
 use ns_plan::step::Step;
 use ns_returns::answering::{return_self, return_value};
+use ns_returns::unwinding::return_home;
 use ns_sends::giving::{send, send_inner};
 use ns_sends::private::send_private;
 
@@ -61,6 +62,7 @@ pub fn perform(code: &CodeProgram, core: &mut Core, at: Registers, step: Step) -
         Step::StoreSlot(slot) => Some(store_slot(code, core, at, slot)),
         Step::Return => return_value(code, core, at),
         Step::ReturnSelf => return_self(code, core, at),
+        Step::ReturnHome => return_home(code, core, at),
         Step::Jump(target) => jump(code, core, at, target),
         Step::JumpFalse(target) => jump_false(code, core, at, target),
         Step::JumpTrue(target) => jump_true(code, core, at, target),

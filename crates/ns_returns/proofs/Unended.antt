@@ -1,5 +1,6 @@
 -- Ends of bodies that the quick way leaves to the general one.
-use Rattle.std.proofs.Common.{◌≡◌, ◌<◌, ◌∷◌, List, [], length, refl, subst, sym, arith}
+use Rattle.std.proofs.Common.{◌≡◌, ◌<◌, ◌∷◌, ℕ, List, [], length, drop, refl, subst, sym, arith}
+use Rattle.std.proofs.lemmas.List.{length-drop}
 use Rattle.ns_code.specs.declared.program.CodeProgram.{CodeProgram}
 use Rattle.ns_world.specs.declared.value.Value.{Value}
 use Rattle.ns_frames.specs.declared.frame.Frame.{Frame}
@@ -23,3 +24,10 @@ some_below old new some is = subst (λ (row : FrameRow). 0 < length row.items) (
     by_frames [] low = absurd (omega (arith, low))
     by_frames (one ∷ []) low = absurd (omega (arith, low))
     by_frames (one ∷ other ∷ frames) low = omega arith
+
+-- Where more frames stand than are taken off, one is left.
+pub some_dropped : (old new : Stack) (count : ℕ) → count < length old.frames.items → new.frames ≡ record old.frames { items = drop count old.frames.items }
+    → 0 < length new.frames.items
+some_dropped old new count some is =
+    let less = length-drop count old.frames.items in
+    subst (λ (row : FrameRow). 0 < length row.items) (sym is) (omega (arith, some, less))

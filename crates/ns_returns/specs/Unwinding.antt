@@ -1,5 +1,5 @@
 -- Frames that are given back down to a home.
-use Rattle.std.specs.Prelude.{◌≡◌, ℕ, Some}
+use Rattle.std.specs.Prelude.{◌≡◌, ℕ, Option, Some, None}
 use Rattle.ns_code.specs.declared.program.CodeProgram.{CodeProgram}
 use Rattle.ns_world.specs.declared.value.Value.{Value}
 use Rattle.ns_world.specs.Lawful.{IsLawful, IsLiveValue}
@@ -10,9 +10,11 @@ use Rattle.ns_frames.specs.Stack.{stood}
 use Rattle.ns_frames.specs.View.{frames_shown}
 use Rattle.ns_engine.specs.declared.state.Core.{Core}
 use Rattle.ns_engine.specs.declared.state.Next.{Next}
+use Rattle.ns_engine.specs.declared.state.Next.TheVariants.{On}
 use Rattle.ns_engine.specs.Shown.{phase_shown, progress_in, shown}
 use Rattle.ns_engine.specs.Standing.{Stands, StandAt, Stays, KeepsRightIn}
 use Rattle.ns_engine.specs.Framed.{AreFramed}
+use Rattle.ns_engine.specs.Tried.{IsUntouched}
 
 -- So many frames stand down to a home, with it, and it can be given a live value.
 pub record CanUnwind (code : CodeProgram) (core : Core) (at : Registers) (home count : ℕ) (value : Value) : Type 0 where
@@ -30,3 +32,8 @@ pub record IsUnwound (code : CodeProgram) (old : Core) (at : Registers) (home : 
   pub stand : StandAt code new next
   pub stays : Stays old new
   pub kept : KeepsRightIn code old new
+
+-- They were given back, and the frame below the home goes on with the value at those registers; or nothing is done.
+abbrev pub UnwindsOrNot : CodeProgram → Core → Registers → ℕ → Value → Core → Option Registers → Type 0
+UnwindsOrNot code old at home value new (Some to) = IsUnwound code old at home value new (On to)
+UnwindsOrNot code old at home value new None = IsUntouched code old new

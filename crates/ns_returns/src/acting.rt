@@ -25,7 +25,7 @@ use ns_send::laws::actions_keep_lawful;
 use ns_world::value::Value;
 
 /// Does the next action of the method of the kernel that is topmost: it lets the evaluation of a block wait, or ends.
-#[inline(always)]
+#[inline(never)]
 #[tactic(auto, using(crate::proofs::Topmost::acting_loops))]
 pub fn act(code: &CodeProgram, core: &mut Core, at: Registers, own: OwnSends) -> Next
     requires can { CanAct code.now core.old at }

@@ -98,7 +98,7 @@ fn answer(
 /// Brings a value to the frame on top.
 #[inline(always)]
 #[tactic(auto, using(crate::proofs::Handed::has_place))]
-fn hand(code: &CodeProgram, core: &mut Core, at: Registers, value: Value) -> Registers
+pub fn hand(code: &CodeProgram, core: &mut Core, at: Registers, value: Value) -> Registers
     requires can { CanTake code.now core.old at }
     requires live { IsLiveValue core.old.run.world.world.cells code.now value }
     requires some { 0 < length core.old.stack.frames.items }

@@ -65,7 +65,7 @@ fn unwind(
 }
 
 /// Gives the depth of so many frames back.
-fn give_back(world: &mut World, count: u32)
+pub fn give_back(world: &mut World, count: u32)
     requires { count ≤ world.old.world.depth }
     ensures ended { (rest : Progress) → in_world rest world.new.world ≡ parts_ended count (in_world rest world.old.world) }
     ensures rest { SameRest world.old world.new }

@@ -10,3 +10,4 @@ pub mod handing;
 pub mod homes;
 pub mod laws;
 pub mod parts;
+pub mod unwinding;

@@ -17,3 +17,4 @@ pub mod Opened
 pub mod Slotted
 pub mod Valued
 pub mod Members
+pub mod Begun

@@ -1,5 +1,6 @@
 pub mod Going
 pub mod Given
+pub mod Looping
 pub mod Opening
 pub mod Rows
 pub mod Sending

@@ -11,6 +11,7 @@ ghost use Rattle.ns_sends.specs.Given.{SendsOrNot, ToTopOrNot};
 ghost use Rattle.ns_sends.specs.Operands.{SendsOperands};
 ghost use Rattle.ns_sends.specs.Sending.{CanSend};
 
+use crate::looping::{loops, send_looping};
 use crate::opening::send_method;
 use crate::rows::send_row;
 use crate::sent::Sent;
@@ -140,6 +141,9 @@ fn do_found(
         }
         Found::Setter { holder, word } => {
             send_setter(code, core, at, sent, receiver, kind, holder, word)
+        }
+        Found::Kernel(number) if loops(number) => {
+            send_looping(code, core, at, sent, receiver, kind, number)
         }
         Found::Kernel(number) => send_row(code, core, at, sent, receiver, kind, number),
         _ => None,

@@ -39,8 +39,8 @@ pub fn go_on(
     }
 }
 
-/// Asks a row of the kernel, and goes where that leads. The rows of Integer, which are asked most, have a copy of this code
-/// of their own, in which there is no way but to a value or a fault.
+/// Asks a row of the kernel, and goes where that leads. The rows of Integer, which are asked most, and `value` have a copy of
+/// this code of their own each, in which there is no way but theirs.
 #[inline(always)]
 fn ask(
     code: &CodeProgram,
@@ -59,6 +59,7 @@ fn ask(
     let row = row_numbered(number);
     match row {
         Row::Integer(_) => ask_row(code, core, at, sent, receiver, number, row),
+        Row::Value => ask_row(code, core, at, sent, receiver, number, row),
         _ => ask_apart(code, core, at, sent, receiver, number, row),
     }
 }

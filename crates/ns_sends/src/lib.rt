@@ -9,6 +9,7 @@ mod evaluating;
 pub mod giving;
 mod going;
 pub mod led;
+mod looping;
 mod opening;
 pub mod placing;
 pub mod private;

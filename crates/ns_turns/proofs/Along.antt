@@ -1,15 +1,20 @@
 -- Moves of a machine one after another, with steps left.
-use Rattle.std.proofs.Common.{◌≡◌, ℕ, ◌-◌, ◌<◌, ◌≤◌, ap, sym, subst, arith, false}
+use Rattle.std.proofs.Common.{◌≡◌, ℕ, ◌-◌, ◌<◌, ◌≤◌, refl, ap, sym, subst, arith, false}
 use Rattle.ns_code.specs.declared.program.CodeProgram.{CodeProgram}
 use Rattle.ns_facets.specs.declared.row.Grants.{Grants}
 use Rattle.ns_falling.specs.Falling.{run_left, MovesLower}
 use Rattle.ns_moves.specs.State.{State, world_of}
 use Rattle.ns_moves.specs.Turn.{is_still}
 use Rattle.ns_plan.specs.declared.plan.Plan.{Plan}
+use Rattle.ns_frames.specs.declared.frame.Pending.{Pending}
+use Rattle.ns_frames.specs.declared.frame.Pending.TheVariants as pending
+use Rattle.ns_frames.specs.declared.registers.Registers.{Registers}
+use Rattle.ns_frames.specs.View.{state_shown}
 use Rattle.ns_engine.specs.declared.own.OwnSends.{OwnSends}
 use Rattle.ns_engine.specs.declared.state.Core.{Core}
 use Rattle.ns_engine.specs.declared.state.Next.{Next}
-use Rattle.ns_engine.specs.Shown.{shown}
+use Rattle.ns_engine.specs.declared.state.Next.TheVariants.{Waits}
+use Rattle.ns_engine.specs.Shown.{phase_shown, progress_in, shown}
 use Rattle.ns_engine.specs.Ready.{Moves, MovesKeepReady}
 use Rattle.ns_turns.specs.Turning.{steps_left, RunsBy, IsTurning, GoesAlong, HasGone}
 use Rattle.ns_turns.proofs.Turned.{Known, runs_on, turning_on, counted, left_is, since_begun}
@@ -32,7 +37,7 @@ since_on code known old new from next moved =
 
 pub none_gone : (code : CodeProgram) (plan : Plan) (sends : OwnSends) (left : ℕ) (old : Core) (from : Next) → RunsBy code plan sends old from
     → GoesAlong code plan sends left old from old from
-none_gone code plan sends left old from runs = record { runs = runs; turning = λ steps first began e turning. turning; lower = omega arith }
+none_gone code plan sends left old from runs = record { runs = runs; turning = λ steps first began e turning. turning; onward = omega arith; lower = omega arith }
 
 module _ (code : CodeProgram) (all : KnownMoves code) (plan : Plan) (sends : OwnSends) (left : ℕ) (old : Core) (from : Next) where
   module _ (goes : is_still (shown code old from) ≡ false) (now new : Core) (here next : Next) (on : is_still (shown code now here) ≡ false)
@@ -59,7 +64,44 @@ module _ (code : CodeProgram) (all : KnownMoves code) (plan : Plan) (sends : Own
         turning = λ steps first began e turning.
             turning_on code all.known all.keeps steps first now new began here next along.runs.can on
             (λ told. some_left steps first began e turning) (along.turning steps first began e turning) moved;
+        onward = let a = along.onward in let b = since_on code all.known now new here next moved in omega (arith, a, b);
         lower = let a = falls_on along in omega (arith, a);
       };
       falls = falls_on along;
     }
+
+-- Moves that led on with the steps that were left then, of those with which others had led there, have led on from where those began.
+module _ (code : CodeProgram) (plan : Plan) (sends : OwnSends) (left : ℕ) (old now new : Core) (from here next : Next) where
+  left_there : GoesAlong code plan sends left old from now here → is_still (shown code old from) ≡ false → (steps : ℕ) (first : Core) (began : Next)
+      → left ≡ steps_left steps (shown code first began) (shown code old from) → IsTurning code steps first began old from
+      → left - (now.run.world.world.steps - old.run.world.world.steps) ≡ steps_left steps (shown code first began) (shown code now here)
+  left_there along goes steps first began e turning =
+      let since = since_begun code steps first old began from goes turning.under in
+      let a = left_is code steps first old began from in
+      let b = left_is code steps first now began here in
+      let on = along.onward in
+      omega (arith, e, since, a, b, on)
+
+  pub gone_far : GoesAlong code plan sends left old from now here → is_still (shown code old from) ≡ false
+      → HasGone code plan sends (left - (now.run.world.world.steps - old.run.world.world.steps)) now here new next
+      → HasGone code plan sends left old from new next
+  gone_far along goes gone = record {
+    along = record {
+      runs = gone.along.runs;
+      turning = λ steps first began e turning.
+          gone.along.turning steps first began (left_there along goes steps first began e turning) (along.turning steps first began e turning);
+      onward = let a = along.onward in let b = gone.along.onward in omega (arith, a, b);
+      lower = let a = along.lower in let b = gone.along.lower in omega (arith, a, b);
+    };
+    falls = let a = along.lower in let b = gone.falls in omega (arith, a, b);
+  }
+
+-- A run in which something waits goes on.
+pub waits_goes : (code : CodeProgram) (core : Core) (at : Registers) → is_still (shown code core (Waits at)) ≡ false
+waits_goes code core at = by_pending core.waiting
+  where
+    by_pending : (p : Pending) → is_still (state_shown code core.places (phase_shown core.phase) p core.stack at (progress_in core)) ≡ false
+    by_pending pending.Nothing = refl
+    by_pending (pending.Sending receiver sel site floor first) = refl
+    by_pending (pending.Performing receiver sel array site floor) = refl
+    by_pending (pending.Evaluating block site floor first) = refl

@@ -1,20 +1,18 @@
 -- Sends that waited: what is known where they wait, and what becomes of them.
-use Rattle.std.proofs.Common.{◌≡◌, ◌+◌, ◌-◌, ◌*◌, ◌<◌, ◌≤◌, ℕ, List, [], ◌∷◌, length, take, drop, ap, sym, ◌∙◌, refl, subst, arith, Option, Some, None, Bool, true, false, All, length-take-le}
+use Rattle.std.proofs.Common.{◌≡◌, ◌+◌, ◌-◌, ◌≤◌, ℕ, List, length, take, drop, ap, sym, ◌∙◌, refl, subst, arith, Option, Some, None, All, length-take-le}
 use Rattle.std.specs.Prelude.{IsTrue, IsSome}
 use Rattle.std.specs.Option.{option_map_or}
 use Rattle.std.proofs.lemmas.List.{length-drop}
 use Rattle.ns_code.specs.declared.program.CodeProgram.{CodeProgram}
-use Rattle.ns_code.specs.Selector.{selector_arity}
 use Rattle.ns_facets.specs.declared.row.Grants.{Grants}
 use Rattle.ns_world.specs.declared.cell.NewCell.TheVariants as new
 use Rattle.ns_world.specs.declared.value.Value.{Value}
 use Rattle.ns_world.specs.declared.value.Value.TheVariants.{Nil, Ref}
 use Rattle.ns_world.specs.Cell.{Cell, shape_of}
 use Rattle.ns_world.specs.Heap.{Heap, find_cell}
-use Rattle.ns_world.specs.Lawful.{IsLawful, IsLiveValue}
+use Rattle.ns_world.specs.Lawful.{IsLiveValue}
 use Rattle.ns_base.specs.declared.selector.Sel.{Sel}
 use Rattle.ns_kdata.specs.Arguments.{IsThere, items_of, is_array, is_array_shape}
-use Rattle.ns_send.specs.declared.site.Site.{Site}
 use Rattle.ns_send.specs.Control.{Control, gives}
 use Rattle.ns_send.specs.Lawful.{LawfulControl, FitsSelector}
 use Rattle.ns_send.specs.Sends.{sent_from}
@@ -28,13 +26,10 @@ use Rattle.ns_frames.specs.declared.frame.KeptSite.{KeptSite}
 use Rattle.ns_frames.specs.declared.frame.Pending.{Pending}
 use Rattle.ns_frames.specs.declared.frame.Pending.TheVariants as pending
 use Rattle.ns_frames.specs.declared.registers.Registers.{Registers}
-use Rattle.ns_frames.specs.declared.stack.Stack.{Stack}
 use Rattle.ns_frames.specs.Row.{FrameRow}
-use Rattle.ns_frames.specs.Room.{bound}
-use Rattle.ns_frames.specs.Standing.{Stood, standing, at_next}
+use Rattle.ns_frames.specs.Standing.{at_next}
 use Rattle.ns_frames.specs.Stack.{in_use, stood, with_top, IsLaid}
 use Rattle.ns_frames.specs.View.{site_shown, frames_shown, state_shown}
-use Rattle.ns_find.specs.declared.memo.Kept.{Kept}
 use Rattle.ns_find.specs.Memo.{IsRight}
 use Rattle.ns_act.specs.declared.run.Run.{Run}
 use Rattle.ns_engine.specs.declared.state.Core.{Core}
@@ -45,7 +40,7 @@ use Rattle.ns_engine.specs.declared.own.OwnSends.{OwnSends}
 use Rattle.ns_engine.specs.Own.{AreOwn}
 use Rattle.ns_engine.specs.Ready.{IsReady, Moves}
 use Rattle.ns_engine.specs.Framed.{HasRoomOnTop, WaitingHasRoom, ArgumentsAreFew}
-use Rattle.ns_engine.specs.Standing.{greatest_of, most_arguments, AreStanding, ArgumentsWait, SendWaits, Wait, HasRooms, Stays, KeepsRightIn}
+use Rattle.ns_engine.specs.Standing.{greatest_of, AreStanding, ArgumentsWait, SendWaits, Wait}
 use Rattle.ns_engine.proofs.Kept.{rooms_stay}
 use Rattle.ns_returns.specs.Handing.{CanTake, IsHanded}
 use Rattle.ns_sends.specs.declared.sent.Sent.{Sent}

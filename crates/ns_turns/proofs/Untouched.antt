@@ -1,5 +1,5 @@
 -- A machine in which nothing has changed but the lookups that it keeps.
-use Rattle.std.proofs.Common.{◌≡◌, ℕ, ◌-◌, ◌<◌, List, Option, All, ap, sym, subst, arith}
+use Rattle.std.proofs.Common.{◌≡◌, ℕ, ◌-◌, ◌<◌, List, Option, All, ap, sym, subst, arith, false}
 use Rattle.ns_code.specs.declared.program.CodeProgram.{CodeProgram}
 use Rattle.ns_facets.specs.declared.row.Grants.{Grants}
 use Rattle.ns_falling.specs.Falling.{run_left}
@@ -14,7 +14,9 @@ use Rattle.ns_engine.specs.declared.state.Next.TheVariants.{On}
 use Rattle.ns_engine.specs.Ready.{IsReady}
 use Rattle.ns_engine.specs.Shown.{shown}
 use Rattle.ns_engine.specs.Tried.{IsUntouched}
-use Rattle.ns_turns.specs.Turning.{RunsBy, IsTurning, GoesAlong}
+use Rattle.ns_moves.specs.Turn.{is_still}
+use Rattle.ns_turns.specs.Turning.{RunsBy, IsTurning, GoesAlong, HasGone}
+use Rattle.ns_turns.proofs.Along.{gone_far}
 
 -- it keeps these instead
 abbrev pub with_memo : Core → List (Option Kept) → Core
@@ -53,6 +55,7 @@ module _ (code : CodeProgram) (core : Core) (at : Registers) (memo : List (Optio
   memo_along plan sends left old from along = record {
     runs = memo_runs plan sends along.runs;
     turning = λ steps first began e turning. memo_turning steps first began (along.turning steps first began e turning);
+    onward = along.onward;
     lower = along.lower;
   }
 
@@ -74,3 +77,12 @@ untouched_few code now new old left is few = let same = untouched_steps code now
 pub untouched_falls : (code : CodeProgram) (now new : Core) (at : Registers) (less : ℕ) → IsUntouched code now new
     → less < run_left code (shown code new (On at)) → less < run_left code (shown code now (On at))
 untouched_falls code now new at less is falls = subst (λ (core : Core). less < run_left code (shown code core (On at))) is.same falls
+
+-- Moves that led on from such a machine, with the steps that were left for it, have led on from where others began.
+pub untouched_far : (code : CodeProgram) (plan : Plan) (sends : OwnSends) (left some : ℕ) (old now mid new : Core) (from : Next) (at : Registers) (next : Next)
+    → GoesAlong code plan sends left old from now (On at) → is_still (shown code old from) ≡ false → IsUntouched code now mid
+    → some ≡ left - (mid.run.world.world.steps - old.run.world.world.steps) → HasGone code plan sends some mid (On at) new next
+    → HasGone code plan sends left old from new next
+untouched_far code plan sends left some old now mid new from at next along goes is e gone =
+    gone_far code plan sends left old mid new from (On at) next (untouched_along code plan sends left old from now mid at along is) goes
+    (subst (λ n. HasGone code plan sends n mid (On at) new next) e gone)

@@ -1,5 +1,5 @@
 -- Sends that waited.
-use Rattle.std.specs.Prelude.{◌≡◌, ◌<◌, ◌≤◌, ℕ, List, length, IsTrue}
+use Rattle.std.specs.Prelude.{◌≡◌, ◌<◌, ◌≤◌, ℕ, List, length}
 use Rattle.ns_code.specs.declared.program.CodeProgram.{CodeProgram}
 use Rattle.ns_verify.specs.Verify.{IsSound}
 use Rattle.ns_world.specs.declared.value.Value.{Value}

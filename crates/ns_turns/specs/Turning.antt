@@ -47,11 +47,12 @@ pub record IsTurning (code : CodeProgram) (steps : ℕ) (first : Core) (from : N
   pub under : IsUnderWay code steps (shown code first from) (shown code now next)
 
 -- Moves of the machine, if any, have led from one state to another: a turn that had come to the first with so many steps left
--- has come to the other, and no more is left to be done.
+-- has come to the other, no step is taken back, and no more is left to be done.
 pub record GoesAlong (code : CodeProgram) (plan : Plan) (sends : OwnSends) (left : ℕ) (old : Core) (from : Next) (new : Core) (to : Next) : Type 0 where
   pub runs : RunsBy code plan sends new to
   pub turning : (steps : ℕ) (first : Core) (began : Next) → left ≡ steps_left steps (shown code first began) (shown code old from)
       → IsTurning code steps first began old from → IsTurning code steps first began new to
+  pub onward : old.run.world.world.steps ≤ new.run.world.world.steps
   pub lower : run_left code (shown code new to) ≤ run_left code (shown code old from)
 
 -- So one move or more have, and less is left.
@@ -65,8 +66,3 @@ MovesGoAlong code =
     (plan : Plan) (sends : OwnSends) (left : ℕ) (old now new : Core) (from here next : Next)
     → GoesAlong code plan sends left old from now here → is_still (shown code old from) ≡ false → is_still (shown code now here) ≡ false
     → now.run.world.world.steps - old.run.world.world.steps < left → Moves code now here new next → HasGone code plan sends left old from new next
-
--- No move takes a step back.
-abbrev pub MovesCountOn : CodeProgram → Type 0
-MovesCountOn code =
-    (old new : Core) (from next : Next) → Moves code old from new next → old.run.world.world.steps ≤ new.run.world.world.steps

@@ -1,7 +1,7 @@
 //! Laws of turns. Each function does nothing but name the laws that it rests on, and its contract is the law.
 
 ghost use Rattle.ns_code.specs.declared.program.CodeProgram.{CodeProgram};
-ghost use Rattle.ns_turns.specs.Turning.{MovesGoAlong, MovesCountOn};
+ghost use Rattle.ns_turns.specs.Turning.{MovesGoAlong};
 
 use ns_engine::laws::{moves_keep_machines_ready, turns_go_by_moves};
 use ns_falling::laws::moves_lower;
@@ -10,8 +10,7 @@ use ns_moves::valid_frames::moves_keep_valid;
 
 /// Moves of a machine go along, one after another, as long as steps are left, and none takes a step back.
 pub fn moves_go_along()
-    ensures along { (code : CodeProgram) → MovesGoAlong code }
-    ensures count { (code : CodeProgram) → MovesCountOn code }
+    ensures { (code : CodeProgram) → MovesGoAlong code }
 {
     turns_go_by_moves();
     moves_charge_as_told();

@@ -1,11 +1,9 @@
 //! One move of the topmost frame: the next step of the body that runs, or the next action of a method of the kernel.
 
-ghost use Rattle.std.specs.Prelude.{◌≡◌, ◌∷◌, slice_get};
-ghost use Rattle.ns_frames.specs.declared.frame.Frame.TheVariants.{Running};
-ghost use Rattle.ns_frames.specs.Standing.{below};
+ghost use Rattle.std.specs.Prelude.{◌≡◌, slice_get};
 ghost use Rattle.ns_plan.specs.Steps.{instr_of, place_of, send_instr};
 ghost use Rattle.ns_engine.specs.declared.state.Next.TheVariants as next;
-ghost use Rattle.ns_engine.specs.Doing.{CanDo, Does};
+ghost use Rattle.ns_engine.specs.Doing.{CanDo, Does, IsRunning};
 ghost use Rattle.ns_engine.specs.Own.{AreOwn};
 ghost use Rattle.ns_engine.specs.Ready.{Moves};
 ghost use Rattle.ns_turns.specs.Turning.{RunsBy};
@@ -21,11 +19,12 @@ use ns_engine::own::OwnSends;
 use ns_engine::pushing::{
     push_false, push_int, push_nil, push_outer, push_self, push_sym, push_true,
 };
+use ns_engine::settling::running;
 use ns_engine::state::{Core, Next};
 use ns_engine::storing::store_slot;
 use ns_engine::taking::{pick, pop};
 use ns_find::found::Sending;
-use ns_frames::frame::{Frame, RunningFrame};
+use ns_frames::frame::Frame;
 use ns_frames::registers::Registers;
 use ns_plan::plan::Plan;
 use ns_plan::step::Step;
@@ -45,26 +44,21 @@ pub fn go_on(plan: &Plan, code: &CodeProgram, core: &mut Core, at: Registers, ow
 {
     topmost_methods_can_act();
     match *core.stack.topmost() {
-        Frame::Running(frame) => run_on(plan, code, core, at, frame, own),
+        Frame::Running(_) => run_on(plan, code, core, at, own),
         Frame::Looping(_) => act(code, core, at, own),
     }
 }
 
-/// Does the next step of a body, which runs in the topmost frame.
-#[inline(always)]
-fn run_on(
-    plan: &Plan,
-    code: &CodeProgram,
-    core: &mut Core,
-    at: Registers,
-    frame: RunningFrame,
-    own: OwnSends,
-) -> Next
+/// Does the next step of a body, which runs in the topmost frame. Its code stands once, and apart from that of methods of the
+/// kernel.
+#[inline(never)]
+fn run_on(plan: &Plan, code: &CodeProgram, core: &mut Core, at: Registers, own: OwnSends) -> Next
     requires runs { RunsBy code.now plan.now own core.old (next.On at) }
-    requires top { core.old.stack.frames.items ≡ Running frame ∷ below core.old.stack.frames.items }
+    requires running { IsRunning core.old.stack.frames.items }
     ensures { Moves code.now core.old (next.On at) core.new result }
 {
     moves_keep_machines_ready();
+    let frame = running(&core.stack);
     let step = fetch(plan, code, core, at, frame);
     let behind = Registers {
         next: at.next + 1,

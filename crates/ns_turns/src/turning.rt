@@ -121,7 +121,8 @@ fn run_along(
                 here = to;
             }
             None => {
-                let moved = go_apart(plan, code, core, here, own);
+                let used = core.run.world.counters().steps - begun;
+                let moved = go_apart(plan, code, core, here, left - used, own);
                 match moved {
                     Next::On(to) => {
                         if left <= core.run.world.counters().steps - begun {
@@ -136,13 +137,31 @@ fn run_along(
     }
 }
 
-/// Goes on with the topmost frame, apart from the loop in which that is done where the quick way doesn't do it.
+/// Goes on with the topmost frame, apart from the loop in which that is done where the quick way doesn't do it; and then
+/// with what waits, as the block that a method of the kernel evaluates, where a step is left.
 #[inline(never)]
-fn go_apart(plan: &Plan, code: &CodeProgram, core: &mut Core, at: Registers, own: OwnSends) -> Next
-    requires { RunsBy code.now plan.now own core.old (next.On at) }
-    ensures { Moves code.now core.old (next.On at) core.new result }
+fn go_apart(
+    plan: &Plan,
+    code: &CodeProgram,
+    core: &mut Core,
+    at: Registers,
+    left: u64,
+    own: OwnSends,
+) -> Next
+    requires runs { RunsBy code.now plan.now own core.old (next.On at) }
+    requires some { 1 ≤ left }
+    ensures { HasGone code.now plan.now own left core.old (next.On at) core.new result }
 {
-    go_on(plan, code, core, at, own)
+    moves_go_along();
+    let begun = core.run.world.counters().steps;
+    let moved = go_on(plan, code, core, at, own);
+    if left <= core.run.world.counters().steps - begun {
+        return moved;
+    }
+    match moved {
+        Next::Waits(to) => take_up(plan, code, core, to, own),
+        Next::On(_) | Next::Ended => moved,
+    }
 }
 
 /// One move, apart from the loop in which it is made for as long as steps are left.

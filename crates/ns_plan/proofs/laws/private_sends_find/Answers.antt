@@ -5,4 +5,4 @@ pub returns-clause-member : goal.returns-clause-member
 returns-clause-member c = sends_have_members
 
 pub returns-clause-finds : goal.returns-clause-finds
-returns-clause-finds c code = sends_find code (c.members_are_found.ensures code)
+returns-clause-finds c code = sends_find code (c.members_are_found.ensures.found code)

@@ -61,3 +61,6 @@ returns-in-StoreSlot c = rw c.in-StoreSlot.is (c.store_slot.ensures None)
 pub send_private-requires-clause-member : goal.send_private-requires-clause-member
 send_private-requires-clause-member c frame others e b there =
     subst (λ (s : Step). HasItsMember c.args.code.now b s) c.in-SendPrivate.is (c.requires.member frame others b e there)
+
+pub returns-in-ReturnHome : goal.returns-in-ReturnHome
+returns-in-ReturnHome c = rw c.in-ReturnHome.is (c.return_home.ensures None)

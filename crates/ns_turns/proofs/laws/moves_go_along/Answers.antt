@@ -1,9 +1,8 @@
-use Rattle.ns_turns.proofs.Along.{KnownMoves, gone_on, since_on}
-use Rattle.ns_turns.proofs.Turned.{Known}
+use Rattle.ns_turns.proofs.Along.{KnownMoves, gone_on}
 use Rattle.ns_turns.proofs.laws.moves_go_along.Goals as goal
 
-pub returns-clause-along : goal.returns-clause-along
-returns-clause-along c = λ code plan sends left old now new from here next along goes on few moved.
+pub returns : goal.returns
+returns c = λ code plan sends left old now new from here next along goes on few moved.
     let all : KnownMoves code = (record {
       known = record {
         begin = c.turns_go_by_moves.ensures.begin code;
@@ -20,18 +19,3 @@ returns-clause-along c = λ code plan sends left old now new from here next alon
       lower = c.moves_lower.ensures code;
     }) in
     gone_on code all plan sends left old from goes now new here next on few moved along
-
-pub returns-clause-count : goal.returns-clause-count
-returns-clause-count c = λ code old new from next moved.
-    let known : Known code = (record {
-      begin = c.turns_go_by_moves.ensures.begin code;
-      free = c.turns_go_by_moves.ensures.free code;
-      charged = c.turns_go_by_moves.ensures.charged code;
-      last = c.turns_go_by_moves.ensures.last code;
-      rest = c.turns_go_by_moves.ensures.rest code;
-      took = c.moves_charge_as_told.ensures.steps code;
-      test = c.moves_charge_as_told.ensures.test code;
-      keeps = c.moves_keep_valid.ensures code;
-      onward = c.moves_go_onward.ensures code;
-    }) in
-    since_on code known old new from next moved

@@ -1,8 +1,6 @@
-use Rattle.std.proofs.Common.{refl}
 use Rattle.ns_world.specs.declared.value.Value.TheVariants.{Ref}
 use Rattle.ns_kdata.specs.Arguments.{items_of}
 use Rattle.ns_frames.specs.declared.frame.Pending.TheVariants as pending
-use Rattle.ns_engine.specs.declared.state.Next.TheVariants as next
 use Rattle.ns_turns.specs.Resending.{sent_from_floor}
 use Rattle.ns_turns.proofs.Resent.{valid_there, performing_stands, performing_known, array_there, may_place, can_send, room_stays, own_set, performing_moves}
 use Rattle.ns_turns.proofs.resending.perform_waiting.Goals as goal

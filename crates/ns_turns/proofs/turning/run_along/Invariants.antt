@@ -1,4 +1,4 @@
-use Rattle.std.proofs.Common.{◌≡◌, ◌-◌, ◌<◌, ◌≤◌}
+use Rattle.std.proofs.Common.{◌≡◌, ◌-◌, ◌<◌}
 use Rattle.ns_engine.specs.declared.state.Next.TheVariants.{On}
 use Rattle.ns_engine.specs.Shown.{shown}
 use Rattle.ns_falling.specs.Falling.{run_left}
@@ -9,7 +9,6 @@ abbrev pub invariant-along : goal.invariant-along
 invariant-along l = record {
   along : GoesAlong l.code l.plan l.own l.left l.fn.core (On l.fn.at) l.core (On l.here);
   begun : l.begun ≡ l.fn.core.run.world.world.steps;
-  since : l.fn.core.run.world.world.steps ≤ l.core.run.world.world.steps;
   few : l.core.run.world.world.steps - l.fn.core.run.world.world.steps < l.left;
 }
 

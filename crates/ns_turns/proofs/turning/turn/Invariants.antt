@@ -1,4 +1,4 @@
-use Rattle.std.proofs.Common.{◌≡◌, ◌⊎◌, ℕ, true}
+use Rattle.std.proofs.Common.{◌≡◌, ◌⊎◌, true}
 use Rattle.ns_moves.specs.Turn.{is_still}
 use Rattle.ns_engine.specs.Shown.{shown}
 use Rattle.ns_falling.specs.Falling.{run_left}
