@@ -6,3 +6,4 @@ pub mod Datum
 pub mod Living
 pub mod Lawful
 pub mod Leading
+pub mod Stated
