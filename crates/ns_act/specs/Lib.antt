@@ -8,3 +8,4 @@ pub mod Wrapping
 pub mod Counting
 pub mod Plain
 pub mod Answered
+pub mod Stated

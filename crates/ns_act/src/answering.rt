@@ -14,12 +14,12 @@ ghost use Rattle.ns_send.specs.Bodies.{no_home};
 ghost use Rattle.ns_send.specs.Control.{Activation};
 ghost use Rattle.ns_send.specs.Lawful.{FitsSelector};
 ghost use Rattle.ns_send.specs.Sends as spec;
-ghost use Rattle.ns_send.specs.Shown.{reached_shown};
 ghost use Rattle.ns_send.specs.Suits.{Suits};
 ghost use Rattle.ns_act.specs.Answered.{answered_shown, answered, IsAnswered};
 ghost use Rattle.ns_act.specs.Plain.{IsPlain};
 ghost use Rattle.ns_act.specs.Room.{HasRoom, SameRest};
 ghost use Rattle.ns_act.specs.Run.{progress_of, IsReady, KeepsRight};
+ghost use Rattle.ns_act.specs.Stated.{RunReachesAs, RunAnswersAs};
 
 use crate::run::Run;
 use crate::sends::{
@@ -90,7 +90,9 @@ pub fn done_with(
     requires room { HasRoom run.old.world }
     requires begun { run.old.begun < no_home }
     requires suits { Suits run.old.world.world.cells code.now receiver found }
-    ensures answered { (site : Site) (sel : Sel) → answered_shown code.now sel receiver site values.now result (progress_of run.new) ≡ spec.done_with code.now found sel receiver (spec.Listed values.now) site (progress_of run.old) }
+    ensures answered { (site : Site) (sel : Sel) →
+        answered_shown code.now sel receiver site values.now result (progress_of run.new)
+        ≡ spec.done_with code.now found sel receiver (spec.Listed values.now) site (progress_of run.old) }
     ensures member { IsAnswered found run.old.world result run.new.world }
     ensures rest { SameRest run.old.world run.new.world }
     ensures memo { run.new.memo ≡ run.old.memo }
@@ -132,7 +134,7 @@ fn not_found(
     requires begun { run.old.begun < no_home }
     requires suits { Suits run.old.world.world.cells code.now receiver found }
     requires selector { FitsSelector run.old.world.world.cells code.now sel values.now }
-    ensures reached { (site : Site) → reached_shown code.now site values.now result (progress_of run.new) ≡ spec.not_found code.now found sel receiver values.now site (progress_of run.old) }
+    ensures reached { RunReachesAs code.now values.now result run.old run.new (spec.not_found code.now found sel receiver values.now) }
     ensures rest { SameRest run.old.world run.new.world }
     ensures memo { run.new.memo ≡ run.old.memo }
     ensures plain { IsPlain result }
@@ -173,7 +175,7 @@ fn not_understood(
     requires own { own.0 ≡ own_number code.now DoesNotUnderstand }
     requires receiver { IsLiveValue run.old.world.world.cells code.now receiver }
     requires selector { FitsSelector run.old.world.world.cells code.now sel values.now }
-    ensures reached { (site : Site) → reached_shown code.now site values.now result (progress_of run.new) ≡ spec.not_found code.now (found_from run.old.world.world.cells code.now (start_of run.old.world.world.cells receiver) (own_number code.now DoesNotUnderstand) Inner) sel receiver values.now site (progress_of run.old) }
+    ensures reached { RunReachesAs code.now values.now result run.old run.new (spec.not_understood code.now sel receiver values.now) }
     ensures rest { SameRest run.old.world run.new.world }
     ensures kept { All (IsRight run.old.world.world.cells code.now) run.new.memo }
     ensures plain { IsPlain result }
@@ -200,7 +202,7 @@ pub fn answered_by(
     requires receiver { IsLiveValue run.old.world.world.cells code.now receiver }
     requires selector { FitsSelector run.old.world.world.cells code.now sel values.now }
     requires suits { Suits run.old.world.world.cells code.now receiver found }
-    ensures answered { (site : Site) → answered_shown code.now sel receiver site values.now result (progress_of run.new) ≡ spec.answered_by code.now found sel receiver values.now site (progress_of run.old) }
+    ensures answered { RunAnswersAs code.now sel receiver values.now result run.old run.new (spec.answered_by code.now found sel receiver values.now) }
     ensures member { IsAnswered found run.old.world result run.new.world }
     ensures rest { SameRest run.old.world run.new.world }
     ensures kept { All (IsRight run.old.world.world.cells code.now) run.new.memo }
@@ -227,8 +229,11 @@ pub fn send(
     requires own { own.0 ≡ own_number code.now DoesNotUnderstand }
     requires receiver { IsLiveValue run.old.world.world.cells code.now receiver }
     requires selector { FitsSelector run.old.world.world.cells code.now sel values.now }
-    ensures answered { (site : Site) (activation : Activation) → answered_shown code.now sel receiver site values.now result (progress_of run.new) ≡ answered code.now activation (spec.To receiver kind) sel values.now site (progress_of run.old) }
-    ensures member { IsAnswered (found_from run.old.world.world.cells code.now (start_of run.old.world.world.cells receiver) sel.0 kind) run.old.world result run.new.world }
+    ensures answered { (site : Site) (activation : Activation) →
+        answered_shown code.now sel receiver site values.now result (progress_of run.new)
+        ≡ answered code.now activation (spec.To receiver kind) sel values.now site (progress_of run.old) }
+    ensures member { IsAnswered (found_from run.old.world.world.cells code.now (start_of run.old.world.world.cells receiver) sel.0 kind)
+        run.old.world result run.new.world }
     ensures rest { SameRest run.old.world run.new.world }
     ensures kept { All (IsRight run.old.world.world.cells code.now) run.new.memo }
 {

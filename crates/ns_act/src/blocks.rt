@@ -1,14 +1,11 @@
 //! The evaluation of blocks.
 
-ghost use Rattle.std.specs.Prelude.{◌≡◌};
 ghost use Rattle.ns_world.specs.declared.cell.NewCell.TheVariants as new;
 ghost use Rattle.ns_kdata.specs.Arguments.{IsThere};
-ghost use Rattle.ns_send.specs.declared.site.Site.{Site};
 ghost use Rattle.ns_send.specs.Blocks as spec;
-ghost use Rattle.ns_send.specs.Control.{Progress, in_world};
-ghost use Rattle.ns_send.specs.Shown.{reached_shown};
 ghost use Rattle.ns_act.specs.Plain.{IsPlain};
 ghost use Rattle.ns_act.specs.Room.{HasRoom, SameRest};
+ghost use Rattle.ns_act.specs.Stated.{ReachesAs};
 
 use crate::bodies::enter_body;
 use crate::running::{Running, parameters};
@@ -27,7 +24,7 @@ use ns_world::world::World;
 pub fn evaluate(world: &mut World, code: &CodeProgram, block: Value, arguments: &[Value]) -> Reached
     requires room { HasRoom world.old }
     requires block { IsThere world.old.world.cells block }
-    ensures reached { (site : Site) (rest : Progress) → reached_shown code.now site arguments.now result (in_world rest world.new.world) ≡ spec.evaluated code.now block arguments.now site (in_world rest world.old.world) }
+    ensures reached { ReachesAs code.now arguments.now result world.old world.new (spec.evaluated code.now block arguments.now) }
     ensures rest { SameRest world.old world.new }
     ensures plain { IsPlain result }
 {
@@ -38,7 +35,7 @@ pub fn evaluate(world: &mut World, code: &CodeProgram, block: Value, arguments: 
 #[inline]
 fn enter_block(world: &mut World, code: &CodeProgram, cell: NewCell, arguments: &[Value]) -> Reached
     requires room { HasRoom world.old }
-    ensures reached { (site : Site) (rest : Progress) → reached_shown code.now site arguments.now result (in_world rest world.new.world) ≡ spec.block_entered code.now cell arguments.now site (in_world rest world.old.world) }
+    ensures reached { ReachesAs code.now arguments.now result world.old world.new (spec.block_entered code.now cell arguments.now) }
     ensures rest { SameRest world.old world.new }
     ensures plain { IsPlain result }
 {
@@ -69,7 +66,8 @@ fn enter_block(world: &mut World, code: &CodeProgram, cell: NewCell, arguments: 
 #[inline]
 fn step_in(world: &mut World, code: &CodeProgram, running: Running, arguments: &[Value]) -> Reached
     requires room { HasRoom world.old }
-    ensures reached { (site : Site) (rest : Progress) → reached_shown code.now site arguments.now result (in_world rest world.new.world) ≡ spec.block_entered code.now (new.Block running.body running.env running.home running.me running.holder) arguments.now site (in_world rest world.old.world) }
+    ensures reached { ReachesAs code.now arguments.now result world.old world.new
+        (spec.block_entered code.now (new.Block running.body running.env running.home running.me running.holder) arguments.now) }
     ensures rest { SameRest world.old world.new }
     ensures plain { IsPlain result }
 {

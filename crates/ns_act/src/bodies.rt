@@ -1,19 +1,16 @@
 //! How a body begins and ends.
 
-ghost use Rattle.std.specs.Prelude.{◌≡◌, ◌<◌, List};
+ghost use Rattle.std.specs.Prelude.{◌≡◌, ◌<◌};
 ghost use Rattle.ns_world.specs.declared.value.Value.{Value};
 ghost use Rattle.ns_world.specs.Cell.{EnvironmentCell};
-ghost use Rattle.ns_world.specs.Heap.{Heap};
-ghost use Rattle.ns_world.specs.declared.ending.LimitKind.TheVariants.{Depth};
 ghost use Rattle.ns_world.specs.World.{MakesCell, entered};
-ghost use Rattle.ns_send.specs.declared.site.Site.{Site};
-ghost use Rattle.ns_send.specs.Bodies.{first_locals, opened};
+ghost use Rattle.ns_send.specs.Bodies.{first_locals};
 ghost use Rattle.ns_send.specs.Classes as classes;
-ghost use Rattle.ns_send.specs.Control.{Progress, in_world, Enter, EnterPart, Stop, halts, charged};
-ghost use Rattle.ns_send.specs.Shown.{reached_shown, part_shown, given_values, exit_shown, passed};
+ghost use Rattle.ns_send.specs.Control.{Progress, in_world};
+ghost use Rattle.ns_send.specs.Shown.{given_values, passed};
 ghost use Rattle.ns_act.specs.Plain.{IsOwnGiven, IsPlain};
 ghost use Rattle.ns_act.specs.Room.{HasRoom, SameRest};
-ghost use Rattle.ns_act.specs.Running.{activation_at};
+ghost use Rattle.ns_act.specs.Stated.{ReachesGiven, PartReachesAs, body_opened, body_entered, part_opened, part_entered};
 
 use crate::running::{Running, has_environment, own_locals};
 use ns_code::program::CodeProgram;
@@ -66,7 +63,8 @@ pub fn open_body(
     arguments: &[Value],
 ) -> Reached
     requires room { HasRoom world.old }
-    ensures reached { (site : Site) (rest : Progress) (values : List Value) → ((heap : Heap) → given_values heap (passed exit values) given ≡ arguments.now) → reached_shown code.now site values result (in_world rest world.new.world) ≡ opened code.now halts (Enter (exit_shown exit running.me running.holder)) (activation_at site running) arguments.now (in_world rest world.old.world) }
+    ensures reached { ReachesGiven code.now (λ heap values. given_values heap (passed exit values) given) arguments.now result world.old world.new
+        (body_opened code.now exit running arguments.now) }
     ensures rest { SameRest world.old world.new }
     ensures plain { IsOwnGiven given → IsPlain result }
 {
@@ -97,7 +95,8 @@ pub fn enter_body(
     arguments: &[Value],
 ) -> Reached
     requires room { HasRoom world.old }
-    ensures reached { (site : Site) (rest : Progress) (values : List Value) → ((heap : Heap) → given_values heap (passed exit values) given ≡ arguments.now) → reached_shown code.now site values result (in_world rest world.new.world) ≡ charged halts Depth (entered world.old.world) (in_world rest world.old.world) (opened code.now halts (Enter (exit_shown exit running.me running.holder)) (activation_at site running) arguments.now) }
+    ensures reached { ReachesGiven code.now (λ heap values. given_values heap (passed exit values) given) arguments.now result world.old world.new
+        (body_entered code.now exit running arguments.now) }
     ensures rest { SameRest world.old world.new }
     ensures plain { IsOwnGiven given → IsPlain result }
 {
@@ -117,7 +116,7 @@ pub fn open_part(
     arguments: &[Value],
 ) -> PartReached
     requires room { HasRoom world.old }
-    ensures reached { (site : Site) (rest : Progress) → part_shown code.now site arguments.now result (in_world rest world.new.world) ≡ opened code.now Stop EnterPart (activation_at site running) arguments.now (in_world rest world.old.world) }
+    ensures reached { PartReachesAs code.now arguments.now result world.old world.new (part_opened code.now running arguments.now) }
     ensures rest { SameRest world.old world.new }
 {
     if has_environment(code, running.body) {
@@ -140,7 +139,7 @@ pub fn enter_part(
     arguments: &[Value],
 ) -> PartReached
     requires room { HasRoom world.old }
-    ensures reached { (site : Site) (rest : Progress) → part_shown code.now site arguments.now result (in_world rest world.new.world) ≡ charged Stop Depth (entered world.old.world) (in_world rest world.old.world) (opened code.now Stop EnterPart (activation_at site running) arguments.now) }
+    ensures reached { PartReachesAs code.now arguments.now result world.old world.new (part_entered code.now running arguments.now) }
     ensures rest { SameRest world.old world.new }
 {
     match world.enter() {

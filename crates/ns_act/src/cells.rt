@@ -1,12 +1,9 @@
 //! New cells as values.
 
-ghost use Rattle.std.specs.Prelude.{◌≡◌};
-ghost use Rattle.ns_send.specs.declared.site.Site.{Site};
-ghost use Rattle.ns_send.specs.Control.{Progress, in_world};
 ghost use Rattle.ns_send.specs.Blocks as spec;
-ghost use Rattle.ns_send.specs.Shown.{answer_shown};
 ghost use Rattle.ns_act.specs.Room.{HasRoom, SameRest};
 ghost use Rattle.ns_act.specs.Running.{activation_at};
+ghost use Rattle.ns_act.specs.Stated.{AnswersAs};
 
 use crate::running::Running;
 use ns_send::control::Answer;
@@ -20,7 +17,7 @@ use ns_world::world::World;
 #[inline]
 pub fn new_block(world: &mut World, running: Running, body: u32) -> Answer
     requires room { HasRoom world.old }
-    ensures answer { (site : Site) (rest : Progress) → answer_shown site result (in_world rest world.new.world) ≡ spec.new_block (activation_at site running) body (in_world rest world.old.world) }
+    ensures answer { AnswersAs result world.old world.new (λ site. spec.new_block (activation_at site running) body) }
     ensures rest { SameRest world.old world.new }
 {
     match world.make(NewCell::Block {
@@ -38,7 +35,7 @@ pub fn new_block(world: &mut World, running: Running, body: u32) -> Answer
 /// A new text of these bytes; the limit on cells exactly where it doesn't fit.
 pub fn new_text(world: &mut World, bytes: &[u8]) -> Answer
     requires room { HasRoom world.old }
-    ensures answer { (site : Site) (rest : Progress) → answer_shown site result (in_world rest world.new.world) ≡ spec.new_text bytes.now (in_world rest world.old.world) }
+    ensures answer { AnswersAs result world.old world.new (λ site. spec.new_text bytes.now) }
     ensures rest { SameRest world.old world.new }
 {
     match world.make_text(b"".as_slice(), bytes) {
@@ -50,7 +47,7 @@ pub fn new_text(world: &mut World, bytes: &[u8]) -> Answer
 /// A new array of these elements; the limit on cells exactly where it doesn't fit.
 pub fn new_array(world: &mut World, items: &[Value]) -> Answer
     requires room { HasRoom world.old }
-    ensures answer { (site : Site) (rest : Progress) → answer_shown site result (in_world rest world.new.world) ≡ spec.new_array items.now (in_world rest world.old.world) }
+    ensures answer { AnswersAs result world.old world.new (λ site. spec.new_array items.now) }
     ensures rest { SameRest world.old world.new }
 {
     match world.make_array(items) {

@@ -4,18 +4,19 @@ ghost use Rattle.std.specs.Prelude.{◌≡◌, ℕ, ◌<◌, Some, IsTrue, List}
 ghost use Rattle.ns_classes.specs.Nested.{kept_class};
 ghost use Rattle.ns_world.specs.declared.value.Value.{Value};
 ghost use Rattle.ns_world.specs.declared.value.Value.TheVariants.{Ref};
-ghost use Rattle.ns_world.specs.Heap.{Heap, find_cell, is_class, superclass_in};
+ghost use Rattle.ns_world.specs.Heap.{find_cell, is_class, superclass_in};
 ghost use Rattle.ns_world.specs.Lawful.{IsLawful, IsLive};
 ghost use Rattle.ns_send.specs.declared.site.Site.{Site};
 ghost use Rattle.ns_send.specs.Bodies.{clause_of};
 ghost use Rattle.ns_send.specs.Classes as spec;
-ghost use Rattle.ns_send.specs.Control.{Progress, in_world, Now};
+ghost use Rattle.ns_send.specs.Control.{Progress, Now};
 ghost use Rattle.ns_send.specs.Lawful.{HasClass, FitsExit};
 ghost use Rattle.ns_send.specs.Shown.{reached_shown, part_shown, answer_shown, exit_shown, given_values};
 ghost use Rattle.ns_send.specs.Site.{make_fault};
 ghost use Rattle.ns_act.specs.Plain.{IsOwnGiven, IsPlain};
 ghost use Rattle.ns_act.specs.Room.{HasRoom, SameRest};
 ghost use Rattle.ns_act.specs.Running.{activation_at};
+ghost use Rattle.ns_act.specs.Stated.{ReachesAnyhow, ReachesGiven, PartReachesAs, AnswersAs};
 ghost use Rattle.ns_act.specs.declared.running.Running.{Running};
 
 use crate::bodies::{enter_body, enter_part, open_body};
@@ -47,7 +48,8 @@ pub fn instance(
     requires lawful { IsLawful world.old.world code.now }
     requires room { HasRoom world.old }
     requires class { IsTrue (is_class (find_cell world.old.world.cells class)) }
-    ensures reached { (site : Site) (rest : Progress) (values : List Value) → ((heap : Heap) → given_values heap values given ≡ arguments.now) → reached_shown code.now site values result (in_world rest world.new.world) ≡ spec.instance code.now class arguments.now site (in_world rest world.old.world) }
+    ensures reached { ReachesGiven code.now (λ heap values. given_values heap values given) arguments.now result world.old world.new
+        (spec.instance code.now class arguments.now) }
     ensures rest { SameRest world.old world.new }
     ensures plain { IsOwnGiven given → IsPlain result }
 {
@@ -85,7 +87,8 @@ pub fn nested_class(
     requires lawful { IsLawful world.old.world code.now }
     requires room { HasRoom world.old }
     requires class { HasClass world.old.world.cells code.now object holder class }
-    ensures reached { (site : Site) (rest : Progress) (values : List Value) → reached_shown code.now site values result (in_world rest world.new.world) ≡ spec.nested code.now object holder class (kept_class world.old.world.cells code.now object holder class) site (in_world rest world.old.world) }
+    ensures reached { ReachesAnyhow code.now result world.old world.new
+        (spec.nested code.now object holder class (kept_class world.old.world.cells code.now object holder class)) }
     ensures rest { SameRest world.old world.new }
     ensures plain { IsPlain result }
 {
@@ -101,7 +104,7 @@ fn head(world: &mut World, code: &CodeProgram, object: u32, holder: u32, class: 
     requires lawful { IsLawful world.old.world code.now }
     requires room { HasRoom world.old }
     requires class { HasClass world.old.world.cells code.now object holder class }
-    ensures reached { (site : Site) (rest : Progress) (values : List Value) → reached_shown code.now site values result (in_world rest world.new.world) ≡ spec.head code.now object holder class (clause_of code.now class) site (in_world rest world.old.world) }
+    ensures reached { ReachesAnyhow code.now result world.old world.new (spec.head code.now object holder class (clause_of code.now class)) }
     ensures rest { SameRest world.old world.new }
     ensures plain { IsPlain result }
 {
@@ -120,7 +123,8 @@ fn head(world: &mut World, code: &CodeProgram, object: u32, holder: u32, class: 
 
 /// An answer as what a send comes to.
 fn reached_by(answer: Answer) -> Reached
-    ensures reached { (code : CodeProgram) (site : Site) (values : List Value) (progress : Progress) → reached_shown code site values result progress ≡ Now (answer_shown site answer progress) }
+    ensures reached { (code : CodeProgram) (site : Site) (values : List Value) (progress : Progress) →
+        reached_shown code site values result progress ≡ Now (answer_shown site answer progress) }
     ensures plain { IsPlain result }
 {
     match answer {
@@ -139,7 +143,7 @@ fn enter_clause(
     body: u32,
 ) -> Reached
     requires room { HasRoom world.old }
-    ensures reached { (site : Site) (rest : Progress) (values : List Value) → reached_shown code.now site values result (in_world rest world.new.world) ≡ spec.head code.now object holder class (Some body) site (in_world rest world.old.world) }
+    ensures reached { ReachesAnyhow code.now result world.old world.new (spec.head code.now object holder class (Some body)) }
     ensures rest { SameRest world.old world.new }
     ensures plain { IsPlain result }
 {
@@ -173,7 +177,7 @@ pub fn class_over(
     requires room { HasRoom world.old }
     requires class { HasClass world.old.world.cells code.now object holder class }
     requires over { IsLive world.old.world.cells code.now over }
-    ensures answer { (site : Site) (rest : Progress) → answer_shown site result (in_world rest world.new.world) ≡ spec.class_over code.now object holder class over site (in_world rest world.old.world) }
+    ensures answer { AnswersAs result world.old world.new (spec.class_over code.now object holder class over) }
     ensures rest { SameRest world.old world.new }
 {
     nested_classes_can_be_kept();
@@ -196,7 +200,7 @@ fn newly_kept(
     requires room { HasRoom world.old }
     requires class { HasClass world.old.world.cells code.now object holder class }
     requires over { IsLive world.old.world.cells code.now over }
-    ensures answer { (site : Site) (rest : Progress) → answer_shown site result (in_world rest world.new.world) ≡ spec.newly_kept code.now object holder class over site (in_world rest world.old.world) }
+    ensures answer { AnswersAs result world.old world.new (spec.newly_kept code.now object holder class over) }
     ensures rest { SameRest world.old world.new }
 {
     nested_classes_can_be_kept();
@@ -253,7 +257,8 @@ pub fn super_part(
     requires lawful { IsLawful world.old.world code.now }
     requires room { HasRoom world.old }
     requires holder { IsTrue (is_class (find_cell world.old.world.cells running.holder)) }
-    ensures reached { (site : Site) (rest : Progress) → part_shown code.now site arguments.now result (in_world rest world.new.world) ≡ spec.super_part code.now (activation_at site running) arguments.now (in_world rest world.old.world) }
+    ensures reached { PartReachesAs code.now arguments.now result world.old world.new
+        (λ site. spec.super_part code.now (activation_at site running) arguments.now) }
     ensures rest { SameRest world.old world.new }
 {
     superclasses_are_there();
@@ -273,7 +278,8 @@ fn part_of(
 ) -> PartReached
     requires room { HasRoom world.old }
     requires over { (class : ℕ) → over ≡ Ref class → IsTrue (is_class (find_cell world.old.world.cells class)) }
-    ensures reached { (site : Site) (rest : Progress) → part_shown code.now site arguments.now result (in_world rest world.new.world) ≡ spec.part_of code.now (activation_at site running) over sel arguments.now (in_world rest world.old.world) }
+    ensures reached { PartReachesAs code.now arguments.now result world.old world.new
+        (λ site. spec.part_of code.now (activation_at site running) over sel arguments.now) }
     ensures rest { SameRest world.old world.new }
 {
     match over {
@@ -304,7 +310,8 @@ fn declared_part(
 ) -> PartReached
     requires room { HasRoom world.old }
     requires over { IsTrue (is_class (find_cell world.old.world.cells over)) }
-    ensures reached { (site : Site) (rest : Progress) → part_shown code.now site arguments.now result (in_world rest world.new.world) ≡ spec.declared_part code.now (activation_at site running) over sel arguments.now (in_world rest world.old.world) }
+    ensures reached { PartReachesAs code.now arguments.now result world.old world.new
+        (λ site. spec.declared_part code.now (activation_at site running) over sel arguments.now) }
     ensures rest { SameRest world.old world.new }
 {
     let decl = world.declaration(over);
@@ -327,7 +334,8 @@ fn declared_part(
 
 /// The part of the kernel's Object, whose factory is `new`.
 fn object_part(code: &CodeProgram, sel: u32) -> PartReached
-    ensures { (site : Site) (values : List Value) (running : Running) (progress : Progress) → part_shown code.now site values result progress ≡ spec.object_part code.now (activation_at site running) sel progress }
+    ensures { (site : Site) (values : List Value) (running : Running) (progress : Progress) →
+        part_shown code.now site values result progress ≡ spec.object_part code.now (activation_at site running) sel progress }
 {
     if code.selector_text(Sel(sel)) == b"new".as_slice() {
         return PartReached::Skips;
@@ -369,7 +377,8 @@ pub fn body_ended(
     requires depth { 0 < world.old.world.depth }
     requires exit { FitsExit world.old.world.cells code.now (exit_shown exit running.me running.holder) }
     requires value { IsLive world.old.world.cells code.now value }
-    ensures answer { (site : Site) (rest : Progress) → answer_shown site result (in_world rest world.new.world) ≡ spec.body_ended code.now (exit_shown exit running.me running.holder) (activation_at site running) value (in_world rest world.old.world) }
+    ensures answer { AnswersAs result world.old world.new
+        (λ site. spec.body_ended code.now (exit_shown exit running.me running.holder) (activation_at site running) value) }
     ensures rest { SameRest world.old world.new }
 {
     charging_keeps_lawful();

@@ -110,7 +110,8 @@ pub fn store_local(
     value: Value,
 )
     requires { HasLocal world.old.world.cells code.now (code_of running) hops place }
-    ensures stored { (site : Site) (rest : Progress) → in_world rest world.new.world ≡ spec.local_stored code.now (activation_at site running) hops place value (in_world rest world.old.world) }
+    ensures stored { (site : Site) (rest : Progress) →
+        in_world rest world.new.world ≡ spec.local_stored code.now (activation_at site running) hops place value (in_world rest world.old.world) }
     ensures rest { SameRest world.old world.new }
 {
     if is_beside(code, running, hops) {

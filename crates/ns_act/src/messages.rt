@@ -21,8 +21,10 @@ use ns_world::world::World;
 /// limit on cells exactly where the array or the Message doesn't fit.
 pub fn make_message(world: &mut World, sel: Sel, values: &[Value]) -> Result<u32, Fault>
     requires room { HasRoom world.old }
-    ensures message { (site : Site) (rest : Progress) → message_shown site result (in_world rest world.new.world) ≡ wrapped sel values.now (in_world rest world.old.world) }
-    ensures follows { (code : CodeProgram) → IsLawful world.old.world code → FitsSelector world.old.world.cells code sel values.now → IfOk result (λ at. Follows code world.old.world world.new.world) }
+    ensures message { (site : Site) (rest : Progress) →
+        message_shown site result (in_world rest world.new.world) ≡ wrapped sel values.now (in_world rest world.old.world) }
+    ensures follows { (code : CodeProgram) → IsLawful world.old.world code → FitsSelector world.old.world.cells code sel values.now →
+        IfOk result (λ at. Follows code world.old.world world.new.world) }
     ensures rest { SameRest world.old world.new }
 {
     messages_follow();

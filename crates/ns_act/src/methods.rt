@@ -2,11 +2,10 @@
 
 ghost use Rattle.std.specs.Prelude.{◌≡◌, ◌<◌};
 ghost use Rattle.ns_kdata.specs.Arguments.{IsThere};
-ghost use Rattle.ns_send.specs.declared.site.Site.{Site};
 ghost use Rattle.ns_send.specs.Blocks as spec;
-ghost use Rattle.ns_send.specs.Control.{Waits, Progress, in_world};
+ghost use Rattle.ns_send.specs.Control.{Waits};
 ghost use Rattle.ns_act.specs.Room.{SameRest};
-ghost use Rattle.ns_act.specs.Waited.{waiting_shown};
+ghost use Rattle.ns_act.specs.Stated.{WaitsAs};
 
 use ns_kcode::next::next;
 use ns_kcode::state::{KAction, KMethod, KState};
@@ -34,7 +33,7 @@ pub enum Waited {
 pub fn method_next(world: &mut World, method: KMethod, state: KState) -> Waited
     requires depth { 0 < world.old.world.depth }
     requires receiver { IsThere world.old.world.cells state.receiver }
-    ensures waited { (site : Site) (rest : Progress) → waiting_shown site result (in_world rest world.new.world) ≡ spec.method_next method state site (in_world rest world.old.world) }
+    ensures waited { WaitsAs result world.old world.new (spec.method_next method state) }
     ensures rest { SameRest world.old world.new }
 {
     act(world, next(method, state), state)
@@ -45,7 +44,7 @@ pub fn method_next(world: &mut World, method: KMethod, state: KState) -> Waited
 pub fn act(world: &mut World, action: KAction, state: KState) -> Waited
     requires depth { 0 < world.old.world.depth }
     requires receiver { IsThere world.old.world.cells state.receiver }
-    ensures waited { (site : Site) (rest : Progress) → waiting_shown site result (in_world rest world.new.world) ≡ spec.acted action state site (in_world rest world.old.world) }
+    ensures waited { WaitsAs result world.old world.new (spec.acted action state) }
     ensures rest { SameRest world.old world.new }
 {
     match action {
@@ -76,7 +75,7 @@ fn evaluate(
     turn: bool,
     state: KState,
 ) -> Waited
-    ensures waited { (site : Site) (rest : Progress) → waiting_shown site result (in_world rest world.new.world) ≡ spec.turned turn (in_world rest world.old.world) (Waits block (spec.listed argument) state) }
+    ensures waited { WaitsAs result world.old world.new (λ site progress. spec.turned turn progress (Waits block (spec.listed argument) state)) }
     ensures rest { SameRest world.old world.new }
 {
     if turn {

@@ -1,27 +1,21 @@
 //! What is done with what a send finds.
 
-ghost use Rattle.std.specs.Prelude.{◌≡◌, ◌<◌, ◌≤◌, ℕ, List, length, IsTrue};
+ghost use Rattle.std.specs.Prelude.{◌≡◌, ◌<◌, ◌≤◌, ℕ, length, IsTrue};
 ghost use Rattle.ns_code.specs.declared.program.CodeProgram.{CodeProgram};
 ghost use Rattle.ns_world.specs.declared.value.Value.{Value};
 ghost use Rattle.ns_world.specs.declared.value.Value.TheVariants.{Nil, Ref};
 ghost use Rattle.ns_send.specs.declared.control.Reached.TheVariants as reached;
-ghost use Rattle.ns_world.specs.declared.ending.LimitKind.TheVariants.{Depth};
-ghost use Rattle.ns_world.specs.World.{entered};
 ghost use Rattle.ns_world.specs.Heap.{find_cell, is_class, words_at, open_words_at};
 ghost use Rattle.ns_world.specs.Lawful.{IsLawful};
 ghost use Rattle.ns_mirror.specs.Slots as slots;
-ghost use Rattle.ns_send.specs.declared.site.Site.{Site};
-ghost use Rattle.ns_send.specs.Bodies.{no_home, opened};
+ghost use Rattle.ns_send.specs.Bodies.{no_home};
 ghost use Rattle.ns_send.specs.Classes.{instance as made_instance};
-ghost use Rattle.ns_send.specs.Control.{Progress, in_world, Enter, FromMethod, halts, charged};
 ghost use Rattle.ns_send.specs.Lawful.{FitsSelector, HasClass};
 ghost use Rattle.ns_send.specs.Sends as spec;
-ghost use Rattle.ns_send.specs.Shown.{reached_shown};
 ghost use Rattle.ns_act.specs.Counting as counting;
 ghost use Rattle.ns_act.specs.Plain.{IsPlain};
 ghost use Rattle.ns_act.specs.Room.{HasRoom, SameRest};
-ghost use Rattle.ns_act.specs.Run.{progress_of};
-ghost use Rattle.ns_act.specs.Running.{activation_at};
+ghost use Rattle.ns_act.specs.Stated.{ReachesAs, ReachesAnyhow, RunReachesAs, opened_with_message, entered_with_message};
 
 use crate::bodies::{enter_body, open_body};
 use crate::classes::{instance, nested_class};
@@ -72,7 +66,8 @@ pub fn enter_method(
 ) -> Reached
     requires room { HasRoom run.old.world }
     requires begun { run.old.begun < no_home }
-    ensures reached { (site : Site) → reached_shown code.now site values.now result (progress_of run.new) ≡ spec.method_entered code.now body holder receiver (spec.Listed values.now) site (progress_of run.old) }
+    ensures reached { RunReachesAs code.now values.now result run.old run.new
+        (spec.method_entered code.now body holder receiver (spec.Listed values.now)) }
     ensures rest { SameRest run.old.world run.new.world }
     ensures memo { run.new.memo ≡ run.old.memo }
     ensures plain { IsPlain result }
@@ -104,7 +99,8 @@ pub fn enter_method_with_message(
 ) -> Reached
     requires room { HasRoom run.old.world }
     requires begun { run.old.begun < no_home }
-    ensures reached { (site : Site) → reached_shown code.now site values.now result (progress_of run.new) ≡ spec.method_entered code.now body holder receiver (spec.Wrapped sel values.now) site (progress_of run.old) }
+    ensures reached { RunReachesAs code.now values.now result run.old run.new
+        (spec.method_entered code.now body holder receiver (spec.Wrapped sel values.now)) }
     ensures rest { SameRest run.old.world run.new.world }
     ensures memo { run.new.memo ≡ run.old.memo }
     ensures plain { IsPlain result }
@@ -124,7 +120,7 @@ fn enter_with_message(
     values: &[Value],
 ) -> Reached
     requires room { HasRoom world.old }
-    ensures reached { (site : Site) (rest : Progress) (sent : List Value) → reached_shown code.now site sent result (in_world rest world.new.world) ≡ charged halts Depth (entered world.old.world) (in_world rest world.old.world) (λ p. spec.given (spec.Wrapped sel values.now) p (opened code.now halts (Enter FromMethod) (activation_at site running))) }
+    ensures reached { ReachesAnyhow code.now result world.old world.new (entered_with_message code.now running sel values.now) }
     ensures rest { SameRest world.old world.new }
     ensures plain { IsPlain result }
 {
@@ -143,7 +139,7 @@ fn open_with_message(
     values: &[Value],
 ) -> Reached
     requires room { HasRoom world.old }
-    ensures reached { (site : Site) (rest : Progress) (sent : List Value) → reached_shown code.now site sent result (in_world rest world.new.world) ≡ spec.given (spec.Wrapped sel values.now) (in_world rest world.old.world) (opened code.now halts (Enter FromMethod) (activation_at site running)) }
+    ensures reached { ReachesAnyhow code.now result world.old world.new (opened_with_message code.now running sel values.now) }
     ensures rest { SameRest world.old world.new }
     ensures plain { IsPlain result }
 {
@@ -180,7 +176,7 @@ pub fn enter_factory(world: &mut World, code: &CodeProgram, class: u32, values: 
     requires lawful { IsLawful world.old.world code.now }
     requires room { HasRoom world.old }
     requires class { IsTrue (is_class (find_cell world.old.world.cells class)) }
-    ensures reached { (site : Site) (rest : Progress) → reached_shown code.now site values.now result (in_world rest world.new.world) ≡ spec.factory_entered code.now class (spec.Listed values.now) site (in_world rest world.old.world) }
+    ensures reached { ReachesAs code.now values.now result world.old world.new (spec.factory_entered code.now class (spec.Listed values.now)) }
     ensures rest { SameRest world.old world.new }
     ensures plain { IsPlain result }
 {
@@ -195,7 +191,7 @@ pub fn enter_factory(world: &mut World, code: &CodeProgram, class: u32, values: 
 #[inline(always)]
 pub fn set(world: &mut World, receiver: Value, word: u32, values: &[Value]) -> Reached
     requires { (at : ℕ) → receiver ≡ Ref at → word < length (open_words_at world.old.world.cells at) }
-    ensures reached { (code : CodeProgram) (site : Site) (rest : Progress) → reached_shown code site values.now result (in_world rest world.new.world) ≡ spec.set word receiver (spec.Listed values.now) (in_world rest world.old.world) }
+    ensures reached { (code : CodeProgram) → ReachesAs code values.now result world.old world.new (λ site. spec.set word receiver (spec.Listed values.now)) }
     ensures rest { SameRest world.old world.new }
     ensures plain { IsPlain result }
 {
@@ -237,7 +233,7 @@ pub fn nested_in(
     requires lawful { IsLawful world.old.world code.now }
     requires room { HasRoom world.old }
     requires class { (object : ℕ) → receiver ≡ Ref object → HasClass world.old.world.cells code.now object holder class }
-    ensures reached { (site : Site) (rest : Progress) (values : List Value) → reached_shown code.now site values result (in_world rest world.new.world) ≡ spec.nested_in code.now receiver holder class site (in_world rest world.old.world) }
+    ensures reached { ReachesAnyhow code.now result world.old world.new (spec.nested_in code.now receiver holder class) }
     ensures rest { SameRest world.old world.new }
     ensures plain { IsPlain result }
 {
@@ -259,7 +255,7 @@ pub fn enter_factory_with_message(
     requires room { HasRoom world.old }
     requires class { IsTrue (is_class (find_cell world.old.world.cells class)) }
     requires selector { FitsSelector world.old.world.cells code.now sel values.now }
-    ensures reached { (site : Site) (rest : Progress) (sent : List Value) → reached_shown code.now site sent result (in_world rest world.new.world) ≡ spec.factory_entered code.now class (spec.Wrapped sel values.now) site (in_world rest world.old.world) }
+    ensures reached { ReachesAnyhow code.now result world.old world.new (spec.factory_entered code.now class (spec.Wrapped sel values.now)) }
     ensures rest { SameRest world.old world.new }
     ensures plain { IsPlain result }
 {
@@ -282,7 +278,8 @@ fn instance_with_message(
     requires room { HasRoom world.old }
     requires class { IsTrue (is_class (find_cell world.old.world.cells class)) }
     requires selector { FitsSelector world.old.world.cells code.now sel values.now }
-    ensures reached { (site : Site) (rest : Progress) (sent : List Value) → reached_shown code.now site sent result (in_world rest world.new.world) ≡ spec.given (spec.Wrapped sel values.now) (in_world rest world.old.world) (λ values progress. made_instance code.now class values site progress) }
+    ensures reached { ReachesAnyhow code.now result world.old world.new (λ site progress.
+        spec.given (spec.Wrapped sel values.now) progress (λ values progress. made_instance code.now class values site progress)) }
     ensures rest { SameRest world.old world.new }
     ensures plain { IsPlain result }
 {
@@ -305,7 +302,7 @@ pub fn set_with_message(
     requires room { HasRoom world.old }
     requires word { (at : ℕ) → receiver ≡ Ref at → word < length (open_words_at world.old.world.cells at) }
     requires selector { FitsSelector world.old.world.cells code.now sel values.now }
-    ensures reached { (site : Site) (rest : Progress) (sent : List Value) → reached_shown code.now site sent result (in_world rest world.new.world) ≡ spec.set word receiver (spec.Wrapped sel values.now) (in_world rest world.old.world) }
+    ensures reached { ReachesAnyhow code.now result world.old world.new (λ site. spec.set word receiver (spec.Wrapped sel values.now)) }
     ensures rest { SameRest world.old world.new }
     ensures plain { IsPlain result }
 {

@@ -50,7 +50,8 @@ pub fn fill_slot(world: &mut World, code: &CodeProgram, running: Running, slot: 
     requires lawful { IsLawful world.old.world code.now }
     requires slot { FitsSlot world.old.world.cells code.now (code_of running) slot }
     requires class { IsTrue (is_class (find_cell world.old.world.cells running.holder)) }
-    ensures filled { (site : Site) (rest : Progress) → in_world rest world.new.world ≡ spec.slot_filled code.now (activation_at site running) slot value (in_world rest world.old.world) }
+    ensures filled { (site : Site) (rest : Progress) →
+        in_world rest world.new.world ≡ spec.slot_filled code.now (activation_at site running) slot value (in_world rest world.old.world) }
     ensures rest { SameRest world.old world.new }
 {
     entries_are_inside();

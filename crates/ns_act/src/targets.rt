@@ -9,14 +9,14 @@ ghost use Rattle.ns_world.specs.Starts.{class_name_of};
 ghost use Rattle.ns_find.specs.Memo.{IsRight};
 ghost use Rattle.ns_find.specs.declared.found.Sending.TheVariants.{Inner};
 ghost use Rattle.ns_find.specs.Find.{found_from, side_of, super_start as start_above};
-ghost use Rattle.ns_send.specs.declared.site.Site.{Site};
 ghost use Rattle.ns_send.specs.Bodies as bodies;
 ghost use Rattle.ns_send.specs.Lawful.{FitsActivation, FitsSelector, declaration_at};
 ghost use Rattle.ns_send.specs.Sends as spec;
-ghost use Rattle.ns_act.specs.Answered.{answered_shown, answered, IsAnswered};
+ghost use Rattle.ns_act.specs.Answered.{answered, IsAnswered};
 ghost use Rattle.ns_act.specs.Room.{SameRest};
-ghost use Rattle.ns_act.specs.Run.{progress_of, IsReady, KeepsRight};
+ghost use Rattle.ns_act.specs.Run.{IsReady, KeepsRight};
 ghost use Rattle.ns_act.specs.Running.{activation_at, code_of};
+ghost use Rattle.ns_act.specs.Stated.{RunAnswersAs};
 
 use crate::answering::answered_by;
 use crate::enclosing::enclosing;
@@ -58,7 +58,8 @@ fn found_above(
     requires lawful { IsLawful world.old.world code.now }
     requires running { FitsActivation world.old.world.cells code.now (code_of running) }
     requires kept { All (IsRight world.old.world.cells code.now) memo.old }
-    ensures found { result ≡ found_from world.old.world.cells code.now (start_above world.old.world.cells running.holder (bodies.side_of_body code.now running.body)) sel.0 Inner }
+    ensures found { result ≡ found_from world.old.world.cells code.now
+        (start_above world.old.world.cells running.holder (bodies.side_of_body code.now running.body)) sel.0 Inner }
     ensures kept { All (IsRight world.old.world.cells code.now) memo.new }
     ensures world { world.new ≡ world.old }
 {
@@ -82,7 +83,8 @@ pub fn send_super(
     requires own { own.0 ≡ own_number code.now DoesNotUnderstand }
     requires running { FitsActivation run.old.world.world.cells code.now (code_of running) }
     requires selector { FitsSelector run.old.world.world.cells code.now sel values.now }
-    ensures answered { (site : Site) → answered_shown code.now sel running.me site values.now result (progress_of run.new) ≡ answered code.now (activation_at site running) spec.ToSuper sel values.now site (progress_of run.old) }
+    ensures answered { RunAnswersAs code.now sel running.me values.now result run.old run.new
+        (λ site. answered code.now (activation_at site running) spec.ToSuper sel values.now site) }
     ensures member { IsAnswered (spec.found_at run.old.world.world.cells code.now (code_of running) spec.ToSuper sel.0) run.old.world result run.new.world }
     ensures rest { SameRest run.old.world run.new.world }
     ensures kept { All (IsRight run.old.world.world.cells code.now) run.new.memo }
@@ -161,8 +163,10 @@ pub fn send_private(
     requires running { FitsActivation run.old.world.world.cells code.now (code_of running) }
     requires level { IsSome (declaration_at code.now running.body level) }
     requires selector { FitsSelector run.old.world.world.cells code.now sel values.now }
-    ensures answered { (site : Site) → answered_shown code.now sel (spec.receiver_of run.old.world.world.cells (code_of running) (spec.ToPrivate level)) site values.now result (progress_of run.new) ≡ answered code.now (activation_at site running) (spec.ToPrivate level) sel values.now site (progress_of run.old) }
-    ensures member { IsAnswered (spec.found_at run.old.world.world.cells code.now (code_of running) (spec.ToPrivate level) sel.0) run.old.world result run.new.world }
+    ensures answered { RunAnswersAs code.now sel (spec.receiver_of run.old.world.world.cells (code_of running) (spec.ToPrivate level)) values.now result
+        run.old run.new (λ site. answered code.now (activation_at site running) (spec.ToPrivate level) sel values.now site) }
+    ensures member { IsAnswered (spec.found_at run.old.world.world.cells code.now (code_of running) (spec.ToPrivate level) sel.0)
+        run.old.world result run.new.world }
     ensures rest { SameRest run.old.world run.new.world }
     ensures kept { All (IsRight run.old.world.world.cells code.now) run.new.memo }
 {

@@ -54,5 +54,6 @@ pub trait Shelf {
 
         ensures missing { IsErrOf result ShelfFault.Missing → ⊥ }
         ensures failed { IsErrOf result ShelfFault.Failed → Rose (store_faults self.old) (store_faults self.new) }
-        ensures told { MatchOption (holds self.old) (IsNone (holds self.new)) (λ old. IsSomeAnd (holds self.new) (λ new. AnswersStore old new name.now bytes.now result)) };
+        ensures told { MatchOption (holds self.old) (IsNone (holds self.new))
+            (λ old. IsSomeAnd (holds self.new) (λ new. AnswersStore old new name.now bytes.now result)) };
 }

@@ -18,6 +18,10 @@ pub record Coded : Type 0 where
   pub bodies : List BodyCode
   pub fault : Option SizeKind
 
+-- what was generated, with the tables of what was written
+abbrev pub coded_of : Written → List BodyCode → Option SizeKind → Coded
+coded_of written bodies fault = record { names = written.names; texts = written.texts; bodies = bodies; fault = fault }
+
 -- of two that are too large: too many instructions are told before too great a height
 abbrev pub graver : Option SizeKind → SizeKind → SizeKind
 graver None kind = kind

@@ -31,8 +31,11 @@ pub fn put_initialiser(
     slots: &Option<Vec<Slot>>,
     body: &Statements,
 ) -> Result<(), NoMemory>
-    ensures put { OnOk result (writer.new ≡ with_body (as_initialiser (start_of (standing here.now) next.old name.now (option_map clause_of clause.now) (bars_of slots.now) (statements_of body.now))) writer.old) }
-    ensures next { OnOk result (next.new ≡ next.old + length (super_blocks here.now.scope.now (option_map clause_of clause.now)) + length (bars_blocks here.now.scope.now (bars_of slots.now)) + length (statements_blocks here.now.scope.now (statements_of body.now))) }
+    ensures put { OnOk result (writer.new ≡ with_body (as_initialiser
+        (start_of (standing here.now) next.old name.now (option_map clause_of clause.now) (bars_of slots.now) (statements_of body.now)))
+        writer.old) }
+    ensures next { OnOk result (next.new ≡ next.old + length (super_blocks here.now.scope.now (option_map clause_of clause.now))
+        + length (bars_blocks here.now.scope.now (bars_of slots.now)) + length (statements_blocks here.now.scope.now (statements_of body.now))) }
 {
     put_start(writer, here, next, name, clause)?;
     put_slots(writer, here, next, slots)?;
@@ -48,7 +51,8 @@ fn put_start(
     name: &Named,
     clause: &Option<SuperClause>,
 ) -> Result<(), NoMemory>
-    ensures put { OnOk result (writer.new ≡ with_start (place_at here.now.marks.now name.now.at) (super_arguments (standing here.now) next.old (option_map clause_of clause.now)) writer.old) }
+    ensures put { OnOk result (writer.new ≡ with_start (place_at here.now.marks.now name.now.at)
+        (super_arguments (standing here.now) next.old (option_map clause_of clause.now)) writer.old) }
     ensures next { OnOk result (next.new ≡ next.old + length (super_blocks here.now.scope.now (option_map clause_of clause.now))) }
 {
     let count = put_super_arguments(writer, here, next, clause)?;
@@ -196,7 +200,8 @@ fn put_list(
     next: &mut u32,
     list: &[Statement],
 ) -> Result<(), NoMemory>
-    ensures put { OnOk result (writer.new ≡ with_expressions (map expression_of (list_steps (standing here.now) next.old (statement_list_of list.now))) writer.old) }
+    ensures put { OnOk result (writer.new ≡ with_expressions
+        (map expression_of (list_steps (standing here.now) next.old (statement_list_of list.now))) writer.old) }
     ensures next { OnOk result (next.new ≡ next.old + length (list_blocks here.now.scope.now (statement_list_of list.now))) }
 {
     for statement in list {

@@ -8,7 +8,7 @@ ghost use Rattle.ns_meant.specs.Statements.{routine};
 ghost use Rattle.ns_meant.specs.Classes.{clause_body, initialiser_body};
 ghost use Rattle.ns_write.specs.Sending.{standing};
 ghost use Rattle.ns_bodies.specs.Heading.{block_in};
-ghost use Rattle.ns_bodies.specs.Coding.{with_one, graver, with_lines_of};
+ghost use Rattle.ns_bodies.specs.Coding.{with_one, graver, with_lines_of, coded_of};
 
 use crate::clauses::put_clause;
 use crate::finish::{Finished, finish};
@@ -72,7 +72,9 @@ impl Output {
 
     /// The code of a method whose expressions stand so.
     pub fn method(&mut self, here: &Here<'_>, method: &Method) -> Result<(), NoMemory>
-        ensures { OnOk result (self.new ≡ with_one (routine (standing here.now) None as_method method.now.pattern.params.items (bars_of method.now.slots) (statements_of method.now.body)) self.old) }
+        ensures { OnOk result (self.new ≡ with_one
+            (routine (standing here.now) None as_method method.now.pattern.params.items (bars_of method.now.slots) (statements_of method.now.body))
+            self.old) }
     {
         let first = behind(here.body)?;
         let mut next = first;
@@ -233,7 +235,7 @@ fn put_code(
     fault: &mut Option<SizeKind>,
     head: BodyCode,
 ) -> Result<(), NoMemory>
-    ensures { OnOk result (record { names = writer.now.names; texts = writer.now.texts; bodies = bodies.new.items; fault = fault.new } ≡ with_lines_of head writer.now (record { names = writer.now.names; texts = writer.now.texts; bodies = bodies.old.items; fault = fault.old })) }
+    ensures { OnOk result (coded_of writer.now bodies.new.items fault.new ≡ with_lines_of head writer.now (coded_of writer.now bodies.old.items fault.old)) }
 {
     match finish(writer, head)? {
         Finished::Fits(code) => bodies.push(code)?,

@@ -2,7 +2,7 @@
 
 ghost use Rattle.std.specs.Prelude.{◌≡◌, ◌+◌, ◌++◌, false, length, IfOk, OnOk};
 ghost use Rattle.ns_tree.specs.PlainOf.{expr_of, slots_of, init_of, bars_of, statement_of, statement_list_of, statements_of};
-ghost use Rattle.ns_scope.specs.Bodies.{expr_blocks, init_blocks, slots_blocks, bars_blocks, statement_blocks, list_blocks, statements_blocks};
+ghost use Rattle.ns_scope.specs.Bodies.{routine_blocks, expr_blocks, init_blocks, slots_blocks, bars_blocks, statement_blocks, list_blocks, statements_blocks};
 ghost use Rattle.ns_meant.specs.Program.{as_method, as_block};
 ghost use Rattle.ns_meant.specs.Expressions.{expr_node};
 ghost use Rattle.ns_meant.specs.Statements.{first_values, slots_values, bars_values, step_of, list_steps};
@@ -27,8 +27,9 @@ pub fn put_method_body(
     slots: &Option<Vec<Slot>>,
     body: &Statements,
 ) -> Result<(), NoMemory>
-    ensures put { OnOk result (writer.new ≡ with_body (routine_does as_method (standing here.now) next.old params (bars_of slots.now) (statements_of body.now)) writer.old) }
-    ensures next { OnOk result (next.new ≡ next.old + length (bars_blocks here.now.scope.now (bars_of slots.now) ++ statements_blocks here.now.scope.now (statements_of body.now))) }
+    ensures put { OnOk result (writer.new ≡ with_body
+        (routine_does as_method (standing here.now) next.old params (bars_of slots.now) (statements_of body.now)) writer.old) }
+    ensures next { OnOk result (next.new ≡ next.old + length (routine_blocks here.now.scope.now (bars_of slots.now) (statements_of body.now))) }
 {
     put_bars(writer, here, next, params, slots)?;
     put_method_steps(writer, here, next, &body.list)?;
@@ -44,8 +45,9 @@ pub fn put_block_body(
     slots: &Option<Vec<Slot>>,
     body: &Statements,
 ) -> Result<(), NoMemory>
-    ensures put { OnOk result (writer.new ≡ with_body (routine_does as_block (standing here.now) next.old params (bars_of slots.now) (statements_of body.now)) writer.old) }
-    ensures next { OnOk result (next.new ≡ next.old + length (bars_blocks here.now.scope.now (bars_of slots.now) ++ statements_blocks here.now.scope.now (statements_of body.now))) }
+    ensures put { OnOk result (writer.new ≡ with_body
+        (routine_does as_block (standing here.now) next.old params (bars_of slots.now) (statements_of body.now)) writer.old) }
+    ensures next { OnOk result (next.new ≡ next.old + length (routine_blocks here.now.scope.now (bars_of slots.now) (statements_of body.now))) }
 {
     put_bars(writer, here, next, params, slots)?;
     put_block_steps(writer, here, next, &body.list)?;

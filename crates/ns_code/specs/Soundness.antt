@@ -80,7 +80,8 @@ has_place number class =
 abbrev pub has_nested : CodeProgram → ℕ → ClassCode → Bool
 has_nested code number class =
     list_all
-    (λ (nested : NestedCode). option_map_or (λ (inner : ClassCode). option_map_or (λ outer. outer == number) inner.outer false) (slice_get code.classes nested.class) false)
+    (λ (nested : NestedCode). option_map_or (λ (inner : ClassCode). option_map_or (λ outer. outer == number) inner.outer false)
+    (slice_get code.classes nested.class) false)
     class.nested
 
 -- the selectors of a slot: its name, and with a colon behind it where it is mutable

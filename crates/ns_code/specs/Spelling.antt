@@ -45,4 +45,5 @@ is_selector text = is_identifier text || is_operator text || is_keyword text
 abbrev pub is_reserved : List ℕ → Bool
 is_reserved text =
     list_any (bytes_eq text)
-    (codes "class" ∷ codes "public" ∷ codes "protected" ∷ codes "private" ∷ codes "self" ∷ codes "super" ∷ codes "outer" ∷ codes "true" ∷ codes "false" ∷ codes "nil" ∷ [])
+    (codes "class" ∷ codes "public" ∷ codes "protected" ∷ codes "private"
+    ∷ codes "self" ∷ codes "super" ∷ codes "outer" ∷ codes "true" ∷ codes "false" ∷ codes "nil" ∷ [])

@@ -13,12 +13,14 @@ ghost use Rattle.ns_kdata.specs.Leading.{LeadsOn};
 
 /// A row's answer is a live value in every world.
 pub fn answers_are_live()
-    ensures { (world : World) (code : CodeProgram) (row : FacetRow) (first second : Value) (board : Board) → AnswersLive code (row_outcome world code row first second board) }
+    ensures { (world : World) (code : CodeProgram) (row : FacetRow) (first second : Value) (board : Board) →
+        AnswersLive code (row_outcome world code row first second board) }
 {}
 
 /// A row leaves a lawful world lawful: it prints, or changes nothing.
 pub fn rows_keep_lawful()
-    ensures { (world : World) (code : CodeProgram) (row : FacetRow) (first second : Value) (board : Board) → IsLawful world code → LeavesLawful code (row_outcome world code row first second board) }
+    ensures { (world : World) (code : CodeProgram) (row : FacetRow) (first second : Value) (board : Board) →
+        IsLawful world code → LeavesLawful code (row_outcome world code row first second board) }
 {}
 
 /// A row leads to a later world: it prints, or changes nothing.

@@ -15,12 +15,15 @@ use Rattle.ns_find.specs.declared.members.Side.TheVariants.{Instance as Instance
 use Rattle.ns_find.specs.Members.{Member, search, members_along, holder_members, factory_member}
 use Rattle.ns_find.specs.Rows.{kernel_rows}
 
+-- those of a class side but for the factory: along the chain, and then those of the kernel's classes
+abbrev pub class_side_members : Heap → CodeProgram → ℕ → List Member
+class_side_members heap code class =
+    members_along heap code ClassSide (chain_of heap class) ++ (kernel_rows heap code Class ++ kernel_rows heap code Object)
+
 -- the members that a lookup looks through, in order
 abbrev pub members_from : Heap → CodeProgram → Start → List Member
 members_from heap code (Instance class) = members_along heap code InstanceSide (chain_of heap class) ++ kernel_rows heap code Object
-members_from heap code (SideStart class factory) =
-    factory_member heap code class factory
-    ++ (members_along heap code ClassSide (chain_of heap class) ++ (kernel_rows heap code Class ++ kernel_rows heap code Object))
+members_from heap code (SideStart class factory) = factory_member heap code class factory ++ class_side_members heap code class
 members_from heap code (Kernel row) = kernel_rows heap code row ++ kernel_rows heap code Object
 
 -- what a lookup finds

@@ -70,8 +70,18 @@ is_wanted Private access = access == private_access
 -- the getter and the setter of a slot, which is the entry of that number of its holder
 abbrev pub slot_members : Heap → CodeProgram → Wanted → ℕ → ℕ → SlotCode → List Member
 slot_members heap code wanted holder entry slot =
-    record { there = is_wanted wanted slot.access; name = Numbered slot.name.0; access = slot.access; found = Getter holder (entry_word heap code holder entry) }
-    ∷ record { there = is_wanted wanted slot.access && slot.mutable; name = SetterOf slot.name.0; access = slot.access; found = Setter holder (entry_word heap code holder entry) }
+    record {
+      there = is_wanted wanted slot.access;
+      name = Numbered slot.name.0;
+      access = slot.access;
+      found = Getter holder (entry_word heap code holder entry);
+    }
+    ∷ record {
+      there = is_wanted wanted slot.access && slot.mutable;
+      name = SetterOf slot.name.0;
+      access = slot.access;
+      found = Setter holder (entry_word heap code holder entry);
+    }
     ∷ []
 
 -- those of slots, whose entries are numbered from that number on

@@ -39,7 +39,12 @@ manifest_row = 60
 abbrev pub top_rows : Heap → ℕ → List ClassCode → List Member
 top_rows heap number [] = []
 top_rows heap number (class ∷ classes) =
-    record { there = is_none class.outer && is_some (first_such (is_top number) heap); name = Numbered class.name.0; access = public_access; found = Kernel manifest_row }
+    record {
+      there = is_none class.outer && is_some (first_such (is_top number) heap);
+      name = Numbered class.name.0;
+      access = public_access;
+      found = Kernel manifest_row;
+    }
     ∷ top_rows heap (number + 1) classes
 
 -- the rows of all values
@@ -51,7 +56,8 @@ object_rows =
 -- Platform answers the facets that were granted
 abbrev pub platform_rows : Heap → List Member
 platform_rows heap =
-    granted_row heap facet.Console 61 (codes "console") ∷ granted_row heap facet.Kernel 62 (codes "kernel") ∷ granted_row heap facet.Mirrors 63 (codes "mirrors") ∷ granted_row heap facet.Board 64 (codes "board") ∷ []
+    granted_row heap facet.Console 61 (codes "console") ∷ granted_row heap facet.Kernel 62 (codes "kernel")
+    ∷ granted_row heap facet.Mirrors 63 (codes "mirrors") ∷ granted_row heap facet.Board 64 (codes "board") ∷ []
 
 -- the texts of the rows of a class, all of them public
 abbrev pub object_class_texts : List (List ℕ)
@@ -67,10 +73,14 @@ abbrev pub undefined_object_texts : List (List ℕ)
 undefined_object_texts = codes "printString" ∷ []
 
 abbrev pub boolean_texts : List (List ℕ)
-boolean_texts = codes "not" ∷ codes "printString" ∷ codes "&" ∷ codes "|" ∷ codes "and:" ∷ codes "or:" ∷ codes "ifTrue:" ∷ codes "ifFalse:" ∷ codes "ifTrue:ifFalse:" ∷ codes "ifFalse:ifTrue:" ∷ []
+boolean_texts =
+    codes "not" ∷ codes "printString" ∷ codes "&" ∷ codes "|" ∷ codes "and:" ∷ codes "or:"
+    ∷ codes "ifTrue:" ∷ codes "ifFalse:" ∷ codes "ifTrue:ifFalse:" ∷ codes "ifFalse:ifTrue:" ∷ []
 
 abbrev pub integer_texts : List (List ℕ)
-integer_texts = codes "+" ∷ codes "-" ∷ codes "*" ∷ codes "//" ∷ codes "\\\\" ∷ codes "<" ∷ codes "<=" ∷ codes ">" ∷ codes ">=" ∷ codes "=" ∷ codes "bitAnd:" ∷ codes "bitOr:" ∷ codes "bitXor:" ∷ codes "negated" ∷ codes "printString" ∷ codes "to:do:" ∷ codes "timesRepeat:" ∷ []
+integer_texts =
+    codes "+" ∷ codes "-" ∷ codes "*" ∷ codes "//" ∷ codes "\\\\" ∷ codes "<" ∷ codes "<=" ∷ codes ">" ∷ codes ">=" ∷ codes "="
+    ∷ codes "bitAnd:" ∷ codes "bitOr:" ∷ codes "bitXor:" ∷ codes "negated" ∷ codes "printString" ∷ codes "to:do:" ∷ codes "timesRepeat:" ∷ []
 
 abbrev pub string_texts : List (List ℕ)
 string_texts = codes "size" ∷ codes "at:" ∷ codes "copyFrom:to:" ∷ codes "," ∷ codes "=" ∷ codes "<" ∷ codes "printString" ∷ []
@@ -82,7 +92,9 @@ abbrev pub array_texts : List (List ℕ)
 array_texts = codes "size" ∷ codes "at:" ∷ codes "at:put:" ∷ codes "do:" ∷ []
 
 abbrev pub block_texts : List (List ℕ)
-block_texts = codes "value" ∷ codes "value:" ∷ codes "value:value:" ∷ codes "value:value:value:" ∷ codes "valueWithArguments:" ∷ codes "numArgs" ∷ codes "whileTrue:" ∷ codes "whileFalse:" ∷ []
+block_texts =
+    codes "value" ∷ codes "value:" ∷ codes "value:value:" ∷ codes "value:value:value:"
+    ∷ codes "valueWithArguments:" ∷ codes "numArgs" ∷ codes "whileTrue:" ∷ codes "whileFalse:" ∷ []
 
 abbrev pub kernel_texts : List (List ℕ)
 kernel_texts = codes "Object" ∷ codes "Array" ∷ []

@@ -5,7 +5,7 @@ ghost use Rattle.ns_world.specs.Heap.{find_cell, is_class, chain_of, is_chain_st
 ghost use Rattle.ns_world.specs.Lawful.{IsLawful};
 ghost use Rattle.ns_world.specs.Layout.{declaration_of};
 ghost use Rattle.ns_find.specs.Members as spec;
-ghost use Rattle.ns_find.specs.Find.{found_from, found_private, members_from, is_start, side_of, super_start};
+ghost use Rattle.ns_find.specs.Find.{found_from, found_private, class_side_members, members_from, is_start, side_of, super_start};
 ghost use Rattle.ns_find.specs.Rows.{kernel_rows};
 ghost use Rattle.ns_find.specs.declared.members.Wanted.TheVariants.{Visible};
 ghost use Rattle.ns_find.specs.declared.members.Side.TheVariants as side_is;
@@ -142,7 +142,7 @@ fn from_side(world: &World, code: &CodeProgram, class: u32, asked: Asked) -> Opt
     requires lawful { IsLawful world.now.world code.now }
     requires class { IsTrue (is_chain_start world.now.world.cells class) }
     requires visible { asked.wanted ≡ Visible }
-    ensures { result ≡ spec.search code.now asked.sel.0 asked.kind (spec.members_along world.now.world.cells code.now side_is.Class (chain_of world.now.world.cells class) ++ (kernel_rows world.now.world.cells code.now row_is.Class ++ kernel_rows world.now.world.cells code.now row_is.Object)) }
+    ensures { result ≡ spec.search code.now asked.sel.0 asked.kind (class_side_members world.now.world.cells code.now class) }
 {
     match along(world, code, class, Side::Class, asked) {
         Some(found) => Some(found),
@@ -154,7 +154,7 @@ fn from_side(world: &World, code: &CodeProgram, class: u32, asked: Asked) -> Opt
 #[tactic(auto, using(crate::proofs::Parts::search_append))]
 fn from_kernel(world: &World, code: &CodeProgram, row: KernelRow, asked: Asked) -> Option<Found>
     requires { length code.now.classes ≤ 4096 }
-    ensures { result ≡ spec.search code.now asked.sel.0 asked.kind (kernel_rows world.now.world.cells code.now row ++ kernel_rows world.now.world.cells code.now row_is.Object) }
+    ensures { result ≡ spec.search code.now asked.sel.0 asked.kind (members_from world.now.world.cells code.now (start_is.Kernel row)) }
 {
     match row_of(world, code, row, asked.sel, asked.kind) {
         Some(found) => Some(found),
@@ -198,7 +198,8 @@ fn along(world: &World, code: &CodeProgram, class: u32, side: Side, asked: Asked
     requires lawful { IsLawful world.now.world code.now }
     requires class { IsTrue (is_chain_start world.now.world.cells class) }
     requires visible { asked.wanted ≡ Visible }
-    ensures { result ≡ spec.search code.now asked.sel.0 asked.kind (spec.members_along world.now.world.cells code.now side (chain_of world.now.world.cells class)) }
+    ensures { result ≡ spec.search code.now asked.sel.0 asked.kind
+        (spec.members_along world.now.world.cells code.now side (chain_of world.now.world.cells class)) }
 {
     let mut at = class;
     'up: while !world.is_past(at) {
@@ -265,7 +266,8 @@ fn of_instance_side(
     requires lawful { IsLawful world.now.world code.now }
     requires holder { IsTrue (is_class (find_cell world.now.world.cells holder)) }
     requires declared { slice_get code.now.classes (declaration_of world.now.world.cells holder) ≡ Some declared.now }
-    ensures { result ≡ spec.search code.now asked.sel.0 asked.kind (spec.side_members world.now.world.cells code.now asked.wanted side_is.Instance holder declared.now) }
+    ensures { result ≡ spec.search code.now asked.sel.0 asked.kind
+        (spec.side_members world.now.world.cells code.now asked.wanted side_is.Instance holder declared.now) }
 {
     match slots(world, code, declared.slots.as_slice(), holder, asked) {
         Some(found) => Some(found),
@@ -281,7 +283,8 @@ fn nested_or_method(
     holder: u32,
     asked: Asked,
 ) -> Option<Found>
-    ensures { result ≡ spec.search code.now asked.sel.0 asked.kind (spec.nested_members asked.wanted holder declared.now.nested ++ spec.method_members asked.wanted holder declared.now.methods) }
+    ensures { result ≡ spec.search code.now asked.sel.0 asked.kind
+        (spec.nested_members asked.wanted holder declared.now.nested ++ spec.method_members asked.wanted holder declared.now.methods) }
 {
     match nested(code, declared.nested.as_slice(), holder, asked) {
         Some(found) => Some(found),

@@ -3,14 +3,11 @@
 ghost use Rattle.std.specs.Prelude.{ℕ, [], ◌∷◌, List, Option, Bool, All};
 ghost use Rattle.ns_code.specs.declared.program.CodeProgram.{CodeProgram};
 ghost use Rattle.ns_world.specs.declared.value.Value.{Value};
-ghost use Rattle.ns_world.specs.Cell.{Cell};
 ghost use Rattle.ns_world.specs.declared.kernel.KernelRow.{KernelRow};
 ghost use Rattle.ns_world.specs.declared.kernel.Start.{Start};
 ghost use Rattle.ns_world.specs.declared.kernel.Start.TheVariants.{Instance, ClassSide, Kernel};
 ghost use Rattle.ns_world.specs.Heap.{Heap, chain_of, write_word, write_byte};
-ghost use Rattle.ns_world.specs.World.{World};
 ghost use Rattle.ns_world.specs.Later.{Lasts, Unchanged, IsClassAt};
-ghost use Rattle.ns_world.specs.Lawful.{IsLawful};
 ghost use Rattle.ns_find.specs.declared.memo.Kept.{Kept};
 ghost use Rattle.ns_find.specs.declared.found.Sending.{Sending};
 ghost use Rattle.ns_find.specs.declared.members.Side.{Side};
@@ -18,14 +15,15 @@ ghost use Rattle.ns_find.specs.declared.members.Side.TheVariants as side;
 ghost use Rattle.ns_find.specs.Find.{found_from, found_private, CanStart};
 ghost use Rattle.ns_find.specs.Belonging.{Belongs, factories_at};
 ghost use Rattle.ns_find.specs.Named.{FoundBy, FindsBy};
-ghost use Rattle.ns_find.specs.Memo.{IsRight, AddsNoRow};
+ghost use Rattle.ns_find.specs.Memo.{IsRight};
+ghost use Rattle.ns_find.specs.Stated.{StaysRight, MakingKeepsRight, FromBelongs};
 
 /// A kept lookup stays right whatever is made and written, as long as no facet and no first class
 /// of a top-level declaration is made.
 pub fn kept_lookups_stay_right()
-    ensures made { (world : World) (code : CodeProgram) (cell : Cell) (place : Option Kept) → IsLawful world code → AddsNoRow world.cells cell → IsRight world.cells code place → IsRight (cell ∷ world.cells) code place }
-    ensures written { (world : World) (code : CodeProgram) (at word : ℕ) (value : Value) (place : Option Kept) → IsLawful world code → IsRight world.cells code place → IsRight (write_word world.cells at word value) code place }
-    ensures byte_written { (world : World) (code : CodeProgram) (at offset byte : ℕ) (place : Option Kept) → IsLawful world code → IsRight world.cells code place → IsRight (write_byte world.cells at offset byte) code place }
+    ensures made { MakingKeepsRight }
+    ensures written { (at word : ℕ) (value : Value) → StaysRight (λ heap. write_word heap at word value) }
+    ensures byte_written { (at offset byte : ℕ) → StaysRight (λ heap. write_byte heap at offset byte) }
 {}
 
 /// Later in a run a lookup can start where it could and finds what it found, a private member is the
@@ -41,10 +39,12 @@ pub fn lookups_stay()
 /// What a lookup finds is a member of the declaration of a holder in the chain that it looks
 /// through, the factory of the class at which it starts, or has no holder.
 pub fn what_is_found_belongs()
-    ensures instance { (heap : Heap) (code : CodeProgram) (class sel : ℕ) (kind : Sending) → Belongs heap code side.Instance (chain_of heap class) [] (found_from heap code (Instance class) sel kind) }
-    ensures class { (heap : Heap) (code : CodeProgram) (class : ℕ) (factory : Bool) (sel : ℕ) (kind : Sending) → Belongs heap code side.Class (chain_of heap class) (factories_at class factory) (found_from heap code (ClassSide class factory) sel kind) }
-    ensures kernel { (heap : Heap) (code : CodeProgram) (side : Side) (row : KernelRow) (sel : ℕ) (kind : Sending) → Belongs heap code side [] [] (found_from heap code (Kernel row) sel kind) }
-    ensures private { (heap : Heap) (code : CodeProgram) (holder : ℕ) (side : Side) (sel : ℕ) → Belongs heap code side (holder ∷ []) [] (found_private heap code holder side sel) }
+    ensures instance { (heap : Heap) (code : CodeProgram) (class : ℕ) → FromBelongs heap code (Instance class) side.Instance (chain_of heap class) [] }
+    ensures class { (heap : Heap) (code : CodeProgram) (class : ℕ) (factory : Bool) →
+        FromBelongs heap code (ClassSide class factory) side.Class (chain_of heap class) (factories_at class factory) }
+    ensures kernel { (heap : Heap) (code : CodeProgram) (side : Side) (row : KernelRow) → FromBelongs heap code (Kernel row) side [] [] }
+    ensures private { (heap : Heap) (code : CodeProgram) (holder : ℕ) (side : Side) (sel : ℕ) →
+        Belongs heap code side (holder ∷ []) [] (found_private heap code holder side sel) }
 {}
 
 /// A method and a factory that are found have the selector that was sought, and where the classes

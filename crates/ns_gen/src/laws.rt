@@ -39,9 +39,12 @@ pub fn code_has_the_tables()
 /// in the table, from the number of its first one on, and each name that it uses has a number.
 #[tactic(auto, using(crate::proofs::BodyAt::body_of_code, crate::proofs::BodyAt::body_texts_stand, crate::proofs::NamesThere::names_there))]
 pub fn bodies_have_their_code()
-    ensures body { (meant : Meant) (n : ℕ) → slice_get (code_of meant).bodies n ≡ option_map (body_code (names_of meant) (first_text meant.bodies n)) (slice_get meant.bodies n) }
-    ensures texts { (meant : Meant) (n : ℕ) (body : Body) → slice_get meant.bodies n ≡ Some body → TextsStand (texts_of meant) (first_text meant.bodies n) (body_texts body) }
-    ensures names { (meant : Meant) (n k : ℕ) (body : Body) → slice_get meant.bodies n ≡ Some body → AreThere (names_of meant) (flat_map line_names (body_lines k body.does)) }
+    ensures body { (meant : Meant) (n : ℕ) → slice_get (code_of meant).bodies n
+        ≡ option_map (body_code (names_of meant) (first_text meant.bodies n)) (slice_get meant.bodies n) }
+    ensures texts { (meant : Meant) (n : ℕ) (body : Body) → slice_get meant.bodies n ≡ Some body →
+        TextsStand (texts_of meant) (first_text meant.bodies n) (body_texts body) }
+    ensures names { (meant : Meant) (n k : ℕ) (body : Body) → slice_get meant.bodies n ≡ Some body →
+        AreThere (names_of meant) (flat_map line_names (body_lines k body.does)) }
 {}
 
 /// In straight code each instruction finds its operands and none jumps, each return stands at a
@@ -51,7 +54,8 @@ pub fn bodies_have_their_code()
 pub fn heights_are_good()
     ensures finds { (names : List (List ℕ)) (body : Does) (k : ℕ) → LinesFind names 0 (body_lines k body) }
     ensures within { (instrs : List Instr) (height : ℕ) → Within (greatest_height height instrs) height instrs }
-    ensures good { (names : List (List ℕ)) (k : ℕ) (body : Body) → HaveGoodHeights (body_code names k body) (begin (length (body_code names k body).instrs)) 0 (body_code names k body).instrs }
+    ensures good { (names : List (List ℕ)) (k : ℕ) (body : Body) →
+        HaveGoodHeights (body_code names k body) (begin (length (body_code names k body).instrs)) 0 (body_code names k body).instrs }
 {}
 
 /// The last line of a body goes on to no other.

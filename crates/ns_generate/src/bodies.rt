@@ -279,8 +279,10 @@ fn put_start_inside(
     slots: &Option<Vec<Slot>>,
     body: &Statements,
 ) -> Result<(), NoMemory>
-    ensures put { OnOk result (output.new ≡ with_bodies (start_inside (standing here.now) next.old (option_map clause_of clause.now) (bars_of slots.now) (statements_of body.now)) output.old) }
-    ensures next { OnOk result (next.new ≡ next.old + length (b.super_blocks here.now.scope.now (option_map clause_of clause.now) ++ (b.bars_blocks here.now.scope.now (bars_of slots.now) ++ b.statements_blocks here.now.scope.now (statements_of body.now)))) }
+    ensures put { OnOk result (output.new ≡ with_bodies
+        (start_inside (standing here.now) next.old (option_map clause_of clause.now) (bars_of slots.now) (statements_of body.now)) output.old) }
+    ensures next { OnOk result (next.new ≡ next.old + length
+        (b.start_blocks here.now.scope.now (option_map clause_of clause.now) (bars_of slots.now) (statements_of body.now))) }
 {
     put_super(output, here, next, clause)?;
     put_routine_inside(output, here, next, slots, body)?;
@@ -315,7 +317,7 @@ fn put_routine_inside(
     body: &Statements,
 ) -> Result<(), NoMemory>
     ensures put { OnOk result (output.new ≡ with_bodies (routine_inside (standing here.now) next.old (bars_of slots.now) (statements_of body.now)) output.old) }
-    ensures next { OnOk result (next.new ≡ next.old + length (b.bars_blocks here.now.scope.now (bars_of slots.now) ++ b.statements_blocks here.now.scope.now (statements_of body.now))) }
+    ensures next { OnOk result (next.new ≡ next.old + length (b.routine_blocks here.now.scope.now (bars_of slots.now) (statements_of body.now))) }
 {
     put_bars(output, here, next, slots)?;
     put_statements(output, here, next, body)?;

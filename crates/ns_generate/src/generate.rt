@@ -6,7 +6,7 @@ ghost use Rattle.ns_meant.specs.Classes.{meant};
 ghost use Rattle.ns_meant.specs.Tables.{class_code};
 ghost use Rattle.ns_gen.specs.Code.{code_of};
 ghost use Rattle.ns_gen.specs.Sizes.{size_fault};
-ghost use Rattle.ns_generate.specs.Whole.{named, first_fault};
+ghost use Rattle.ns_generate.specs.Whole.{named, coded_program, first_fault};
 ghost use Rattle.ns_generate.specs.declared.fault.GenFault.TheVariants.{TooLarge};
 
 use crate::fault::GenFault;
@@ -81,7 +81,7 @@ fn code_of(
     output: Output,
     classes: &[Declaration],
 ) -> Result<CodeProgram, NoMemory>
-    ensures { IfOk result (λ code. code ≡ record { files = program.now.files; names = output.names; texts = output.texts; classes = map (class_code output.names) classes.now; bodies = output.bodies }) }
+    ensures { IfOk result (λ code. code ≡ coded_program program.now.files classes.now output) }
 {
     let (names, texts, bodies) = output.into_parts();
     let files = copies(alloc, program.files.as_slice())?;

@@ -7,7 +7,7 @@ ghost use Rattle.ns_meant.specs.Tables.{class_code};
 ghost use Rattle.ns_gen.specs.Code.{code_of};
 ghost use Rattle.ns_gen.specs.Sizes.{size_fault};
 ghost use Rattle.ns_bodies.specs.Coding.{Coded, with_bodies};
-ghost use Rattle.ns_generate.specs.Whole.{named, first_fault};
+ghost use Rattle.ns_generate.specs.Whole.{named, coded_program, first_fault};
 
 /// All bodies of a program, put in turn behind the names of its classes, tell the first size of its
 /// code that passes its limit; and where none does, they and the tables are its code.
@@ -16,5 +16,5 @@ pub fn bodies_in_turn_are_the_code()
     ensures size { (meant : Meant) (output : Coded) (count : ℕ) → output ≡ with_bodies meant.bodies (named meant.classes) → count ≡ length meant.bodies →
         first_fault (length output.names) count output.fault ≡ size_fault (code_of meant) }
     ensures code { (meant : Meant) (output : Coded) → output ≡ with_bodies meant.bodies (named meant.classes) → size_fault (code_of meant) ≡ None →
-        record { files = meant.files; names = output.names; texts = output.texts; classes = map (class_code output.names) meant.classes; bodies = output.bodies } ≡ code_of meant }
+        coded_program meant.files meant.classes output ≡ code_of meant }
 {}

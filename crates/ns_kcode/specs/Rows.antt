@@ -1,5 +1,5 @@
 -- What the methods that evaluate blocks mean, each as a recursion over its turns; and their actions, one after another.
-use Rattle.std.specs.Prelude.{ℕ, zero, suc, ℤ, pos, ◌+ℤ◌, ◌+◌, int_le, true, false, if◌then◌else◌, Option, Some, None}
+use Rattle.std.specs.Prelude.{◌≡◌, ℕ, zero, suc, ℤ, pos, ◌+ℤ◌, ◌+◌, int_le, true, false, if◌then◌else◌, Option, Some, None}
 use Rattle.ns_world.specs.declared.value.Value.{Value}
 use Rattle.ns_world.specs.declared.value.Value.TheVariants.{Nil, True, False, Int}
 use Rattle.ns_world.specs.declared.ending.Kind.{Kind}
@@ -128,3 +128,7 @@ module _ {W O : Type 0} (host : Host W O) where
   abbrev pub actions : KMethod → ℕ → KState → W → O
   actions m zero state w = host.spent
   actions m (suc n) state w = acted (next m state) state w (λ state w. actions m n state w)
+
+  -- So many actions from a state on do what a row does.
+  abbrev pub ActsAs : KMethod → ℕ → KState → (W → O) → Type 0
+  ActsAs method n state row = (w : W) → actions method n state w ≡ row w

@@ -7,3 +7,4 @@ pub mod Giving
 pub mod Living
 pub mod Lawful
 pub mod Leading
+pub mod Stated

@@ -76,7 +76,8 @@ pub fn join_texts(world: &mut World, one: Value, other: Value) -> Result<Value, 
     requires one { IsThere world.old.world.cells one }
     requires other { IsThere world.old.world.cells other }
     requires within { IsWithin world.old.world }
-    ensures { Gives (making world.old.world (TextCell (bytes_of world.old.world.cells one ++ bytes_of world.old.world.cells other))) world.old result world.new }
+    ensures { Gives (making world.old.world (TextCell (bytes_of world.old.world.cells one ++ bytes_of world.old.world.cells other)))
+        world.old result world.new }
 {
     let first = whole(world, one);
     let second = whole(world, other);

@@ -11,7 +11,8 @@ ghost use Rattle.ns_world.specs.declared.value.Value.{Value};
 /// smaller.
 pub fn division_rounds_down()
     ensures holds { (left right : ℤ) → right ≢ pos 0 → IsFlooredDivision left right (floored_quotient left right) (floored_remainder left right) }
-    ensures alone { (left right quotient rest : ℤ) → IsFlooredDivision left right quotient rest → (quotient ≡ floored_quotient left right) × (rest ≡ floored_remainder left right) }
+    ensures alone { (left right quotient rest : ℤ) → IsFlooredDivision left right quotient rest →
+        (quotient ≡ floored_quotient left right) × (rest ≡ floored_remainder left right) }
 {}
 
 /// An answer is an Integer or a boolean, and so no reference.

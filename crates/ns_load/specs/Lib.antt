@@ -2,3 +2,4 @@ pub mod Place
 pub mod Source
 pub mod Loaded
 pub mod Answer
+pub mod Stated

@@ -6,6 +6,7 @@ ghost use Rattle.ns_base.specs.Files.{Files};
 ghost use Rattle.ns_base.specs.Shelf.{OnlyRead};
 ghost use Rattle.ns_load.specs.Answer.{HasText, IsOfBytes, IsRead, TellsFile};
 ghost use Rattle.ns_load.specs.Source as spec;
+ghost use Rattle.ns_load.specs.Stated.{IsReading};
 ghost use Rattle.ns_load.specs.declared.fault.LoadCause.TheVariants.{Missing, ReadFault, TooLong};
 ghost use Rattle.ns_load.specs.declared.fault.LoadFault.TheVariants.{At, Memory};
 ghost use Rattle.ns_tree.specs.PlainOf.{unit_of};
@@ -45,7 +46,7 @@ pub fn load_file<S: Shelf>(
 
 /// What these bytes of a file are read as.
 fn read_bytes(alloc: Global, file: u32, source: &[u8]) -> Result<Source, LoadFault>
-    ensures exact { MatchResult result (λ read. spec.read_bytes file source.now ≡ spec.spells (unit_of read.unit) read.marks) (λ fault. fault ≢ Memory → spec.read_bytes file source.now ≡ spec.refused fault) }
+    ensures exact { IsReading (spec.read_bytes file source.now) result }
     ensures read { IfOk result (λ source. IsRead file (unit_of source.unit) source.marks) }
     ensures cause { IfErr result IsOfBytes }
 {

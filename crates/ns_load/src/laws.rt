@@ -3,7 +3,7 @@
 ghost use Rattle.std.specs.Prelude.{◌≡◌, ◌≤◌, ℕ, Bool, List, All, length, map};
 ghost use Rattle.ns_base.specs.declared.place.Place.{Place};
 ghost use Rattle.ns_load.specs.Answer.{AreRead};
-ghost use Rattle.ns_load.specs.Loaded.{file_names};
+ghost use Rattle.ns_load.specs.Stated.{LoadedIsWhole};
 ghost use Rattle.ns_scope.specs.Whole.{AreWholeUnits, IsFileName, IsWhole};
 ghost use Rattle.ns_scope.specs.declared.program.Program.{Program};
 ghost use Rattle.ns_tree.specs.Plain as p;
@@ -18,5 +18,5 @@ pub fn what_is_read_is_whole()
 
 /// What `load` gives for 1 to 16 names of files is a whole program.
 pub fn what_is_loaded_is_whole()
-    ensures { (program : Program) (names : List (List ℕ)) (lib : Bool) → 1 ≤ length names → length names ≤ 16 → All IsFileName names → program.files ≡ file_names names lib → length program.units ≡ length program.files → AreRead 0 (map unit_of program.units) program.marks → IsWhole program }
+    ensures { LoadedIsWhole }
 {}

@@ -7,6 +7,7 @@ ghost use Rattle.ns_base.specs.Shelf.{OnlyRead};
 ghost use Rattle.ns_load.specs.Answer.{AreRead, HasRefusedTexts, HasTexts, IsSpelling, Tells, TellsParts};
 ghost use Rattle.ns_load.specs.Loaded as spec;
 ghost use Rattle.ns_load.specs.Source as source_lem;
+ghost use Rattle.ns_load.specs.Stated.{IsLoading};
 ghost use Rattle.ns_load.specs.declared.fault.LoadCause.TheVariants.{Missing, ReadFault};
 ghost use Rattle.ns_load.specs.declared.fault.LoadFault.TheVariants.{At, Memory};
 ghost use Rattle.ns_scope.specs.Whole.{IsFileName, IsWhole};
@@ -70,7 +71,8 @@ fn load_files<S: Shelf>(
     requires units { parts.old.units.items ≡ [] }
     requires files { parts.old.files.items ≡ [] }
     requires marks { parts.old.marks.items ≡ [] }
-    ensures told { (files : Files) → S.holds shelf.old ≡ Some files → TellsParts names.now files (map unit_of parts.new.units.items) parts.new.marks.items result }
+    ensures told { (files : Files) → S.holds shelf.old ≡ Some files →
+        TellsParts names.now files (map unit_of parts.new.units.items) parts.new.marks.items result }
     ensures files { OnOk result (parts.new.files.items ≡ names.now) }
     ensures count { OnOk result (length parts.new.units.items ≡ length names.now) }
     ensures read { OnOk result (AreRead 0 (map unit_of parts.new.units.items) parts.new.marks.items) }
@@ -95,7 +97,8 @@ fn load_files<S: Shelf>(
 /// The program of these files, and of the library where it is asked for.
 fn with_library(alloc: Global, parts: Parts, lib: bool) -> Result<Program, LoadFault>
     requires { length parts.units.items ≤ 16 }
-    ensures loaded { MatchResult result (λ program. spec.after (map unit_of parts.units.items) parts.marks.items (spec.load_from (length parts.units.items) (spec.library lib)) ≡ spec.units (map unit_of program.units) program.marks) (λ fault. fault ≢ Memory → spec.after (map unit_of parts.units.items) parts.marks.items (spec.load_from (length parts.units.items) (spec.library lib)) ≡ spec.stopped fault) }
+    ensures loaded { IsLoading (spec.after (map unit_of parts.units.items) parts.marks.items
+        (spec.load_from (length parts.units.items) (spec.library lib))) result }
     ensures spelling { IfErr result IsSpelling }
     ensures files { IfOk result (λ program. program.files ≡ spec.file_names parts.files.items lib) }
     ensures count { length parts.units.items ≡ length parts.files.items → IfOk result (λ program. length program.units ≡ length program.files) }
@@ -112,7 +115,8 @@ fn with_library(alloc: Global, parts: Parts, lib: bool) -> Result<Program, LoadF
 fn with_source(alloc: Global, parts: Parts, name: &str, source: &[u8]) -> Result<Program, LoadFault>
     requires few { length parts.units.items ≤ 16 }
     requires short { length source.now ≤ 1048576 }
-    ensures loaded { MatchResult result (λ program. spec.after (map unit_of parts.units.items) parts.marks.items (spec.with_file (source_lem.read (length parts.units.items) source.now) (spec.units [] [])) ≡ spec.units (map unit_of program.units) program.marks) (λ fault. fault ≢ Memory → spec.after (map unit_of parts.units.items) parts.marks.items (spec.with_file (source_lem.read (length parts.units.items) source.now) (spec.units [] [])) ≡ spec.stopped fault) }
+    ensures loaded { IsLoading (spec.after (map unit_of parts.units.items) parts.marks.items
+        (spec.with_file (source_lem.read (length parts.units.items) source.now) (spec.units [] []))) result }
     ensures spelling { IfErr result IsSpelling }
     ensures files { IfOk result (λ program. program.files ≡ parts.files.items ++ name.now ∷ []) }
     ensures count { length parts.units.items ≡ length parts.files.items → IfOk result (λ program. length program.units ≡ length program.files) }

@@ -5,6 +5,7 @@ ghost use Rattle.ns_lex.specs.Scan.{InOrder};
 ghost use Rattle.ns_load.specs.Answer.{IsSpelling};
 ghost use Rattle.ns_load.specs.Place as places;
 ghost use Rattle.ns_load.specs.Source as spec;
+ghost use Rattle.ns_load.specs.Stated.{IsReading};
 ghost use Rattle.ns_load.specs.declared.fault.LoadFault.TheVariants.{Memory};
 ghost use Rattle.ns_tree.specs.PlainOf.{unit_of};
 
@@ -33,7 +34,7 @@ pub struct Source {
 #[tactic(auto, using(crate::proofs::Sources::lexical_fault))]
 pub fn read(alloc: Global, file: u32, source: &[u8]) -> Result<Source, LoadFault>
     requires { length source.now ≤ 1048576 }
-    ensures exact { MatchResult result (λ read. spec.read file source.now ≡ spec.spells (unit_of read.unit) read.marks) (λ fault. fault ≢ Memory → spec.read file source.now ≡ spec.refused fault) }
+    ensures exact { IsReading (spec.read file source.now) result }
     ensures spelling { IfErr result IsSpelling }
 {
     match lex(alloc, source) {
@@ -51,7 +52,7 @@ fn read_tokens(
     requires short { length source.now ≤ 1048576 }
     requires few { length tokens.now ≤ 1048576 }
     requires in_order { InOrder 0 (length source.now) tokens.now }
-    ensures exact { MatchResult result (λ read. spec.read_tokens file source.now tokens.now ≡ spec.spells (unit_of read.unit) read.marks) (λ fault. fault ≢ Memory → spec.read_tokens file source.now tokens.now ≡ spec.refused fault) }
+    ensures exact { IsReading (spec.read_tokens file source.now tokens.now) result }
     ensures spelling { IfErr result IsSpelling }
 {
     match marks(alloc, file, source, tokens) {
@@ -72,7 +73,7 @@ fn parsed(
     requires short { length source.now ≤ 1048576 }
     requires few { length tokens.now ≤ 1048576 }
     requires marks { marks ≡ places.marks file source.now tokens.now }
-    ensures exact { MatchResult result (λ read. spec.read_tokens file source.now tokens.now ≡ spec.spells (unit_of read.unit) read.marks) (λ fault. fault ≢ Memory → spec.read_tokens file source.now tokens.now ≡ spec.refused fault) }
+    ensures exact { IsReading (spec.read_tokens file source.now tokens.now) result }
     ensures spelling { IfErr result IsSpelling }
 {
     match parse(alloc, tokens) {

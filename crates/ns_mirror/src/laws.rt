@@ -3,22 +3,20 @@
 ghost use Rattle.ns_code.specs.declared.program.CodeProgram.{CodeProgram};
 ghost use Rattle.ns_world.specs.declared.value.Value.{Value};
 ghost use Rattle.ns_world.specs.World.{World};
-ghost use Rattle.ns_world.specs.Lawful.{IsLawful, IsLiveValue};
 ghost use Rattle.ns_mirror.specs.declared.row.MirrorRow.{MirrorRow};
 ghost use Rattle.ns_mirror.specs.Mirror.{row_outcome};
-ghost use Rattle.ns_mirror.specs.Living.{ReflectsLive};
-ghost use Rattle.ns_mirror.specs.Lawful.{ReflectsLawful};
 ghost use Rattle.ns_mirror.specs.Leading.{ReflectsOn};
+ghost use Rattle.ns_mirror.specs.Stated.{AnswersAreLive, RowsKeepLawful};
 
 /// In a lawful world and for live values a row's answer is live, and so is what it is to send.
 pub fn answers_are_live()
-    ensures { (world : World) (code : CodeProgram) (row : MirrorRow) (value first second : Value) → IsLawful world code → IsLiveValue world.cells code value → IsLiveValue world.cells code first → IsLiveValue world.cells code second → ReflectsLive code (row_outcome world code row value first second) }
+    ensures { AnswersAreLive }
 {}
 
 /// A row leaves a lawful world lawful, where the value that `on:` mirrors and the one that
 /// `slot:put:` stores are live.
 pub fn rows_keep_lawful()
-    ensures { (world : World) (code : CodeProgram) (row : MirrorRow) (value first second : Value) → IsLawful world code → IsLiveValue world.cells code first → IsLiveValue world.cells code second → ReflectsLawful code (row_outcome world code row value first second) }
+    ensures { RowsKeepLawful }
 {}
 
 /// A row leads to a later world: it makes a cell, writes a slot, or changes nothing.

@@ -25,7 +25,8 @@ use ns_world::world::World;
 pub fn selectors(world: &mut World, code: &CodeProgram, value: Value) -> Result<Value, Fault>
     requires room { world.old.world.limits.cells ≤ world.old.cell_room }
     requires there { IsThere world.old.world.cells value }
-    requires class { looking.object_class world.old.world.cells value ≢ no_class → IsTrue (is_class (find_cell world.old.world.cells (looking.object_class world.old.world.cells value))) }
+    requires class { looking.object_class world.old.world.cells value ≢ no_class →
+        IsTrue (is_class (find_cell world.old.world.cells (looking.object_class world.old.world.cells value))) }
     requires fits { Fits code.now }
     ensures { Gives (spec.selectors world.old.world code.now value) world.old result world.new }
 {

@@ -229,7 +229,8 @@ fn slot_count(world: &World, code: &CodeProgram, class: u32) -> u32
 fn put_names(world: &mut World, code: &CodeProgram, to: u32, class: u32) -> u32
     requires fits { Fits code.now }
     requires class { IsTrue (is_chain_start world.old.world.cells class) }
-    requires inside { length (spec.slot_names_along world.old.world.cells code.now (chain_of world.old.world.cells class)) ≤ length (open_words_at world.old.world.cells to) }
+    requires inside { length (spec.slot_names_along world.old.world.cells code.now (chain_of world.old.world.cells class))
+        ≤ length (open_words_at world.old.world.cells to) }
     requires few { length (open_words_at world.old.world.cells to) < 2 ^ 32 }
     ensures world { world.new ≡ listed world.old to 0 (spec.slot_names_along world.old.world.cells code.now (chain_of world.old.world.cells class)) }
     ensures place { result ≡ length (spec.slot_names_along world.old.world.cells code.now (chain_of world.old.world.cells class)) }

@@ -37,7 +37,8 @@ pub fn object_class(world: &World, value: Value) -> u32
 /// for kernel values.
 pub fn enclosing(world: &World, value: Value) -> Value
     requires there { IsThere world.now.world.cells value }
-    requires class { spec.object_class world.now.world.cells value ≢ no_class → IsSome (find_cell world.now.world.cells (spec.object_class world.now.world.cells value)) }
+    requires class { spec.object_class world.now.world.cells value ≢ no_class →
+        IsSome (find_cell world.now.world.cells (spec.object_class world.now.world.cells value)) }
     ensures { result ≡ spec.enclosing world.now.world.cells value }
 {
     match shape_of_value(world, value) {

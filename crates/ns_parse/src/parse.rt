@@ -18,7 +18,8 @@ use std::alloc::Global;
 /// The tree, or the first token at which it goes wrong, where no bracket is too deep.
 fn whole(alloc: Global, tokens: &[Token]) -> Result<Unit, ParseFault>
     requires { length tokens.now ≤ 1048576 }
-    ensures { MatchResult result (λ unit. spec.whole (spec.unit (kinds tokens.now)) ≡ Ok (unit_of unit)) (λ fault. fault ≢ Memory → spec.whole (spec.unit (kinds tokens.now)) ≡ Err fault) }
+    ensures { MatchResult result (λ unit. spec.whole (spec.unit (kinds tokens.now)) ≡ Ok (unit_of unit))
+        (λ fault. fault ≢ Memory → spec.whole (spec.unit (kinds tokens.now)) ≡ Err fault) }
 {
     let mut left = Tokens::of(tokens);
     let unit = file(alloc, &mut left, tokens.len())?;
@@ -34,7 +35,8 @@ fn whole(alloc: Global, tokens: &[Token]) -> Result<Unit, ParseFault>
 #[tactic(auto, unfolding(crate::specs::Parse::parse))]
 pub fn parse(alloc: Global, tokens: &[Token]) -> Result<Unit, ParseFault>
     requires { length tokens.now ≤ 1048576 }
-    ensures exact { MatchResult result (λ unit. spec.parse (kinds tokens.now) ≡ Ok (unit_of unit)) (λ fault. fault ≢ Memory → spec.parse (kinds tokens.now) ≡ Err fault) }
+    ensures exact { MatchResult result (λ unit. spec.parse (kinds tokens.now) ≡ Ok (unit_of unit))
+        (λ fault. fault ≢ Memory → spec.parse (kinds tokens.now) ≡ Err fault) }
     ensures spelled { AllHaveText (kinds tokens.now) → IfOk result (λ unit. Spells (kinds tokens.now) (unit_of unit)) }
 {
     match deep(tokens) {

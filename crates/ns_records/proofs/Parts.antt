@@ -11,9 +11,10 @@ use Rattle.ns_scope.specs.declared.scope.Scope.{Scope}
 use Rattle.ns_scope.specs.declared.scope.CodeSide.TheVariants as side
 use Rattle.ns_scope.specs.Scopes.{class_scope, initialiser_scope, factory_params}
 use Rattle.ns_scope.specs.Bodies as b
+use Rattle.ns_scope.specs.Bodies.{start_blocks}
 use Rattle.ns_meant.specs.Program as m
 use Rattle.ns_meant.specs.Classes as c
-use Rattle.ns_records.specs.Declaring.{start_blocks, declaration_in, methods_in, side_methods_in}
+use Rattle.ns_records.specs.Declaring.{declaration_in, methods_in, side_methods_in}
 
 -- ---- one of a list, and those behind it
 

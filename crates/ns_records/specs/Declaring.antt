@@ -9,10 +9,6 @@ use Rattle.ns_scope.specs.Bodies as b
 use Rattle.ns_meant.specs.Program as m
 use Rattle.ns_meant.specs.Classes as c
 
--- the blocks in an initialiser
-abbrev pub start_blocks : Scope → Option p.SuperClause → p.Bars → p.Statements → List Scope
-start_blocks scope clause bars body = b.super_blocks scope clause ++ (b.bars_blocks scope bars ++ b.statements_blocks scope body)
-
 -- the methods of a class, which is the innermost around, whose initialiser is the body of that number
 abbrev pub methods_in : c.Around → ℕ → p.Class → List m.Method
 methods_in inside first (p.class_with name factory clause bars body members others) =

@@ -5,8 +5,7 @@ ghost use Rattle.ns_tree.specs.PlainOf.{bars_of, statements_of, clause_of, messa
 ghost use Rattle.ns_scope.specs.declared.scope.Scope.{Scope};
 ghost use Rattle.ns_scope.specs.declared.scope.ClassScope.{ClassScope};
 ghost use Rattle.ns_scope.specs.declared.scope.CodeSide.{CodeSide};
-ghost use Rattle.ns_scope.specs.Bodies.{super_blocks, bars_blocks, statements_blocks, method_bodies};
-ghost use Rattle.ns_records.specs.Declaring.{start_blocks};
+ghost use Rattle.ns_scope.specs.Bodies.{super_blocks, start_blocks, routine_blocks, bars_blocks, statements_blocks, method_bodies};
 
 use ns_base::no_memory::NoMemory;
 use ns_tree::tree::{Method, Slot, Statements, SuperClause};
@@ -31,7 +30,8 @@ pub fn count_start(
     slots: &Option<Vec<Slot>>,
     body: &Statements,
 ) -> Result<(), NoMemory>
-    ensures { (scope : Scope) → OnOk result (count.new ≡ count.old + length (start_blocks scope (option_map clause_of clause.now) (bars_of slots.now) (statements_of body.now))) }
+    ensures { (scope : Scope) → OnOk result (count.new ≡ count.old + length
+        (start_blocks scope (option_map clause_of clause.now) (bars_of slots.now) (statements_of body.now))) }
 {
     count_super(count, clause)?;
     count_routine(count, slots, body)?;
@@ -59,7 +59,7 @@ fn count_routine(
     slots: &Option<Vec<Slot>>,
     body: &Statements,
 ) -> Result<(), NoMemory>
-    ensures { (scope : Scope) → OnOk result (count.new ≡ count.old + length (bars_blocks scope (bars_of slots.now) ++ statements_blocks scope (statements_of body.now))) }
+    ensures { (scope : Scope) → OnOk result (count.new ≡ count.old + length (routine_blocks scope (bars_of slots.now) (statements_of body.now))) }
 {
     count_bars(count, slots)?;
     count_statements(count, body)?;

@@ -72,7 +72,8 @@ abbrev mutual
   message_faults scope (p.keywords keys) = keywords_found keys ++ keys_faults scope keys
 
   pub key_expr_faults : Scope → p.KeyExpr → List Found
-  key_expr_faults scope (p.sent receiver keys) = bin_faults scope (receiver_if (has_keys keys) r.Value) receiver ++ (keywords_found keys ++ keys_faults scope keys)
+  key_expr_faults scope (p.sent receiver keys) =
+      bin_faults scope (receiver_if (has_keys keys) r.Value) receiver ++ (keywords_found keys ++ keys_faults scope keys)
   key_expr_faults scope (p.implicit keys) = keywords_found keys ++ keys_faults scope keys
 
   pub keys_faults : Scope → p.Keys → List Found
@@ -176,7 +177,8 @@ super_faults scope (Some clause) = clause_message_faults scope clause
 abbrev pub initialiser_faults : List ClassScope → Option p.Pattern → Option p.SuperClause → p.Bars → p.Statements → List Found
 initialiser_faults classes factory clause bars body =
     params_found (factory_params factory) ++ (locals_found (locals_of (factory_params factory) p.no_bars)
-    ++ (super_faults (initialiser_scope classes factory) clause ++ (bars_faults (initialiser_scope classes factory) bars ++ statements_faults (initialiser_scope classes factory) body)))
+    ++ (super_faults (initialiser_scope classes factory) clause
+    ++ (bars_faults (initialiser_scope classes factory) bars ++ statements_faults (initialiser_scope classes factory) body)))
 
 abbrev pub method_faults : List ClassScope → CodeSide → p.Method → List Found
 method_faults classes side (p.method_with (p.pattern_with parts params) bars body) =
@@ -185,7 +187,8 @@ method_faults classes side (p.method_with (p.pattern_with parts params) bars bod
 
 -- what is wrong with the members of a class
 abbrev pub class_members_found : p.Class → List Found
-class_members_found (p.class_with name factory clause bars body members others) = members_found (instance_members bars members) ++ members_found (class_members others)
+class_members_found (p.class_with name factory clause bars body members others) =
+    members_found (instance_members bars members) ++ members_found (class_members others)
 
 -- what is wrong with the members of a class and the head of its clause
 abbrev pub class_found : List ClassScope → p.Class → List Found

@@ -55,7 +55,9 @@ pub fn begin_initialiser(
     classes: &Chain<ClassScope>,
     factory: &Option<Pattern>,
 ) -> Result<Scope, NoMemory>
-    ensures found { OnOk result (checker.new ≡ with_found checker.old (params_found (factory_params (option_map pattern_of factory.now)) ++ locals_found (locals_of (factory_params (option_map pattern_of factory.now)) p.no_bars))) }
+    ensures found { OnOk result (checker.new ≡ with_found checker.old
+        (params_found (factory_params (option_map pattern_of factory.now))
+        ++ locals_found (locals_of (factory_params (option_map pattern_of factory.now)) p.no_bars))) }
     ensures scope { IfOk result (λ scope. scope ≡ initialiser_scope classes.now (option_map pattern_of factory.now)) }
 {
     let params = factory_params(factory);

@@ -6,3 +6,4 @@ pub mod Report
 pub mod Task
 pub mod Run
 pub mod Store
+pub mod Stated

@@ -27,7 +27,8 @@ pub fn on_build(
     program: Program,
 ) -> Result<Report, NoMemory>
     requires { IsWhole program }
-    ensures { IfOk result (λ r. r ≡ spec.of_build (map string_bytes names.now) image.now program.files (map unit_of program.units) program.marks (fault_of program)) }
+    ensures { IfOk result (λ r. r ≡ spec.of_build (map string_bytes names.now) image.now
+        program.files (map unit_of program.units) program.marks (fault_of program)) }
 {
     match check(alloc, program) {
         Ok(checked) => built(alloc, image, &checked),

@@ -1,14 +1,14 @@
 //! What a command does with its files.
 
-ghost use Rattle.std.specs.Prelude.{◌≡◌, ◌≤◌, map, ℕ, List, Some, All, IfOk, IsErrOf, IsSome, IsUtf8, length, string_bytes};
+ghost use Rattle.std.specs.Prelude.{◌≡◌, ◌≤◌, map, ℕ, List, Some, All, IfOk, IsErrOf, IsUtf8, length, string_bytes};
 ghost use Rattle.ns_base.specs.Count.{Rose};
-ghost use Rattle.ns_base.specs.Files.{Files};
 ghost use Rattle.ns_base.specs.Shelf.{OnlyRead};
 ghost use Rattle.ns_load.specs.declared.fault.LoadCause.TheVariants.{ReadFault};
 ghost use Rattle.ns_print.specs.Printed.{printed};
 ghost use Rattle.ns_run.specs.Meaning as spec;
-ghost use Rattle.ns_run.specs.Outcome.{IsEnding, IsMissing, IsReadFault, IsRefusal, IsRefusedFor, SomeOf, SomeTexts};
+ghost use Rattle.ns_run.specs.Outcome.{IsEnding, IsMissing, IsReadFault, IsRefusal, IsRefusedFor};
 ghost use Rattle.ns_run.specs.Report.{told as told_lem};
+ghost use Rattle.ns_run.specs.Stated.{MissingIsCounted, ReportsTexts, ReportsTold, UnreadIsThere};
 ghost use Rattle.ns_run.specs.Task.{RunsInRange, task_of};
 ghost use Rattle.ns_scope.specs.Whole.{IsFileName, IsWhole};
 ghost use Rattle.ns_static.specs.Check.{fault_of};
@@ -47,13 +47,13 @@ pub fn on_files<S: Shelf>(
 ) -> Result<Report, Stop>
     requires files { AreFiles (map string_bytes names.now) }
     requires range { RunsInRange (task_of task) }
-    ensures told { (files : Files) → S.holds shelf.old ≡ Some files → IfOk result (λ r. r ≡ spec.of_files (task_of task.entry) (map string_bytes names.now) lib files) }
-    ensures texts { SomeTexts (map string_bytes names.now) (λ read. IfOk result (λ r. r ≡ spec.of_texts (task_of task.entry) (map string_bytes names.now) lib read)) }
+    ensures told { ReportsTold (S.holds shelf.old) (spec.of_files (task_of task.entry) (map string_bytes names.now) lib) result }
+    ensures texts { ReportsTexts (map string_bytes names.now) (spec.of_texts (task_of task.entry) (map string_bytes names.now) lib) result }
     ensures ending { IfOk result (λ r. IsEnding r.status) }
     ensures only_read { OnlyRead S.holds S.misses S.faults S.store_faults shelf.old shelf.new }
     ensures read_fault { IsErrOf result Stop.ReadFault → Rose (S.faults shelf.old) (S.faults shelf.new) }
-    ensures read_fault_there { (files : Files) → S.holds shelf.old ≡ Some files → IsErrOf result Stop.ReadFault → SomeOf (map string_bytes names.now) (λ file. IsSome (files file)) }
-    ensures missing { IfOk result (λ r. SomeOf (map string_bytes names.now) (λ file. IsMissing file r) → Rose (S.misses shelf.old) (S.misses shelf.new)) }
+    ensures read_fault_there { UnreadIsThere (S.holds shelf.old) (map string_bytes names.now) result }
+    ensures missing { MissingIsCounted (map string_bytes names.now) result (S.misses shelf.old) (S.misses shelf.new) }
 {
     match names_of(alloc, names) {
         Ok(texts) => on_texts(alloc, task, lib, names, texts.as_slice(), shelf),
@@ -75,12 +75,12 @@ fn on_texts<S: Shelf>(
     requires named { All IsFileName texts.now }
     requires same { texts.now ≡ map string_bytes names.now }
     requires range { RunsInRange (task_of task) }
-    ensures told { (files : Files) → S.holds shelf.old ≡ Some files → IfOk result (λ r. r ≡ spec.of_files (task_of task.entry) texts.now lib files) }
-    ensures texts { SomeTexts texts.now (λ read. IfOk result (λ r. r ≡ spec.of_texts (task_of task.entry) texts.now lib read)) }
+    ensures told { ReportsTold (S.holds shelf.old) (spec.of_files (task_of task.entry) texts.now lib) result }
+    ensures texts { ReportsTexts texts.now (spec.of_texts (task_of task.entry) texts.now lib) result }
     ensures ending { IfOk result (λ r. IsEnding r.status) }
     ensures only_read { OnlyRead S.holds S.misses S.faults S.store_faults shelf.old shelf.new }
     ensures read_fault { IsErrOf result Stop.ReadFault → Rose (S.faults shelf.old) (S.faults shelf.new) }
-    ensures read_fault_there { (files : Files) → S.holds shelf.old ≡ Some files → IsErrOf result Stop.ReadFault → SomeOf texts.now (λ file. IsSome (files file)) }
+    ensures read_fault_there { UnreadIsThere (S.holds shelf.old) texts.now result }
     ensures missing { IfOk result (λ r. (name : List ℕ) → IsMissing name r → Rose (S.misses shelf.old) (S.misses shelf.new)) }
 {
     match load(alloc, shelf, texts, lib) {

@@ -11,6 +11,7 @@ ghost use Rattle.ns_image.specs.declared.fault.ImageFault.{ImageFault};
 ghost use Rattle.ns_run.specs.Image as spec;
 ghost use Rattle.ns_run.specs.Outcome.{IsEnding, IsMissing, OfSomeText};
 ghost use Rattle.ns_run.specs.Report.{refused_file as refused_file_lem};
+ghost use Rattle.ns_run.specs.Stated.{ReportsTold};
 
 use crate::cause::verify_name;
 use crate::report::{Report, refused_file, told};
@@ -39,7 +40,7 @@ pub fn on_image<S: Shelf>(
     shelf: &mut S,
 ) -> Result<Report, Stop>
     requires { spec.ImageInRange (spec.work_of task) }
-    ensures told { (files : Files) → S.holds shelf.old ≡ Some files → IfOk result (λ r. r ≡ spec.of_image_file (spec.work_of task.entry) name.now (files name.now)) }
+    ensures told { ReportsTold (S.holds shelf.old) (λ files. spec.of_image_file (spec.work_of task.entry) name.now (files name.now)) result }
     ensures text { OfSomeText (λ text. IfOk result (λ r. r ≡ spec.of_image_file (spec.work_of task.entry) name.now text)) }
     ensures ending { IfOk result (λ r. IsEnding r.status) }
     ensures only_read { OnlyRead S.holds S.misses S.faults S.store_faults shelf.old shelf.new }

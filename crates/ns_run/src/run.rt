@@ -33,7 +33,8 @@ pub fn on_run(
 ) -> Result<Report, NoMemory>
     requires whole { IsWhole program }
     requires range { InRange limits }
-    ensures { IfOk result (λ r. r ≡ spec.of_run (map string_bytes names.now) limits (map string_bytes arguments.now) classes program.files (map unit_of program.units) program.marks (fault_of program)) }
+    ensures { IfOk result (λ r. r ≡ spec.of_run (map string_bytes names.now) limits (map string_bytes arguments.now) classes
+        program.files (map unit_of program.units) program.marks (fault_of program)) }
 {
     match check(alloc, program) {
         Ok(checked) => {

@@ -1,16 +1,16 @@
 //! The session of several applications, and its report.
 
-ghost use Rattle.std.specs.Prelude.{◌≡◌, ◌≤◌, map, ℕ, Some, IfOk, IsErrOf, IsSome, length, string_bytes};
+ghost use Rattle.std.specs.Prelude.{◌≡◌, ◌≤◌, map, ℕ, IfOk, IsErrOf, length, string_bytes};
 ghost use Rattle.ns_base.specs.Count.{Rose};
-ghost use Rattle.ns_base.specs.Files.{Files};
 ghost use Rattle.ns_base.specs.Limits.{InRange};
 ghost use Rattle.ns_base.specs.Shelf.{OnlyRead};
 ghost use Rattle.ns_joint.specs.Answer.{HasRefusedFile, IsMissingFile, RefusesAs};
 ghost use Rattle.ns_joint.specs.Making.{files_named};
 ghost use Rattle.ns_joint.specs.Stood.{IsRunStatus};
 ghost use Rattle.ns_run.specs.Meaning as spec;
-ghost use Rattle.ns_run.specs.Outcome.{IsEnding, IsMissing, SomeOf, SomeTexts};
+ghost use Rattle.ns_run.specs.Outcome.{IsEnding};
 ghost use Rattle.ns_run.specs.Report.{told_jointly as told_jointly_lem};
+ghost use Rattle.ns_run.specs.Stated.{MissingIsCounted, ReportsTexts, ReportsTold, UnreadIsThere};
 ghost use Rattle.ns_words.specs.Application.{AreApplications};
 ghost use Rattle.ns_joint.specs.declared.fault.JointFault.TheVariants.{Unread};
 
@@ -38,13 +38,13 @@ pub fn on_session<S: Shelf>(
     requires quantum { 1 ≤ quantum }
     requires asked { AreApplications (map string_bytes words.now) }
     requires few { length words.now ≤ 16 }
-    ensures told { (files : Files) → S.holds shelf.old ≡ Some files → IfOk result (λ r. r ≡ spec.session_over files lib limits quantum (map string_bytes words.now)) }
-    ensures texts { SomeTexts (files_named (map string_bytes words.now)) (λ texts. IfOk result (λ r. r ≡ spec.of_session lib limits quantum (map string_bytes words.now) texts)) }
+    ensures told { ReportsTold (S.holds shelf.old) (λ files. spec.session_over files lib limits quantum (map string_bytes words.now)) result }
+    ensures texts { ReportsTexts (files_named (map string_bytes words.now)) (spec.of_session lib limits quantum (map string_bytes words.now)) result }
     ensures ending { IfOk result (λ r. IsEnding r.status) }
     ensures only_read { OnlyRead S.holds S.misses S.faults S.store_faults shelf.old shelf.new }
     ensures read_fault { IsErrOf result Stop.ReadFault → Rose (S.faults shelf.old) (S.faults shelf.new) }
-    ensures read_fault_there { (files : Files) → S.holds shelf.old ≡ Some files → IsErrOf result Stop.ReadFault → SomeOf (files_named (map string_bytes words.now)) (λ file. IsSome (files file)) }
-    ensures missing { IfOk result (λ r. SomeOf (files_named (map string_bytes words.now)) (λ file. IsMissing file r) → Rose (S.misses shelf.old) (S.misses shelf.new)) }
+    ensures read_fault_there { UnreadIsThere (S.holds shelf.old) (files_named (map string_bytes words.now)) result }
+    ensures missing { MissingIsCounted (files_named (map string_bytes words.now)) result (S.misses shelf.old) (S.misses shelf.new) }
 {
     match run_jointly(alloc, words, lib, limits, quantum, shelf) {
         Ok(told) => Ok(told_jointly(alloc, told)),

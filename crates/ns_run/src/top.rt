@@ -1,14 +1,15 @@
 //! The top call: from the words of a command to what is written.
 
-ghost use Rattle.std.specs.Prelude.{◌≡◌, ◌⊎◌, ◌≤◌, map, length, ℕ, List, None, Some, IfOk, IsErrOf, IsSome, string_bytes};
+ghost use Rattle.std.specs.Prelude.{◌≡◌, ◌⊎◌, ◌≤◌, map, length, ℕ, List, None, Some, IfOk, IsErrOf, string_bytes};
 ghost use Rattle.ns_base.specs.Count.{Rose};
 ghost use Rattle.ns_base.specs.Files.{Files};
 ghost use Rattle.ns_base.specs.Limits.{InRange};
 ghost use Rattle.ns_base.specs.Shelf.{OnlyRead};
 ghost use Rattle.ns_run.specs.Meaning as spec;
 ghost use Rattle.ns_run.specs.Image.{ImageInRange, of_image, work_of};
-ghost use Rattle.ns_run.specs.Outcome.{HasAFile, IsEnding, IsMissing, IsWritten, Leaves, LeavesFiles, LeavesStreams, NamesMissing, OfFiles, OverTexts, SomeOf, SomeTexts, StoresNothing, TellsMissing};
+ghost use Rattle.ns_run.specs.Outcome.{HasAFile, IsEnding, IsWritten, Leaves, LeavesFiles, LeavesStreams, NamesMissing, OfFiles, OverTexts, StoresNothing, TellsMissing};
 ghost use Rattle.ns_run.specs.Report.{bad_word as bad_word_lem};
+ghost use Rattle.ns_run.specs.Stated.{MissingIsCounted, ReportsTexts, ReportsTold, UnreadIsThere};
 ghost use Rattle.ns_words.specs.Forms.{AreFiles, IsSpelled};
 ghost use Rattle.ns_words.specs.Line.{line_seen};
 ghost use Rattle.ns_words.specs.Words.{Reading, first_bad, limits_of, quantum_of, reading_of};
@@ -41,17 +42,22 @@ pub fn nspk<S: Shelf, O: Sink, E: Sink>(
     err: &mut E,
 ) -> Status
     // Over files that are told, the files and the streams are left as the command's meaning says.
-    ensures told { (files : Files) → S.holds shelf.old ≡ Some files → Leaves (spec.meaning (map string_bytes words.now) files) result (S.holds shelf.old) (S.holds shelf.new) (O.written out.old) (O.written out.new) (E.written err.old) (E.written err.new) }
+    ensures told { (files : Files) → S.holds shelf.old ≡ Some files → Leaves (spec.meaning (map string_bytes words.now) files) result
+        (S.holds shelf.old) (S.holds shelf.new) (O.written out.old) (O.written out.new) (E.written err.old) (E.written err.new) }
     // Over any shelf there are texts of the command's files, over which its meaning says how all is left.
-    ensures texts { OverTexts (map string_bytes words.now) (λ report. Leaves report result (S.holds shelf.old) (S.holds shelf.new) (O.written out.old) (O.written out.new) (E.written err.old) (E.written err.new)) }
+    ensures texts { OverTexts (map string_bytes words.now) (λ report. Leaves report result
+        (S.holds shelf.old) (S.holds shelf.new) (O.written out.old) (O.written out.new) (E.written err.old) (E.written err.new)) }
     // No command but `build` changes a file or stores one.
     ensures only_read { StoresNothing (reading_of (map string_bytes words.now)) → OnlyRead S.holds S.misses S.faults S.store_faults shelf.old shelf.new }
 
     // Each fault has its cause.
     ensures read_fault { result ≡ Status.ReadFault → Rose (S.faults shelf.old) (S.faults shelf.new) }
-    ensures read_fault_there { (files : Files) → S.holds shelf.old ≡ Some files → result ≡ Status.ReadFault → HasAFile (reading_of (map string_bytes words.now)) files }
-    ensures write_fault { result ≡ Status.WriteFault → (Rose (S.store_faults shelf.old) (S.store_faults shelf.new)) ⊎ ((Rose (O.faults out.old) (O.faults out.new)) ⊎ (Rose (E.faults err.old) (E.faults err.new))) }
-    ensures missing { result ≡ Status.Refused → TellsMissing (reading_of (map string_bytes words.now)) (E.written err.old) (E.written err.new) → Rose (S.misses shelf.old) (S.misses shelf.new) }
+    ensures read_fault_there { (files : Files) → S.holds shelf.old ≡ Some files → result ≡ Status.ReadFault →
+        HasAFile (reading_of (map string_bytes words.now)) files }
+    ensures write_fault { result ≡ Status.WriteFault → (Rose (S.store_faults shelf.old) (S.store_faults shelf.new))
+        ⊎ ((Rose (O.faults out.old) (O.faults out.new)) ⊎ (Rose (E.faults err.old) (E.faults err.new))) }
+    ensures missing { result ≡ Status.Refused →
+        TellsMissing (reading_of (map string_bytes words.now)) (E.written err.old) (E.written err.new) → Rose (S.misses shelf.old) (S.misses shelf.new) }
 {
     match work(alloc, words, shelf) {
         Err(Stop::ReadFault) => Status::ReadFault,
@@ -73,8 +79,10 @@ fn finish<S: Shelf, O: Sink, E: Sink>(
     ensures only_read { report.now.stored ≡ None → OnlyRead S.holds S.misses S.faults S.store_faults shelf.old shelf.new }
     ensures misses { S.misses shelf.new ≡ S.misses shelf.old }
     ensures no_read_fault { result ≡ Status.ReadFault → ⊥ }
-    ensures write_fault { result ≡ Status.WriteFault → (Rose (S.store_faults shelf.old) (S.store_faults shelf.new)) ⊎ ((Rose (O.faults out.old) (O.faults out.new)) ⊎ (Rose (E.faults err.old) (E.faults err.new))) }
-    ensures missing { (reading : Reading) → result ≡ Status.Refused → TellsMissing reading (E.written err.old) (E.written err.new) → NamesMissing reading report.now }
+    ensures write_fault { result ≡ Status.WriteFault → (Rose (S.store_faults shelf.old) (S.store_faults shelf.new))
+        ⊎ ((Rose (O.faults out.old) (O.faults out.new)) ⊎ (Rose (E.faults err.old) (E.faults err.new))) }
+    ensures missing { (reading : Reading) → result ≡ Status.Refused →
+        TellsMissing reading (E.written err.old) (E.written err.new) → NamesMissing reading report.now }
 {
     match keep(report, shelf) {
         Err(Unkept::Failed) => Status::WriteFault,
@@ -89,7 +97,8 @@ fn write<O: Sink, E: Sink>(report: &Report, out: &mut O, err: &mut E) -> Status
     ensures streams { LeavesStreams report.now result (O.written out.old) (O.written out.new) (E.written err.old) (E.written err.new) }
     ensures status { IsWritten report.now.status result }
     ensures write_fault { result ≡ Status.WriteFault → (Rose (O.faults out.old) (O.faults out.new)) ⊎ (Rose (E.faults err.old) (E.faults err.new)) }
-    ensures missing { (reading : Reading) → result ≡ Status.Refused → TellsMissing reading (E.written err.old) (E.written err.new) → NamesMissing reading report.now }
+    ensures missing { (reading : Reading) → result ≡ Status.Refused →
+        TellsMissing reading (E.written err.old) (E.written err.new) → NamesMissing reading report.now }
 {
     if deliver(report, out, err) {
         report.status
@@ -106,7 +115,8 @@ pub fn refuse_cut<O: Sink, E: Sink>(
     out: &mut O,
     err: &mut E,
 ) -> Status
-    ensures told { LeavesStreams (bad_word_lem (first_bad (map string_bytes words.now))) result (O.written out.old) (O.written out.new) (E.written err.old) (E.written err.new) }
+    ensures told { LeavesStreams (bad_word_lem (first_bad (map string_bytes words.now))) result
+        (O.written out.old) (O.written out.new) (E.written err.old) (E.written err.new) }
     ensures write_fault { result ≡ Status.WriteFault → (Rose (O.faults out.old) (O.faults out.new)) ⊎ (Rose (E.faults err.old) (E.faults err.new)) }
 {
     match bad_word(alloc, first_bad(words)) {
@@ -123,13 +133,13 @@ pub fn refuse_cut<O: Sink, E: Sink>(
 
 /// The report of the command of these words.
 fn work<S: Shelf>(alloc: Global, line: &[String], shelf: &mut S) -> Result<Report, Stop>
-    ensures told { (files : Files) → S.holds shelf.old ≡ Some files → IfOk result (λ r. r ≡ spec.meaning (map string_bytes line.now) files) }
+    ensures told { ReportsTold (S.holds shelf.old) (spec.meaning (map string_bytes line.now)) result }
     ensures texts { OverTexts (map string_bytes line.now) (λ report. IfOk result (λ r. r ≡ report)) }
     ensures ending { IfOk result (λ r. IsEnding r.status) }
     ensures only_read { OnlyRead S.holds S.misses S.faults S.store_faults shelf.old shelf.new }
     ensures read_fault { IsErrOf result Stop.ReadFault → Rose (S.faults shelf.old) (S.faults shelf.new) }
-    ensures read_fault_there { (files : Files) → S.holds shelf.old ≡ Some files → IsErrOf result Stop.ReadFault → HasAFile (reading_of (map string_bytes line.now)) files }
-    ensures missing { IfOk result (λ r. NamesMissing (reading_of (map string_bytes line.now)) r → Rose (S.misses shelf.old) (S.misses shelf.new)) }
+    ensures read_fault_there { UnreadIsThere (S.holds shelf.old) (spec.files_read (reading_of (map string_bytes line.now))) result }
+    ensures missing { MissingIsCounted (spec.files_read (reading_of (map string_bytes line.now))) result (S.misses shelf.old) (S.misses shelf.new) }
 {
     match words(line) {
         Ok(line) => on_line(alloc, line, shelf),
@@ -142,13 +152,14 @@ fn on_line<S: Shelf>(alloc: Global, line: Line<'_>, shelf: &mut S) -> Result<Rep
     requires form { IsSpelled (line_seen line) }
     requires range { InRange (limits_of line.given) }
     requires quantum { 1 ≤ quantum_of line.given }
-    ensures told { (files : Files) → S.holds shelf.old ≡ Some files → IfOk result (λ r. r ≡ spec.of_line line.entry.verb (line_seen line.entry) (map files (spec.files_of line.entry.verb (line_seen line.entry).names))) }
-    ensures texts { SomeTexts (spec.files_of line.entry.verb (line_seen line.entry).names) (λ texts. IfOk result (λ r. r ≡ spec.of_line line.entry.verb (line_seen line.entry) texts)) }
+    ensures told { ReportsTold (S.holds shelf.old) (λ files.
+        spec.of_line line.entry.verb (line_seen line.entry) (map files (spec.files_of line.entry.verb (line_seen line.entry).names))) result }
+    ensures texts { ReportsTexts (spec.files_of line.entry.verb (line_seen line.entry).names) (spec.of_line line.entry.verb (line_seen line.entry)) result }
     ensures ending { IfOk result (λ r. IsEnding r.status) }
     ensures only_read { OnlyRead S.holds S.misses S.faults S.store_faults shelf.old shelf.new }
     ensures read_fault { IsErrOf result Stop.ReadFault → Rose (S.faults shelf.old) (S.faults shelf.new) }
-    ensures read_fault_there { (files : Files) → S.holds shelf.old ≡ Some files → IsErrOf result Stop.ReadFault → SomeOf (spec.files_of line.entry.verb (line_seen line.entry).names) (λ file. IsSome (files file)) }
-    ensures missing { IfOk result (λ r. SomeOf (spec.files_of line.entry.verb (line_seen line.entry).names) (λ file. IsMissing file r) → Rose (S.misses shelf.old) (S.misses shelf.new)) }
+    ensures read_fault_there { UnreadIsThere (S.holds shelf.old) (spec.files_of line.entry.verb (line_seen line.entry).names) result }
+    ensures missing { MissingIsCounted (spec.files_of line.entry.verb (line_seen line.entry).names) result (S.misses shelf.old) (S.misses shelf.new) }
 {
     let Line {
         verb,
@@ -196,13 +207,14 @@ fn on_building<S: Shelf>(
     shelf: &mut S,
 ) -> Result<Report, Stop>
     requires { AreFiles (spec.behind_first (map string_bytes names.now)) }
-    ensures told { (files : Files) → S.holds shelf.old ≡ Some files → IfOk result (λ r. r ≡ spec.of_building lib (map string_bytes names.now) (map files (spec.behind_first (map string_bytes names.now)))) }
-    ensures texts { SomeTexts (spec.behind_first (map string_bytes names.now)) (λ texts. IfOk result (λ r. r ≡ spec.of_building lib (map string_bytes names.now) texts)) }
+    ensures told { ReportsTold (S.holds shelf.old) (λ files.
+        spec.of_building lib (map string_bytes names.now) (map files (spec.behind_first (map string_bytes names.now)))) result }
+    ensures texts { ReportsTexts (spec.behind_first (map string_bytes names.now)) (spec.of_building lib (map string_bytes names.now)) result }
     ensures ending { IfOk result (λ r. IsEnding r.status) }
     ensures only_read { OnlyRead S.holds S.misses S.faults S.store_faults shelf.old shelf.new }
     ensures read_fault { IsErrOf result Stop.ReadFault → Rose (S.faults shelf.old) (S.faults shelf.new) }
-    ensures read_fault_there { (files : Files) → S.holds shelf.old ≡ Some files → IsErrOf result Stop.ReadFault → SomeOf (spec.behind_first (map string_bytes names.now)) (λ file. IsSome (files file)) }
-    ensures missing { IfOk result (λ r. SomeOf (spec.behind_first (map string_bytes names.now)) (λ file. IsMissing file r) → Rose (S.misses shelf.old) (S.misses shelf.new)) }
+    ensures read_fault_there { UnreadIsThere (S.holds shelf.old) (spec.behind_first (map string_bytes names.now)) result }
+    ensures missing { MissingIsCounted (spec.behind_first (map string_bytes names.now)) result (S.misses shelf.old) (S.misses shelf.new) }
 {
     match names {
         [] => or_stop(bad_word(alloc, 1)),
@@ -222,13 +234,14 @@ fn on_first<S: Shelf>(
 ) -> Result<Report, Stop>
     requires one { length names.now ≡ 1 }
     requires range { ImageInRange (work_of task) }
-    ensures told { (files : Files) → S.holds shelf.old ≡ Some files → IfOk result (λ r. r ≡ of_image (work_of task.entry) (map string_bytes names.now) (map files (map string_bytes names.now))) }
-    ensures texts { SomeTexts (map string_bytes names.now) (λ texts. IfOk result (λ r. r ≡ of_image (work_of task.entry) (map string_bytes names.now) texts)) }
+    ensures told { ReportsTold (S.holds shelf.old) (λ files.
+        of_image (work_of task.entry) (map string_bytes names.now) (map files (map string_bytes names.now))) result }
+    ensures texts { ReportsTexts (map string_bytes names.now) (of_image (work_of task.entry) (map string_bytes names.now)) result }
     ensures ending { IfOk result (λ r. IsEnding r.status) }
     ensures only_read { OnlyRead S.holds S.misses S.faults S.store_faults shelf.old shelf.new }
     ensures read_fault { IsErrOf result Stop.ReadFault → Rose (S.faults shelf.old) (S.faults shelf.new) }
-    ensures read_fault_there { (files : Files) → S.holds shelf.old ≡ Some files → IsErrOf result Stop.ReadFault → SomeOf (map string_bytes names.now) (λ file. IsSome (files file)) }
-    ensures missing { IfOk result (λ r. SomeOf (map string_bytes names.now) (λ file. IsMissing file r) → Rose (S.misses shelf.old) (S.misses shelf.new)) }
+    ensures read_fault_there { UnreadIsThere (S.holds shelf.old) (map string_bytes names.now) result }
+    ensures missing { MissingIsCounted (map string_bytes names.now) result (S.misses shelf.old) (S.misses shelf.new) }
 {
     match names {
         [name] => on_image(alloc, task, name.as_str(), shelf),

@@ -62,7 +62,9 @@ abbrev mutual
 
   -- the block, and then those in it
   pub block_blocks : Scope → p.Block → List Scope
-  block_blocks scope (p.block_with params bars body) = block_scope scope params bars ∷ (bars_blocks (block_scope scope params bars) bars ++ statements_blocks (block_scope scope params bars) body)
+  block_blocks scope (p.block_with params bars body) =
+      block_scope scope params bars
+      ∷ (bars_blocks (block_scope scope params bars) bars ++ statements_blocks (block_scope scope params bars) body)
 
   pub bars_blocks : Scope → p.Bars → List Scope
   bars_blocks scope p.no_bars = []
@@ -90,9 +92,13 @@ abbrev mutual
   pub statement_blocks : Scope → p.Statement → List Scope
   statement_blocks scope (p.statement_with caret expr) = expr_blocks scope expr
 
+-- the blocks in the slots and statements of a body that sees this
+abbrev pub routine_blocks : Scope → p.Bars → p.Statements → List Scope
+routine_blocks scope bars body = bars_blocks scope bars ++ statements_blocks scope body
+
 -- the blocks in a block that sees this
 abbrev pub inside_blocks : Scope → p.Block → List Scope
-inside_blocks scope (p.block_with params bars body) = bars_blocks scope bars ++ statements_blocks scope body
+inside_blocks scope (p.block_with params bars body) = routine_blocks scope bars body
 
 -- ---- declarations
 
@@ -100,6 +106,10 @@ abbrev pub super_blocks : Scope → Option p.SuperClause → List Scope
 super_blocks scope (Some (p.clause_with head over (Some message))) = message_blocks scope message
 super_blocks scope (Some (p.clause_with head over None)) = []
 super_blocks scope None = []
+
+-- the blocks in an initialiser that sees this: in its superclass message, its slots and its expressions
+abbrev pub start_blocks : Scope → Option p.SuperClause → p.Bars → p.Statements → List Scope
+start_blocks scope clause bars body = super_blocks scope clause ++ routine_blocks scope bars body
 
 -- A nested class's clause is a body.
 abbrev pub clause_bodies : List ClassScope → Option p.SuperClause → List Scope
@@ -110,11 +120,11 @@ clause_bodies (outer ∷ classes) (Some clause) = clause_scope (outer ∷ classe
 -- An initialiser has the superclass message, the slots and the expressions.
 abbrev pub initialiser_bodies : List ClassScope → p.Class → List Scope
 initialiser_bodies classes (p.class_with name factory clause bars body members others) =
-    initialiser_scope classes factory ∷ (super_blocks (initialiser_scope classes factory) clause ++ (bars_blocks (initialiser_scope classes factory) bars ++ statements_blocks (initialiser_scope classes factory) body))
+    initialiser_scope classes factory ∷ start_blocks (initialiser_scope classes factory) clause bars body
 
 abbrev pub method_bodies : List ClassScope → CodeSide → p.Method → List Scope
 method_bodies classes side (p.method_with (p.pattern_with parts params) bars body) =
-    method_scope classes side params bars ∷ (bars_blocks (method_scope classes side params bars) bars ++ statements_blocks (method_scope classes side params bars) body)
+    method_scope classes side params bars ∷ routine_blocks (method_scope classes side params bars) bars body
 
 -- the bodies of a member, if it is a method
 abbrev pub member_methods : List ClassScope → CodeSide → p.What → List Scope

@@ -62,7 +62,8 @@ getter_setter s.Mutable name at access = declare name at access ∷ declare (set
 
 abbrev pub slot_members : p.Slots → List (Declared Access)
 slot_members p.no_slots = []
-slot_members (p.more_slots (p.slot_with access name init) rest) = getter_setter (setting_of init) name.text name.at (access_or a.Protected access) ++ slot_members rest
+slot_members (p.more_slots (p.slot_with access name init) rest) =
+    getter_setter (setting_of init) name.text name.at (access_or a.Protected access) ++ slot_members rest
 
 abbrev pub bars_members : p.Bars → List (Declared Access)
 bars_members p.no_bars = []

@@ -27,11 +27,13 @@ factory_params (Some (p.pattern_with parts params)) = params
 
 -- An initialiser declares the factory's parameters.
 abbrev pub initialiser_scope : List ClassScope → Option p.Pattern → Scope
-initialiser_scope classes factory = record { bodies = table_of (locals_of (factory_params factory) p.no_bars) ∷ []; side = side.Instance; in_method = false; classes = classes }
+initialiser_scope classes factory =
+    record { bodies = table_of (locals_of (factory_params factory) p.no_bars) ∷ []; side = side.Instance; in_method = false; classes = classes }
 
 abbrev pub method_scope : List ClassScope → CodeSide → List Named → p.Bars → Scope
 method_scope classes side params bars = record { bodies = table_of (locals_of params bars) ∷ []; side = side; in_method = true; classes = classes }
 
 -- A block stands in another body.
 abbrev pub block_scope : Scope → List Named → p.Bars → Scope
-block_scope scope params bars = record { bodies = table_of (locals_of params bars) ∷ scope.bodies; side = scope.side; in_method = scope.in_method; classes = scope.classes }
+block_scope scope params bars =
+    record { bodies = table_of (locals_of params bars) ∷ scope.bodies; side = scope.side; in_method = scope.in_method; classes = scope.classes }

@@ -112,7 +112,12 @@ impl Scope {
 
     /// What a body sees that stands in another and declares these names.
     pub fn inside(alloc: Global, names: Table<Local>, outer: &Scope) -> Result<Scope, NoMemory>
-        ensures { IfOk result (λ scope. scope ≡ record { bodies = names ∷ outer.now.bodies; side = outer.now.side; in_method = outer.now.in_method; classes = outer.now.classes }) }
+        ensures { IfOk result (λ scope. scope ≡ record {
+          bodies = names ∷ outer.now.bodies;
+          side = outer.now.side;
+          in_method = outer.now.in_method;
+          classes = outer.now.classes;
+        }) }
     {
         Ok(Scope {
             bodies: Chain::inside(alloc, names, &outer.bodies)?,

@@ -79,7 +79,8 @@ evaluated code block arguments site progress = block_entered code (shape_of_valu
 abbrev pub value_with_arguments : Value → Value → Site → Progress → Control
 value_with_arguments block array site progress =
     if is_array progress.world.cells array
-    then (if nat_lt 255 (length (items_of progress.world.cells array)) then fails WrongArity site progress else Evaluate block (items_of progress.world.cells array) site progress)
+    then (if nat_lt 255 (length (items_of progress.world.cells array)) then fails WrongArity site progress
+    else Evaluate block (items_of progress.world.cells array) site progress)
     else fails WrongKind site progress
 
 -- ---- the methods of the kernel that evaluate blocks
@@ -109,7 +110,8 @@ turns_of heap other receiver = 0
 abbrev pub method_begun : KMethod → Value → Value → Value → Site → Progress → Control
 method_begun named receiver first second site progress =
     if has_arguments progress.world.cells named first second
-    then charged halts Depth (entered progress.world) progress (Begin named (beginning receiver first second (pos (turns_of progress.world.cells named receiver))) site)
+    then charged halts Depth (entered progress.world) progress
+    (Begin named (beginning receiver first second (pos (turns_of progress.world.cells named receiver))) site)
     else fails WrongKind site progress
 
 -- the argument of an evaluation as a list

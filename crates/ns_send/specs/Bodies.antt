@@ -60,7 +60,8 @@ first_locals code body arguments = arguments ++ replicate (locals_of code body -
 abbrev pub opened : {A : Type 0} → CodeProgram → (Ending → Progress → A) → (Activation → List Value → Progress → A) → Activation → List Value → Progress → A
 opened code stop go activation arguments progress =
     if has_environment code activation.body
-    then charged stop Cells (made progress.world (EnvironmentCell activation.env (first_locals code activation.body arguments))) progress (go (record activation { env = Ref (heap_size progress.world.cells) }) [])
+    then charged stop Cells (made progress.world (EnvironmentCell activation.env (first_locals code activation.body arguments))) progress
+    (go (record activation { env = Ref (heap_size progress.world.cells) }) [])
     else go activation (first_locals code activation.body arguments) progress
 
 -- ---- enclosing objects

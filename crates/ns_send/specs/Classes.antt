@@ -13,7 +13,7 @@ use Rattle.ns_world.specs.declared.cell.NewCell.TheVariants as new
 use Rattle.ns_world.specs.declared.ending.Kind.TheVariants.{InitMismatch, NotAClass}
 use Rattle.ns_world.specs.declared.ending.LimitKind.TheVariants.{Cells, Depth}
 use Rattle.ns_world.specs.Cell.{Cell, ObjectCell, ClassCell}
-use Rattle.ns_world.specs.Heap.{heap_size, find_cell, superclass_in}
+use Rattle.ns_world.specs.Heap.{Heap, heap_size, find_cell, superclass_in}
 use Rattle.ns_world.specs.World.{World, made, entered, left, written}
 use Rattle.ns_world.specs.Layout.{declaration_of, layout_of, entry_word}
 use Rattle.ns_classes.specs.declared.apply.MakeFault.{MakeFault}
@@ -62,13 +62,21 @@ abbrev pub class_over : CodeProgram → ℕ → ℕ → ℕ → Value → Site �
 class_over code object holder class over site progress =
     kept_or (kept_class progress.world.cells code object holder class) progress (newly_kept code object holder class over site progress)
 
+-- code that begins without a home, and without an environment around it
+abbrev pub without_home : Value → ℕ → ℕ → Site → Activation
+without_home self holder body site = record { self = self; holder = holder; body = body; home = no_home; env = Nil; site = site }
+
+-- the initialiser of a class, with that self
+abbrev pub initialising : Heap → CodeProgram → Value → ℕ → Site → Activation
+initialising heap code self class site = without_home self class (initialiser_of code (declaration_of heap class)) site
+
 -- the head of a clause, in a frame of its own with the enclosing object as self; without one the
 -- superclass is the kernel's Object
 abbrev pub head : CodeProgram → ℕ → ℕ → ℕ → Option ℕ → Site → Progress → Control
 head code object holder class None site progress = Now (class_over code object holder class (Kernel Object) site progress)
 head code object holder class (Some clause) site progress =
     charged halts Depth (entered progress.world) progress
-    (opened code halts (Enter (FromClause object holder class)) (record { self = Ref object; holder = holder; body = clause; home = no_home; env = Nil; site = site }) [])
+    (opened code halts (Enter (FromClause object holder class)) (without_home (Ref object) holder clause site) [])
 
 -- a nested class of an object and a holder: the one that is kept, or else the head of its clause first
 -- (Modules as Objects in Newspeak, on nested classes)
@@ -84,7 +92,7 @@ abbrev pub instance : CodeProgram → ℕ → List Value → Site → Progress �
 instance code class arguments site progress =
     charged halts Cells (made progress.world (ObjectCell class (replicate (layout_of progress.world.cells code class) Nil))) progress
     (opened code halts (Enter FromBody)
-    (record { self = Ref (heap_size progress.world.cells); holder = class; body = initialiser_of code (declaration_of progress.world.cells class); home = no_home; env = Nil; site = site }) arguments)
+    (initialising progress.world.cells code (Ref (heap_size progress.world.cells)) class site) arguments)
 
 -- the selector of a declaration's superclass message, and of its factory
 abbrev pub super_selector : CodeProgram → ℕ → ℕ
@@ -98,7 +106,7 @@ abbrev pub declared_part : CodeProgram → Activation → ℕ → ℕ → List V
 declared_part code activation over sel arguments progress =
     if sel == factory_selector code (declaration_of progress.world.cells over)
     then charged Stop Depth (entered progress.world) progress
-    (opened code Stop EnterPart (record { self = activation.self; holder = over; body = initialiser_of code (declaration_of progress.world.cells over); home = no_home; env = Nil; site = activation.site }) arguments)
+    (opened code Stop EnterPart (initialising progress.world.cells code activation.self over activation.site) arguments)
     else Stop (error InitMismatch activation.site) progress
 
 -- The part of the kernel's Object: its factory is `new`, and it does nothing.

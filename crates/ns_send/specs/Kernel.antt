@@ -65,7 +65,8 @@ message_refused (Fails fault) selector site progress = halts (fault_ending fault
 -- a row of the data of values
 abbrev pub data_reached : CodeProgram → DataRow → Value → List Value → Site → Progress → Control
 data_reached code DoesNotUnderstand receiver arguments site progress =
-    message_refused (datum progress.world code DoesNotUnderstand receiver arguments) (message_selector progress.world.cells (argument arguments 0)) site progress
+    message_refused (datum progress.world code DoesNotUnderstand receiver arguments)
+    (message_selector progress.world.cells (argument arguments 0)) site progress
 data_reached code row receiver arguments site progress = outcome_reached (datum progress.world code row receiver arguments) site progress
 
 -- a row with its receiver and its arguments, sent as that selector

@@ -44,9 +44,11 @@ LawfulAfter code (Halts ending progress) = LawfulRun code progress
 abbrev pub LawfulControl : CodeProgram → Control → Type 0
 LawfulControl code (Now after) = LawfulAfter code after
 LawfulControl code (Enter exit activation locals progress) = LawfulRun code progress × LiveActivation progress.world.cells code activation locals
-LawfulControl code (Evaluate block arguments site progress) = LawfulRun code progress × IsLiveValue progress.world.cells code block × All (IsLiveValue progress.world.cells code) arguments
+LawfulControl code (Evaluate block arguments site progress) =
+    LawfulRun code progress × IsLiveValue progress.world.cells code block × All (IsLiveValue progress.world.cells code) arguments
 LawfulControl code (Begin method state site progress) = LawfulRun code progress × LiveState progress.world.cells code state
-LawfulControl code (Perform receiver sel array site progress) = LawfulRun code progress × IsLiveValue progress.world.cells code receiver × IsLiveValue progress.world.cells code (Ref array)
+LawfulControl code (Perform receiver sel array site progress) =
+    LawfulRun code progress × IsLiveValue progress.world.cells code receiver × IsLiveValue progress.world.cells code (Ref array)
 
 -- Where control goes in a superclass part of a lawful run.
 abbrev pub LawfulPart : CodeProgram → Part → Type 0
@@ -57,7 +59,8 @@ LawfulPart code (EnterPart activation locals progress) = LawfulRun code progress
 -- What a kernel method does next in a lawful run.
 abbrev pub LawfulWaiting : CodeProgram → Waiting → Type 0
 LawfulWaiting code (Waits block arguments state progress) =
-    LawfulRun code progress × IsLiveValue progress.world.cells code block × All (IsLiveValue progress.world.cells code) arguments × LiveState progress.world.cells code state
+    LawfulRun code progress × IsLiveValue progress.world.cells code block × All (IsLiveValue progress.world.cells code) arguments
+    × LiveState progress.world.cells code state
 LawfulWaiting code (Finishes after) = LawfulAfter code after
 
 -- An object has a holder in its chain, whose declaration has a nested class.

@@ -20,3 +20,6 @@ pub mod Worked
 pub mod Lawful
 pub mod Suits
 pub mod Stated
+pub mod StatedSends
+pub mod StatedActions
+pub mod StatedFinding

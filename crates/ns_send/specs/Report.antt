@@ -79,5 +79,6 @@ place_text files None = codes "image"
 abbrev pub report_line : Heap → CodeProgram → List (List ℕ) → Ending → List ℕ
 report_line heap code files (Done value) = codes "=> " ++ value_text heap code value ++ 10 ∷ []
 report_line heap code files (Error error) =
-    place_text files error.place ++ codes ": " ++ kind_text error.kind ++ codes " " ++ class_text code error.class ++ codes " " ++ selector_text code error.sel.0 ++ 10 ∷ []
+    place_text files error.place ++ codes ": " ++ kind_text error.kind ++ codes " " ++ class_text code error.class
+    ++ codes " " ++ selector_text code error.sel.0 ++ 10 ∷ []
 report_line heap code files (Limit limit) = codes "limit: " ++ limit_text limit ++ 10 ∷ []

@@ -32,7 +32,8 @@ integer_answers =
 -- those of String, Symbol and Array
 abbrev pub text_answers : List Row
 text_answers =
-    Data values.TextSize ∷ Data values.TextAt ∷ Data values.TextCopy ∷ Data values.TextJoin ∷ Data values.TextEqual ∷ Data values.TextLess ∷ Data values.TextPrint
+    Data values.TextSize ∷ Data values.TextAt ∷ Data values.TextCopy ∷ Data values.TextJoin
+    ∷ Data values.TextEqual ∷ Data values.TextLess ∷ Data values.TextPrint
     ∷ Data values.SymbolSize ∷ Data values.SymbolText ∷ Data values.SymbolPrint ∷ Data values.SymbolLess
     ∷ Data values.ArraySize ∷ Data values.ArrayAt ∷ Data values.ArrayPut ∷ Method method.Do ∷ []
 
@@ -44,7 +45,8 @@ block_answers = Value ∷ Value ∷ Value ∷ Value ∷ ValueWithArguments ∷ N
 abbrev pub facet_answers : List Row
 facet_answers =
     Top ∷ Facet facet.PlatformConsole ∷ Facet facet.PlatformKernel ∷ Facet facet.PlatformMirrors ∷ Facet facet.PlatformBoard
-    ∷ Facet facet.KernelObject ∷ Facet facet.KernelArray ∷ Facet facet.ConsolePrint ∷ Facet facet.ConsolePrintLine ∷ Facet facet.BoardAt ∷ Facet facet.BoardPut ∷ []
+    ∷ Facet facet.KernelObject ∷ Facet facet.KernelArray ∷ Facet facet.ConsolePrint
+    ∷ Facet facet.ConsolePrintLine ∷ Facet facet.BoardAt ∷ Facet facet.BoardPut ∷ []
 
 -- those of Mirrors, Mirror and Message
 abbrev pub mirror_answers : List Row

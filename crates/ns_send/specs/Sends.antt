@@ -116,7 +116,8 @@ set word receiver arguments progress =
 
 -- a nested class of an object; no other value has one
 abbrev pub nested_in : CodeProgram → Value → ℕ → ℕ → Site → Progress → Control
-nested_in code (Ref object) holder class site progress = nested code object holder class (kept_class progress.world.cells code object holder class) site progress
+nested_in code (Ref object) holder class site progress =
+    nested code object holder class (kept_class progress.world.cells code object holder class) site progress
 nested_in code receiver holder class site progress = fails kind.NotUnderstood site progress
 
 -- a row of the kernel
@@ -145,10 +146,15 @@ abbrev pub not_found : CodeProgram → Found → Sel → Value → List Value �
 not_found code (found.Kernel number) sel receiver values site progress = fails kind.NotUnderstood site progress
 not_found code member sel receiver values site progress = done_with code member (message_sel code) receiver (Wrapped sel values) site progress
 
+-- a send that found no member at all goes on so with what `doesNotUnderstand:` finds
+abbrev pub not_understood : CodeProgram → Sel → Value → List Value → Site → Progress → Control
+not_understood code sel receiver values site progress =
+    not_found code (found_from progress.world.cells code (start_of progress.world.cells receiver) (own_number code DoesNotUnderstand) Inner)
+    sel receiver values site progress
+
 -- what a send comes to with what it found
 abbrev pub answered_by : CodeProgram → Found → Sel → Value → List Value → Site → Progress → Control
-answered_by code found.Absent sel receiver values site progress =
-    not_found code (found_from progress.world.cells code (start_of progress.world.cells receiver) (own_number code DoesNotUnderstand) Inner) sel receiver values site progress
+answered_by code found.Absent sel receiver values site progress = not_understood code sel receiver values site progress
 answered_by code member sel receiver values site progress = done_with code member sel receiver (Listed values) site progress
 
 -- ---- a send

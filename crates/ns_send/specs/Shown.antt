@@ -56,7 +56,8 @@ reached_shown code site values (reached.Gives value) progress = gives value prog
 reached_shown code site values (reached.Fails fault) progress = halts (fault_ending fault site) progress
 reached_shown code site values (reached.Refused sel) progress = halts (error NotUnderstood (site_of_message site sel)) progress
 reached_shown code site values (reached.Enters exit entered) progress =
-    Enter (exit_shown exit entered.me entered.holder) (activation_shown site entered) (locals_shown code progress.world.cells (passed exit values) entered) progress
+    Enter (exit_shown exit entered.me entered.holder) (activation_shown site entered)
+    (locals_shown code progress.world.cells (passed exit values) entered) progress
 reached_shown code site values (reached.Evaluates block given) progress = Evaluate block (given_values progress.world.cells values given) site progress
 reached_shown code site values (reached.Begins method state) progress = Begin method state site progress
 reached_shown code site values (reached.Performs receiver sel array) progress = Perform receiver sel array site progress

@@ -15,7 +15,8 @@ use Rattle.ns_send.specs.Bodies.{Place}
 abbrev pub Suits : Heap → CodeProgram → Value → Found → Type 0
 Suits heap code receiver (found.Getter holder word) = HasHolder heap receiver holder × IsTrue (is_class (find_cell heap holder)) × HasSlot heap code holder word
 Suits heap code receiver (found.Setter holder word) = HasHolder heap receiver holder × IsTrue (is_class (find_cell heap holder)) × HasSlot heap code holder word
-Suits heap code receiver (found.Nested class holder) = HasHolder heap receiver holder × IsTrue (is_class (find_cell heap holder)) × HasNested heap code holder class
+Suits heap code receiver (found.Nested class holder) =
+    HasHolder heap receiver holder × IsTrue (is_class (find_cell heap holder)) × HasNested heap code holder class
 Suits heap code receiver (found.Factory class) = IsTrue (is_class (find_cell heap class))
 Suits heap code receiver other = Unit {0}
 

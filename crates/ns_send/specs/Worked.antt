@@ -26,7 +26,20 @@ method_of number access body = record { sel = sel number; access = access; body 
 
 -- a class whose factory and whose superclass message are `new`
 abbrev pub class_of : ℕ → Option ℕ → ℕ → List SlotCode → List NestedCode → List MethodCode → List MethodCode → ClassCode
-class_of name outer init slots nested methods side_methods = record { name = sel name; outer = outer; factory = sel 1; params = 0; clause = None; init = init; super_sel = sel 1; slots = slots; nested = nested; methods = methods; side_methods = side_methods }
+class_of name outer init slots nested methods side_methods =
+    record {
+      name = sel name;
+      outer = outer;
+      factory = sel 1;
+      params = 0;
+      clause = None;
+      init = init;
+      super_sel = sel 1;
+      slots = slots;
+      nested = nested;
+      methods = methods;
+      side_methods = side_methods;
+    }
 
 -- the names by their numbers: 0 P, 1 new, 2 doesNotUnderstand:, 3 go:, 4 M, 5 v, 6 v:, 7 Inner, 8 base, 9 at:put:,
 -- 10 <:, 11 value, 12 to:do:, 13 secret, 14 hid
@@ -41,14 +54,29 @@ class_p = class_of 0 None 0 [] [] (method_of 2 1 1 ∷ []) []
 
 -- M has the mutable slot `v`, the nested class Inner with a clause, the private `secret` and the protected `hid`.
 abbrev pub class_m : ClassCode
-class_m = class_of 4 None 2 (record { name = sel 5; access = 0; mutable = true } ∷ []) (record { class = 2; access = 0 } ∷ []) (method_of 13 2 3 ∷ method_of 14 1 4 ∷ []) []
+class_m =
+    class_of 4 None 2 (record { name = sel 5; access = 0; mutable = true } ∷ []) (record { class = 2; access = 0 } ∷ [])
+    (method_of 13 2 3 ∷ method_of 14 1 4 ∷ []) []
 
 abbrev pub class_inner : ClassCode
 class_inner = record (class_of 7 (Some 1) 6 [] [] [] []) { clause = Some 5 }
 
 -- a body of a kind and a class, with so many parameters and as many locals
 abbrev pub small_body : ℕ → ℕ → ℕ → BodyCode
-small_body kind class params = record { kind = kind; side = 0; class = class; parent = None; params = params; locals = params; environment = false; height = 0; instrs = []; places = []; local_names = [] }
+small_body kind class params =
+    record {
+      kind = kind;
+      side = 0;
+      class = class;
+      parent = None;
+      params = params;
+      locals = params;
+      environment = false;
+      height = 0;
+      instrs = [];
+      places = [];
+      local_names = [];
+    }
 
 -- initialisers are of kind 2, clauses of kind 3 and blocks of kind 1; the last method's locals stand in an environment
 abbrev pub small_bodies : List BodyCode

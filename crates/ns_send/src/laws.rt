@@ -1,8 +1,6 @@
 //! What holds of every action. Each function does nothing, and its contract is the law.
 
-ghost use Rattle.std.specs.Prelude.{◌≡◌, ℕ, IsSome, ◌<◌, ◌≤◌, [], ◌∷◌, List, length, Option, All, IsTrue};
-ghost use Rattle.std.specs.Option.{ForSome};
-ghost use Rattle.ns_base.specs.declared.place.Place.{Place};
+ghost use Rattle.std.specs.Prelude.{◌≡◌, ℕ, IsSome, [], List, length, IsTrue};
 ghost use Rattle.ns_base.specs.declared.selector.Sel.{Sel};
 ghost use Rattle.ns_code.specs.declared.program.CodeProgram.{CodeProgram};
 ghost use Rattle.ns_code.specs.declared.own.Own.{Own};
@@ -10,41 +8,42 @@ ghost use Rattle.ns_code.specs.Own.{own_text};
 ghost use Rattle.ns_code.specs.Selector.{is_selector_number, selector_arity, text_arity, own_number};
 ghost use Rattle.ns_code.specs.Soundness.{initialiser_kind};
 ghost use Rattle.ns_world.specs.declared.value.Value.{Value};
-ghost use Rattle.ns_world.specs.declared.value.Value.TheVariants.{Ref};
 ghost use Rattle.ns_world.specs.Cell.{Cell};
 ghost use Rattle.ns_world.specs.Heap.{Heap};
 ghost use Rattle.ns_world.specs.Starts.{start_of};
 ghost use Rattle.ns_world.specs.Later.{IsLater, Lasts, Unchanged};
-ghost use Rattle.ns_world.specs.Lawful.{IsLiveValue, IsEnvironmentOrNil, BlockIsLawful};
+ghost use Rattle.ns_world.specs.Lawful.{IsLiveValue, IsEnvironmentOrNil};
 ghost use Rattle.ns_find.specs.declared.found.Sending.{Sending};
 ghost use Rattle.ns_find.specs.declared.found.Sending.TheVariants.{Inner};
 ghost use Rattle.ns_find.specs.declared.members.Side.{Side};
 ghost use Rattle.ns_find.specs.Find.{found_from, found_private, super_start};
-ghost use Rattle.ns_kdata.specs.Arguments.{shape_of_value, items_of, is_array};
+ghost use Rattle.ns_kdata.specs.Arguments.{items_of, is_array};
 ghost use Rattle.ns_kcode.specs.declared.state.KMethod.{KMethod};
 ghost use Rattle.ns_kcode.specs.declared.state.KState.{KState};
 ghost use Rattle.ns_send.specs.declared.site.Site.{Site};
 ghost use Rattle.ns_send.specs.Control.{Progress, Activation, Exit};
-ghost use Rattle.ns_send.specs.Classes.{super_part, body_ended, slot_filled, kept_by};
-ghost use Rattle.ns_send.specs.Bodies.{no_home, environment_at, local_stored, local_at, enclosing};
-ghost use Rattle.ns_send.specs.Blocks.{block_body_in, new_cell, new_block, new_text, new_array, evaluated, method_next, is_block};
-ghost use Rattle.ns_send.specs.Sends.{Target, receiver_of, site_at, sent, sent_plain, sent_from, performed};
-ghost use Rattle.ns_send.specs.Lawful.{LawfulRun, LawfulAfter, LawfulControl, LawfulPart, LawfulWaiting, LiveState, LiveActivation, FitsActivation, FitsTarget, FitsSelector, FitsExit, FitsSlot, FitsLocal, declaration_at, body_out, IsBlockIn};
+ghost use Rattle.ns_send.specs.Classes.{super_part, body_ended, slot_filled};
+ghost use Rattle.ns_send.specs.Bodies.{local_stored, local_at, enclosing};
+ghost use Rattle.ns_send.specs.Blocks.{block_body_in, new_cell, new_text, evaluated, method_next, is_block};
+ghost use Rattle.ns_send.specs.Sends.{Target, sent, sent_from, performed};
+ghost use Rattle.ns_send.specs.Lawful.{LawfulRun, LawfulAfter, LiveState, LiveActivation, FitsActivation, FitsTarget, FitsSelector, FitsExit, FitsSlot, FitsLocal, declaration_at, body_out, IsBlockIn};
 ghost use Rattle.ns_send.specs.Actions.{Action, progress_after};
 ghost use Rattle.ns_send.specs.Adding.{AddsOnly};
 ghost use Rattle.ns_send.specs.Ending.{HasSite, EndsFitly};
 ghost use Rattle.ns_send.specs.Spending.{Spends, ControlSpends};
-ghost use Rattle.ns_send.specs.Fitting.{FitsMethod, FitsSite, GoesOnAt, home_in, Asks, HandsOn};
+ghost use Rattle.ns_send.specs.Fitting.{FitsMethod, Asks, HandsOn};
 ghost use Rattle.ns_send.specs.Suiting.{FoundSuits};
 ghost use Rattle.ns_send.specs.Stated.{WaitedIsLawful, WaitedFits, WaitedStays, WaitedLeadsOn, WaitedSpends, EnclosingIsLive, LocalStands, LocalIsLive, BlockMayBeMade, BlockIsEntered, PartStays};
-ghost use Rattle.ns_send.specs.Onward.{Onward, touched, reached, after_reached, part_reached, waiting_reached};
+ghost use Rattle.ns_send.specs.StatedSends.{SentGoesOnward, PlainGoesOnward, PerformedGoesOnward, SentKeepsLawful, PlainKeepsLawful, PerformedKeepsLawful, EvaluatedKeepsLawful, SiteFits, SentStays, PlainStays, EvaluatedStays};
+ghost use Rattle.ns_send.specs.StatedActions.{EvaluatedGoesOnward, PartGoesOnward, EndGoesOnward, SlotGoesOnward, LocalGoesOnward, PartKeepsLawful, EndKeepsLawful, MethodKeepsLawful, ArrayKeepsLawful, BlockKeepsLawful, SlotKeepsLawful, LocalKeepsLawful};
+ghost use Rattle.ns_send.specs.Onward.{Onward, after_reached, waiting_reached};
 
 /// No send changes a limit, lowers a counter but depth, takes back what was printed, or changes a
 /// cell but its receiver and what that mirrors.
 pub fn sends_go_onward()
-    ensures sent { (code : CodeProgram) (activation : Activation) (target : Target) (sel : Sel) (values : List Value) (place : Option Place) (progress : Progress) → Onward (touched progress.world.cells (receiver_of progress.world.cells activation target)) progress (reached (sent code activation target sel values place progress)) }
-    ensures plain { (code : CodeProgram) (receiver : Value) (sel : Sel) (values : List Value) (place : Option Place) (progress : Progress) → Onward (touched progress.world.cells receiver) progress (reached (sent_plain code receiver sel values place progress)) }
-    ensures performed { (code : CodeProgram) (receiver : Value) (sel : Sel) (array : ℕ) (site : Site) (progress : Progress) → Onward (touched progress.world.cells receiver) progress (reached (performed code receiver sel array site progress)) }
+    ensures sent { (code : CodeProgram) → SentGoesOnward code }
+    ensures plain { (code : CodeProgram) → PlainGoesOnward code }
+    ensures performed { (code : CodeProgram) → PerformedGoesOnward code }
 {}
 
 /// Nor does any other action: the evaluation of a block, an action of a kernel method, a part of a
@@ -52,13 +51,14 @@ pub fn sends_go_onward()
 /// object that keeps the class, the filling of a slot self, and the storing of a local the
 /// environment in which it stands.
 pub fn actions_go_onward()
-    ensures evaluated { (code : CodeProgram) (block : Value) (arguments : List Value) (site : Site) (progress : Progress) → Onward [] progress (reached (evaluated code block arguments site progress)) }
-    ensures method_next { (method : KMethod) (state : KState) (site : Site) (progress : Progress) → Onward [] progress (waiting_reached (method_next method state site progress)) }
-    ensures super_part { (code : CodeProgram) (activation : Activation) (arguments : List Value) (progress : Progress) → Onward [] progress (part_reached (super_part code activation arguments progress)) }
+    ensures evaluated { (code : CodeProgram) → EvaluatedGoesOnward code }
+    ensures method_next { (method : KMethod) (state : KState) (site : Site) (progress : Progress) →
+        Onward [] progress (waiting_reached (method_next method state site progress)) }
+    ensures super_part { (code : CodeProgram) → PartGoesOnward code }
     ensures new_cell { (cell : Cell) (progress : Progress) → Onward [] progress (after_reached (new_cell cell progress)) }
-    ensures body_ended { (code : CodeProgram) (exit : Exit) (activation : Activation) (value : Value) (progress : Progress) → Onward (kept_by exit) progress (after_reached (body_ended code exit activation value progress)) }
-    ensures slot_filled { (code : CodeProgram) (activation : Activation) (slot : ℕ) (value : Value) (progress : Progress) → Onward (activation.self ∷ []) progress (slot_filled code activation slot value progress) }
-    ensures local_stored { (code : CodeProgram) (activation : Activation) (hops place : ℕ) (value : Value) (progress : Progress) → Onward (Ref (environment_at progress.world.cells code activation hops) ∷ []) progress (local_stored code activation hops place value progress) }
+    ensures body_ended { (code : CodeProgram) → EndGoesOnward code }
+    ensures slot_filled { (code : CodeProgram) → SlotGoesOnward code }
+    ensures local_stored { (code : CodeProgram) → LocalGoesOnward code }
 {}
 
 /// Each action leads to a later world.
@@ -109,19 +109,19 @@ pub fn what_waits_lasts()
 /// is live or the running code fits its self and its holder, that the selector is one, and that the
 /// arguments are live and as many as it takes.
 pub fn sends_keep_lawful()
-    ensures sent { (code : CodeProgram) (activation : Activation) (target : Target) (sel : Sel) (values : List Value) (place : Option Place) (progress : Progress) → LawfulRun code progress → FitsTarget progress.world.cells code activation target → FitsSelector progress.world.cells code sel values → LawfulControl code (sent code activation target sel values place progress) }
-    ensures plain { (code : CodeProgram) (receiver : Value) (sel : Sel) (values : List Value) (place : Option Place) (progress : Progress) → LawfulRun code progress → IsLiveValue progress.world.cells code receiver → FitsSelector progress.world.cells code sel values → LawfulControl code (sent_plain code receiver sel values place progress) }
-    ensures performed { (code : CodeProgram) (receiver : Value) (sel : Sel) (array : ℕ) (site : Site) (progress : Progress) → LawfulRun code progress → IsLiveValue progress.world.cells code receiver → FitsSelector progress.world.cells code sel (items_of progress.world.cells (Ref array)) → LawfulControl code (performed code receiver sel array site progress) }
-    ensures evaluated { (code : CodeProgram) (block : Value) (arguments : List Value) (site : Site) (progress : Progress) → LawfulRun code progress → All (IsLiveValue progress.world.cells code) arguments → LawfulControl code (evaluated code block arguments site progress) }
+    ensures sent { (code : CodeProgram) → SentKeepsLawful code }
+    ensures plain { (code : CodeProgram) → PlainKeepsLawful code }
+    ensures performed { (code : CodeProgram) → PerformedKeepsLawful code }
+    ensures evaluated { (code : CodeProgram) → EvaluatedKeepsLawful code }
 {}
 
 /// So do the other actions: a superclass part where self and the arguments are live; the end of a
 /// body with a live value, where the object of a clause has its nested class; and each action of a
 /// kernel method whose values are live.
 pub fn actions_keep_lawful()
-    ensures super_part { (code : CodeProgram) (activation : Activation) (arguments : List Value) (progress : Progress) → LawfulRun code progress → IsLiveValue progress.world.cells code activation.self → All (IsLiveValue progress.world.cells code) arguments → LawfulPart code (super_part code activation arguments progress) }
-    ensures body_ended { (code : CodeProgram) (exit : Exit) (activation : Activation) (value : Value) (progress : Progress) → LawfulRun code progress → FitsExit progress.world.cells code exit → IsLiveValue progress.world.cells code value → LawfulAfter code (body_ended code exit activation value progress) }
-    ensures method_next { (method : KMethod) (state : KState) (site : Site) (code : CodeProgram) (progress : Progress) → LawfulRun code progress → LiveState progress.world.cells code state → LawfulWaiting code (method_next method state site progress) }
+    ensures super_part { (code : CodeProgram) → PartKeepsLawful code }
+    ensures body_ended { (code : CodeProgram) → EndKeepsLawful code }
+    ensures method_next { MethodKeepsLawful }
 {}
 
 /// And so do those that give or store a value: a new text, a new array of live elements, a new
@@ -129,10 +129,10 @@ pub fn actions_keep_lawful()
 /// value that is stored in a local.
 pub fn values_keep_lawful()
     ensures text { (code : CodeProgram) (bytes : List ℕ) (progress : Progress) → LawfulRun code progress → LawfulAfter code (new_text bytes progress) }
-    ensures array { (code : CodeProgram) (items : List Value) (progress : Progress) → LawfulRun code progress → All (IsLiveValue progress.world.cells code) items → LawfulAfter code (new_array items progress) }
-    ensures block { (code : CodeProgram) (activation : Activation) (body : ℕ) (progress : Progress) → LawfulRun code progress → BlockIsLawful progress.world.cells code body activation.env activation.self activation.holder → LawfulAfter code (new_block activation body progress) }
-    ensures slot { (code : CodeProgram) (activation : Activation) (slot : ℕ) (value : Value) (progress : Progress) → LawfulRun code progress → FitsSlot progress.world.cells code activation slot → IsLiveValue progress.world.cells code value → LawfulRun code (slot_filled code activation slot value progress) }
-    ensures local { (code : CodeProgram) (activation : Activation) (hops place : ℕ) (value : Value) (progress : Progress) → LawfulRun code progress → FitsLocal progress.world.cells code activation hops → IsLiveValue progress.world.cells code value → LawfulRun code (local_stored code activation hops place value progress) }
+    ensures array { (code : CodeProgram) → ArrayKeepsLawful code }
+    ensures block { (code : CodeProgram) → BlockKeepsLawful code }
+    ensures slot { (code : CodeProgram) → SlotKeepsLawful code }
+    ensures local { (code : CodeProgram) → LocalKeepsLawful code }
 {}
 
 /// In a lawful run a send, an evaluation, a superclass part and a method of the kernel that waits
@@ -141,22 +141,23 @@ pub fn values_keep_lawful()
 /// to be evaluated; a method of the kernel with a receiver and arguments of its kinds; or a send
 /// that waits, with a selector and as many live arguments as it takes.
 pub fn what_is_handed_on_fits()
-    ensures { (code : CodeProgram) (action : Action) (progress : Progress) → LawfulRun code progress → Asks code action progress → HandsOn code action progress }
+    ensures { (code : CodeProgram) (action : Action) (progress : Progress) →
+        LawfulRun code progress → Asks code action progress → HandsOn code action progress }
 {}
 
 /// In a lawful run the site of a send names a class of the code and its selector, and a file of the
 /// code where its place is in one.
 pub fn sites_fit()
-    ensures { (code : CodeProgram) (receiver : Value) (sel : Sel) (place : Option Place) (progress : Progress) → LawfulRun code progress → IsTrue (is_selector_number code sel.0) → ForSome place (λ (place : Place). place.file < length code.files) → FitsSite code (site_at progress.world.cells place receiver sel) }
+    ensures { (code : CodeProgram) → SiteFits code }
 {}
 
 /// What a send or an evaluation goes on with keeps its site; a method's home is its own activation,
 /// that of a block's body is the block's, and a clause and an initialiser have none; and a block is
 /// evaluated with at most 255 arguments where there are no more.
 pub fn sites_stay()
-    ensures sent { (code : CodeProgram) (activation : Activation) (target : Target) (sel : Sel) (values : List Value) (place : Option Place) (progress : Progress) → GoesOnAt (length values ≤ 255) (site_at progress.world.cells place (receiver_of progress.world.cells activation target) sel) no_home (sent code activation target sel values place progress) }
-    ensures plain { (code : CodeProgram) (receiver : Value) (sel : Sel) (values : List Value) (place : Option Place) (progress : Progress) → GoesOnAt (length values ≤ 255) (site_at progress.world.cells place receiver sel) no_home (sent_plain code receiver sel values place progress) }
-    ensures evaluated { (code : CodeProgram) (block : Value) (arguments : List Value) (site : Site) (progress : Progress) → GoesOnAt (length arguments ≤ 255) site (home_in (shape_of_value progress.world.cells block)) (evaluated code block arguments site progress) }
+    ensures sent { (code : CodeProgram) → SentStays code }
+    ensures plain { (code : CodeProgram) → PlainStays code }
+    ensures evaluated { (code : CodeProgram) → EvaluatedStays code }
     ensures part { (code : CodeProgram) → PartStays code }
 {}
 
@@ -205,7 +206,10 @@ pub fn endings_fit()
 /// A row of the kernel that a send finds suits its receiver: what a method of the kernel is sent to
 /// is of its kind, what is evaluated is a block, and a mirror's row is sent to a cell.
 pub fn rows_that_are_found_suit()
-    ensures value { (heap : Heap) (code : CodeProgram) (receiver : Value) (sel : ℕ) (kind : Sending) → FoundSuits heap receiver (found_from heap code (start_of heap receiver) sel kind) }
-    ensures above { (heap : Heap) (code : CodeProgram) (receiver : Value) (holder : ℕ) (side : Side) (sel : ℕ) → FoundSuits heap receiver (found_from heap code (super_start heap holder side) sel Inner) }
-    ensures own { (heap : Heap) (code : CodeProgram) (receiver : Value) (holder : ℕ) (side : Side) (sel : ℕ) → FoundSuits heap receiver (found_private heap code holder side sel) }
+    ensures value { (heap : Heap) (code : CodeProgram) (receiver : Value) (sel : ℕ) (kind : Sending) →
+        FoundSuits heap receiver (found_from heap code (start_of heap receiver) sel kind) }
+    ensures above { (heap : Heap) (code : CodeProgram) (receiver : Value) (holder : ℕ) (side : Side) (sel : ℕ) →
+        FoundSuits heap receiver (found_from heap code (super_start heap holder side) sel Inner) }
+    ensures own { (heap : Heap) (code : CodeProgram) (receiver : Value) (holder : ℕ) (side : Side) (sel : ℕ) →
+        FoundSuits heap receiver (found_private heap code holder side sel) }
 {}

@@ -92,7 +92,8 @@ pub fn is_reserved(word: &[u8]) -> bool
 }
 
 fn is_declaring(word: &[u8]) -> bool
-    ensures { result ≡ (bytes_eq word.now (codes "class") || (bytes_eq word.now (codes "public") || (bytes_eq word.now (codes "protected") || bytes_eq word.now (codes "private")))) }
+    ensures { result ≡ (bytes_eq word.now (codes "class")
+        || (bytes_eq word.now (codes "public") || (bytes_eq word.now (codes "protected") || bytes_eq word.now (codes "private")))) }
 {
     word == b"class".as_slice()
         || word == b"public".as_slice()

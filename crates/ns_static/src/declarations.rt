@@ -134,7 +134,8 @@ fn initialiser_faults(
     slots: &Option<Vec<Slot>>,
     body: &Statements,
 ) -> Result<(), NoMemory>
-    ensures { OnOk result (checker.new ≡ with_found checker.old (initialiser_faults classes.now (option_map pattern_of factory.now) (option_map clause_of clause.now) (bars_of slots.now) (statements_of body.now))) }
+    ensures { OnOk result (checker.new ≡ with_found checker.old
+        (initialiser_faults classes.now (option_map pattern_of factory.now) (option_map clause_of clause.now) (bars_of slots.now) (statements_of body.now))) }
 {
     let scope = begin_initialiser(checker, classes, factory)?;
     body_faults(checker, &scope, clause, slots, body)
@@ -148,7 +149,9 @@ fn body_faults(
     slots: &Option<Vec<Slot>>,
     body: &Statements,
 ) -> Result<(), NoMemory>
-    ensures { OnOk result (checker.new ≡ with_found checker.old (super_faults scope.now (option_map clause_of clause.now) ++ (bars_faults scope.now (bars_of slots.now) ++ statements_faults scope.now (statements_of body.now)))) }
+    ensures { OnOk result (checker.new ≡ with_found checker.old
+        (super_faults scope.now (option_map clause_of clause.now)
+        ++ (bars_faults scope.now (bars_of slots.now) ++ statements_faults scope.now (statements_of body.now)))) }
 {
     super_faults(checker, scope, clause)?;
     bars_faults(checker, scope, slots)?;

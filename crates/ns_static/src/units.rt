@@ -34,7 +34,8 @@ pub fn unit_faults(
     marks: &[Place],
     unit: &Unit,
 ) -> Result<Option<Placed>, NoMemory>
-    ensures found { IfOk result (λ found. found ≡ least_after marks.now least (unit_faults before.old.names before.old.classes (unit_class (unit_of unit.now)))) }
+    ensures found { IfOk result (λ found. found ≡ least_after marks.now least
+        (unit_faults before.old.names before.old.classes (unit_class (unit_of unit.now)))) }
     ensures names { OnOk result (before.new.names ≡ with_top before.old.names (class_name (unit_class (unit_of unit.now)))) }
     ensures classes { OnOk result (before.new.classes ≡ before.old.classes + length (class_names (unit_class (unit_of unit.now)))) }
 {

@@ -136,7 +136,8 @@ module _ {L A : Type 0} (labels : Reader L) (first : Kind → Bool) (p : Reader 
   -- where these labels stand before
   abbrev pub read_label_turns : ℕ → L → Reader (Labelled L A)
   read_label_turns zero l n ts = got (tail l) n ts
-  read_label_turns (suc t) l n ts = cond (begins first ts) (and_then (p n ts) (λ a m us. and_then (and_then (labels m us) (read_label_turns t)) (put_item l a))) (got (tail l) n ts)
+  read_label_turns (suc t) l n ts =
+      cond (begins first ts) (and_then (p n ts) (λ a m us. and_then (and_then (labels m us) (read_label_turns t)) (put_item l a))) (got (tail l) n ts)
 
   abbrev pub read_labelled : Reader (Labelled L A)
   read_labelled n ts = and_then (labels n ts) (λ l m us. read_label_turns (length us) l m us)

@@ -22,7 +22,8 @@ is_name (b ∷ rest) = begins_name b && list_all (λ c. begins_name c || is_digi
 
 abbrev pub reserved_words : List (List ℕ)
 reserved_words =
-    codes "class" ∷ codes "public" ∷ codes "protected" ∷ codes "private" ∷ codes "self" ∷ codes "super" ∷ codes "outer" ∷ codes "true" ∷ codes "false" ∷ codes "nil" ∷ []
+    codes "class" ∷ codes "public" ∷ codes "protected" ∷ codes "private"
+    ∷ codes "self" ∷ codes "super" ∷ codes "outer" ∷ codes "true" ∷ codes "false" ∷ codes "nil" ∷ []
 
 abbrev pub is_reserved : List ℕ → Bool
 is_reserved text = list_any (bytes_eq text) reserved_words

@@ -194,7 +194,8 @@ head (p.class_with name factory clause bars body side other) =
 
 abbrev mutual
   pub flat_class : p.Class → List Kind
-  flat_class (p.class_with name factory clause bars body side class_side) = head (p.class_with name factory clause bars body side class_side) ++ (flat_side side ++ flat_class_side class_side)
+  flat_class (p.class_with name factory clause bars body side class_side) =
+      head (p.class_with name factory clause bars body side class_side) ++ (flat_side side ++ flat_class_side class_side)
 
   pub flat_class_side : p.ClassSide → List Kind
   flat_class_side p.no_class_side = []

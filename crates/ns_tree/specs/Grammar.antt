@@ -248,7 +248,8 @@ module _ (primary : Rule p.Primary) where
   -- over the members of its instance side
   abbrev pub class : Rule p.What → Rule p.Class
   class what = mapped class_form
-      (k.Word r.Class ▸ (ident & (maybe factory & (equals ▸ (maybe clause & ((k.Open ▸ (bars primary (slot primary) & stmts primary ◂ k.Close)) & (side what & maybe (k.Colon ▸ side method_member))))))))
+      (k.Word r.Class ▸ (ident & (maybe factory & (equals ▸ (maybe clause
+      & ((k.Open ▸ (bars primary (slot primary) & stmts primary ◂ k.Close)) & (side what & maybe (k.Colon ▸ side method_member))))))))
 
   -- members in which so many classes nest
   abbrev pub what : ℕ → Rule p.What

@@ -160,7 +160,8 @@ method_of method = p.method_with (pattern_of method.pattern) (bars_of method.slo
 abbrev mutual
   pub class_of : Class → p.Class
   class_of (c.struct-Class name factory clause slots body side class_side) =
-      p.class_with name (option_map pattern_of factory) (option_map clause_of clause) (bars_of slots) (statements_of body) (side_of side) (class_side_held class_side)
+      p.class_with name (option_map pattern_of factory) (option_map clause_of clause) (bars_of slots)
+      (statements_of body) (side_of side) (class_side_held class_side)
 
   pub class_side_held : c.Held-Class-class_side → p.ClassSide
   class_side_held c.None' = p.no_class_side

@@ -127,7 +127,8 @@ module _ {A : Type 0} (r : Rule A) (separator : Kind) where
   listed = record {
     flat = flat_listed;
     Good = GoodListed;
-    Front = λ n f. (whole : List A) × (g : List Kind) × GoodItems n whole × ((g ≡ []) ⊎ r.Front (n + length (flat_items whole)) g) × (f ≡ flat_items whole ++ g);
+    Front = λ n f. (whole : List A) × (g : List Kind) × GoodItems n whole
+        × ((g ≡ []) ⊎ r.Front (n + length (flat_items whole)) g) × (f ≡ flat_items whole ++ g);
   }
 
 -- ---- put together from these

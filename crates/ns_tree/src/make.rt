@@ -176,7 +176,8 @@ pub fn class(
     side: Side,
     class_side: Option<Side>,
 ) -> Class
-    ensures { class_of result ≡ p.class_with name (option_map pattern_of factory) (option_map clause_of clause) (bars_of slots) (statements_of body) (side_of side) (class_side_of class_side) }
+    ensures { class_of result ≡ p.class_with name (option_map pattern_of factory) (option_map clause_of clause)
+        (bars_of slots) (statements_of body) (side_of side) (class_side_of class_side) }
 {
     Class {
         name,

@@ -45,7 +45,8 @@ HasSlot code body slot = (declared : ClassCode) × (slice_get code.classes body.
 -- The superclass message of the body's class takes so many arguments.
 abbrev pub IsStartOf : CodeProgram → BodyCode → ℕ → Type 0
 IsStartOf code body argc =
-    (declared : ClassCode) × (slice_get code.classes body.class ≡ Some declared) × (declared.super_sel.0 < length code.names) × (argc ≡ selector_arity code declared.super_sel.0)
+    (declared : ClassCode) × (slice_get code.classes body.class ≡ Some declared)
+    × (declared.super_sel.0 < length code.names) × (argc ≡ selector_arity code declared.super_sel.0)
 
 -- What an instruction names is there, and it stands in a body in which it can be used.
 abbrev pub IsUsable : CodeProgram → ℕ → BodyCode → ℕ → Instr → Type 0

@@ -82,7 +82,9 @@ fn has_bodies(code: &CodeProgram, names: &NameTable, number: u32, class: &ClassC
 }
 
 fn has_clause(code: &CodeProgram, number: u32, class: &ClassCode) -> bool
-    ensures { result ≡ option_map_or (λ clause. spec.is_body_of code.now clause spec.clause_kind spec.instance_side (unwrap_or class.now.outer number) (λ params. params == 0)) class.now.clause true }
+    ensures { result ≡ option_map_or (λ clause.
+        spec.is_body_of code.now clause spec.clause_kind spec.instance_side (unwrap_or class.now.outer number) (λ params. params == 0))
+        class.now.clause true }
 {
     match class.clause {
         Some(clause) => is_body_with(code, clause, CLAUSE, class.outer.unwrap_or(number), 0),
@@ -157,7 +159,8 @@ fn has_nested(code: &CodeProgram, number: u32, class: &ClassCode) -> bool
 }
 
 fn is_inner(code: &CodeProgram, number: u32, nested: NestedCode) -> bool
-    ensures { result ≡ option_map_or (λ (inner : ClassCode). option_map_or (λ outer. outer == number) inner.outer false) (slice_get code.now.classes nested.class) false }
+    ensures { result ≡ option_map_or (λ (inner : ClassCode). option_map_or (λ outer. outer == number) inner.outer false)
+        (slice_get code.now.classes nested.class) false }
 {
     match code.classes.as_slice().get(nested.class as usize) {
         Some(inner) => inner.outer == Some(number),

@@ -27,15 +27,20 @@ pub fn sound_code_is_in_order()
 /// has the operands that it takes, the heights of those that it goes on to agree with the height
 /// after it, and a frame ends with nothing on its operands but what it gives.
 pub fn heights_agree()
-    ensures heights { (body : BodyCode) (at : ℕ) (instr : Instr) → slice_get body.instrs at ≡ Some instr → slice_get (heights body) at ≡ Some (height_before body at) }
-    ensures agree { (code : CodeProgram) (number at : ℕ) (body : BodyCode) (instr : Instr) → IsSound code → slice_get code.bodies number ≡ Some body → slice_get body.instrs at ≡ Some instr → HeightsAgree body at instr }
+    ensures heights { (body : BodyCode) (at : ℕ) (instr : Instr) →
+        slice_get body.instrs at ≡ Some instr → slice_get (heights body) at ≡ Some (height_before body at) }
+    ensures agree { (code : CodeProgram) (number at : ℕ) (body : BodyCode) (instr : Instr) → IsSound code →
+        slice_get code.bodies number ≡ Some body → slice_get body.instrs at ≡ Some instr → HeightsAgree body at instr }
 {}
 
 /// A block's outermost body is of the kind of that of the body in which it stands; where a body stands
 /// in no other, it is its own.
 pub fn homes_are_outermost()
-    ensures inside { (code : CodeProgram) (number parent : ℕ) (body holder : BodyCode) → slice_get code.bodies number ≡ Some body → around number body ≡ Some parent → slice_get code.bodies parent ≡ Some holder → home_of code number body ≡ home_of code parent holder }
-    ensures outermost { (code : CodeProgram) (number : ℕ) (body : BodyCode) → slice_get code.bodies number ≡ Some body → around number body ≡ None → home_of code number body ≡ body.kind }
+    ensures inside { (code : CodeProgram) (number parent : ℕ) (body holder : BodyCode) → slice_get code.bodies number ≡ Some body →
+        around number body ≡ Some parent → slice_get code.bodies parent ≡ Some holder →
+        home_of code number body ≡ home_of code parent holder }
+    ensures outermost { (code : CodeProgram) (number : ℕ) (body : BodyCode) → slice_get code.bodies number ≡ Some body →
+        around number body ≡ None → home_of code number body ≡ body.kind }
 {}
 
 /// In sound code each body's class is there, and a block stands in an earlier body of its class and
@@ -47,5 +52,6 @@ pub fn sound_bodies_stand_right()
 /// In sound code what an instruction names is there, and the instruction stands in a body in which it
 /// can be used.
 pub fn sound_instructions_are_usable()
-    ensures { (code : CodeProgram) (number at : ℕ) (body : BodyCode) (instr : Instr) → IsSound code → slice_get code.bodies number ≡ Some body → slice_get body.instrs at ≡ Some instr → IsUsable code number body at instr }
+    ensures { (code : CodeProgram) (number at : ℕ) (body : BodyCode) (instr : Instr) → IsSound code →
+        slice_get code.bodies number ≡ Some body → slice_get body.instrs at ≡ Some instr → IsUsable code number body at instr }
 {}

@@ -3,7 +3,7 @@
 ghost use Rattle.std.specs.Prelude.{◌≡◌, ◌++◌, ◌∷◌, map, OnOk, IfOk, option_map};
 ghost use Rattle.ns_tree.specs.PlainOf.{bars_of, statements_of, pattern_of, clause_of, method_of, class_of, class_side_of, side_of, members_of, member_of, what_of, unit_of};
 ghost use Rattle.ns_scope.specs.Scopes.{is_outside};
-ghost use Rattle.ns_scope.specs.Bodies.{super_blocks, bars_blocks, statements_blocks, clause_bodies, initialiser_bodies, method_bodies, member_methods, methods_bodies, side_bodies, class_side_bodies, own_bodies};
+ghost use Rattle.ns_scope.specs.Bodies.{super_blocks, start_blocks, bars_blocks, statements_blocks, clause_bodies, initialiser_bodies, method_bodies, member_methods, methods_bodies, side_bodies, class_side_bodies, own_bodies};
 ghost use Rattle.ns_scope.specs.Bodies.{class_bodies, class_inside, nested_bodies, members_bodies, member_nested, what_bodies, unit_bodies, bodies_of};
 
 use crate::blocks::{put_bars, put_message, put_scope, put_statements};
@@ -125,7 +125,8 @@ fn put_body(
     slots: &Option<Vec<Slot>>,
     body: &Statements,
 ) -> Result<(), NoMemory>
-    ensures { OnOk result (all.new.items ≡ all.old.items ++ scope.now ∷ (super_blocks scope.now (option_map clause_of clause.now) ++ (bars_blocks scope.now (bars_of slots.now) ++ statements_blocks scope.now (statements_of body.now)))) }
+    ensures { OnOk result (all.new.items ≡ all.old.items
+        ++ scope.now ∷ start_blocks scope.now (option_map clause_of clause.now) (bars_of slots.now) (statements_of body.now)) }
 {
     put_scope(all, scope)?;
     put_super(alloc, all, scope, clause)?;

@@ -74,9 +74,12 @@ pub record AlikePairs (pairs : Renaming) (first second : Heap) (number other : �
 pub record Alike (pairs : Renaming) (first second : World) (firsts seconds : List Value) : Type 0 where
   pub once_first : AllPairs (λ p q. p.0 ≢ q.0) pairs
   pub once_second : AllPairs (λ p q. p.1 ≢ q.1) pairs
-  pub onto : (number : ℕ) → Reach first.cells (all_referred firsts) number → (other : ℕ) × Contains pairs (number, other) × Reach second.cells (all_referred seconds) other
-  pub back : (other : ℕ) → Reach second.cells (all_referred seconds) other → (number : ℕ) × Contains pairs (number, other) × Reach first.cells (all_referred firsts) number
-  pub cells : (number other : ℕ) → Contains pairs (number, other) → Reach first.cells (all_referred firsts) number → AlikePairs pairs first.cells second.cells number other
+  pub onto : (number : ℕ) → Reach first.cells (all_referred firsts) number
+      → (other : ℕ) × Contains pairs (number, other) × Reach second.cells (all_referred seconds) other
+  pub back : (other : ℕ) → Reach second.cells (all_referred seconds) other
+      → (number : ℕ) × Contains pairs (number, other) × Reach first.cells (all_referred firsts) number
+  pub cells : (number other : ℕ) → Contains pairs (number, other) → Reach first.cells (all_referred firsts) number
+      → AlikePairs pairs first.cells second.cells number other
   pub roots : AlikeValues pairs firsts seconds
   pub steps : first.limits.steps - first.steps ≡ second.limits.steps - second.steps
   pub room : first.limits.cells - heap_size first.cells ≡ second.limits.cells - heap_size second.cells

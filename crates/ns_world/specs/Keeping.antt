@@ -34,7 +34,10 @@ MayBeMade heap code (Message sel args) = MessageIsLawful heap code sel args
 -- A value that comes into the word of a nested class, of a holder in an object's chain, is a class that is kept there, or nil.
 abbrev pub KeepsWord : Heap → CodeProgram → ℕ → ℕ → ℕ → Value → Type 0
 KeepsWord heap code object class word value =
-    (holder : ℕ) → Contains (chain_of heap class) holder → ForSome (slice_get code.classes (declaration_of heap holder)) (λ (declared : ClassCode). (k : ℕ) (nested : NestedCode) → slice_get declared.nested k ≡ Some nested → entry_word heap code holder (length declared.slots + k) ≡ word → IsKept heap object holder nested.class value)
+    (holder : ℕ) → Contains (chain_of heap class) holder
+    → ForSome (slice_get code.classes (declaration_of heap holder))
+    (λ (declared : ClassCode). (k : ℕ) (nested : NestedCode) → slice_get declared.nested k ≡ Some nested
+    → entry_word heap code holder (length declared.slots + k) ≡ word → IsKept heap object holder nested.class value)
 
 -- A word may be written: the value is live and no environment, and where the word is that of an object's
 -- nested class, the value may be kept there.

@@ -79,7 +79,10 @@ IsKept heap object holder decl _ = ⊥
 pub record ObjectIsLawful (heap : Heap) (code : CodeProgram) (number class : ℕ) (entries : List Value) : Type 0 where
   pub class_is : IsTrue (is_class (find_cell heap class) || class == no_class)
   pub words : length entries ≡ layout_of heap code class
-  pub kept : (holder : ℕ) → Contains (chain_of heap class) holder → ForSome (slice_get code.classes (declaration_of heap holder)) (λ (declared : ClassCode). (k : ℕ) (nested : NestedCode) (value : Value) → slice_get declared.nested k ≡ Some nested → slice_get entries (entry_word heap code holder (length declared.slots + k)) ≡ Some value → IsKept heap number holder nested.class value)
+  pub kept : (holder : ℕ) → Contains (chain_of heap class) holder
+      → ForSome (slice_get code.classes (declaration_of heap holder))
+      (λ (declared : ClassCode). (k : ℕ) (nested : NestedCode) (value : Value) → slice_get declared.nested k ≡ Some nested
+      → slice_get entries (entry_word heap code holder (length declared.slots + k)) ≡ Some value → IsKept heap number holder nested.class value)
 
 -- A self and a holder fit a body: the holder is a class of the body's declaration, in the chain of self,
 -- which is an object on the instance side and a class on the class side.
@@ -104,7 +107,8 @@ abbrev pub FitsEnvironment : ℕ → Heap → CodeProgram → Option ℕ → Val
 FitsEnvironment depth heap code None env = env ≡ Nil
 FitsEnvironment zero heap code (Some body) env = ⊥
 FitsEnvironment (suc depth) heap code (Some body) (Ref at) =
-    ForSome (environment_in (find_cell heap at)) (λ e. ForSome (slice_get code.bodies body) (λ (b : BodyCode). (length e.1 ≡ b.locals) × FitsEnvironment depth heap code b.parent e.0))
+    ForSome (environment_in (find_cell heap at))
+    (λ e. ForSome (slice_get code.bodies body) (λ (b : BodyCode). (length e.1 ≡ b.locals) × FitsEnvironment depth heap code b.parent e.0))
     × IsSome (environment_in (find_cell heap at)) × IsSome (slice_get code.bodies body)
 FitsEnvironment (suc depth) heap code (Some body) _ = ⊥
 

@@ -12,3 +12,4 @@ pub mod Keeping
 pub mod Later
 pub mod Reach
 pub mod Alike
+pub mod Stated

@@ -51,7 +51,8 @@ class_held class = if class == no_class then [] else class ∷ []
 -- the facets that Platform holds
 abbrev pub facets_of : Heap → List ℕ
 facets_of heap =
-    listed (first_such (is_facet Console) heap) ++ (listed (first_such (is_facet Mirrors) heap) ++ (listed (first_such (is_facet KernelFacet) heap) ++ listed (first_such (is_facet Board) heap)))
+    listed (first_such (is_facet Console) heap) ++ (listed (first_such (is_facet Mirrors) heap)
+    ++ (listed (first_such (is_facet KernelFacet) heap) ++ listed (first_such (is_facet Board) heap)))
 
 -- the cells that a cell holds: Platform the facets that were granted, Manifest the top-level classes
 abbrev pub held : Heap → Cell → List ℕ
@@ -70,4 +71,5 @@ held heap (MessageCell sel args) = referred args
 -- The cells that are reached: the roots, and each cell that a reached one holds.
 pub data Reach (heap : Heap) (roots : List ℕ) : (number : ℕ) → Type 0 where
   IsRoot : (number : ℕ) → Contains roots number → IsSome (find_cell heap number) → Reach heap roots number
-  IsHeld : (from number : ℕ) (cell : Cell) → Reach heap roots from → find_cell heap from ≡ Some cell → Contains (held heap cell) number → IsSome (find_cell heap number) → Reach heap roots number
+  IsHeld : (from number : ℕ) (cell : Cell) → Reach heap roots from → find_cell heap from ≡ Some cell
+      → Contains (held heap cell) number → IsSome (find_cell heap number) → Reach heap roots number

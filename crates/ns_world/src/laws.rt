@@ -19,8 +19,10 @@ pub fn chains_end()
 
 /// Writing a word changes no cell but that of the word, no class, no chain and no cell's number.
 pub fn writing_changes_no_class()
-    ensures others { (heap : Heap) (at word number : ℕ) (value : Value) → number ≢ at → find_cell (write_word heap at word value) number ≡ find_cell heap number }
-    ensures classes { (heap : Heap) (at word number : ℕ) (value : Value) → IsTrue (is_class (find_cell heap number)) → find_cell (write_word heap at word value) number ≡ find_cell heap number }
+    ensures others { (heap : Heap) (at word number : ℕ) (value : Value) → number ≢ at →
+        find_cell (write_word heap at word value) number ≡ find_cell heap number }
+    ensures classes { (heap : Heap) (at word number : ℕ) (value : Value) → IsTrue (is_class (find_cell heap number)) →
+        find_cell (write_word heap at word value) number ≡ find_cell heap number }
     ensures chains { (heap : Heap) (at word class : ℕ) (value : Value) → chain_of (write_word heap at word value) class ≡ chain_of heap class }
     ensures size { (heap : Heap) (at word : ℕ) (value : Value) → heap_size (write_word heap at word value) ≡ heap_size heap }
 {}
@@ -28,7 +30,8 @@ pub fn writing_changes_no_class()
 /// Writing a byte changes no cell but its text, no class, no chain and no cell's number.
 pub fn writing_a_byte_changes_no_class()
     ensures others { (heap : Heap) (at place number byte : ℕ) → number ≢ at → find_cell (write_byte heap at place byte) number ≡ find_cell heap number }
-    ensures classes { (heap : Heap) (at place number byte : ℕ) → IsTrue (is_class (find_cell heap number)) → find_cell (write_byte heap at place byte) number ≡ find_cell heap number }
+    ensures classes { (heap : Heap) (at place number byte : ℕ) → IsTrue (is_class (find_cell heap number)) →
+        find_cell (write_byte heap at place byte) number ≡ find_cell heap number }
     ensures chains { (heap : Heap) (at place class byte : ℕ) → chain_of (write_byte heap at place byte) class ≡ chain_of heap class }
     ensures size { (heap : Heap) (at place byte : ℕ) → heap_size (write_byte heap at place byte) ≡ heap_size heap }
 {}
@@ -38,5 +41,6 @@ pub fn writing_a_byte_changes_no_class()
 pub fn walks_meet_each_cell()
     ensures first { (heap : Heap) → 0 < heap_size heap → IsSome (find_cell heap 0) }
     ensures next { (heap : Heap) (at : ℕ) → IsSome (find_cell heap at) → next_number heap at < heap_size heap → IsSome (find_cell heap (next_number heap at)) }
-    ensures none_between { (heap : Heap) (at number : ℕ) → IsSome (find_cell heap at) → at < number → number < next_number heap at → find_cell heap number ≡ None }
+    ensures none_between { (heap : Heap) (at number : ℕ) → IsSome (find_cell heap at) →
+        at < number → number < next_number heap at → find_cell heap number ≡ None }
 {}

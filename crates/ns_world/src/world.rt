@@ -44,9 +44,15 @@ impl Model for World {
 
     ghost Value = { WorldView };
 
-    ghost view = { λ w. record { world = record { cells = w.heap.cells; limits = w.limits; steps = w.steps; depth = w.depth; output = w.output.items }; cell_room = w.heap.room; out_room = w.out_room } };
+    ghost view = { λ w. record {
+      world = record { cells = w.heap.cells; limits = w.limits; steps = w.steps; depth = w.depth; output = w.output.items };
+      cell_room = w.heap.room;
+      out_room = w.out_room;
+    } };
 
-    ghost invariant = { λ w. IsWithin (record { cells = w.heap.cells; limits = w.limits; steps = w.steps; depth = w.depth; output = w.output.items }) × (w.out_room ≤ vec_capacity w.output) };
+    ghost invariant = { λ w.
+        IsWithin (record { cells = w.heap.cells; limits = w.limits; steps = w.steps; depth = w.depth; output = w.output.items })
+        × (w.out_room ≤ vec_capacity w.output) };
 }
 
 impl World {

@@ -91,6 +91,10 @@ with_message scope receiver sent arguments before =
           (nodes_lines (length before.texts) arguments (sends (begin_way scope receiver sent.selector) sent (how_many arguments) ∷ []));
     }
 
+-- the same with the selector and the arguments of a message
+abbrev pub with_one_message : Scope → Receiver → e.Message → Written → Written
+with_one_message scope receiver message before = with_message scope receiver message.sent message.arguments before
+
 -- with the value of a receiver to which no message is sent
 abbrev pub with_value : Receiver → Written → Written
 with_value v.Value before = before

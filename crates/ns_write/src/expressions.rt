@@ -7,7 +7,7 @@ ghost use Rattle.ns_scope.specs.Bodies.{expr_blocks, key_expr_blocks, keys_block
 ghost use Rattle.ns_meant.specs.Program as m;
 ghost use Rattle.ns_meant.specs.Expressions.{as_receiver, as_value, name_sent, one, un_node, un_said, bin_said, key_expr_said, keys_nodes, keys_sent, items_nodes, primary_receiver, implicit_send, expr_node, with_cascade, cascade_messages, message_said};
 ghost use Rattle.ns_write.specs.Cascading.{unset_node, with_rest, with_first, said_kept, is_said};
-ghost use Rattle.ns_write.specs.Sending.{standing, with_node, with_nodes, with_receiver, with_message, with_opers, with_keywords, with_value, opers_left, keys_left, kept};
+ghost use Rattle.ns_write.specs.Sending.{standing, with_node, with_nodes, with_receiver, with_message, with_one_message, with_opers, with_keywords, with_value, opers_left, keys_left, kept};
 
 use crate::here::Here;
 use crate::keys::{count, first_key, joined, keys_count};
@@ -66,7 +66,8 @@ fn put_oper(
     name: &Named,
     argument: &UnExpr,
 ) -> Result<(), NoMemory>
-    ensures put { OnOk result (writer.new ≡ with_message here.now.scope.now receiver.now (name_sent (standing here.now) name.now) (one (un_node (standing here.now) next.old (un_of argument.now))) writer.old) }
+    ensures put { OnOk result (writer.new ≡ with_message here.now.scope.now receiver.now (name_sent (standing here.now) name.now)
+        (one (un_node (standing here.now) next.old (un_of argument.now))) writer.old) }
     ensures next { OnOk result (next.new ≡ next.old + length (un_blocks here.now.scope.now (un_of argument.now))) }
 {
     let selector = name.text.bytes();
@@ -105,7 +106,8 @@ fn put_bin(
     next: &mut u32,
     bin: &BinExpr,
 ) -> Result<Receiver, NoMemory>
-    ensures put { OnOk result (writer.new ≡ with_receiver (as_receiver (standing here.now) (bin_said (standing here.now) next.old (bin_of bin.now))) writer.old) }
+    ensures put { OnOk result (writer.new ≡ with_receiver
+        (as_receiver (standing here.now) (bin_said (standing here.now) next.old (bin_of bin.now))) writer.old) }
     ensures kept { IfOk result (λ receiver. receiver ≡ kept (as_receiver (standing here.now) (bin_said (standing here.now) next.old (bin_of bin.now)))) }
     ensures next { OnOk result (next.new ≡ next.old + length (bin_blocks here.now.scope.now (bin_of bin.now))) }
 {
@@ -156,7 +158,8 @@ fn put_keywords(
     receiver: &Receiver,
     keys: &[(Named, BinExpr)],
 ) -> Result<(), NoMemory>
-    ensures put { OnOk result (writer.new ≡ with_message here.now.scope.now receiver.now (keys_sent (standing here.now) (keys_of keys.now)) (keys_nodes (standing here.now) next.old (keys_of keys.now)) writer.old) }
+    ensures put { OnOk result (writer.new ≡ with_message here.now.scope.now receiver.now
+        (keys_sent (standing here.now) (keys_of keys.now)) (keys_nodes (standing here.now) next.old (keys_of keys.now)) writer.old) }
     ensures next { OnOk result (next.new ≡ next.old + length (keys_blocks here.now.scope.now (keys_of keys.now))) }
 {
     let selector = joined(writer.alloc(), keys)?;
@@ -176,7 +179,8 @@ fn put_implicit(
     next: &mut u32,
     keys: &[(Named, BinExpr)],
 ) -> Result<(), NoMemory>
-    ensures put { OnOk result (writer.new ≡ with_node (implicit_send (standing here.now) (keys_sent (standing here.now) (keys_of keys.now)) (keys_nodes (standing here.now) next.old (keys_of keys.now))) writer.old) }
+    ensures put { OnOk result (writer.new ≡ with_node (implicit_send (standing here.now)
+        (keys_sent (standing here.now) (keys_of keys.now)) (keys_nodes (standing here.now) next.old (keys_of keys.now))) writer.old) }
     ensures next { OnOk result (next.new ≡ next.old + length (keys_blocks here.now.scope.now (keys_of keys.now))) }
 {
     let selector = joined(writer.alloc(), keys)?;
@@ -220,7 +224,8 @@ fn put_keyed_value(
     receiver: Receiver,
     keys: &[(Named, BinExpr)],
 ) -> Result<(), NoMemory>
-    ensures put { OnOk result (writer.new ≡ with_value (keys_left receiver (keys_of keys.now)) (with_keywords (standing here.now) next.old receiver (keys_of keys.now) writer.old)) }
+    ensures put { OnOk result (writer.new ≡ with_value (keys_left receiver (keys_of keys.now))
+        (with_keywords (standing here.now) next.old receiver (keys_of keys.now) writer.old)) }
     ensures next { OnOk result (next.new ≡ next.old + length (keys_blocks here.now.scope.now (keys_of keys.now))) }
 {
     let behind = put_keyed(writer, here, next, receiver, keys)?;
@@ -236,7 +241,8 @@ fn put_key_value(
     next: &mut u32,
     expr: &KeyExpr,
 ) -> Result<(), NoMemory>
-    ensures put { OnOk result (writer.new ≡ with_node (as_value (standing here.now) (key_expr_said (standing here.now) next.old (key_expr_of expr.now))) writer.old) }
+    ensures put { OnOk result (writer.new ≡ with_node
+        (as_value (standing here.now) (key_expr_said (standing here.now) next.old (key_expr_of expr.now))) writer.old) }
     ensures next { OnOk result (next.new ≡ next.old + length (key_expr_blocks here.now.scope.now (key_expr_of expr.now))) }
 {
     match &expr.receiver {
@@ -261,7 +267,8 @@ fn put_message(
     receiver: &Receiver,
     message: &Message,
 ) -> Result<(), NoMemory>
-    ensures put { OnOk result (writer.new ≡ with_message here.now.scope.now receiver.now (message_said (standing here.now) next.old (message_of message.now)).sent (message_said (standing here.now) next.old (message_of message.now)).arguments writer.old) }
+    ensures put { OnOk result (writer.new ≡ with_one_message here.now.scope.now receiver.now
+        (message_said (standing here.now) next.old (message_of message.now)) writer.old) }
     ensures next { OnOk result (next.new ≡ next.old + length (message_blocks here.now.scope.now (message_of message.now))) }
 {
     match message {

@@ -78,7 +78,8 @@ impl Writer {
         place: Place,
         argc: u8,
     ) -> Result<(), NoMemory>
-        ensures put { OnOk result (self.new ≡ with_line (with_name self.old text.now) (sends (way_of way) (record { selector = text.now; place = place }) argc)) }
+        ensures put { OnOk result (self.new ≡ with_line (with_name self.old text.now)
+            (sends (way_of way) (record { selector = text.now; place = place }) argc)) }
     {
         let sel = self.number(text)?;
         self.put(Draft::Sends {

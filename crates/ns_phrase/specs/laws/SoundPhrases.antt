@@ -29,7 +29,8 @@ use Rattle.ns_terminal.specs.laws.SoundPatterns.{by_form, params, sound_params}
 -- ---- by the forms of a node
 
 -- what a rule gives, as one of the forms of another
-module _ {A B C D : Type 0} (to : A → B) (r : Rule A) (s : Rule B) (good : (n : ℕ) (a : A) → r.Good n a → s.Good n (to a)) (flat : (a : A) → s.flat (to a) ≡ r.flat a) (form : C → Option A) (form' : D → Option B) where
+module _ {A B C D : Type 0} (to : A → B) (r : Rule A) (s : Rule B) (good : (n : ℕ) (a : A) → r.Good n a → s.Good n (to a))
+    (flat : (a : A) → s.flat (to a) ≡ r.flat a) (form : C → Option A) (form' : D → Option B) where
   pub by_arm : (n : ℕ) (o : Option A) → GoodFrom form r n o → GoodFrom form' s n (option_map to o) × (flat_from form' s (option_map to o) ≡ flat_from form r o)
   by_arm n None h = absurd h
   by_arm n (Some a) h = (good n a h, flat a)
@@ -41,7 +42,8 @@ module _ (primary : Reader p.Primary) (rule : Rule p.Primary) (P : Sound primary
 
   module _ (operators : Operators) (operator : Rule Named) (O : Sound (names.name (s.Operator operators)) operator) where
     sound_opers : Sound (x.opers primary operators) (mapped (λ more. Some (oper_list more)) (many (operator & g.un rule)))
-    sound_opers = sound_mapped list_opers (mapped (λ more. Some (oper_list more)) (many (operator & g.un rule))) (sound_many (names.is_name (s.Operator operators)) (sound_both O sound_un))
+    sound_opers = sound_mapped list_opers (mapped (λ more. Some (oper_list more)) (many (operator & g.un rule)))
+        (sound_many (names.is_name (s.Operator operators)) (sound_both O sound_un))
         (by_form (many (operator & g.un rule)) p.Opers (λ more. Some (oper_list more)) list_opers (λ n a good. ap Some (opers_back a)))
 
     sound_bin : Sound (x.bin primary operators) (g.bin rule operator)
@@ -61,15 +63,18 @@ module _ (primary : Reader p.Primary) (rule : Rule p.Primary) (P : Sound primary
     some_keys = mapped (λ keys. f.once_or_more_of (key_list keys)) (g.keys rule operator)
 
     some_become : Becomes (some (g.key & g.bin rule operator)) some_keys list_keys
-    some_become n a good = let e : key_list (list_keys a) ≡ a = keys_back a in
-        (subst (λ b. GoodFrom (λ keys. f.once_or_more_of (key_list keys)) (g.keys rule operator) n (f.once_or_more_of b)) (sym e) good, ap (λ b. flat_from (λ keys. f.once_or_more_of (key_list keys)) (g.keys rule operator) (f.once_or_more_of b)) e)
+    some_become n a good = let e : key_list (list_keys a) ≡ a = keys_back a in (
+      subst (λ b. GoodFrom (λ keys. f.once_or_more_of (key_list keys)) (g.keys rule operator) n (f.once_or_more_of b)) (sym e) good,
+      ap (λ b. flat_from (λ keys. f.once_or_more_of (key_list keys)) (g.keys rule operator) (f.once_or_more_of b)) e,
+    )
 
     pub sound_some_keys : SoundIf (names.is_name s.Key) (x.keys primary operators) some_keys
     sound_some_keys = if_mapped list_keys some_keys (sound_some (names.is_name s.Key) (sound_both sound_key sound_bin)) some_become
 
     implicit_becomes : Becomes some_keys (g.key_expr rule operator) p.implicit
     implicit_becomes n a good =
-        by_arm inr (g.keys rule operator) (either (g.bin rule operator & many (g.key & g.bin rule operator)) (g.keys rule operator)) (λ n a good. good) (λ a. refl)
+        by_arm inr (g.keys rule operator) (either (g.bin rule operator & many (g.key & g.bin rule operator)) (g.keys rule operator))
+        (λ n a good. good) (λ a. refl)
         (λ keys. f.once_or_more_of (key_list keys)) f.key_expr_form n (f.once_or_more_of (key_list a)) good
 
     sound_key_expr : Sound (x.key_expr primary operators) (g.key_expr rule operator)
@@ -80,14 +85,16 @@ module _ (primary : Reader p.Primary) (rule : Rule p.Primary) (P : Sound primary
 
     keywords_become : Becomes some_keys (g.message rule operator) p.keywords
     keywords_become n a good =
-        by_arm (λ keys. inr (inr keys)) (g.keys rule operator) (either g.ident (either (operator & g.un rule) (g.keys rule operator))) (λ n a good. good) (λ a. refl)
+        by_arm (λ keys. inr (inr keys)) (g.keys rule operator) (either g.ident (either (operator & g.un rule) (g.keys rule operator)))
+        (λ n a good. good) (λ a. refl)
         (λ keys. f.once_or_more_of (key_list keys)) f.message_form n (f.once_or_more_of (key_list a)) good
 
     sound_message : Sound (x.message primary operators) (g.message rule operator)
     unfolding x.message
     sound_message =
         sound_or (names.is_name s.Ident) (sound_mapped p.unary (g.message rule operator) sound_ident (λ n a good. (good, refl)))
-        (sound_or (names.is_name (s.Operator operators)) (sound_mapped x.binary_from (g.message rule operator) (sound_both O sound_un) (λ n a good. (good, refl)))
+        (sound_or (names.is_name (s.Operator operators))
+        (sound_mapped x.binary_from (g.message rule operator) (sound_both O sound_un) (λ n a good. (good, refl)))
         (sound_or_if (if_mapped p.keywords (g.message rule operator) sound_some_keys keywords_become) (sound_never (g.message rule operator))))
 
     abbrev cascade_rule : Rule p.Cascade
@@ -99,7 +106,8 @@ module _ (primary : Reader p.Primary) (rule : Rule p.Primary) (P : Sound primary
 
     sound_expr : Sound (x.expr primary operators) (g.expr rule operator)
     unfolding x.expr
-    sound_expr = sound_mapped x.expr_from (g.expr rule operator) (sound_both (sound_names s.SetKey sound_set_key) (sound_both sound_key_expr sound_cascade)) (λ n a good. (good, refl))
+    sound_expr = sound_mapped x.expr_from (g.expr rule operator)
+        (sound_both (sound_names s.SetKey sound_set_key) (sound_both sound_key_expr sound_cascade)) (λ n a good. (good, refl))
 
   pub any_expr : Sound (x.expr primary o.All) (g.expr rule g.oper)
   any_expr = sound_expr o.All g.oper sound_oper
@@ -112,8 +120,10 @@ module _ (primary : Reader p.Primary) (rule : Rule p.Primary) (P : Sound primary
   sound_init : Sound (x.init primary) (g.init rule)
   unfolding x.init
   sound_init =
-      sound_or (marks.is_mark m.Equals) (sound_mapped p.fixed (g.init rule) (sound_after (sound_skip m.Equals) (sound_until slot_expr (sound_skip m.Stop))) (λ n a good. (good, refl)))
-      (sound_or (marks.is_mark m.SlotSet) (sound_mapped p.mutable (g.init rule) (sound_after (sound_skip m.SlotSet) (sound_until slot_expr (sound_skip m.Stop))) (λ n a good. (good, refl)))
+      sound_or (marks.is_mark m.Equals)
+      (sound_mapped p.fixed (g.init rule) (sound_after (sound_skip m.Equals) (sound_until slot_expr (sound_skip m.Stop))) (λ n a good. (good, refl)))
+      (sound_or (marks.is_mark m.SlotSet)
+      (sound_mapped p.mutable (g.init rule) (sound_after (sound_skip m.SlotSet) (sound_until slot_expr (sound_skip m.Stop))) (λ n a good. (good, refl)))
       (sound_mapped p.bare (g.init rule) (sound_flag m.Stop) (λ n a good. (good, refl))))
 
   -- the slots of an object, or those of code
@@ -133,16 +143,19 @@ module _ (primary : Reader p.Primary) (rule : Rule p.Primary) (P : Sound primary
   sound_slot : (holder : Holder) → Sound (x.slot primary holder) (slot_rule holder)
   unfolding x.slot
   sound_slot h.Object = sound_mapped x.slot_from (g.slot rule) (sound_both sound_access (sound_both sound_ident sound_init)) (λ n a good. (good, refl))
-  sound_slot h.Code = sound_mapped x.slot_from (g.local rule) (sound_mapped (λ init. (None, init)) (mapped no_access (g.ident & g.init rule)) (sound_both sound_ident sound_init) (λ n a good. (good, refl))) local_becomes
+  sound_slot h.Code = sound_mapped x.slot_from (g.local rule) (sound_mapped (λ init. (None, init)) (mapped no_access (g.ident & g.init rule))
+      (sound_both sound_ident sound_init) (λ n a good. (good, refl))) local_becomes
 
   sound_slots : (holder : Holder) → Sound (x.slots primary holder) (mapped (λ slots. Some (slot_list slots)) (many (slot_rule holder)))
-  sound_slots holder = sound_mapped list_slots (mapped (λ slots. Some (slot_list slots)) (many (slot_rule holder))) (sound_many (x.starts_slot holder) (sound_slot holder))
+  sound_slots holder = sound_mapped list_slots (mapped (λ slots. Some (slot_list slots)) (many (slot_rule holder)))
+      (sound_many (x.starts_slot holder) (sound_slot holder))
       (by_form (many (slot_rule holder)) p.Slots (λ slots. Some (slot_list slots)) list_slots (λ n a good. ap Some (slots_back a)))
 
   pub sound_bars : (holder : Holder) → Sound (x.bars primary holder) (g.bars rule (slot_rule holder))
   unfolding x.bars
   sound_bars holder =
-      sound_or (marks.is_mark m.Bar) (sound_mapped p.bars_around (g.bars rule (slot_rule holder)) (sound_after (sound_skip m.Bar) (sound_until (sound_slots holder) (sound_skip m.Bar))) (λ n a good. (good, refl)))
+      sound_or (marks.is_mark m.Bar) (sound_mapped p.bars_around (g.bars rule (slot_rule holder))
+      (sound_after (sound_skip m.Bar) (sound_until (sound_slots holder) (sound_skip m.Bar))) (λ n a good. (good, refl)))
       (sound_none (g.bars rule (slot_rule holder)) p.no_bars (λ n. tt) refl)
 
   sound_statement : Sound (x.statement primary) (g.stmt rule)
@@ -150,8 +163,10 @@ module _ (primary : Reader p.Primary) (rule : Rule p.Primary) (P : Sound primary
   sound_statement = sound_mapped x.statement_from (g.stmt rule) (sound_both sound_caret any_expr) (λ n a good. (good, refl))
 
   pub sound_statements : Sound (x.statements primary) (g.stmts rule)
-  sound_statements = sound_mapped x.statements_from (g.stmts rule) (sound_listed x.starts_statement (marks.is_mark m.Stop) k.Stop (mark_is m.Stop) sound_statement)
-      (by_form (listed (g.stmt rule) k.Stop) p.Statements f.statements_form x.statements_from (λ n l good. ap (λ list. f.listed_of list (ends_separated l)) (statements_back (items l)) ∙ listed_read l))
+  sound_statements = sound_mapped x.statements_from (g.stmts rule)
+      (sound_listed x.starts_statement (marks.is_mark m.Stop) k.Stop (mark_is m.Stop) sound_statement)
+      (by_form (listed (g.stmt rule) k.Stop) p.Statements f.statements_form x.statements_from
+      (λ n l good. ap (λ list. f.listed_of list (ends_separated l)) (statements_back (items l)) ∙ listed_read l))
 
   -- ---- brackets
 
@@ -161,8 +176,10 @@ module _ (primary : Reader p.Primary) (rule : Rule p.Primary) (P : Sound primary
   tuple_form _ = None
 
   sound_tuple : Sound (x.tuple_items primary) (mapped tuple_form (listed (g.expr rule g.oper) k.Stop))
-  sound_tuple = sound_mapped x.tuple_from (mapped tuple_form (listed (g.expr rule g.oper) k.Stop)) (sound_listed x.starts_expr (marks.is_mark m.Stop) k.Stop (mark_is m.Stop) any_expr)
-      (by_form (listed (g.expr rule g.oper) k.Stop) p.Primary tuple_form x.tuple_from (λ n l good. ap (λ list. f.listed_of list (ends_separated l)) (exprs_back (items l)) ∙ listed_read l))
+  sound_tuple = sound_mapped x.tuple_from (mapped tuple_form (listed (g.expr rule g.oper) k.Stop))
+      (sound_listed x.starts_expr (marks.is_mark m.Stop) k.Stop (mark_is m.Stop) any_expr)
+      (by_form (listed (g.expr rule g.oper) k.Stop) p.Primary tuple_form x.tuple_from
+      (λ n l good. ap (λ list. f.listed_of list (ends_separated l)) (exprs_back (items l)) ∙ listed_read l))
 
   abbrev block_parts : p.Block → List Named × (p.Bars × p.Statements)
   block_parts (p.block_with names bars body) = (names, (bars, body))
@@ -189,7 +206,8 @@ module _ (primary : Reader p.Primary) (rule : Rule p.Primary) (P : Sound primary
 
   tuple_arm : (n : ℕ) (l : Option (Listed p.Expr)) → GoodFrom tuple_form (listed (g.expr rule g.oper) k.Stop) (n + 1) l
       → GoodFrom f.primary_form (either g.leaf (g.bracketed rule)) n (option_map (λ y. inr (inr (inr y))) l)
-      × (flat_from f.primary_form (either g.leaf (g.bracketed rule)) (option_map (λ y. inr (inr (inr y))) l) ≡ k.OpenTuple ∷ (flat_from tuple_form (listed (g.expr rule g.oper) k.Stop) l ++ k.CloseTuple ∷ []))
+      × (flat_from f.primary_form (either g.leaf (g.bracketed rule)) (option_map (λ y. inr (inr (inr y))) l) ≡ k.OpenTuple
+      ∷ (flat_from tuple_form (listed (g.expr rule g.oper) k.Stop) l ++ k.CloseTuple ∷ []))
   tuple_arm n None good = absurd good
   tuple_arm n (Some l) good = ((tt, (good, tt)), refl)
 
@@ -208,8 +226,10 @@ module _ (primary : Reader p.Primary) (rule : Rule p.Primary) (P : Sound primary
   sound_bracketed : Sound (x.bracketed primary) primary_rule
   unfolding x.bracketed
   sound_bracketed =
-      sound_or (marks.is_mark m.Open) (sound_mapped p.paren primary_rule (sound_after (sound_skip m.Open) (sound_until any_expr (sound_skip m.Close))) (λ n a good. (good, refl)))
-      (sound_or (marks.is_mark m.OpenBlock) (sound_mapped p.block_literal primary_rule (sound_after (sound_skip m.OpenBlock) (sound_until sound_block (sound_skip m.CloseBlock))) block_becomes)
+      sound_or (marks.is_mark m.Open)
+      (sound_mapped p.paren primary_rule (sound_after (sound_skip m.Open) (sound_until any_expr (sound_skip m.Close))) (λ n a good. (good, refl)))
+      (sound_or (marks.is_mark m.OpenBlock)
+      (sound_mapped p.block_literal primary_rule (sound_after (sound_skip m.OpenBlock) (sound_until sound_block (sound_skip m.CloseBlock))) block_becomes)
       (sound_same primary_rule (sound_after (sound_skip m.OpenTuple) (sound_until sound_tuple (sound_skip m.CloseTuple))) tuple_becomes))
 
   any_sound : Sound (x.any_primary primary) primary_rule

@@ -55,7 +55,8 @@ module _ (primary : Reader p.Primary) (P : Takes 1 primary) where
 
     pub expr_takes : Takes 1 (x.expr primary operators)
     unfolding x.expr
-    expr_takes = takes_mapped _ (takes_both (takes_names s.SetKey) (takes_both takes_key_expr (takes_mapped list_messages (takes_many (is_mark m.Semi) (takes_any cascaded_takes)))))
+    expr_takes = takes_mapped _
+        (takes_both (takes_names s.SetKey) (takes_both takes_key_expr (takes_mapped list_messages (takes_many (is_mark m.Semi) (takes_any cascaded_takes)))))
 
   -- ---- slots and statements
 
@@ -77,7 +78,8 @@ module _ (primary : Reader p.Primary) (P : Takes 1 primary) where
   pub takes_bars : (holder : Holder) → Takes 0 (x.bars primary holder)
   unfolding x.bars
   takes_bars holder =
-      takes_or (is_mark m.Bar) (takes_any (takes_mapped _ (takes_after (takes_skip m.Bar) (takes_until (takes_mapped list_slots (takes_many (x.starts_slot holder) (takes_any (slot_takes holder)))) (takes_skip m.Bar)))))
+      takes_or (is_mark m.Bar) (takes_any (takes_mapped _ (takes_after (takes_skip m.Bar)
+      (takes_until (takes_mapped list_slots (takes_many (x.starts_slot holder) (takes_any (slot_takes holder)))) (takes_skip m.Bar)))))
       (takes_none _)
 
   pub statement_takes : Takes 1 (x.statement primary)

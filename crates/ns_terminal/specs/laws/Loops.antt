@@ -32,7 +32,8 @@ module _ {A : Type 0} (first : Kind → Bool) (p : Reader A) where
   before_one xs a (got ys n ts) = ap (λ zs. got zs n ts) (append_assoc xs (a ∷ []) ys)
   before_one xs a (fault k) = refl
 
-  turn_goes : (t n : ℕ) (ts : List Kind) (a : A) (m : ℕ) (us : List Kind) → begins first ts ≡ true → p n ts ≡ got a m us → read_turns first p (suc t) n ts ≡ and_then (read_turns first p t m us) (put first p a)
+  turn_goes : (t n : ℕ) (ts : List Kind) (a : A) (m : ℕ) (us : List Kind) → begins first ts ≡ true → p n ts ≡ got a m us
+      → read_turns first p (suc t) n ts ≡ and_then (read_turns first p t m us) (put first p a)
   turn_goes t n ts a m us h e =
       ap (λ v. cond v (and_then (p n ts) (λ a m us. and_then (read_turns first p t m us) (put first p a))) (got [] n ts)) h
       ∙ ap (λ o. and_then o (λ a m us. and_then (read_turns first p t m us) (put first p a))) e
@@ -49,7 +50,8 @@ module _ {A : Type 0} (first : Kind → Bool) (p : Reader A) where
   -- no items yet
   pub goes_start : (start : Left) (xs : List A) → xs ≡ [] → Goes xs start start
   goes_start start xs none = record {
-    reads = ap (λ v. before v (read_turns first p (length start.kinds - length v) start.at start.kinds)) none ∙ before_none _ ∙ ap (λ t. read_turns first p t start.at start.kinds) (omega arith);
+    reads = ap (λ v. before v (read_turns first p (length start.kinds - length v) start.at start.kinds)) none ∙ before_none _
+        ∙ ap (λ t. read_turns first p t start.at start.kinds) (omega arith);
     room = omega (arith, ap length none);
   }
 
@@ -57,7 +59,8 @@ module _ {A : Type 0} (first : Kind → Bool) (p : Reader A) where
   room_left xs now start h room = omega (arith, begun_long first now.kinds h, room)
 
   -- one item more
-  pub goes_on : (xs ys : List A) (now start : Left) (a : A) (new : Left) → Takes 1 p → Goes xs now start → next_is first now ≡ true → Gives p a now new → ys ≡ xs ++ a ∷ [] → Goes ys new start
+  pub goes_on : (xs ys : List A) (now start : Left) (a : A) (new : Left) → Takes 1 p → Goes xs now start → next_is first now ≡ true
+      → Gives p a now new → ys ≡ xs ++ a ∷ [] → Goes ys new start
   goes_on xs ys now start a new P g h e grown =
       let t : ℕ = length start.kinds - length ys in
       let count : length ys ≡ length xs + 1 = ap length grown ∙ length-append xs (a ∷ []) in
@@ -65,16 +68,19 @@ module _ {A : Type 0} (first : Kind → Bool) (p : Reader A) where
       let turns : length start.kinds - length xs ≡ suc t = omega arith in
       record {
         reads = ap (λ v. before v (read_turns first p t new.at new.kinds)) grown ∙ before_one xs a (read_turns first p t new.at new.kinds)
-            ∙ ap (before xs) (sym (turn_goes t now.at now.kinds a new.at new.kinds h e)) ∙ ap (λ u. before xs (read_turns first p u now.at now.kinds)) (sym turns) ∙ g.reads;
+            ∙ ap (before xs) (sym (turn_goes t now.at now.kinds a new.at new.kinds h e))
+            ∙ ap (λ u. before xs (read_turns first p u now.at now.kinds)) (sym turns) ∙ g.reads;
         room = omega (arith, g.room, fewer p now new a P e);
       }
 
   -- no more items
   pub goes_end : (xs : List A) (now start : Left) → Goes xs now start → next_is first now ≡ false → Gives (read_many first p) xs start now
-  goes_end xs now start g h = sym g.reads ∙ ap (before xs) (turn_ends (length start.kinds - length xs) now.at now.kinds h) ∙ ap (λ v. got v now.at now.kinds) (append-nil xs)
+  goes_end xs now start g h = sym g.reads ∙ ap (before xs) (turn_ends (length start.kinds - length xs) now.at now.kinds h)
+      ∙ ap (λ v. got v now.at now.kinds) (append-nil xs)
 
   -- an item can't be read
-  pub goes_stuck : (xs : List A) (now start : Left) (e : ParseFault) → Goes xs now start → next_is first now ≡ true → Fails (p now.at now.kinds) e → Fails (read_many first p start.at start.kinds) e
+  pub goes_stuck : (xs : List A) (now start : Left) (e : ParseFault) → Goes xs now start → next_is first now ≡ true → Fails (p now.at now.kinds) e
+      → Fails (read_many first p start.at start.kinds) e
   goes_stuck xs now start (Syntax k) g h f =
       let t : ℕ = length start.kinds - length xs - 1 in
       let turns : length start.kinds - length xs ≡ suc t = omega (arith, room_left xs now start h g.room) in
@@ -85,13 +91,15 @@ module _ {A : Type 0} (first : Kind → Bool) (p : Reader A) where
   -- the same for another value of the items
   pub goes_end_mapped : {B : Type 0} (to : List A → B) (xs : List A) (b : B) (now start : Left) → Goes xs now start → next_is first now ≡ false → b ≡ to xs
       → Gives (read_mapped to (read_many first p)) b start now
-  goes_end_mapped to xs b now start g h e = ap (λ o. and_then o (λ a m us. got (to a) m us)) (goes_end xs now start g h) ∙ ap (λ v. got v now.at now.kinds) (sym e)
+  goes_end_mapped to xs b now start g h e = ap (λ o. and_then o (λ a m us. got (to a) m us)) (goes_end xs now start g h)
+      ∙ ap (λ v. got v now.at now.kinds) (sym e)
 
   stuck_mapped : {B : Type 0} (to : List A → B) (o : Outcome (List A)) (e : ParseFault) → Fails o e → Fails (and_then o (λ a m us. got (to a) m us)) e
   stuck_mapped to o (Syntax k) f = ap (λ o. and_then o (λ a m us. got (to a) m us)) f
   stuck_mapped to o (TooDeep k) f = f
   stuck_mapped to o Memory f = tt
 
-  pub goes_stuck_mapped : {B : Type 0} (to : List A → B) (xs : List A) (now start : Left) (e : ParseFault) → Goes xs now start → next_is first now ≡ true → Fails (p now.at now.kinds) e
+  pub goes_stuck_mapped : {B : Type 0} (to : List A → B) (xs : List A) (now start : Left) (e : ParseFault) → Goes xs now start
+      → next_is first now ≡ true → Fails (p now.at now.kinds) e
       → Fails (read_mapped to (read_many first p) start.at start.kinds) e
   goes_stuck_mapped to xs now start e g h f = stuck_mapped to (read_many first p start.at start.kinds) e (goes_stuck xs now start e g h f)

@@ -160,4 +160,5 @@ pub sound_caret : Sound (marks.maybe_place m.Caret) (maybe g.caret)
 sound_caret = sound_maybe (marks.is_mark m.Caret) (sound_place g.caret m.Caret (λ n. refl) (λ n. refl))
 
 pub sound_flag : (mark : Mark) → Sound (marks.flag mark) (flag (kind_of mark))
-sound_flag mark = sound_or (marks.is_mark mark) (sound_mapped (λ _. true) (flag (kind_of mark)) (sound_skip mark) (λ n a good. (good, refl))) (sound_none (flag (kind_of mark)) false (λ n. tt) refl)
+sound_flag mark = sound_or (marks.is_mark mark) (sound_mapped (λ _. true) (flag (kind_of mark)) (sound_skip mark) (λ n a good. (good, refl)))
+    (sound_none (flag (kind_of mark)) false (λ n. tt) refl)

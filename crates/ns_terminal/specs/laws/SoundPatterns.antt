@@ -39,7 +39,8 @@ fails : (v : Bool) → not v ≡ true → v ≡ false
 fails true e = absurd cc
 fails false e = refl
 
-by_first : (test : ℕ → Bool) (b c : ℕ) (rest same : Bool) → nat_eq b c ≡ same → (same || rest) ≡ true → not (test c) ≡ true → (rest ≡ true → test b ≡ false) → test b ≡ false
+by_first : (test : ℕ → Bool) (b c : ℕ) (rest same : Bool) → nat_eq b c ≡ same → (same || rest) ≡ true → not (test c) ≡ true
+    → (rest ≡ true → test b ≡ false) → test b ≡ false
 by_first test b c rest true e any one others = ap test (eqb-true b c e) ∙ fails (test c) one
 by_first test b c rest false e any one others = others any
 
@@ -74,7 +75,8 @@ sound_part_key : Sound (names.name s.Key) g.part_key
 sound_part_key = sound_name s.Key g.part_key (λ n text h e. if_yes (starts_name text) (names.named n text) (key_starts h.0 text h.1 h.2)) (λ name. refl)
 
 sound_part_oper : Sound (names.name (s.Operator o.All)) g.part_oper
-sound_part_oper = sound_name (s.Operator o.All) g.part_oper (λ n text h e. if_not (starts_name text) (names.named n text) (operator_starts text h)) (λ name. refl)
+sound_part_oper = sound_name (s.Operator o.All) g.part_oper (λ n text h e. if_not (starts_name text) (names.named n text) (operator_starts text h))
+    (λ name. refl)
 
 -- ---- patterns
 
@@ -92,7 +94,8 @@ binary_becomes n a good = let e : f.pattern_form (x.binary a) ≡ Some (inr (inl
 
 keyword_becomes : Becomes (some (g.part_key & g.ident)) g.pattern x.keyword
 keyword_becomes n [] good = absurd good
-keyword_becomes n (a ∷ rest) good = let e : f.pattern_form (x.keyword (a ∷ rest)) ≡ Some (inr (inr (a, rest))) = back.pattern_back n (inr (inr (a, rest))) good in
+keyword_becomes n (a ∷ rest) good = let e : f.pattern_form (x.keyword (a ∷ rest)) ≡ Some (inr (inr (a, rest))) = back.pattern_back n
+    (inr (inr (a, rest))) good in
     (subst (GoodFrom f.pattern_form pattern_forms n) (sym e) good, ap (flat_from f.pattern_form pattern_forms) e)
 
 sound_key_params : SoundIf (names.is_name s.Key) x.key_params (some (g.part_key & g.ident))
@@ -117,15 +120,18 @@ pub sound_factory : Sound x.factory (maybe g.factory)
 unfolding x.factory
 sound_factory =
     sound_or (names.is_name s.Ident) (sound_mapped (λ n. Some (x.unary n)) (maybe g.factory) sound_ident (λ n a good. (good, refl)))
-    (sound_or_if (if_mapped (λ pairs. Some (x.keyword pairs)) (maybe g.factory) sound_key_params keys_become) (sound_none (maybe g.factory) None (λ n. tt) refl))
+    (sound_or_if (if_mapped (λ pairs. Some (x.keyword pairs)) (maybe g.factory) sound_key_params keys_become)
+    (sound_none (maybe g.factory) None (λ n. tt) refl))
 
 -- ---- bases
 
 pub sound_base : Sound x.base g.base
 unfolding x.base
 sound_base =
-    sound_or (marks.is_mark m.SuperWord) (sound_mapped (x.base_of from.Super) g.base (sound_after (sound_skip m.SuperWord) sound_ident) (λ n a good. (good, refl)))
-    (sound_or (marks.is_mark m.OuterWord) (sound_mapped (λ a. x.base_of (from.Outer a.0) a.1) g.base (sound_after (sound_skip m.OuterWord) (sound_both sound_ident sound_ident)) (λ n a good. (good, refl)))
+    sound_or (marks.is_mark m.SuperWord)
+    (sound_mapped (x.base_of from.Super) g.base (sound_after (sound_skip m.SuperWord) sound_ident) (λ n a good. (good, refl)))
+    (sound_or (marks.is_mark m.OuterWord) (sound_mapped (λ a. x.base_of (from.Outer a.0) a.1) g.base
+    (sound_after (sound_skip m.OuterWord) (sound_both sound_ident sound_ident)) (λ n a good. (good, refl)))
     (sound_mapped (x.base_of from.Here) g.base sound_ident (λ n a good. (good, refl))))
 
 -- ---- block parameters

@@ -63,7 +63,9 @@ if_some true x a h = (refl, (cc))
 if_some false x a h = absurd cc
 
 -- A rule of names, whose tokens are those of a sort.
-module _ (sort : Sort) (r : Rule Named) (good : (n : ℕ) (text : List ℕ) → HasText (kind_named sort text) → names.is_name sort (kind_named sort text) ≡ true → r.Good n (names.named n text)) (flat : (name : Named) → r.flat name ≡ kind_named sort name.text ∷ []) where
+module _ (sort : Sort) (r : Rule Named)
+    (good : (n : ℕ) (text : List ℕ) → HasText (kind_named sort text) → names.is_name sort (kind_named sort text) ≡ true → r.Good n (names.named n text))
+    (flat : (name : Named) → r.flat name ≡ kind_named sort name.text ∷ []) where
   name_made : (n : ℕ) (kind : Kind) (name : Named) → HasText kind → names.make_name sort n kind ≡ Some name → r.Good n name × (r.flat name ≡ kind ∷ [])
   name_made n kind name h e =
       let text : List ℕ = names.text_of kind in
@@ -120,7 +122,8 @@ sound_string = sound_one leaves.make_string g.string string_made
 pub sound_strings : Sound leaves.strings (many g.string)
 sound_strings = sound_many leaves.is_string sound_string
 
-access_by : (n : ℕ) (word : Reserved) (x a : Access) → Some x ≡ Some a → g.access.Good n x × (g.access.flat x ≡ k.Word word ∷ []) → g.access.Good n a × (g.access.flat a ≡ k.Word word ∷ [])
+access_by : (n : ℕ) (word : Reserved) (x a : Access) → Some x ≡ Some a → g.access.Good n x × (g.access.flat x ≡ k.Word word ∷ [])
+    → g.access.Good n a × (g.access.flat a ≡ k.Word word ∷ [])
 access_by n word x a e h = of_some (λ a. g.access.Good n a × (g.access.flat a ≡ k.Word word ∷ [])) x a e h
 
 access_made : (n : ℕ) (kind : Kind) (a : Access) → HasText kind → leaves.make_access n kind ≡ Some a → g.access.Good n a × (g.access.flat a ≡ kind ∷ [])

@@ -16,7 +16,8 @@ pub record Takes {A : Type 0} (d : ℕ) (p : Reader A) : Type 0 where
   pub takes : (n : ℕ) (ts : List Kind) → Leaves d ts (p n ts)
 
 -- what is left behind a reader
-pub left_by : {A : Type 0} (d : ℕ) (p : Reader A) (n : ℕ) (ts : List Kind) (a : A) (m : ℕ) (us : List Kind) → Takes d p → p n ts ≡ got a m us → d + length us ≤ length ts
+pub left_by : {A : Type 0} (d : ℕ) (p : Reader A) (n : ℕ) (ts : List Kind) (a : A) (m : ℕ) (us : List Kind) → Takes d p → p n ts ≡ got a m us
+    → d + length us ≤ length ts
 left_by d p n ts a m us P e = subst (Leaves d ts) e (P.takes n ts)
 
 -- A reader that takes a token leaves fewer.
@@ -73,7 +74,8 @@ mapped_leaves d ts to (got a m us) l = l
 mapped_leaves d ts to (fault k) l = tt
 
 -- What comes behind an outcome takes more.
-then_leaves : {A B : Type 0} (d e : ℕ) (ts : List Kind) (o : Outcome A) (f : A → Reader B) → Leaves d ts o → ((a : A) → Takes e (f a)) → Leaves (d + e) ts (and_then o f)
+then_leaves : {A B : Type 0} (d e : ℕ) (ts : List Kind) (o : Outcome A) (f : A → Reader B) → Leaves d ts o → ((a : A) → Takes e (f a))
+    → Leaves (d + e) ts (and_then o f)
 then_leaves d e ts (got a m us) f l F = beyond d e ts us (f a m us) l ((F a).takes m us)
 then_leaves d e ts (fault k) f l F = tt
 
@@ -94,7 +96,8 @@ takes_until {q = q} P Q = record { takes = λ n ts. then_leaves _ _ ts _ _ (P.ta
 
 -- ---- one or another
 
-cond_leaves : {A : Type 0} (d : ℕ) (ts : List Kind) (test : Bool) (o o' : Outcome A) → (test ≡ true → Leaves d ts o) → Leaves d ts o' → Leaves d ts (cond test o o')
+cond_leaves : {A : Type 0} (d : ℕ) (ts : List Kind) (test : Bool) (o o' : Outcome A) → (test ≡ true → Leaves d ts o) → Leaves d ts o'
+    → Leaves d ts (cond test o o')
 cond_leaves d ts true o o' l l' = l refl
 cond_leaves d ts false o o' l l' = l'
 
@@ -109,7 +112,10 @@ takes_maybe first P = takes_or first (takes_mapped Some (takes_any P)) (takes_no
 module _ {A : Type 0} (first : Kind → Bool) (p : Reader A) (P : Takes 0 p) where
   turns_take : (t : ℕ) → Takes 0 (read_turns first p t)
   turns_take zero = takes_none []
-  turns_take (suc t) = record { takes = λ n ts. cond_leaves 0 ts (begins first ts) _ _ (λ e. then_leaves 0 0 ts (p n ts) _ (P.takes n ts) (λ a. takes_mapped (λ xs. a ∷ xs) (turns_take t))) (omega arith) }
+  turns_take (suc t) = record {
+    takes = λ n ts. cond_leaves 0 ts (begins first ts) _ _
+        (λ e. then_leaves 0 0 ts (p n ts) _ (P.takes n ts) (λ a. takes_mapped (λ xs. a ∷ xs) (turns_take t))) (omega arith);
+  }
 
 pub takes_many : {A : Type 0} {p : Reader A} (first : Kind → Bool) → Takes 0 p → Takes 0 (read_many first p)
 takes_many {p = p} first P = record { takes = λ n ts. (turns_take first p P (length ts)).takes n ts }
@@ -123,12 +129,15 @@ module _ {A : Type 0} (first : Kind → Bool) (p : Reader A) (d : ℕ) (P : Take
   begun_leaves n [] e = absurd cc
   begun_leaves n (k ∷ ts) e =
       true_leaves d (k ∷ ts) (first k) _ _ e
-      (less_leaves (d + 0) d (k ∷ ts) _ (omega arith) (then_leaves d 0 (k ∷ ts) (p n (k ∷ ts)) _ (P.takes n (k ∷ ts)) (λ a. takes_mapped (λ xs. a ∷ xs) (turns_take first p (takes_any P) (length ts)))))
+      (less_leaves (d + 0) d (k ∷ ts) _ (omega arith)
+      (then_leaves d 0 (k ∷ ts) (p n (k ∷ ts)) _ (P.takes n (k ∷ ts)) (λ a. takes_mapped (λ xs. a ∷ xs) (turns_take first p (takes_any P) (length ts)))))
 
 -- Many of which one is there take what one takes.
-pub takes_begun : {A B C : Type 0} {p : Reader A} {q : Reader C} {d : ℕ} (first : Kind → Bool) (to : List A → B) (as_one : B → C) → Takes d p → Takes d q → Takes d (read_or first (read_mapped as_one (read_mapped to (read_many first p))) q)
+pub takes_begun : {A B C : Type 0} {p : Reader A} {q : Reader C} {d : ℕ} (first : Kind → Bool) (to : List A → B) (as_one : B → C) → Takes d p
+    → Takes d q → Takes d (read_or first (read_mapped as_one (read_mapped to (read_many first p))) q)
 takes_begun {p = p} {q = q} {d = d} first to as_one P Q = record {
-  takes = λ n ts. cond_leaves d ts (begins first ts) _ (q n ts) (λ e. mapped_leaves d ts as_one _ (mapped_leaves d ts to (read_many first p n ts) (begun_leaves first p d P n ts e))) (Q.takes n ts);
+  takes = λ n ts. cond_leaves d ts (begins first ts) _ (q n ts)
+      (λ e. mapped_leaves d ts as_one _ (mapped_leaves d ts to (read_many first p n ts) (begun_leaves first p d P n ts e))) (Q.takes n ts);
 }
 
 -- with separators
@@ -136,11 +145,15 @@ module _ {A : Type 0} (first separates : Kind → Bool) (p : Reader A) (P : Take
   behind_leaves : (again : Reader (Listed A)) → Takes 0 again → (a : A) (n : ℕ) (ts : List Kind) → Leaves 0 ts (behind first separates p again a n ts)
   behind_leaves again R a n [] = omega arith
   behind_leaves again R a n (k ∷ ts) =
-      cond_leaves 0 (k ∷ ts) (separates k) _ _ (λ e. longer k ts _ (mapped_leaves 0 ts (λ rest. next a rest) (again (n + 1) ts) (R.takes (n + 1) ts))) (omega arith)
+      cond_leaves 0 (k ∷ ts) (separates k) _ _ (λ e. longer k ts _ (mapped_leaves 0 ts (λ rest. next a rest) (again (n + 1) ts) (R.takes (n + 1) ts)))
+      (omega arith)
 
   list_turns_take : (t : ℕ) → Takes 0 (read_list_turns first separates p t)
   list_turns_take zero = takes_none none
-  list_turns_take (suc t) = record { takes = λ n ts. cond_leaves 0 ts (begins first ts) _ _ (λ e. then_leaves 0 0 ts (p n ts) _ (P.takes n ts) (λ a. record { takes = behind_leaves (read_list_turns first separates p t) (list_turns_take t) a })) (omega arith) }
+  list_turns_take (suc t) = record {
+    takes = λ n ts. cond_leaves 0 ts (begins first ts) _ _ (λ e. then_leaves 0 0 ts (p n ts) _ (P.takes n ts)
+        (λ a. record { takes = behind_leaves (read_list_turns first separates p t) (list_turns_take t) a })) (omega arith);
+  }
 
 pub takes_listed : {A : Type 0} {p : Reader A} (first separates : Kind → Bool) → Takes 0 p → Takes 0 (read_listed first separates p)
 takes_listed {p = p} first separates P = record { takes = λ n ts. (list_turns_take first separates p P (length ts)).takes n ts }
@@ -151,12 +164,15 @@ module _ {L A : Type 0} (labels : Reader L) (first : Kind → Bool) (p : Reader 
   label_turns_take zero l = takes_none (tail l)
   label_turns_take (suc t) l = record {
     takes = λ n ts. cond_leaves 0 ts (begins first ts) _ _
-        (λ e. then_leaves 0 0 ts (p n ts) _ (P.takes n ts) (λ a. takes_mapped (λ rest. item l a rest) (record { takes = λ m us. then_leaves 0 0 us (labels m us) _ (R.takes m us) (label_turns_take t) })))
+        (λ e. then_leaves 0 0 ts (p n ts) _ (P.takes n ts) (λ a. takes_mapped (λ rest. item l a rest) (record {
+          takes = λ m us. then_leaves 0 0 us (labels m us) _ (R.takes m us) (label_turns_take t);
+        })))
         (omega arith);
   }
 
   labelled_leaves : (n : ℕ) (ts : List Kind) → Leaves 0 ts (read_labelled labels first p n ts)
   labelled_leaves n ts = then_leaves 0 0 ts (labels n ts) _ (R.takes n ts) (λ l. record { takes = λ m us. (label_turns_take (length us) l).takes m us })
 
-pub takes_labelled : {L A : Type 0} {labels : Reader L} {p : Reader A} (first : Kind → Bool) → Takes 0 labels → Takes 0 p → Takes 0 (read_labelled labels first p)
+pub takes_labelled : {L A : Type 0} {labels : Reader L} {p : Reader A} (first : Kind → Bool) → Takes 0 labels → Takes 0 p
+    → Takes 0 (read_labelled labels first p)
 takes_labelled {labels = labels} {p = p} first R P = record { takes = labelled_leaves labels first p R P }

@@ -4,7 +4,7 @@ use Rattle.ns_kcode.proofs.OneAfterAnother.{to_do_is, times_is, no_times, do_is}
 use Rattle.ns_kcode.proofs.laws.counted_loops_are_their_rows.Goals as goal
 
 pub returns-clause-to_do : goal.returns-clause-to_do
-returns-clause-to_do g c = λ host n start end block w fits few. to_do_is host n start end block (pos 0) w fits few
+returns-clause-to_do g c = λ host n start end block fits few w. to_do_is host n start end block (pos 0) w fits few
 
 pub returns-clause-times : goal.returns-clause-times
 returns-clause-times g c = λ host n times block w. times_is host n times block Nil (pos 0) w

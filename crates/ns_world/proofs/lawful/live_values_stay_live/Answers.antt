@@ -8,15 +8,15 @@ use Rattle.ns_world.proofs.Staying.{value_stays}
 use Rattle.ns_world.proofs.lawful.live_values_stay_live.Goals as goal
 
 pub returns-clause-made : goal.returns-clause-made
-returns-clause-made c = λ world code cell value lawful live.
+returns-clause-made c = λ cell world code value lawful live.
     value_stays world.cells (cell ∷ world.cells) code value (making_keeps_cells world.cells cell (lawful_order world code lawful)) live
 
 pub returns-clause-written : goal.returns-clause-written
-returns-clause-written c = λ world code at word new value lawful live.
+returns-clause-written c = λ at word new world code value lawful live.
     value_stays world.cells (write_word world.cells at word new) code value
     (changing_keeps_cells world.cells at (λ cell. with_word cell word new) (word_plainly word new) (word_twins word new) (lawful_order world code lawful)) live
 
 pub returns-clause-byte_written : goal.returns-clause-byte_written
-returns-clause-byte_written c = λ world code at place byte value lawful live.
+returns-clause-byte_written c = λ at place byte world code value lawful live.
     value_stays world.cells (write_byte world.cells at place byte) code value
     (changing_keeps_cells world.cells at (λ cell. with_byte cell place byte) (byte_plainly place byte) (byte_twins place byte) (lawful_order world code lawful)) live
