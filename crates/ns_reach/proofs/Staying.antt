@@ -176,6 +176,6 @@ turns_stay code grants stay steps before after valid goes (inr turned) = subst (
 goes_on : (code : CodeProgram) (receiver : Value) (sel : Sel) (arguments : List Value) (idle : State) → MayBegin code receiver sel arguments idle → is_still (begun receiver sel arguments idle) ≡ false
 goes_on code receiver sel arguments idle may = rw may.idle refl
 
-pub sends_stay : (code : CodeProgram) (grants : Grants) → HostKeepsValid code grants → TurnsStayInReach code grants → SendsStayInReach code grants
-sends_stay code grants host turns receiver sel arguments steps idle after valid may turned =
-    turns steps (begun receiver sel arguments idle) after (host receiver sel arguments idle valid may) (goes_on code receiver sel arguments idle may) turned
+pub sends_stay : (code : CodeProgram) (grants : Grants) → HostKeepsValid code grants → MovesStayInReach code grants → SendsStayInReach code grants
+sends_stay code grants host stay receiver sel arguments count idle valid may =
+    stay count (begun receiver sel arguments idle) (host receiver sel arguments idle valid may) (goes_on code receiver sel arguments idle may)

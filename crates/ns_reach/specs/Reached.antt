@@ -114,8 +114,9 @@ TurnsStayInReach code grants =
     (steps : ℕ) (before after : State) → Valid code grants before → is_still before ≡ false → Turns code steps before after
     → StaysInReach before after
 
--- So does the send of a host from an idle state, whose roots are its receiver and its arguments.
+-- So does the send of a host from an idle state, in any number of moves: its roots are its receiver and its arguments.
 abbrev pub SendsStayInReach : CodeProgram → Grants → Type 0
 SendsStayInReach code grants =
-    (receiver : Value) (sel : Sel) (arguments : List Value) (steps : ℕ) (idle after : State) → Valid code grants idle
-    → MayBegin code receiver sel arguments idle → Turns code steps (begun receiver sel arguments idle) after → StaysInReach (begun receiver sel arguments idle) after
+    (receiver : Value) (sel : Sel) (arguments : List Value) (count : ℕ) (idle : State) → Valid code grants idle
+    → MayBegin code receiver sel arguments idle
+    → StaysInReach (begun receiver sel arguments idle) (moves code count (begun receiver sel arguments idle))

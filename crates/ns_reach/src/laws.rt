@@ -24,10 +24,10 @@ pub fn turns_stay_in_reach()
     moves_stay_in_reach();
 }
 
-/// So it is with a send of the host, in any number of steps: from its receiver and its arguments.
+/// So it is with a send of the host, in any number of moves: from its receiver and its arguments.
 pub fn sends_stay_in_reach()
     ensures { (code : CodeProgram) (grants : Grants) → SendsStayInReach code grants }
 {
     ns_moves::valid_world::sends_of_a_host_are_valid();
-    turns_stay_in_reach();
+    moves_stay_in_reach();
 }
