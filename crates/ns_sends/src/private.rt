@@ -6,8 +6,10 @@ ghost use Rattle.ns_world.specs.Heap.{find_cell, is_class};
 ghost use Rattle.ns_world.specs.Lawful.{IsLawful};
 ghost use Rattle.ns_world.specs.Layout.{declaration_of, entries_of};
 ghost use Rattle.ns_find.specs.declared.found.Found.TheVariants as found;
+ghost use Rattle.ns_send.specs.Bodies as bodies;
 ghost use Rattle.ns_send.specs.Lawful.{FitsActivation, declaration_at};
 ghost use Rattle.ns_send.specs.Sends.{ToPrivate, found_at, receiver_of};
+ghost use Rattle.ns_act.specs.Enclosing.{place_of};
 ghost use Rattle.ns_act.specs.Running.{code_of};
 ghost use Rattle.ns_plan.specs.Privates.{IsAmong, found_in};
 ghost use Rattle.ns_engine.specs.Doing.{CanDo};
@@ -18,7 +20,7 @@ ghost use Rattle.ns_sends.specs.Sending.{CanSend};
 use crate::opening::{begin, has_room};
 use crate::sent::Sent;
 use crate::slots::{get, set};
-use ns_act::enclosing::enclosing;
+use ns_act::enclosing::{Surrounding, enclosing};
 use ns_act::laws::a_send_is_its_step_and_its_answer;
 use ns_act::running::Running;
 use ns_act::targets::class_of;
@@ -58,14 +60,14 @@ pub fn send_private(
     enclosing_objects_are_there();
     let code_here = running_code(running(&core.stack).activation);
     let first = at.top - u32::from(argc);
-    let receiver = enclosing(&core.run.world, code, code_here, level).object;
-    let class = class_of(&core.run.world, code, receiver);
+    let around = enclosing(&core.run.world, code, code_here, level);
+    let class = class_of(&core.run.world, code, around.object);
     let sent = Sent {
         site: KeptSite { place, class, sel },
         floor: first,
         first,
     };
-    match send_around(code, core, at, sent, code_here, level, receiver, member) {
+    match send_around(code, core, at, sent, code_here, level, around, member) {
         Some(to) => Some(to),
         None => None,
     }
@@ -80,17 +82,26 @@ fn send_around(
     sent: Sent,
     running: Running,
     level: u8,
-    receiver: Value,
+    around: Surrounding,
     member: Member,
 ) -> Option<Registers>
-    requires can { CanSend code.now core.old at sent receiver }
-    requires receiver { receiver ≡ receiver_of core.old.run.world.world.cells (code_of running) (ToPrivate level) }
+    requires can { CanSend code.now core.old at sent around.object }
+    requires around { place_of around ≡ bodies.enclosing core.old.run.world.world.cells (code_of running) level }
     requires runs { FitsActivation core.old.run.world.world.cells code.now (code_of running) }
     requires level { IsSome (declaration_at code.now running.body level) }
     requires member { IsMemberAt code.now running.body level sent.site.sel member }
     ensures { AroundOrNot code.now core.old at sent running level core.new result }
 {
-    match found_around(&core.run.world, code, running, level, sent.site.sel, member) {
+    let receiver = around.object;
+    match found_around(
+        &core.run.world,
+        code,
+        running,
+        level,
+        sent.site.sel,
+        around.holder,
+        member,
+    ) {
         Found::Method { body, holder } => {
             begin_around(code, core, at, sent, running, level, receiver, body, holder)
         }
@@ -112,18 +123,21 @@ fn found_around(
     running: Running,
     level: u8,
     sel: Sel,
+    holder: u32,
     member: Member,
 ) -> Found
     requires lawful { IsLawful world.now.world code.now }
     requires runs { FitsActivation world.now.world.cells code.now (code_of running) }
     requires level { IsSome (declaration_at code.now running.body level) }
+    requires holder { holder ≡ (bodies.enclosing world.now.world.cells (code_of running) level).holder }
     requires member { IsMemberAt code.now running.body level sel member }
     ensures { result ≡ found_at world.now.world.cells code.now (code_of running) (ToPrivate level) sel.0 }
 {
     enclosing_objects_are_there();
     members_are_found();
+    let _running = running;
+    let _level = level;
     let _sel = sel;
-    let holder = enclosing(world, code, running, level).holder;
     found_with(world, code, holder, member)
 }
 

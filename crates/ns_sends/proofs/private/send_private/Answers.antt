@@ -13,14 +13,14 @@ use Rattle.ns_sends.specs.Operands.{SendsOperands}
 use Rattle.ns_sends.proofs.Selves.{own_sent, can_send_own, private_operands, here_fits, here_lawful, level_there, private_does}
 use Rattle.ns_sends.proofs.private.send_private.Goals as goal
 
-pub send_around-requires-clause-receiver : goal.send_around-requires-clause-receiver
-send_around-requires-clause-receiver c = ap (λ (p : Place). p.object) (c.enclosing-receiver.ensures nowhere)
+pub send_around-requires-clause-around : goal.send_around-requires-clause-around
+send_around-requires-clause-around c = c.enclosing-around.ensures nowhere
 
 -- the enclosing object is live
 pub class_of-class-requires-clause-live : goal.class_of-class-requires-clause-live
 class_of-class-requires-clause-live c =
     subst (λ (v : Value). IsLiveValue c.args.core.now.run.world.world.cells c.args.code.now v)
-    (sym (ap (λ (p : Place). p.object) (c.enclosing-receiver.ensures nowhere)))
+    (sym (ap (λ (p : Place). p.object) (c.enclosing-around.ensures nowhere)))
     (c.enclosing_objects_are_there.ensures.levels c.args.core.now.run.world.world c.args.code.now (code_of c.running_code-code_here.result) c.args.level
     (here_lawful c.args.code.now c.args.core.now c.args.at (instr.SendPrivate c.args.level c.args.sel c.args.argc) c.requires.can)
     (here_fits c.args.code.now c.args.core.now c.args.at (instr.SendPrivate c.args.level c.args.sel c.args.argc) c.running.result c.running_code-code_here.result
@@ -35,9 +35,9 @@ send_around-requires-clause-can c =
     can_send_own c.args.code.now c.args.core.now c.args.at c.args.sel c.from.result
     (subst (λ (n : ℕ). SendsOperands c.args.code.now c.args.core.now c.args.at c.args.sel n n) (sym c.from.ensures)
     (private_operands c.args.code.now c.args.core.now c.args.at c.args.level c.args.sel c.args.argc c.requires.can))
-    (omega (arith, few, same)) c.args.place c.class_of-class.result c.enclosing-receiver.result.object
+    (omega (arith, few, same)) c.args.place c.class_of-class.result c.enclosing-around.result.object
     (subst (λ (v : Value). IsLiveValue c.args.core.now.run.world.world.cells c.args.code.now v)
-    (sym (ap (λ (p : Place). p.object) (c.enclosing-receiver.ensures nowhere)))
+    (sym (ap (λ (p : Place). p.object) (c.enclosing-around.ensures nowhere)))
     (c.enclosing_objects_are_there.ensures.levels c.args.core.now.run.world.world c.args.code.now (code_of c.running_code-code_here.result) c.args.level
     (here_lawful c.args.code.now c.args.core.now c.args.at (instr.SendPrivate c.args.level c.args.sel c.args.argc) c.requires.can)
     (here_fits c.args.code.now c.args.core.now c.args.at (instr.SendPrivate c.args.level c.args.sel c.args.argc) c.running.result c.running_code-code_here.result
