@@ -102,7 +102,19 @@ class_from_clause name outer factory params = do
   clause ← reference
   init ← word
   super_sel ← selector
-  with_members (record { name = name; outer = outer; factory = factory; params = params; clause = clause; init = init; super_sel = super_sel; slots = []; nested = []; methods = []; side_methods = [] })
+  with_members (record {
+    name = name;
+    outer = outer;
+    factory = factory;
+    params = params;
+    clause = clause;
+    init = init;
+    super_sel = super_sel;
+    slots = [];
+    nested = [];
+    methods = [];
+    side_methods = [];
+  })
 
 unfoldable pub class : Reader ClassCode
 class = do
@@ -191,7 +203,19 @@ head_from_params kind side class parent = do
   environment ← flag
   height ← half
   instrs ← up_to 65536 instr
-  given (record { kind = kind; side = side; class = class; parent = parent; params = params; locals = locals; environment = environment; height = height; instrs = instrs; places = []; local_names = [] })
+  given (record {
+    kind = kind;
+    side = side;
+    class = class;
+    parent = parent;
+    params = params;
+    locals = locals;
+    environment = environment;
+    height = height;
+    instrs = instrs;
+    places = [];
+    local_names = [];
+  })
 
 -- what both versions have of a body
 unfoldable pub head : Reader BodyCode

@@ -21,10 +21,12 @@ pub fn old_code_is_read()
 /// Bytes that are read are the image of the code that is read, in version 2 or in version 1; and
 /// that code fits.
 pub fn read_code_was_written()
-    ensures { (bytes : List ℕ) (code : CodeProgram) → All IsByte bytes → read_image bytes ≡ Ok code → Fits code × ((bytes ≡ bytes_of code) ⊎ ((bytes ≡ old_bytes_of code) × (bare code ≡ code))) }
+    ensures { (bytes : List ℕ) (code : CodeProgram) → All IsByte bytes → read_image bytes ≡ Ok code →
+        Fits code × ((bytes ≡ bytes_of code) ⊎ ((bytes ≡ old_bytes_of code) × (bare code ≡ code))) }
 {}
 
 /// Writing the code that an image of version 2 holds gives that image again.
 pub fn image_is_written_again()
-    ensures { (bytes rest : List ℕ) (code : CodeProgram) → All IsByte bytes → bytes ≡ mark ++ (half 2 ++ rest) → read_image bytes ≡ Ok code → bytes_of code ≡ bytes }
+    ensures { (bytes rest : List ℕ) (code : CodeProgram) → All IsByte bytes → bytes ≡ mark ++ (half 2 ++ rest) →
+        read_image bytes ≡ Ok code → bytes_of code ≡ bytes }
 {}

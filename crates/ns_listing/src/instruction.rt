@@ -72,7 +72,8 @@ fn send_private(
     sel: Sel,
     argc: u8,
 ) -> Result<(), NoMemory>
-    ensures { OnOk result (out.new.items ≡ out.old.items ++ (codes "SendPrivate" ++ (spec.number level ++ (spec.selector code.now sel.0 ++ spec.number argc)))) }
+    ensures { OnOk result (out.new.items ≡ out.old.items
+        ++ (codes "SendPrivate" ++ (spec.number level ++ (spec.selector code.now sel.0 ++ spec.number argc)))) }
 {
     with_byte(out, b"SendPrivate", level)?;
     put_message(out, code, sel, argc)

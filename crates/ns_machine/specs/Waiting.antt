@@ -12,7 +12,8 @@ use Rattle.ns_engine.specs.Shown.{phase_shown, progress_in, shown}
 use Rattle.ns_engine.specs.Standing.{StandAt, Stays}
 
 -- The send waits with its arguments and its site, and nothing else has changed but the frames, of which there are none.
-pub record SendWaits (code : CodeProgram) (old : Core) (receiver : Value) (sel : Sel) (place : Option SourcePlace) (arguments : List Value) (new : Core) (next : Next)
+pub record SendWaits (code : CodeProgram) (old : Core) (receiver : Value) (sel : Sel) (place : Option SourcePlace)
+    (arguments : List Value) (new : Core) (next : Next)
     : Type 0 where
   pub state : shown code new next ≡
       Pends (phase_shown old.phase) (Sending receiver sel arguments (site_at old.run.world.world.cells place receiver sel)) [] (progress_in old)

@@ -29,7 +29,8 @@ pub fn wait_for_first(code: &CodeProgram, core: &mut Core, own: OwnSends) -> Nex
     requires lawful { IsLawful core.old.run.world.world code.now }
     requires live { IsLiveValue core.old.run.world.world.cells code.now (spec.first_class core.old.run.world.world.cells) }
     requires own { AreOwn code.now core.old.places own }
-    ensures { SendWaits code.now core.old (spec.first_class core.old.run.world.world.cells) (own_sel code.now PackageUsing) (opening_place code.now) (manifest ∷ []) core.new result }
+    ensures { SendWaits code.now core.old (spec.first_class core.old.run.world.world.cells) (own_sel code.now PackageUsing)
+        (opening_place code.now) (manifest ∷ []) core.new result }
 {
     let receiver = first_class(&mut core.run.world);
     wait_for_send(

@@ -73,7 +73,8 @@ fn find_in(entries: &[Entry], number: u32) -> Option<Member>
 /// How many members stand under lower numbers.
 fn place_of(entries: &[Entry], number: u32) -> usize
     requires { IsNonDecreasingBy (λ (entry : Entry). entry.number) entries.now }
-    ensures { IsPartitionPoint (λ (entry : Entry). nat_lt entry.number number ≡ true) (λ (entry : Entry). nat_lt entry.number number ≡ false) entries.now result }
+    ensures { IsPartitionPoint (λ (entry : Entry). nat_lt entry.number number ≡ true)
+        (λ (entry : Entry). nat_lt entry.number number ≡ false) entries.now result }
 {
     entries.partition_point(|entry| entry.number < number)
 }

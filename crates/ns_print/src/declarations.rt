@@ -125,7 +125,8 @@ fn put_method(out: &mut Vec<u8>, method: &Method) -> Result<(), NoMemory>
 
 /// Slots and statements in parentheses.
 fn put_body(out: &mut Vec<u8>, slots: &Option<Vec<Slot>>, body: &Statements) -> Result<(), NoMemory>
-    ensures { OnOk result (out.new.items ≡ out.old.items ++ lines (k.Open ∷ (flat_bars (bars_of slots.now) ++ (flat_statements (statements_of body.now) ++ k.Close ∷ [])))) }
+    ensures { OnOk result (out.new.items ≡ out.old.items
+        ++ lines (k.Open ∷ (flat_bars (bars_of slots.now) ++ (flat_statements (statements_of body.now) ++ k.Close ∷ [])))) }
 {
     put(out, b"(")?;
     put_bars(out, slots)?;

@@ -54,7 +54,8 @@ pub fn bodies_have_few_locals()
 /// What an expression without faults uses is there, where what names mean in its scope is. Its
 /// messages have as many arguments as their selectors take, and these are few.
 pub fn expressions_use_what_is_reached()
-    ensures { (program : Meant) (number : ℕ) (body : Body) (here : Standing) (next : ℕ) (expr : Expr) → Reaches (IsReached program number body) here.scope → expr_faults here.scope expr ≡ [] →
+    ensures { (program : Meant) (number : ℕ) (body : Body) (here : Standing) (next : ℕ) (expr : Expr) →
+        Reaches (IsReached program number body) here.scope → expr_faults here.scope expr ≡ [] →
         AllHaveText (flat_expr expr) → NodeHas (IsReached program number body) (expr_node here next expr) }
 {}
 

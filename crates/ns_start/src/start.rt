@@ -33,7 +33,8 @@ pub fn make_start(
     requires empty { world.old.world ≡ empty_world world.old.world.limits }
     requires room { HasRoom world.old }
     requires classes { length code.now.classes ≤ 4294967295 }
-    ensures made { IfOk result (λ made. start_shown made (in_world (nothing_done world.old.world.limits) world.new.world) ≡ start_made code.now grants arguments.now world.old.world.limits) }
+    ensures made { IfOk result (λ made. start_shown made (in_world (nothing_done world.old.world.limits) world.new.world)
+        ≡ start_made code.now grants arguments.now world.old.world.limits) }
     ensures rest { SameRest world.old world.new }
     ensures err { OnErr result (world.new ≡ world.old) }
 {
@@ -54,7 +55,8 @@ fn make_all(
     requires classes { length code.now.classes ≤ 4294967295 }
     requires none { texts.old.items ≡ [] }
     requires enough { length arguments.now ≤ vec_capacity texts.old }
-    ensures made { (progress : Progress) → all_made (start_cells code.now grants arguments.now) Nil (in_world progress world.old.world) ≡ start_shown result (in_world progress world.new.world) }
+    ensures made { (progress : Progress) → all_made (start_cells code.now grants arguments.now) Nil (in_world progress world.old.world)
+        ≡ start_shown result (in_world progress world.new.world) }
     ensures rest { SameRest world.old world.new }
 {
     make_standing(world, code, grants)?;

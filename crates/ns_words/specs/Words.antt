@@ -72,19 +72,19 @@ with_lib given =
 
 abbrev pub with_out : Given → Option ℕ → Option Given
 with_out given None = None
-with_out given (Some n) = Some (record { steps = given.steps; cells = given.cells; depth = given.depth; out = Some n; quantum = given.quantum; lib = given.lib })
+with_out given (Some n) = Some (record given { out = Some n })
 
 abbrev pub with_depth : Given → Option ℕ → Option Given → Option Given
 with_depth given None other = other
-with_depth given (Some n) other = Some (record { steps = given.steps; cells = given.cells; depth = Some n; out = given.out; quantum = given.quantum; lib = given.lib })
+with_depth given (Some n) other = Some (record given { depth = Some n })
 
 abbrev pub with_cells : Given → Option ℕ → Option Given → Option Given
 with_cells given None other = other
-with_cells given (Some n) other = Some (record { steps = given.steps; cells = Some n; depth = given.depth; out = given.out; quantum = given.quantum; lib = given.lib })
+with_cells given (Some n) other = Some (record given { cells = Some n })
 
 abbrev pub with_steps : Given → Option ℕ → Option Given → Option Given
 with_steps given None other = other
-with_steps given (Some n) other = Some (record { steps = Some n; cells = given.cells; depth = given.depth; out = given.out; quantum = given.quantum; lib = given.lib })
+with_steps given (Some n) other = Some (record given { steps = Some n })
 
 -- what is given with a word more that is the option of a limit, where these are the greatest
 abbrev pub with_limit : Limits → Given → List ℕ → Option Given
@@ -100,7 +100,7 @@ limit_where (Some greatest) given word = with_limit greatest given word
 
 abbrev pub with_quantum : Given → Option ℕ → Option Given
 with_quantum given None = None
-with_quantum given (Some n) = Some (record { steps = given.steps; cells = given.cells; depth = given.depth; out = given.out; quantum = Some n; lib = given.lib })
+with_quantum given (Some n) = Some (record given { quantum = Some n })
 
 -- what is given with a word more that is the option of the quantum
 abbrev pub quantum_where : Bool → Given → List ℕ → Option Given
