@@ -1,2 +1,4 @@
 pub mod Apply
 pub mod Nested
+pub mod lemmas
+pub mod laws

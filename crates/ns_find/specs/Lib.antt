@@ -4,3 +4,4 @@ pub mod Find
 pub mod Belonging
 pub mod Named
 pub mod Memo
+pub mod laws

@@ -6,3 +6,5 @@ pub mod Datum
 pub mod Living
 pub mod Lawful
 pub mod Leading
+pub mod lemmas
+pub mod laws

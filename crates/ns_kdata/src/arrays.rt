@@ -43,7 +43,7 @@ pub fn array_put(
 }
 
 /// Stores an element.
-#[tactic(auto, using(crate::proofs::Shapes::items_are_words))]
+#[tactic(auto, using(crate::specs::laws::Items::items_are_words))]
 fn store(world: &mut World, array: Value, place: u32, value: Value)
     requires { place < length (items_of world.old.world.cells array) }
     ensures { world.new ≡ record world.old { world = spec.stored world.old.world array place value } }

@@ -7,3 +7,5 @@ pub mod Mirror
 pub mod Living
 pub mod Lawful
 pub mod Leading
+pub mod lemmas
+pub mod laws

@@ -20,3 +20,5 @@ pub mod Worked
 pub mod Lawful
 pub mod Suits
 pub mod Stated
+pub mod lemmas
+pub mod laws

@@ -12,3 +12,5 @@ pub mod Keeping
 pub mod Later
 pub mod Reach
 pub mod Alike
+pub mod lemmas
+pub mod laws
