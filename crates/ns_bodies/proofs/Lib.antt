@@ -1,6 +1,5 @@
 pub mod Highest
 pub mod Stepping
 pub mod Starting
-pub mod Written
 pub mod Finishing
 pub mod Routines

@@ -6,7 +6,7 @@ use Rattle.ns_tree.specs.declared.tree.Class.{Class, out-Class}
 use Rattle.ns_tree.specs.declared.tree.Named.{Named}
 use Rattle.ns_tree.specs.PlainOf.{class_of, bars_of, statements_of, clause_of, pattern_of}
 use Rattle.ns_tree.specs.Plain as p
-use Rattle.ns_tree.proofs.Nodes.{class_out}
+use Rattle.ns_tree.specs.laws.Nodes.{class_out}
 use Rattle.ns_scope.specs.Scopes.{factory_params}
 use Rattle.ns_scope.specs.Bodies as b
 use Rattle.ns_code.specs.declared.body.BodyCode.{BodyCode}

@@ -17,7 +17,7 @@ use Rattle.ns_write.specs.Sending.{with_lines, with_node, with_nodes, with_messa
 use Rattle.ns_bodies.specs.Stepping.{with_ended, with_body}
 use Rattle.ns_write.specs.declared.receiver.Receiver.TheVariants as v
 use Rattle.ns_bodies.specs.Starting.{with_start, with_slots, with_expressions, expressions_of, start_of}
-use Rattle.ns_write.proofs.Composing.{written_is, put_more, behind_node, behind_nodes, binary_put, message_is}
+use Rattle.ns_write.specs.laws.Composing.{written_is, put_more, behind_node, behind_nodes, binary_put, message_is}
 use Rattle.ns_bodies.proofs.Stepping.{with_all, all_same, node_put}
 
 nodes_put : (nodes : m.Nodes) (line : Line) (names texts : List (List ℕ)) (rest : ℕ → List Line) (before : Written) →

@@ -17,7 +17,7 @@ use Rattle.ns_gen.specs.Code.{Line, does, node_lines, locals_lines, method_lines
 use Rattle.ns_write.specs.Drafts.{Written, with_line}
 use Rattle.ns_write.specs.Sending.{with_lines, with_node}
 use Rattle.ns_bodies.specs.Stepping.{with_ended, with_local, with_locals, with_method, is_none, with_block_step, with_block, with_block_steps, with_body, routine_does}
-use Rattle.ns_write.proofs.Composing.{written_is, put_more, behind_node}
+use Rattle.ns_write.specs.laws.Composing.{written_is, put_more, behind_node}
 
 -- with names, literal texts, and lines that depend on the number of the first text
 abbrev pub with_all : List (List ℕ) → List (List ℕ) → (ℕ → List Line) → Written → Written

@@ -61,7 +61,7 @@ fn put_start(
 }
 
 /// Its arguments. Tells how many there are.
-#[tactic(auto, using(crate::proofs::Written::none_put))]
+#[tactic(auto, using(ns_write::specs::laws::Composing::with_none))]
 fn put_super_arguments(
     writer: &mut Writer,
     here: &Here<'_>,
@@ -82,7 +82,7 @@ fn put_super_arguments(
 }
 
 /// The arguments of a message. Tells how many there are.
-#[tactic(auto, using(crate::proofs::Written::none_put, crate::proofs::Written::one_put, crate::proofs::Written::keys_many))]
+#[tactic(auto, using(ns_write::specs::laws::Composing::with_none, ns_write::specs::laws::Composing::with_one, ns_write::specs::laws::Keywords::keys_many))]
 fn put_arguments(
     writer: &mut Writer,
     here: &Here<'_>,

@@ -9,8 +9,8 @@ use Rattle.ns_world.specs.Starts.{is_class_shape}
 use Rattle.ns_world.specs.Layout.{declaration_of, entry_word}
 use Rattle.ns_world.specs.Lawful.{IsLiveValue}
 use Rattle.ns_world.specs.Later.{RunsOn}
-use Rattle.ns_world.proofs.Lasting.{shape_lasts, declaration_lasts, word_lasts}
-use Rattle.ns_world.proofs.ShapeTests.{is_class_told}
+use Rattle.ns_world.specs.laws.Lasting.{shape_lasts, declaration_lasts, word_lasts}
+use Rattle.ns_world.specs.laws.ShapeTests.{is_class_told}
 use Rattle.ns_classes.specs.declared.apply.MakeFault.TheVariants.{NotAClass}
 use Rattle.ns_classes.specs.Apply.{chain_fault, class_fault}
 use Rattle.ns_classes.specs.Nested.{nested_entry, nested_word}

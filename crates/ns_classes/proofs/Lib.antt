@@ -1,5 +1,2 @@
-pub mod Bounds
-pub mod Entries
-pub mod Apart
 pub mod Lawfully
 pub mod Lasting

@@ -1,3 +1,5 @@
 pub mod Apply
 pub mod Nested
 pub mod Stated
+pub mod lemmas
+pub mod laws

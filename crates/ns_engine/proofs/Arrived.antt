@@ -1,23 +1,18 @@
 -- Frames that begin where an action led.
-use Rattle.std.proofs.Common.{◌≡◌, ℕ, ◌+◌, ◌≤◌, List, [], ◌∷◌, length, drop, ap, sym, ◌∙◌, refl, subst, arith, Option, Some, None, Bool, true, false, slice_get}
-use Rattle.std.specs.Prelude.{zero, suc}
-use Rattle.std.specs.Option.{option_map_or}
+use Rattle.std.proofs.Common.{◌≡◌, ℕ, List, [], ◌∷◌, length, drop, ap, sym, ◌∙◌, refl, subst, arith}
 use Rattle.ns_base.specs.declared.place.Place.{Place as SourcePlace}
 use Rattle.ns_code.specs.declared.program.CodeProgram.{CodeProgram}
-use Rattle.ns_code.specs.declared.body.BodyCode.{BodyCode}
 use Rattle.ns_world.specs.declared.value.Value.{Value}
 use Rattle.ns_send.specs.declared.control.Exit.{Exit}
 use Rattle.ns_send.specs.declared.control.Entered.{Entered}
-use Rattle.ns_send.specs.declared.control.Given.{Given}
 use Rattle.ns_send.specs.declared.control.Given.TheVariants as given
 use Rattle.ns_send.specs.declared.control.Reached.TheVariants as reached
-use Rattle.ns_send.specs.Bodies as bodies
 use Rattle.ns_send.specs.Shown.{reached_shown}
 use Rattle.ns_moves.specs.State.{Phase, Going}
 use Rattle.ns_frames.specs.declared.calls.BodyShape.{BodyShape}
 use Rattle.ns_frames.specs.declared.calls.Call.{Call}
 use Rattle.ns_frames.specs.declared.frame.Frame.{Frame}
-use Rattle.ns_frames.specs.declared.frame.Frame.TheVariants.{Running, Looping}
+use Rattle.ns_frames.specs.declared.frame.Frame.TheVariants.{Looping}
 use Rattle.ns_frames.specs.declared.frame.KeptSite.{KeptSite}
 use Rattle.ns_frames.specs.declared.frame.LoopingFrame.{LoopingFrame}
 use Rattle.ns_frames.specs.declared.frame.Pending.TheVariants as pending
@@ -26,28 +21,20 @@ use Rattle.ns_frames.specs.declared.stack.Stack.{Stack}
 use Rattle.ns_frames.specs.Row.{ValueRow}
 use Rattle.ns_frames.specs.Standing.{Stood, Runs, Loops, at_next}
 use Rattle.ns_frames.specs.Stack.{in_use, stood, with_top, IsLaid, IsEntered}
-use Rattle.ns_frames.specs.Room.{AreWithin, bound, EnteringKeeps}
+use Rattle.ns_frames.specs.Room.{AreWithin, EnteringKeeps}
 use Rattle.ns_frames.specs.Calls.{leaving_of, arguments_of, locals_for, frame_for}
 use Rattle.ns_frames.specs.Arriving.{BodiesBegin}
 use Rattle.ns_frames.specs.View.{site_shown, frames_shown}
+use Rattle.ns_frames.specs.laws.Room.{bound_next, within_next}
 use Rattle.ns_engine.specs.declared.state.Core.{Core}
 use Rattle.ns_engine.specs.declared.state.Next.TheVariants as next
 use Rattle.ns_engine.specs.Shown.{phase_shown, progress_in}
 use Rattle.ns_engine.specs.Standing.{height_in, greatest_of, AreStanding, ArgumentsWait}
 use Rattle.ns_engine.specs.Arriving.{shape_of, CanBegin, CanEnter, Arrives}
-use Rattle.ns_engine.proofs.Pushed.{stack_stays, waiting_stays}
+use Rattle.ns_engine.specs.laws.Pushed.{stack_stays, waiting_stays}
+use Rattle.ns_engine.specs.laws.Sizes.{size_fits, frame_floor, frame_base, frame_size}
 
 -- ---- how far frames reach
-
-within_next : (height : ℕ → ℕ) (greatest filled next : ℕ) (frames : List Frame) → AreWithin height greatest filled frames
-    → AreWithin height greatest filled (at_next next frames)
-within_next height greatest filled next [] within = within
-within_next height greatest filled next (Running frame ∷ frames) within = within
-within_next height greatest filled next (Looping frame ∷ frames) within = within
-
-bound_next : (greatest next : ℕ) (frames : List Frame) → bound greatest (at_next next frames) ≡ bound greatest frames
-bound_next greatest next [] = refl
-bound_next greatest next (frame ∷ frames) = refl
 
 -- ---- methods of the kernel
 
@@ -71,53 +58,6 @@ method_begins code core at to stack looping can is laid frames values room = rec
   run = refl;
   stays = stack_stays core stack (ap (λ (v : ValueRow). v.room) values) room;
 }
-
--- ---- bodies
-
--- a body's frame is no greater than the greatest
-greatest_is : (bodies : List BodyCode) (number : ℕ) (body : BodyCode) → slice_get bodies number ≡ Some body → body.locals + body.height ≤ greatest_of bodies
-greatest_is [] number body e = absurd (cc)
-greatest_is (first ∷ bodies) zero body e =
-    let same : first ≡ body = cc in
-    subst (λ (b : BodyCode). b.locals + b.height ≤ greatest_of (first ∷ bodies)) same (omega arith)
-greatest_is (first ∷ bodies) (suc number) body e = let rest = greatest_is bodies number body e in omega (arith, rest)
-
-pub size_fits : (code : CodeProgram) (body : ℕ) → bodies.locals_of code body + height_in code body ≤ greatest_of code.bodies
-size_fits code body = by_body (slice_get code.bodies body) refl
-  where
-    by_body : (o : Option BodyCode) → slice_get code.bodies body ≡ o
-        → option_map_or (λ (b : BodyCode). b.locals) o 0 + option_map_or (λ (b : BodyCode). b.height) o 0 ≤ greatest_of code.bodies
-    by_body (Some b) e = greatest_is code.bodies body b e
-    by_body None e = omega arith
-
--- where its frame stands
-pub frame_floor : (shape : BodyShape) (call : Call) (entered : Entered) → (frame_for shape call entered).floor ≡ call.floor
-frame_floor shape call entered = by_environment shape.environment
-  where
-    by_environment : (b : Bool) → (frame_for (record shape { environment = b }) call entered).floor ≡ call.floor
-    by_environment true = refl
-    by_environment false = refl
-
-pub frame_base : (shape : BodyShape) (call : Call) (entered : Entered) → call.floor ≤ call.first → (frame_for shape call entered).base ≤ call.first
-frame_base shape call entered low = by_environment shape.environment entered.given
-  where
-    by_environment : (b : Bool) (g : Given) → (frame_for (record shape { environment = b }) call (record entered { given = g })).base ≤ call.first
-    by_environment true g = low
-    by_environment false given.Listed = omega arith
-    by_environment false (given.Message at) = low
-    by_environment false (given.Items at) = omega arith
-
-pub frame_size : (shape : BodyShape) (call : Call) (entered : Entered) (most : ℕ) → shape.locals + shape.height ≤ most
-    → (frame_for shape call entered).operands + shape.height ≤ (frame_for shape call entered).base + most
-frame_size shape call entered most fits = by_environment shape.environment entered.given
-  where
-    by_environment : (b : Bool) (g : Given)
-        → (frame_for (record shape { environment = b }) call (record entered { given = g })).operands + shape.height
-        ≤ (frame_for (record shape { environment = b }) call (record entered { given = g })).base + most
-    by_environment true g = omega (arith, fits)
-    by_environment false given.Listed = omega (arith, fits)
-    by_environment false (given.Message at) = omega (arith, fits)
-    by_environment false (given.Items at) = omega (arith, fits)
 
 frame_body : (shape : BodyShape) (call : Call) (entered : Entered) → (frame_for shape call entered).activation.body ≡ entered.body
 frame_body shape call entered = refl

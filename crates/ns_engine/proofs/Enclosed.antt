@@ -12,7 +12,7 @@ use Rattle.ns_send.specs.declared.site.Site.{Site}
 use Rattle.ns_send.specs.Bodies.{Place, enclosing}
 use Rattle.ns_send.specs.Lawful.{declaration_at}
 use Rattle.ns_moves.specs.State.{Going}
-use Rattle.ns_moves.proofs.InstrFacts.{level_there}
+use Rattle.ns_moves.specs.laws.Levels.{level_there}
 use Rattle.ns_act.specs.declared.enclosing.Surrounding.{Surrounding}
 use Rattle.ns_act.specs.Enclosing.{place_of}
 use Rattle.ns_act.specs.Running.{activation_at}
@@ -26,8 +26,9 @@ use Rattle.ns_engine.specs.declared.state.Core.{Core}
 use Rattle.ns_engine.specs.declared.state.Next.TheVariants as next
 use Rattle.ns_engine.specs.Shown.{phase_shown, progress_in}
 use Rattle.ns_engine.specs.Doing.{done, FindsIn, CanDo, running_of, Pushed, Does}
-use Rattle.ns_engine.proofs.Pushed.{push_does, top_stands}
-use Rattle.ns_engine.proofs.Stored.{finds_in}
+use Rattle.ns_engine.specs.laws.Pushed.{top_stands}
+use Rattle.ns_engine.proofs.Pushed.{push_does}
+use Rattle.ns_engine.specs.laws.Finds.{finds_in}
 
 -- the world is lawful, and the level has a declaration
 pub lawful_there : (code : CodeProgram) (core : Core) (at : Registers) (instr : Instr) (running : RunningFrame) → CanDo code core at instr

@@ -30,7 +30,7 @@ use Rattle.ns_engine.specs.Shown.{progress_in}
 use Rattle.ns_engine.specs.Standing.{height_in, greatest_of}
 use Rattle.ns_engine.specs.Arriving.{CanEnter}
 use Rattle.ns_engine.specs.Entering.{MayEnter}
-use Rattle.ns_engine.proofs.Arrived.{size_fits}
+use Rattle.ns_engine.specs.laws.Sizes.{size_fits}
 
 -- what stands right in sound code stands well
 pub stands_well : ((code : CodeProgram) (number : ℕ) (body : BodyCode) → IsSound code → slice_get code.bodies number ≡ Some body → StandsRight code number body)

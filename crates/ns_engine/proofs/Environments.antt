@@ -1,11 +1,10 @@
 -- The environments around running code, and the locals in them.
 use Rattle.std.proofs.Common.{◌≡◌, ℕ, zero, suc, ◌+◌, ◌-◌, ◌≤◌, ◌<◌, ◌⊎◌, inl, inr, List, [], length, refl, ap, sym, ◌∙◌, subst, arith, Option, Some, None, Bool, true, false, cond, slice_get}
 use Rattle.std.proofs.lemmas.Bool.Decides.{leb_tells}
-use Rattle.std.specs.Prelude.{IsSome, leb, nat_lt, ◌==◌}
+use Rattle.std.specs.Prelude.{IsSome, leb}
 use Rattle.std.specs.Option.{option_map_or, option_and_then}
 use Rattle.ns_code.specs.declared.program.CodeProgram.{CodeProgram}
 use Rattle.ns_code.specs.declared.body.BodyCode.{BodyCode}
-use Rattle.ns_code.specs.Soundness.{block_kind}
 use Rattle.ns_world.specs.declared.value.Value.{Value}
 use Rattle.ns_world.specs.declared.value.Value.TheVariants.{Nil, True, False, Int, Sym, Kernel, Ref}
 use Rattle.ns_world.specs.declared.cell.NewCell.TheVariants as new
@@ -13,11 +12,12 @@ use Rattle.ns_world.specs.Cell.{Cell, ObjectCell, ClassCell, BlockCell, Environm
 use Rattle.ns_world.specs.Heap.{Heap, find_cell, shape_at, words_at}
 use Rattle.ns_world.specs.Lawful.{FitsEnvironment, environment_in, is_environment, parent_of}
 use Rattle.ns_mirror.specs.Mirror.{cell_number}
-use Rattle.ns_verify.specs.Chains.{around, body_around, body_at}
+use Rattle.ns_verify.specs.Chains.{body_around, body_at}
 use Rattle.ns_verify.specs.Uses.{HasLocal as NamesLocal}
 use Rattle.ns_send.specs.Control.{Activation}
 use Rattle.ns_send.specs.Bodies.{has_environment, locals_of, environment_out, parent_in, is_beside}
 use Rattle.ns_moves.specs.ValidFrames.{environment_body, locals_beside}
+use Rattle.ns_moves.specs.laws.Levels.{around_is}
 use Rattle.ns_act.specs.Locals.{HasEnvironments, HasLocal}
 
 -- ---- one environment
@@ -79,26 +79,6 @@ module _ (heap : Heap) (code : CodeProgram) where
   known_of (suc depth) body (Kernel class) fits = absurd fits
 
 -- ---- the way out
-
--- the body around another is its parent
-parent_is : (number out : ℕ) (body : BodyCode) → around number body ≡ Some out → body.parent ≡ Some out
-parent_is number out body e = tested (body.kind == block_kind) body.parent e
-  where
-    below : (b : Bool) (parent : ℕ) → cond b (Some parent) None ≡ Some out → (let p : Option ℕ = Some parent in p) ≡ Some out
-    below true parent e = e
-    below false parent e = absurd (cc)
-
-    tested : (b : Bool) (o : Option ℕ) → cond b (option_and_then (λ parent. cond (nat_lt parent number) (Some parent) None) o) None ≡ Some out → o ≡ Some out
-    tested true (Some parent) e = below (nat_lt parent number) parent e
-    tested true None e = absurd (cc)
-    tested false o e = absurd (cc)
-
-around_is : (code : CodeProgram) (number out : ℕ) → body_around code number ≡ Some out → parent_of code number ≡ Some out
-around_is code number out e = there (slice_get code.bodies number) e
-  where
-    there : (o : Option BodyCode) → option_and_then (around number) o ≡ Some out → option_map_or (λ (b : BodyCode). b.parent) o None ≡ Some out
-    there (Some body) e = parent_is number out body e
-    there None e = absurd (cc)
 
 -- a way out over bodies, of which the first has an environment that fits it
 module _ (heap : Heap) (code : CodeProgram) (env : Value) (way : ℕ → Option ℕ) (steps : (k : ℕ) → way (suc k) ≡ option_and_then (body_around code) (way k))

@@ -19,12 +19,13 @@ use Rattle.ns_verify.specs.Uses.{IsUsable}
 use Rattle.ns_send.specs.Control.{Progress}
 use Rattle.ns_moves.specs.State as state
 use Rattle.ns_moves.specs.State.{Phase, Going}
-use Rattle.ns_moves.specs.Steps.{Step, place_in, placed, steps_of, steps_from}
+use Rattle.ns_moves.specs.Steps.{Step, placed, steps_of, steps_from}
 use Rattle.ns_moves.specs.Move.{move}
 use Rattle.ns_moves.specs.Standing.{ValidFindsAsked}
 use Rattle.ns_moves.specs.WorldAsks.{FindsAsked, RunsOn}
 use Rattle.ns_moves.specs.ValidFrames.{Nothing, next_number, height_of, StandsBefore, RunningIsValid}
 use Rattle.ns_moves.specs.Valid.{WorldIsValid, Valid}
+use Rattle.ns_moves.specs.laws.Steps.{placed_length, placed_at}
 use Rattle.ns_send.specs.Start.{standing_cells}
 use Rattle.ns_frames.specs.declared.frame.Frame.{Frame}
 use Rattle.ns_frames.specs.declared.frame.Frame.TheVariants.{Running}
@@ -40,19 +41,6 @@ use Rattle.ns_engine.specs.Doing.{done, FindsIn, Finds}
 use Rattle.ns_engine.specs.Moving.{HasNextStep}
 
 -- ---- lists of steps
-
-placed_length : (places : List (ℕ × SourcePlace)) (number : ℕ) (instrs : List Instr) → length (placed places number instrs) ≡ length instrs
-placed_length places number [] = refl
-placed_length places number (instr ∷ instrs) = let e = placed_length places (number + 1) instrs in cc
-
-placed_at : (places : List (ℕ × SourcePlace)) (number k : ℕ) (instrs : List Instr) (step : Step) → slice_get (placed places number instrs) k ≡ Some step
-    → slice_get instrs k ≡ Some step.0
-placed_at places number zero [] step e = absurd (cc)
-placed_at places number (suc k) [] step e = absurd (cc)
-placed_at places number zero (instr ∷ instrs) step e =
-    let same : (let own : Step = (instr, place_in places number) in own) ≡ step = cc in
-    ap (λ (s : Step). Some s.0) same
-placed_at places number (suc k) (instr ∷ instrs) step e = placed_at places (number + 1) k instrs step e
 
 drop_there : {A : Type 0} (k : ℕ) (xs : List A) (x : A) → slice_get xs k ≡ Some x → drop k xs ≡ x ∷ drop (suc k) xs
 drop_there k [] x e = absurd (cc)
@@ -108,7 +96,7 @@ module _ (code : CodeProgram) (known : CodeKnown code) (grants : Grants) (places
 
     module _ (step : Step) (is : slice_get (steps_of code running.activation.body) next ≡ Some step) where
       instr_is : slice_get b.instrs next ≡ Some step.0
-      instr_is = placed_at b.places 0 next b.instrs step (ap (λ (l : List Step). slice_get l next) (sym steps_are) ∙ is)
+      instr_is = (placed_at b.places 0 next b.instrs step (ap (λ (l : List Step). slice_get l next) (sym steps_are) ∙ is)).0
 
       on : steps_from code running.activation.body next ≡ step ∷ steps_from code running.activation.body (next + 1)
       on =

@@ -29,6 +29,7 @@ use Rattle.ns_frames.specs.declared.frame.Frame.TheVariants.{Running, Looping}
 use Rattle.ns_frames.specs.declared.frame.RunningFrame.{RunningFrame}
 use Rattle.ns_frames.specs.Standing.{Stood, Runs, Loops, standing, at_next}
 use Rattle.ns_frames.specs.View.{leaving_shown, activation_shown, frame_shown, frames_shown}
+use Rattle.ns_frames.specs.laws.Counts.{many_shown}
 use Rattle.ns_engine.specs.Standing.{height_in}
 use Rattle.ns_engine.specs.Framed.{HasRoomOnTop, answers, AnswersHaveRoom, AreFramed}
 
@@ -131,14 +132,10 @@ module _ (code : CodeProgram) (known : HeightsKnown code) (sound : IsSound code)
           rooms (awaited_below code (frame_shown code places (Runs frame locals stack))) stood all.1,
         )
 
-shown_many : (code : CodeProgram) (places : List SourcePlace) (stood : List Stood) → length (frames_shown code places stood) ≡ length stood
-shown_many code places [] = refl
-shown_many code places (one ∷ stood) = ap suc (shown_many code places stood)
-
 pub valid_framed : (code : CodeProgram) → HeightsKnown code → (grants : Grants) (places : List SourcePlace) (phase : Phase) (stood : List Stood) (p : Progress)
     → Valid code grants (Going phase (frames_shown code places stood) p) → AreFramed code stood p
 valid_framed code known grants places phase stood p valid = record {
-  depth = valid.0.depth ∙ shown_many code places stood;
+  depth = valid.0.depth ∙ many_shown code places stood;
   rooms = rooms code known valid.0.world.sound places p Nothing stood valid.2;
 }
 

@@ -28,9 +28,9 @@ use Rattle.ns_engine.specs.declared.state.Next.TheVariants as next
 use Rattle.ns_engine.specs.Shown.{phase_shown, progress_in}
 use Rattle.ns_engine.specs.Doing.{done, FindsIn, Finds, CanDo, running_of, Does}
 use Rattle.ns_engine.specs.Locals.{LocalIsThere}
-use Rattle.ns_engine.proofs.Pushed.{top_stands}
-use Rattle.ns_engine.proofs.Made.{in_other}
-use Rattle.ns_engine.proofs.Stored.{finds_in}
+use Rattle.ns_engine.specs.laws.Pushed.{top_stands}
+use Rattle.ns_engine.specs.laws.Worlds.{in_other}
+use Rattle.ns_engine.specs.laws.Finds.{finds_in}
 use Rattle.ns_engine.proofs.Environments.{local_outside, local_beside}
 
 -- ---- a local that an instruction names is there

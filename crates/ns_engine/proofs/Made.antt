@@ -22,17 +22,14 @@ use Rattle.ns_frames.specs.declared.frame.RunningFrame.{RunningFrame}
 use Rattle.ns_frames.specs.declared.registers.Registers.{Registers}
 use Rattle.ns_frames.specs.Standing.{Stood, Runs, Loops, pushed_all, below}
 use Rattle.ns_frames.specs.Stack.{stood, with_top}
-use Rattle.ns_frames.specs.Laws.{AreTaken}
+use Rattle.ns_frames.specs.Stated.{AreTaken}
 use Rattle.ns_frames.specs.View.{site_shown, frames_shown}
 use Rattle.ns_engine.specs.declared.state.Core.{Core}
 use Rattle.ns_engine.specs.declared.state.Next.{Next}
 use Rattle.ns_engine.specs.Shown.{phase_shown, progress_in}
 use Rattle.ns_engine.specs.Doing.{done, Finds, CanDo, running_of, IsSettled, Does}
-use Rattle.ns_engine.proofs.Pushed.{top_stands}
-
--- the machine in another world
-abbrev pub in_other : Core → WorldView → Core
-in_other core world = record core { run = record core.run { world = world } }
+use Rattle.ns_engine.specs.laws.Pushed.{top_stands}
+use Rattle.ns_engine.specs.laws.Worlds.{in_other}
 
 -- An answer that is settled in another world is what an instruction leads to.
 pub settled_does : (code : CodeProgram) (old new : Core) (world : WorldView) (at to : Registers) (instr : Instr) (place : Option SourcePlace) (site : KeptSite)

@@ -17,7 +17,7 @@ use Rattle.ns_engine.specs.declared.state.Core.{Core}
 use Rattle.ns_engine.specs.declared.state.Next.TheVariants as next
 use Rattle.ns_engine.specs.Shown.{phase_shown, progress_in, shown}
 use Rattle.ns_engine.specs.Doing.{IsRunning, Pushed, IsSettled}
-use Rattle.ns_engine.proofs.Pushed.{ended_stays}
+use Rattle.ns_engine.specs.laws.Pushed.{ended_stays}
 
 pub given : (code : CodeProgram) (old new : Core) (at to : Registers) (site : KeptSite) (value : Value) → IsRunning old.stack.frames.items
     → Pushed code old at value new to → IsSettled code old at site (Ok value) new (next.On to)

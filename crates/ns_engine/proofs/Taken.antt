@@ -2,9 +2,7 @@
 use Rattle.std.proofs.Common.{◌≡◌, ℕ, ◌+◌, ◌≤◌, List, [], ◌∷◌, length, ap, sym, ◌∙◌, refl, subst, arith, Option}
 use Rattle.ns_base.specs.declared.place.Place.{Place as SourcePlace}
 use Rattle.ns_code.specs.declared.program.CodeProgram.{CodeProgram}
-use Rattle.ns_code.specs.declared.instruction.Instr.{Instr}
 use Rattle.ns_code.specs.declared.instruction.Instr.TheVariants as instr
-use Rattle.ns_code.specs.Table.{takes}
 use Rattle.ns_world.specs.declared.value.Value.{Value}
 use Rattle.ns_moves.specs.State.{State, Going, Stuck}
 use Rattle.ns_frames.specs.declared.registers.Registers.{Registers}
@@ -16,19 +14,11 @@ use Rattle.ns_engine.specs.declared.state.Next.TheVariants as next
 use Rattle.ns_engine.specs.Shown.{phase_shown, progress_in}
 use Rattle.ns_engine.specs.Doing.{done, Finds, CanDo, Pushed, Does}
 use Rattle.ns_frames.specs.declared.frame.RunningFrame.{RunningFrame}
-use Rattle.ns_frames.specs.Laws.{IsPicked}
+use Rattle.ns_frames.specs.Stated.{IsPicked}
 use Rattle.ns_world.specs.declared.value.Value.TheVariants.{Nil}
 use Rattle.std.specs.List.{slice_index_or}
-use Rattle.ns_engine.proofs.Pushed.{stack_stays, push_does}
-
--- the operands that an instruction takes are there
-pub some_operand : (code : CodeProgram) (core : Core) (at : Registers) (instr : Instr) → CanDo code core at instr → takes instr ≤ length (operands_in (stood core.stack at))
-some_operand code core at instr can = by_stood (stood core.stack at) can.finds
-  where
-    by_stood : (s : List Stood) → Finds code core.places instr s (progress_in core) → takes instr ≤ length (operands_in s)
-    by_stood [] finds = absurd finds
-    by_stood (Loops frame ∷ s) finds = absurd finds
-    by_stood (Runs frame locals stack ∷ s) finds = finds.enough
+use Rattle.ns_engine.specs.laws.Pushed.{stack_stays}
+use Rattle.ns_engine.proofs.Pushed.{push_does}
 
 pub pop_done : (code : CodeProgram) (core : Core) (at to : Registers) (value : Value) (place : Option SourcePlace) → CanDo code core at instr.Pop
     → stood core.stack at ≡ pushed value (stood core.stack to) → IsLaid core.stack to → Does code instr.Pop place core at core (next.On to)

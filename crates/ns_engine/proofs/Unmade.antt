@@ -20,7 +20,7 @@ use Rattle.ns_engine.specs.declared.state.Core.{Core}
 use Rattle.ns_engine.specs.Doing.{CanDo, running_of}
 use Rattle.ns_engine.specs.Shown.{progress_in}
 use Rattle.ns_engine.specs.Tried.{IsUntouched}
-use Rattle.ns_engine.proofs.Made.{in_other}
+use Rattle.ns_engine.specs.laws.Worlds.{in_other}
 
 -- a run that ends at the limit has charged nothing
 none_charged : (world : Option World) (rest : Progress) (old new : World) (ending : Ending) (go : Progress → After)

@@ -11,3 +11,4 @@ pub mod Own
 pub mod Locals
 pub mod Jumping
 pub mod Framed
+pub mod laws

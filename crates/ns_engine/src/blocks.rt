@@ -15,7 +15,7 @@ use ns_frames::registers::Registers;
 
 /// Pushes a new block of a body that stands in the one that runs.
 #[inline(always)]
-#[tactic(auto, using(crate::proofs::Pushed::one_more, crate::proofs::Pushed::runs))]
+#[tactic(auto, using(crate::specs::laws::Pushed::one_more, crate::specs::laws::Pushed::runs))]
 pub fn push_block(
     code: &CodeProgram,
     core: &mut Core,

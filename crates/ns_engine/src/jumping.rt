@@ -59,7 +59,7 @@ pub fn jump(code: &CodeProgram, core: &mut Core, at: Registers, target: u32) -> 
 
 /// Takes the topmost operand off, and jumps where it is false.
 #[inline(always)]
-#[tactic(auto, using(crate::proofs::Pushed::runs, crate::proofs::Taken::some_operand))]
+#[tactic(auto, using(crate::specs::laws::Pushed::runs, crate::specs::laws::Taken::some_operand))]
 pub fn jump_false(code: &CodeProgram, core: &mut Core, at: Registers, target: u32) -> Next
     requires { CanDo code.now core.old at (instr.JumpFalse target) }
     ensures { (place : Option SourcePlace) → Does code.now (instr.JumpFalse target) place core.old at core.new result }
@@ -77,7 +77,7 @@ pub fn jump_false(code: &CodeProgram, core: &mut Core, at: Registers, target: u3
 
 /// Takes the topmost operand off, and jumps where it is true.
 #[inline(always)]
-#[tactic(auto, using(crate::proofs::Pushed::runs, crate::proofs::Taken::some_operand))]
+#[tactic(auto, using(crate::specs::laws::Pushed::runs, crate::specs::laws::Taken::some_operand))]
 pub fn jump_true(code: &CodeProgram, core: &mut Core, at: Registers, target: u32) -> Next
     requires { CanDo code.now core.old at (instr.JumpTrue target) }
     ensures { (place : Option SourcePlace) → Does code.now (instr.JumpTrue target) place core.old at core.new result }

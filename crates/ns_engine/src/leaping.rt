@@ -45,7 +45,7 @@ pub fn jump(code: &CodeProgram, core: &mut Core, at: Registers, target: u32) -> 
 
 /// Takes the topmost operand off, and jumps where it is false.
 #[inline(always)]
-#[tactic(auto, using(crate::proofs::Taken::some_operand))]
+#[tactic(auto, using(crate::specs::laws::Taken::some_operand))]
 pub fn jump_false(
     code: &CodeProgram,
     core: &mut Core,
@@ -68,7 +68,7 @@ pub fn jump_false(
 
 /// Takes the topmost operand off, and jumps where it is true.
 #[inline(always)]
-#[tactic(auto, using(crate::proofs::Taken::some_operand))]
+#[tactic(auto, using(crate::specs::laws::Taken::some_operand))]
 pub fn jump_true(
     code: &CodeProgram,
     core: &mut Core,

@@ -44,7 +44,7 @@ fn local(
 
 /// Pushes a local.
 #[inline(always)]
-#[tactic(auto, using(crate::proofs::Pushed::one_more, crate::proofs::Pushed::runs))]
+#[tactic(auto, using(crate::specs::laws::Pushed::one_more, crate::specs::laws::Pushed::runs))]
 pub fn push_local(
     code: &CodeProgram,
     core: &mut Core,
@@ -70,7 +70,7 @@ pub fn push_local(
 
 /// Stores the topmost operand, which stays, in a local.
 #[inline(always)]
-#[tactic(auto, using(crate::proofs::Pushed::runs, crate::proofs::Taken::some_operand))]
+#[tactic(auto, using(crate::specs::laws::Pushed::runs, crate::specs::laws::Taken::some_operand))]
 pub fn store_local(
     code: &CodeProgram,
     core: &mut Core,

@@ -15,7 +15,7 @@ use ns_frames::registers::Registers;
 
 /// Pushes a new block of a body that stands in the one that runs.
 #[inline(always)]
-#[tactic(auto, using(crate::proofs::Pushed::one_more, crate::proofs::Pushed::runs, crate::proofs::Made::block_done))]
+#[tactic(auto, using(crate::specs::laws::Pushed::one_more, crate::specs::laws::Pushed::runs, crate::proofs::Made::block_done))]
 pub fn push_block(code: &CodeProgram, core: &mut Core, at: Registers, body: u32) -> Next
     requires { CanDo code.now core.old at (instr.PushBlock body) }
     ensures { (place : Option SourcePlace) → Does code.now (instr.PushBlock body) place core.old at core.new result }
@@ -38,7 +38,7 @@ fn literal(code: &CodeProgram, text: u32) -> &[u8]
 
 /// Pushes a new text.
 #[inline(always)]
-#[tactic(auto, using(crate::proofs::Pushed::one_more, crate::proofs::Pushed::runs, crate::proofs::Made::text_done))]
+#[tactic(auto, using(crate::specs::laws::Pushed::one_more, crate::specs::laws::Pushed::runs, crate::proofs::Made::text_done))]
 pub fn push_text(code: &CodeProgram, core: &mut Core, at: Registers, text: u32) -> Next
     requires { CanDo code.now core.old at (instr.PushText text) }
     ensures { (place : Option SourcePlace) → Does code.now (instr.PushText text) place core.old at core.new result }
@@ -50,7 +50,7 @@ pub fn push_text(code: &CodeProgram, core: &mut Core, at: Registers, text: u32) 
 
 /// Makes an array of so many topmost operands, the deepest first, and pushes it in their place.
 #[inline(always)]
-#[tactic(auto, using(crate::proofs::Pushed::one_more, crate::proofs::Pushed::runs, crate::proofs::Taken::some_operand, crate::proofs::Made::array_done))]
+#[tactic(auto, using(crate::specs::laws::Pushed::one_more, crate::specs::laws::Pushed::runs, crate::specs::laws::Taken::some_operand, crate::proofs::Made::array_done))]
 pub fn make_array(code: &CodeProgram, core: &mut Core, at: Registers, count: u8) -> Next
     requires { CanDo code.now core.old at (instr.MakeArray count) }
     ensures { (place : Option SourcePlace) → Does code.now (instr.MakeArray count) place core.old at core.new result }

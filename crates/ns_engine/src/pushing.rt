@@ -16,7 +16,7 @@ use ns_world::value::Value;
 
 /// Pushes nil.
 #[inline(always)]
-#[tactic(auto, using(crate::proofs::Pushed::one_more, crate::proofs::Pushed::nil_done))]
+#[tactic(auto, using(crate::specs::laws::Pushed::one_more, crate::proofs::Pushed::nil_done))]
 pub fn push_nil(code: &CodeProgram, core: &mut Core, at: Registers) -> Registers
     requires { CanDo code.now core.old at instr.PushNil }
     ensures { (place : Option SourcePlace) → Does code.now instr.PushNil place core.old at core.new (next.On result) }
@@ -26,7 +26,7 @@ pub fn push_nil(code: &CodeProgram, core: &mut Core, at: Registers) -> Registers
 
 /// Pushes true.
 #[inline(always)]
-#[tactic(auto, using(crate::proofs::Pushed::one_more, crate::proofs::Pushed::true_done))]
+#[tactic(auto, using(crate::specs::laws::Pushed::one_more, crate::proofs::Pushed::true_done))]
 pub fn push_true(code: &CodeProgram, core: &mut Core, at: Registers) -> Registers
     requires { CanDo code.now core.old at instr.PushTrue }
     ensures { (place : Option SourcePlace) → Does code.now instr.PushTrue place core.old at core.new (next.On result) }
@@ -36,7 +36,7 @@ pub fn push_true(code: &CodeProgram, core: &mut Core, at: Registers) -> Register
 
 /// Pushes false.
 #[inline(always)]
-#[tactic(auto, using(crate::proofs::Pushed::one_more, crate::proofs::Pushed::false_done))]
+#[tactic(auto, using(crate::specs::laws::Pushed::one_more, crate::proofs::Pushed::false_done))]
 pub fn push_false(code: &CodeProgram, core: &mut Core, at: Registers) -> Registers
     requires { CanDo code.now core.old at instr.PushFalse }
     ensures { (place : Option SourcePlace) → Does code.now instr.PushFalse place core.old at core.new (next.On result) }
@@ -46,7 +46,7 @@ pub fn push_false(code: &CodeProgram, core: &mut Core, at: Registers) -> Registe
 
 /// Pushes an integer.
 #[inline(always)]
-#[tactic(auto, using(crate::proofs::Pushed::one_more, crate::proofs::Pushed::int_done))]
+#[tactic(auto, using(crate::specs::laws::Pushed::one_more, crate::proofs::Pushed::int_done))]
 pub fn push_int(code: &CodeProgram, core: &mut Core, at: Registers, number: i64) -> Registers
     requires { CanDo code.now core.old at (instr.PushInt number) }
     ensures { (place : Option SourcePlace) → Does code.now (instr.PushInt number) place core.old at core.new (next.On result) }
@@ -56,7 +56,7 @@ pub fn push_int(code: &CodeProgram, core: &mut Core, at: Registers, number: i64)
 
 /// Pushes a symbol.
 #[inline(always)]
-#[tactic(auto, using(crate::proofs::Pushed::one_more, crate::proofs::Pushed::sym_done))]
+#[tactic(auto, using(crate::specs::laws::Pushed::one_more, crate::proofs::Pushed::sym_done))]
 pub fn push_sym(code: &CodeProgram, core: &mut Core, at: Registers, sel: Sel) -> Registers
     requires { CanDo code.now core.old at (instr.PushSym sel) }
     ensures { (place : Option SourcePlace) → Does code.now (instr.PushSym sel) place core.old at core.new (next.On result) }
@@ -66,7 +66,7 @@ pub fn push_sym(code: &CodeProgram, core: &mut Core, at: Registers, sel: Sel) ->
 
 /// Pushes self.
 #[inline(always)]
-#[tactic(auto, using(crate::proofs::Pushed::one_more, crate::proofs::Pushed::runs, crate::proofs::Pushed::self_done))]
+#[tactic(auto, using(crate::specs::laws::Pushed::one_more, crate::specs::laws::Pushed::runs, crate::proofs::Pushed::self_done))]
 pub fn push_self(code: &CodeProgram, core: &mut Core, at: Registers) -> Registers
     requires { CanDo code.now core.old at instr.PushSelf }
     ensures { (place : Option SourcePlace) → Does code.now instr.PushSelf place core.old at core.new (next.On result) }
@@ -77,7 +77,7 @@ pub fn push_self(code: &CodeProgram, core: &mut Core, at: Registers) -> Register
 
 /// Pushes the enclosing object so many declarations further out.
 #[inline(always)]
-#[tactic(auto, using(crate::proofs::Pushed::one_more, crate::proofs::Pushed::runs, crate::proofs::Stored::fits_anywhere, crate::proofs::Enclosed::lawful_there, crate::proofs::Enclosed::declared_there))]
+#[tactic(auto, using(crate::specs::laws::Pushed::one_more, crate::specs::laws::Pushed::runs, crate::specs::laws::Finds::fits_anywhere, crate::proofs::Enclosed::lawful_there, crate::proofs::Enclosed::declared_there))]
 pub fn push_outer(code: &CodeProgram, core: &mut Core, at: Registers, level: u8) -> Registers
     requires { CanDo code.now core.old at (instr.PushOuter level) }
     ensures { (place : Option SourcePlace) → Does code.now (instr.PushOuter level) place core.old at core.new (next.On result) }

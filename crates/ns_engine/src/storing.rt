@@ -15,7 +15,7 @@ use ns_send::finding::enclosing_objects_are_there;
 
 /// Takes the topmost operand off and fills a slot of self with it.
 #[inline(always)]
-#[tactic(auto, using(crate::proofs::Pushed::runs, crate::proofs::Taken::some_operand, crate::proofs::Stored::slot_lawful, crate::proofs::Stored::slot_fits, crate::proofs::Stored::slot_class))]
+#[tactic(auto, using(crate::specs::laws::Pushed::runs, crate::specs::laws::Taken::some_operand, crate::proofs::Stored::slot_lawful, crate::proofs::Stored::slot_fits, crate::proofs::Stored::slot_class))]
 pub fn store_slot(code: &CodeProgram, core: &mut Core, at: Registers, slot: u16) -> Registers
     requires { CanDo code.now core.old at (instr.StoreSlot slot) }
     ensures { (place : Option SourcePlace) → Does code.now (instr.StoreSlot slot) place core.old at core.new (next.On result) }

@@ -14,7 +14,7 @@ use ns_frames::registers::Registers;
 
 /// Drops the topmost operand.
 #[inline(always)]
-#[tactic(auto, using(crate::proofs::Taken::some_operand, crate::proofs::Taken::pop_done))]
+#[tactic(auto, using(crate::specs::laws::Taken::some_operand, crate::proofs::Taken::pop_done))]
 pub fn pop(code: &CodeProgram, core: &mut Core, at: Registers) -> Registers
     requires { CanDo code.now core.old at instr.Pop }
     ensures { (place : Option SourcePlace) → Does code.now instr.Pop place core.old at core.new (next.On result) }
@@ -25,7 +25,7 @@ pub fn pop(code: &CodeProgram, core: &mut Core, at: Registers) -> Registers
 
 /// Pushes the operand so many below the topmost.
 #[inline(always)]
-#[tactic(auto, using(crate::proofs::Taken::some_operand, crate::proofs::Pushed::one_more, crate::proofs::Taken::pick_done))]
+#[tactic(auto, using(crate::specs::laws::Taken::some_operand, crate::specs::laws::Pushed::one_more, crate::proofs::Taken::pick_done))]
 pub fn pick(code: &CodeProgram, core: &mut Core, at: Registers, number: u8) -> Registers
     requires { CanDo code.now core.old at (instr.Pick number) }
     ensures { (place : Option SourcePlace) → Does code.now (instr.Pick number) place core.old at core.new (next.On result) }

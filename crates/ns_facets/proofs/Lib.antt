@@ -1,4 +1,1 @@
-pub mod Living
-pub mod Lawful
-pub mod Leading
 mod Rows

@@ -2,3 +2,4 @@ pub mod Board
 pub mod Console
 pub mod Platform
 pub mod Facet
+pub mod laws

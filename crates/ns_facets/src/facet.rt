@@ -22,7 +22,7 @@ use ns_world::world::World;
 /// The answer of a row of a facet with its change of the world and the board, or its first fault,
 /// after which nothing has changed. The receiver is the number of a facet that has the row, and
 /// nothing else depends on it. An argument that isn't there is nil. Takes no memory.
-#[tactic(auto, using(ns_kdata::proofs::Outcomes::argument_there))]
+#[tactic(auto, using(ns_kdata::specs::laws::Outcomes::argument_there))]
 pub fn facet(
     world: &mut World,
     code: &CodeProgram,

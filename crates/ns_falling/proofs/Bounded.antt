@@ -9,7 +9,7 @@ use Rattle.ns_world.specs.declared.value.Value.{Value}
 use Rattle.ns_world.specs.declared.value.Value.TheVariants as value
 use Rattle.ns_world.specs.Heap.{Heap, heap_size}
 use Rattle.ns_world.specs.Lawful.{FitsBody}
-use Rattle.ns_world.proofs.Chains.{class_below}
+use Rattle.ns_world.specs.laws.Chains.{class_below}
 use Rattle.ns_facets.specs.declared.row.Grants.{Grants}
 use Rattle.ns_send.specs.Control.{Progress, Activation}
 use Rattle.ns_send.specs.Lawful.{FitsActivation}
@@ -17,7 +17,7 @@ use Rattle.ns_moves.specs.State.{Leaving, Frame, Running, Looping, Unbegun, Goin
 use Rattle.ns_moves.specs.Steps.{Step, steps_of}
 use Rattle.ns_moves.specs.Left.{longest, weight, frame_left, frames_left}
 use Rattle.ns_moves.specs.ValidFrames.{Awaited, Nothing, awaited_below, awaited_for, next_number, RunningIsValid, FramesAreValid}
-use Rattle.ns_moves.proofs.FramesLast.{first_valid, others_valid}
+use Rattle.ns_moves.specs.laws.Frames.{first_valid, others_valid}
 use Rattle.ns_falling.specs.Falling.{LeftIsBounded}
 use Rattle.ns_falling.proofs.Weights.{weight_up, steps_within}
 

@@ -13,12 +13,12 @@ use Rattle.ns_world.specs.Cell.{Cell, ObjectCell, ClassCell, BlockCell, Environm
 use Rattle.ns_world.specs.Heap.{Heap, heap_size, find_cell, is_superclass, has_superclass, is_ordered, superclass_in}
 use Rattle.ns_world.specs.World.{made, entered}
 use Rattle.ns_world.specs.Layout.{declaration_of}
-use Rattle.ns_world.proofs.Chains.{both_of, class_below}
+use Rattle.ns_world.specs.laws.Chains.{both_of, class_below}
 use Rattle.ns_send.specs.Site.{error}
 use Rattle.ns_send.specs.Control.{Progress, in_world, Activation, Part, Skip, Stop, EnterPart, charged}
 use Rattle.ns_send.specs.Bodies.{initialiser_of, no_home, has_environment, first_locals, opened}
 use Rattle.ns_send.specs.Classes.{factory_selector, super_selector, declared_part, object_part, part_of, super_part}
-use Rattle.ns_send.proofs.Onward.{charged_all}
+use Rattle.ns_send.specs.laws.Onward.{charged_all}
 
 -- ---- superclasses
 

@@ -5,16 +5,17 @@ use Rattle.ns_base.specs.declared.limits.Limits.{Limits}
 use Rattle.ns_code.specs.declared.program.CodeProgram.{CodeProgram}
 use Rattle.ns_facets.specs.declared.row.Grants.{Grants}
 use Rattle.ns_send.specs.Control.{Progress}
-use Rattle.ns_moves.specs.State.{Sending, Performing, Evaluating, State, Unbegun, Going, Pends, Ended, Stuck, progress_of, world_of}
+use Rattle.ns_moves.specs.State.{State, Unbegun, Going, Pends, Ended, Stuck, progress_of, world_of}
 use Rattle.ns_moves.specs.Move.{move}
-use Rattle.ns_moves.specs.Turn.{is_still, ends_with_steps}
+use Rattle.ns_moves.specs.Turn.{is_still}
 use Rattle.ns_moves.specs.Charging.{will_charge}
-use Rattle.ns_moves.specs.Charges.{is_stuck, WaitsForBlock, CanMove, Took, TakesAsTold}
+use Rattle.ns_moves.specs.Charges.{Took, TakesAsTold}
 use Rattle.ns_moves.specs.Onward.{MovesGoOnward}
 use Rattle.ns_moves.specs.Standing.{MovesKeepValid}
 use Rattle.ns_moves.specs.Valid.{Valid}
 use Rattle.ns_moves.specs.Left.{left}
 use Rattle.ns_falling.specs.Falling.{FreeMovesLower, most_left, LeftIsBounded, run_left, MovesLower}
+use Rattle.ns_moves.specs.laws.Still.{limited_still, can_move}
 
 -- ---- what is known of states
 
@@ -32,39 +33,12 @@ some_left code (Stuck p) e = absurd (cc)
 some_left code (Going phase frames p) e = omega arith
 some_left code (Pends phase pending frames p) e = omega arith
 
-pub limited_still : (s : State) → ends_with_steps s ≡ true → is_still s ≡ true
-limited_still (Unbegun arguments p) e = absurd (cc)
-limited_still (Stuck p) e = absurd (cc)
-limited_still (Going phase frames p) e = absurd (cc)
-limited_still (Pends phase pending frames p) e = absurd (cc)
-limited_still (Ended ending phase p) e = refl
-
 within_steps : (code : CodeProgram) (grants : Grants) (s : State) → Valid code grants s → is_still s ≡ false → (world_of s).steps ≤ (world_of s).limits.steps
 within_steps code grants (Unbegun arguments p) valid e = absurd (cc)
 within_steps code grants (Ended ending phase p) valid e = absurd (cc)
 within_steps code grants (Stuck p) valid e = absurd (cc)
 within_steps code grants (Going phase frames p) valid e = valid.0.world.lawful.within.steps
 within_steps code grants (Pends phase pending frames p) valid e = valid.0.world.lawful.within.steps
-
-not_stuck : (code : CodeProgram) (grants : Grants) (s : State) → Valid code grants s → is_stuck s ≡ false
-not_stuck code grants (Unbegun arguments p) valid = refl
-not_stuck code grants (Ended ending phase p) valid = refl
-not_stuck code grants (Stuck p) valid = absurd valid
-not_stuck code grants (Going phase frames p) valid = refl
-not_stuck code grants (Pends phase pending frames p) valid = refl
-
-waits_for_block : (code : CodeProgram) (grants : Grants) (s : State) → Valid code grants s → WaitsForBlock s
-waits_for_block code grants (Unbegun arguments p) valid = tt
-waits_for_block code grants (Ended ending phase p) valid = tt
-waits_for_block code grants (Stuck p) valid = tt
-waits_for_block code grants (Going phase frames p) valid = tt
-waits_for_block code grants (Pends phase (Sending receiver sel arguments site) frames p) valid = tt
-waits_for_block code grants (Pends phase (Performing receiver sel array site) frames p) valid = tt
-waits_for_block code grants (Pends phase (Evaluating block arguments site) frames p) valid = valid.1.0
-
-pub can_move : (code : CodeProgram) (grants : Grants) → MovesKeepValid code grants → (s : State) → Valid code grants s → CanMove code s
-can_move code grants keeps s valid =
-    record { finds = not_stuck code grants (move code s) (keeps 1 s valid); block = waits_for_block code grants s valid }
 
 -- ---- moves
 

@@ -4,4 +4,3 @@ pub mod Lowered
 pub mod Bounded
 pub mod Ending
 pub mod Powers
-pub mod Doubling

@@ -40,7 +40,7 @@ use Rattle.ns_moves.specs.Instructions.{executed}
 use Rattle.ns_moves.specs.Charging.{jump_charges, instr_charges, action_charges}
 use Rattle.ns_moves.specs.Left.{longest, weight, frames_left, left_of}
 use Rattle.ns_moves.specs.ValidFrames.{Nothing, RunningIsValid}
-use Rattle.ns_moves.proofs.Walking.{on_top_all, taken_all, picked_all}
+use Rattle.ns_moves.specs.laws.Operands.{on_top_all, taken_all, picked_all}
 use Rattle.ns_falling.specs.Falling.{FreeMovesLower}
 use Rattle.ns_falling.proofs.Weights.{weight_some, weighs_more, weigh_less, within_longest, steps_few}
 use Rattle.ns_falling.proofs.Earlier.{EntersEarlier, super_earlier}

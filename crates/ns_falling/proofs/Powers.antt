@@ -1,14 +1,12 @@
 -- Two to that power is more than all that a run within its limits can do.
 use Rattle.std.proofs.Common.{◌≡◌, ℕ, zero, suc, ◌+◌, ◌*◌, ◌-◌, ◌^◌, ◌≤◌, sym, ap, ◌∙◌, arith}
 use Rattle.std.proofs.lemmas.Nat.{pow-add, mul-le}
-use Rattle.std.proofs.Math.Nat.{pow-suc, mul-suc, mul-zero, suc-mul, mul-le-mul_right}
+use Rattle.std.proofs.Math.Nat.{mul-suc, mul-zero, suc-mul, mul-le-mul_right}
 use Rattle.ns_code.specs.declared.program.CodeProgram.{CodeProgram}
 use Rattle.ns_falling.specs.Falling.{most_left, power_left, run_left}
 use Rattle.ns_moves.specs.Left.{longest, weight, left}
 use Rattle.ns_moves.specs.State.{State, world_of}
-
-pub pow_more : (n : ℕ) → 2 ^ suc n ≡ 2 ^ n + 2 ^ n
-pow_more n = let e = pow-suc 2 n in omega (arith, e)
+use Rattle.ns_falling.specs.lemmas.Powers.{pow_more}
 
 -- a number is below its power of two
 below_pow : (n : ℕ) → n + 1 ≤ 2 ^ n

@@ -5,13 +5,12 @@ use Rattle.std.specs.Prelude.{IsSome}
 use Rattle.std.specs.Option.{option_map_or}
 use Rattle.std.proofs.lemmas.Bool.{eqb-true, eqb-false}
 use Rattle.std.proofs.Math.Nat.{le-max_left, le-max_right, mul-le-mul_right}
-use Rattle.ns_base.specs.declared.place.Place.{Place as SourcePlace}
 use Rattle.ns_code.specs.declared.program.CodeProgram.{CodeProgram}
 use Rattle.ns_code.specs.declared.body.BodyCode.{BodyCode}
-use Rattle.ns_code.specs.declared.instruction.Instr.{Instr}
 use Rattle.ns_code.specs.declared.instruction.Instr.TheVariants.{ReturnSelf}
 use Rattle.ns_moves.specs.Steps.{placed, steps_of}
 use Rattle.ns_moves.specs.Left.{longest, weight}
+use Rattle.ns_moves.specs.laws.Steps.{placed_length}
 
 -- ---- weights
 
@@ -60,10 +59,6 @@ weight_up most holder (suc later) up = tested (eqb holder (suc later)) refl (λ 
         omega (arith, low, next)
 
 -- ---- bodies
-
-placed_length : (places : List (ℕ × SourcePlace)) (number : ℕ) (instrs : List Instr) → length (placed places number instrs) ≡ length instrs
-placed_length places number [] = refl
-placed_length places number (instr ∷ instrs) = let e = placed_length places (number + 1) instrs in cc
 
 pub within_longest : (bodies : List BodyCode) (k : ℕ) (b : BodyCode) → slice_get bodies k ≡ Some b → length b.instrs ≤ longest bodies
 within_longest [] k b e = absurd (cc)

@@ -1,2 +1,4 @@
 pub mod Falling
 pub mod Doubling
+pub mod lemmas
+pub mod laws

@@ -10,10 +10,10 @@ use Rattle.ns_world.specs.declared.kernel.Start.{Start}
 use Rattle.ns_world.specs.declared.seek.Sought.TheVariants.{Facet, Top}
 use Rattle.ns_world.specs.Later.{RunsOn}
 use Rattle.ns_world.specs.Seek.{first_such, is_facet, is_top}
-use Rattle.ns_world.proofs.Changing.{word_plainly, byte_plainly}
-use Rattle.ns_world.proofs.Classes.{lawful_order, same_after_making as making_keeps_classes, same_after_changing}
-use Rattle.ns_world.proofs.Lasting.{keeps_of}
-use Rattle.ns_world.proofs.Firsts.{first_without, first_behind, facets_after_word, tops_after_word, facets_after_byte, tops_after_byte}
+use Rattle.ns_world.specs.laws.Changing.{word_plainly, byte_plainly}
+use Rattle.ns_world.specs.laws.Classes.{lawful_order, same_after_making as making_keeps_classes, same_after_changing}
+use Rattle.ns_world.specs.laws.Lasting.{keeps_of}
+use Rattle.ns_world.specs.laws.Firsts.{first_without, first_behind, facets_after_word, tops_after_word, facets_after_byte, tops_after_byte}
 use Rattle.ns_find.specs.declared.memo.Kept.{Kept}
 use Rattle.ns_find.specs.declared.found.Sending.{Sending}
 use Rattle.ns_find.specs.declared.members.Side.{Side}

@@ -4,6 +4,3 @@ pub mod Parts
 pub mod Keeping
 pub mod Staying
 pub mod Later
-pub mod Belonging
-pub mod Named
-pub mod SoundBodies

@@ -16,7 +16,7 @@ use Rattle.ns_world.specs.World.{World}
 use Rattle.ns_world.specs.Layout.{declaration_of, entry_word}
 use Rattle.ns_world.specs.Lawful.{IsLawful}
 use Rattle.ns_world.specs.Seek.{first_such, is_facet, is_top}
-use Rattle.ns_world.proofs.Classes.{SameClasses, class_stays, declaration_stays, start_stays as chain_start_stays, started, word_stays, lawful_order}
+use Rattle.ns_world.specs.laws.Classes.{SameClasses, class_stays, declaration_stays, start_stays as chain_start_stays, started, word_stays, lawful_order}
 use Rattle.ns_find.specs.declared.found.Found.TheVariants.{Getter, Setter, Factory, Absent, Kernel}
 use Rattle.ns_find.specs.declared.found.Sending.{Sending}
 use Rattle.ns_find.specs.declared.found.Sending.TheVariants.{Inner}

@@ -5,3 +5,4 @@ pub mod Belonging
 pub mod Named
 pub mod Memo
 pub mod Stated
+pub mod laws

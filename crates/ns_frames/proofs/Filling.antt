@@ -7,8 +7,8 @@ use Rattle.ns_frames.specs.declared.stack.Stack.{Stack}
 use Rattle.ns_frames.specs.Row.{FrameRow}
 use Rattle.ns_frames.specs.Standing.{standing, at_next, pushed_all}
 use Rattle.ns_frames.specs.Stack.{in_use, stood, IsLaid}
-use Rattle.ns_frames.proofs.Standing.{all_pushed}
-use Rattle.ns_frames.proofs.Pushing.{laid_in_use}
+use Rattle.ns_frames.specs.lemmas.Standing.{all_pushed}
+use Rattle.ns_frames.specs.lemmas.Pushing.{laid_in_use}
 
 -- what is filled above the values in use leaves them
 pub filled_use : (values more : List Value) (top : ℕ) → top ≤ length values → take top (values ++ more) ≡ take top values

@@ -1,5 +1,4 @@
 pub mod Topmost
-pub mod Standing
 pub mod Pushing
 pub mod Taking
 pub mod Locals

@@ -16,7 +16,8 @@ use Rattle.ns_frames.specs.declared.frame.Activation.{Activation}
 use Rattle.ns_frames.specs.Standing.{Stood, Runs, Loops, standing, at_next}
 use Rattle.ns_frames.specs.Leaving.{delivered, frames_to, is_home, is_method, one_more}
 use Rattle.ns_frames.specs.View.{frames_shown, leaving_shown}
-use Rattle.ns_frames.specs.Laws.{parts_ended, is_there}
+use Rattle.ns_frames.specs.Stated.{parts_ended, is_there}
+use Rattle.ns_frames.specs.laws.Counts.{next_apart}
 
 pub delivered_is : (code : CodeProgram) (places : List SourcePlace) (phase : Phase) (value : Value) (one : Stood) (stood : List Stood) (progress : Progress)
     → returns.delivered code phase value (frames_shown code places (one ∷ stood)) progress
@@ -33,12 +34,6 @@ ends_at Method activation home = refl
 ends_at Body activation home = refl
 ends_at (Clause class) activation home = refl
 ends_at Part activation home = refl
-
--- the number of the next instruction has no part in this
-next_apart : (home next : ℕ) (frames : List Frame) → frames_to home (at_next next frames) ≡ frames_to home frames
-next_apart home next [] = refl
-next_apart home next (Running frame ∷ frames) = refl
-next_apart home next (Looping frame ∷ frames) = refl
 
 there_more : (found : Option ℕ) → is_there (one_more found) ≡ is_there found
 there_more None = refl

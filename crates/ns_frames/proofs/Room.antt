@@ -1,5 +1,5 @@
 -- Room for frames.
-use Rattle.std.proofs.Common.{◌≡◌, ℕ, ◌+◌, ◌*◌, ◌<◌, ◌≤◌, List, [], ◌∷◌, length, drop, ap, sym, subst, ◌∙◌, refl, arith, length-take-le, length-drop}
+use Rattle.std.proofs.Common.{◌≡◌, ℕ, ◌+◌, ◌*◌, ◌<◌, ◌≤◌, List, [], ◌∷◌, length, drop, ap, sym, subst, ◌∙◌, arith, length-take-le, length-drop}
 use Rattle.std.proofs.lemmas.List.{length-reverse}
 use Rattle.std.proofs.lemmas.Nat.{mul-le}
 use Rattle.ns_world.specs.declared.value.Value.{Value}
@@ -13,35 +13,13 @@ use Rattle.ns_frames.specs.Standing.{standing, AreLaid, operands_in, below, at_n
 use Rattle.ns_frames.specs.Stack.{in_use, stood, IsLaid, IsEntered}
 use Rattle.ns_frames.specs.Leaving.{with_answer}
 use Rattle.ns_frames.specs.Room.{bound, AreWithin}
-
-within_more : (height : ℕ → ℕ) (greatest filled more : ℕ) (frames : List Frame) → filled ≤ more → AreWithin height greatest filled frames
-    → AreWithin height greatest more frames
-within_more height greatest filled more [] le within = tt
-within_more height greatest filled more (frame ∷ frames) le within =
-    (omega (arith, le, within.0), within.1, within_more height greatest filled more frames le within.2)
-
-within_below : (height : ℕ → ℕ) (greatest filled : ℕ) (frames : List Frame) → AreWithin height greatest filled frames
-    → AreWithin height greatest filled (below frames)
-within_below height greatest filled [] within = tt
-within_below height greatest filled (frame ∷ frames) within = within.2
-
-within_next : (height : ℕ → ℕ) (greatest filled next : ℕ) (frames : List Frame) → AreWithin height greatest filled frames
-    → AreWithin height greatest filled (at_next next frames)
-within_next height greatest filled next [] within = within
-within_next height greatest filled next (Running frame ∷ frames) within = within
-within_next height greatest filled next (Looping frame ∷ frames) within = within
+use Rattle.ns_frames.specs.laws.Room.{bound_next, bound_is, within_more, within_below, within_next, within_answer}
 
 within_state : (height : ℕ → ℕ) (greatest filled : ℕ) (state : KState) (frames : List Frame) → AreWithin height greatest filled frames
     → AreWithin height greatest filled (in_state state frames)
 within_state height greatest filled state [] within = within
 within_state height greatest filled state (Running frame ∷ frames) within = within
 within_state height greatest filled state (Looping frame ∷ frames) within = within
-
-within_answer : (height : ℕ → ℕ) (greatest filled : ℕ) (value : Value) (frames : List Frame) → AreWithin height greatest filled frames
-    → AreWithin height greatest filled (with_answer value frames)
-within_answer height greatest filled value [] within = within
-within_answer height greatest filled value (Running frame ∷ frames) within = within
-within_answer height greatest filled value (Looping frame ∷ frames) within = within
 
 pub others_keep : (height : ℕ → ℕ) (greatest filled more next : ℕ) (state : KState) (value : Value) (frames : List Frame) → filled ≤ more
     → AreWithin height greatest filled frames
@@ -93,10 +71,6 @@ top_within height greatest stack at frame frames laid within is few =
 
 -- ---- a frame that begins
 
-bound_next : (greatest next : ℕ) (frames : List Frame) → bound greatest (at_next next frames) ≡ bound greatest frames
-bound_next greatest next [] = refl
-bound_next greatest next (frame ∷ frames) = refl
-
 pub entering_keeps : (height : ℕ → ℕ) (greatest : ℕ) (old new : Stack) (at to : Registers) (frame : RunningFrame) (locals : List Value) (most : ℕ)
     → IsEntered old at new to frame locals most → AreWithin height greatest (length old.values.items) old.frames.items
     → height frame.activation.body ≤ most → frame.base ≤ bound greatest old.frames.items → frame.operands + most ≤ frame.base + greatest
@@ -110,10 +84,6 @@ entering_keeps height greatest old new at to frame locals most entered within lo
     )
 
 -- ---- the limit on depth
-
-bound_is : (greatest : ℕ) (frames : List Frame) → bound greatest frames ≡ length frames * greatest
-bound_is greatest [] = grind arith
-bound_is greatest (frame ∷ frames) = grind (arith, bound_is greatest frames)
 
 pub depth_gives_room : (greatest depth place size : ℕ) (frames : List Frame) → length frames < depth → place ≤ bound greatest frames → size ≤ greatest
     → place + size ≤ depth * greatest

@@ -3,7 +3,9 @@ pub mod Standing
 pub mod Stack
 pub mod Leaving
 pub mod View
-pub mod Laws
+pub mod Stated
 pub mod Calls
 pub mod Room
 pub mod Arriving
+pub mod lemmas
+pub mod laws

@@ -7,7 +7,7 @@ ghost use Rattle.ns_code.specs.declared.program.CodeProgram.{CodeProgram};
 ghost use Rattle.ns_moves.specs.State.{Phase, State};
 ghost use Rattle.ns_frames.specs.Room.{OneMoreFits, TopIsWithin, EnteringKeeps, DepthGivesRoom, OthersKeep};
 ghost use Rattle.ns_frames.specs.Arriving.{BodiesBegin, PartsBegin, MethodsBegin};
-ghost use Rattle.ns_frames.specs.Laws.{AreTaken, IsPicked, IsDelivered, FindsHome, Unwinds};
+ghost use Rattle.ns_frames.specs.Stated.{AreTaken, IsPicked, IsDelivered, FindsHome, Unwinds};
 
 /// The operands that `Stack::operands`, `pop` and `operand` give are those that an instruction takes off or picks.
 #[tactic(auto, using(crate::proofs::Operands::taken_is, crate::proofs::Operands::picked_is))]

@@ -69,7 +69,7 @@ impl Stack {
 
     /// The topmost operand, and the registers without it.
     #[inline(always)]
-    #[tactic(auto, using(crate::proofs::Taking::popped_stood, crate::proofs::Taking::popped_laid, crate::proofs::Taking::operands_used))]
+    #[tactic(auto, using(crate::proofs::Taking::popped_stood, crate::proofs::Taking::popped_laid, crate::specs::laws::Taking::operands_used))]
     pub fn pop(&self, at: Registers) -> (Value, Registers)
         requires laid { IsLaid self.now at }
         requires some { 1 ≤ length (operands_in (stood self.now at)) }
@@ -83,7 +83,7 @@ impl Stack {
 
     /// So many topmost operands, as they stand; they are taken off by a top that is so much lower.
     #[inline(always)]
-    #[tactic(auto, using(crate::proofs::Taking::taken_stood, crate::proofs::Taking::taken_laid, crate::proofs::Taking::operands_used, crate::proofs::Taking::taken_length))]
+    #[tactic(auto, using(crate::specs::laws::Taking::taken_stood, crate::specs::laws::Taking::taken_laid, crate::specs::laws::Taking::operands_used, crate::specs::laws::Taking::taken_length))]
     pub fn operands(&self, at: Registers, count: u32) -> &[Value]
         requires laid { IsLaid self.now at }
         requires some { count ≤ length (operands_in (stood self.now at)) }
@@ -107,7 +107,7 @@ impl Stack {
 
     /// The operand so many below the topmost.
     #[inline(always)]
-    #[tactic(auto, using(crate::proofs::Taking::picked_stood, crate::proofs::Taking::operands_used))]
+    #[tactic(auto, using(crate::proofs::Taking::picked_stood, crate::specs::laws::Taking::operands_used))]
     pub fn operand(&self, at: Registers, number: u32) -> Value
         requires laid { IsLaid self.now at }
         requires some { number < length (operands_in (stood self.now at)) }

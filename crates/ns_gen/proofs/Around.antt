@@ -10,7 +10,7 @@ use Rattle.ns_meant.specs.Program as m
 use Rattle.ns_meant.specs.Tables.{class_code, names_of, kind_of}
 use Rattle.ns_meant.specs.There as t
 use Rattle.ns_gen.specs.Code.{body_code, code_of}
-use Rattle.ns_gen.specs.Laws.{first_text}
+use Rattle.ns_gen.specs.Stated.{first_text}
 use Rattle.ns_gen.proofs.BodyAt.{body_of_code}
 
 -- the code of a class or body that is there

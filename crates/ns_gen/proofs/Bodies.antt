@@ -17,7 +17,7 @@ use Rattle.ns_meant.specs.There as t
 use Rattle.ns_gen.specs.Code.{Line, instr_of, body_lines, body_code, code_of}
 use Rattle.ns_gen.specs.Sizes.{size_fault, most, is_too_long, is_too_high}
 use Rattle.ns_gen.specs.declared.size.SizeKind.TheVariants.{Names, Bodies, Code, Height}
-use Rattle.ns_gen.specs.Laws.{Ends, first_text}
+use Rattle.ns_gen.specs.Stated.{Ends, first_text}
 use Rattle.ns_gen.proofs.Around.{coded, body_there, parent_around}
 use Rattle.ns_gen.proofs.BodyAt.{body_of_code}
 use Rattle.ns_gen.proofs.Causes.{HomesAre}

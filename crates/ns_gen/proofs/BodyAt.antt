@@ -6,7 +6,7 @@ use Rattle.std.proofs.lemmas.Option.{same_Some}
 use Rattle.ns_meant.specs.Program as m
 use Rattle.ns_meant.specs.Tables.{body_texts, texts_of, names_of}
 use Rattle.ns_gen.specs.Code.{body_code, bodies_code, code_of}
-use Rattle.ns_gen.specs.Laws.{TextsStand, first_text}
+use Rattle.ns_gen.specs.Stated.{TextsStand, first_text}
 
 pub code_at : (names : List (List ℕ)) (bodies : List m.Body) (n k : ℕ) →
     slice_get (bodies_code names k bodies) n ≡ option_map (body_code names (k + first_text bodies n)) (slice_get bodies n)

@@ -5,7 +5,7 @@ use Rattle.ns_meant.specs.Program as m
 use Rattle.ns_meant.specs.Tables.{node_texts, nodes_texts}
 use Rattle.ns_gen.specs.Code.{Line, does, symbol, sends, starts, plain, inner, private_at, super, how_many, set_lines, node_lines, nodes_lines}
 use Rattle.ns_gen.specs.Code.{messages_lines, locals_lines, slots_lines, method_lines, block_lines, expressions_lines, body_lines}
-use Rattle.ns_gen.specs.Laws.{Ends}
+use Rattle.ns_gen.specs.Stated.{Ends}
 
 more : (line : Line) (lines : List Line) → Ends lines → Ends (line ∷ lines)
 more line [] e = absurd e

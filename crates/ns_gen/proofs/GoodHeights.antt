@@ -9,7 +9,7 @@ use Rattle.ns_code.specs.Table.{takes, target, goes_on, height_after, ends_wrong
 use Rattle.ns_verify.specs.Heights.{Pass, begin, next, known_at, height_at, give_target, with_own, falls_apart, jumps_apart, known_beside, differs}
 use Rattle.ns_meant.specs.Program as m
 use Rattle.ns_gen.specs.Code.{height_before_next, body_code}
-use Rattle.ns_gen.specs.Laws.{FindsOperands, Within, HaveGoodHeights}
+use Rattle.ns_gen.specs.Stated.{FindsOperands, Within, HaveGoodHeights}
 use Rattle.ns_gen.proofs.Heights.{body_finds}
 use Rattle.ns_gen.proofs.WithinGreatest.{within_greatest}
 

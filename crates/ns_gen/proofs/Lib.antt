@@ -1,5 +1,3 @@
-pub mod GoesOn
-pub mod InOrder
 pub mod TextsInOrder
 pub mod OneProgram
 pub mod Heights

@@ -1,40 +1,20 @@
 -- The names of a program's classes and bodies have numbers, and their numbers have their texts.
-use Rattle.std.proofs.Common.{◌≡◌, ◌<◌, ℕ, zero, suc, List, [], ◌∷◌, length, refl, sym, ap, ◌∙◌, subst, arith}
-use Rattle.std.specs.Prelude.{◌-◌, ◌||◌, Bool, true, false, cond, Option, Some, None, slice_get, flat_map, nat_lt, if◌then◌else◌}
-use Rattle.std.specs.List.{slice_index_or, find}
-use Rattle.std.specs.Str.{bytes_eq}
-use Rattle.std.proofs.lemmas.List.Folds.{find_at}
-use Rattle.std.proofs.lemmas.Slice.Eq.{bytes_eq-Decides}
-use Rattle.std.proofs.lemmas.Option.{same_Some, get_or_from_slice_get, slice_get_within}
+use Rattle.std.proofs.Common.{◌≡◌, ◌<◌, ℕ, zero, suc, List, [], ◌∷◌, length, ap, ◌∙◌, subst, arith}
+use Rattle.std.specs.Prelude.{◌-◌, true, Some, None, slice_get, flat_map, nat_lt, if◌then◌else◌}
+use Rattle.std.specs.List.{slice_index_or}
+use Rattle.std.proofs.lemmas.Option.{same_Some, get_or_from_slice_get}
 use Rattle.ns_base.specs.Names.{has, place_of}
 use Rattle.ns_code.specs.Selector.{text_arity, selector_text, selector_arity, own_text_at}
 use Rattle.ns_code.specs.Soundness.{is_name, name_text}
 use Rattle.ns_meant.specs.Program as m
 use Rattle.ns_meant.specs.Tables.{class_names, body_names, used_names, names_of, sel_of}
+use Rattle.ns_meant.specs.laws.Places.{name_at_place, place_below}
 use Rattle.ns_gen.specs.Code.{code_of}
-use Rattle.ns_gen.specs.Laws.{AreThere}
-use Rattle.ns_gen.proofs.NamesThere.{all_there, left_there, right_there}
+use Rattle.ns_gen.specs.Stated.{AreThere}
+use Rattle.ns_gen.specs.laws.Names.{all_there, left_there, right_there}
 
 less : (a b : ℕ) → a < b → nat_lt a b ≡ true
 less a b h = grind (arith, h)
-
--- ---- a name that is there stands at its place
-
-found_step : (b : Bool) (name other : List ℕ) (rest : Bool) (further : Option (List ℕ)) → (b ≡ true → name ≡ other) →
-    (rest ≡ true → further ≡ Some name) → (b || rest) ≡ true → cond b (Some other) further ≡ Some name
-found_step true name other rest further same later h = ap Some (sym (same refl))
-found_step false name other rest further same later h = later h
-
-found : (table : List (List ℕ)) (name : List ℕ) → has table name ≡ true → find (bytes_eq name) table ≡ Some name
-found [] name h = absurd (let f : false ≡ true = h in cc)
-found (other ∷ table) name h =
-    found_step (bytes_eq name other) name other (has table name) (find (bytes_eq name) table) (bytes_eq-Decides name other).0 (found table name) h
-
-name_at_place : (table : List (List ℕ)) (name : List ℕ) → has table name ≡ true → slice_get table (place_of table name) ≡ Some name
-name_at_place table name h = sym (find_at (bytes_eq name) table) ∙ found table name h
-
-place_below : (table : List (List ℕ)) (name : List ℕ) → has table name ≡ true → place_of table name < length table
-place_below table name h = slice_get_within table (place_of table name) name (name_at_place table name h)
 
 -- ---- the names of a class's record
 

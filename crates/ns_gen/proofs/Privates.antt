@@ -19,9 +19,9 @@ use Rattle.ns_meant.specs.Program as m
 use Rattle.ns_meant.specs.Tables.{class_names, class_code, slot_code, nested_code, method_code, access_number, side_number, names_of}
 use Rattle.ns_meant.specs.There as t
 use Rattle.ns_gen.specs.Code.{code_of}
-use Rattle.ns_gen.specs.Laws.{AreThere}
-use Rattle.ns_gen.proofs.NamesThere.{left_there, right_there}
+use Rattle.ns_gen.specs.Stated.{AreThere}
 use Rattle.ns_gen.proofs.Named.{text_named, class_named}
+use Rattle.ns_gen.specs.laws.Names.{left_there, right_there}
 
 private_same : (access : Access) → (access_number access == private_access) ≡ is_private access
 private_same a.Public = refl

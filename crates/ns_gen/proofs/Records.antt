@@ -18,7 +18,7 @@ use Rattle.ns_meant.specs.Tables.{slot_code, nested_code, method_code, side_numb
 use Rattle.ns_meant.specs.There.{slot_selectors, nested_names}
 use Rattle.ns_meant.specs.Right as r
 use Rattle.ns_gen.specs.Code.{code_of}
-use Rattle.ns_gen.specs.Laws.{AreThere}
+use Rattle.ns_gen.specs.Stated.{AreThere}
 use Rattle.ns_gen.proofs.Around.{class_there, body_there}
 use Rattle.ns_gen.proofs.Named.{text_named, is_named, arity_named}
 use Rattle.ns_gen.proofs.Privates.{slot_same, text_step, nested_one}

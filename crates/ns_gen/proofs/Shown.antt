@@ -4,7 +4,7 @@ use Rattle.std.specs.Prelude.{true, false, Some, None, ◌==◌, if◌then◌els
 use Rattle.ns_base.specs.declared.place.Place.{Place}
 use Rattle.ns_code.specs.declared.instruction.Instr.{Instr}
 use Rattle.ns_gen.specs.Code.{Line, does, symbol, sends, starts, instr_of, places_from}
-use Rattle.ns_gen.specs.Laws.{shown, place_in, placed}
+use Rattle.ns_gen.specs.Stated.{shown, place_in, placed}
 
 other : (n k : ℕ) → n < k → (n == k) ≡ false
 other n k h = grind (arith, h)

@@ -15,14 +15,14 @@ use Rattle.ns_meant.specs.Tables.{class_names, class_code, names_of, kind_of, si
 use Rattle.ns_meant.specs.Right as r
 use Rattle.ns_gen.specs.Code.{code_of}
 use Rattle.ns_gen.specs.Sizes.{size_fault}
-use Rattle.ns_gen.specs.Laws.{AreThere}
-use Rattle.ns_gen.proofs.NamesThere.{left_there, right_there}
+use Rattle.ns_gen.specs.Stated.{AreThere}
 use Rattle.ns_gen.proofs.Named.{class_named, is_named}
 use Rattle.ns_gen.proofs.Privates.{three}
 use Rattle.ns_gen.proofs.Causes.{HomesAre}
 use Rattle.ns_gen.proofs.Bodies.{bodies_unfaulted}
 use Rattle.ns_gen.proofs.Records.{both, neither, less, body_is, params_named, methods_there, clause_there, place_right, nested_there, identifier}
 use Rattle.ns_gen.proofs.Records.{slots_all, methods_all, nested_all, slots_named, methods_named, equal}
+use Rattle.ns_gen.specs.laws.Names.{left_there, right_there}
 
 -- the names of the members of a class, in three parts
 abbrev slot_names : m.Declaration → List (List ℕ)

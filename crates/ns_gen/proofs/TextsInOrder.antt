@@ -5,7 +5,7 @@ use Rattle.ns_code.specs.declared.instruction.Instr.TheVariants as i
 use Rattle.ns_meant.specs.Program as m
 use Rattle.ns_meant.specs.Tables.{node_texts, nodes_texts, messages_texts}
 use Rattle.ns_gen.specs.Code.{Line, does, sends, plain, inner, private_at, super, how_many, set_lines, node_lines, nodes_lines, messages_lines}
-use Rattle.ns_gen.specs.Laws.{line_texts, numbers_from, TextsInOrder}
+use Rattle.ns_gen.specs.Stated.{line_texts, numbers_from, TextsInOrder}
 
 -- the texts that lines push
 abbrev pub pushed : List Line → List ℕ

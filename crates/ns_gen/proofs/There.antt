@@ -6,7 +6,7 @@ use Rattle.ns_meant.specs.Program as m
 use Rattle.ns_meant.specs.Tables.{body_texts, texts_of, kind_of}
 use Rattle.ns_meant.specs.There.{IsThere, IsRightBody}
 use Rattle.ns_gen.specs.Code.{body_lines}
-use Rattle.ns_gen.specs.Laws.{first_text}
+use Rattle.ns_gen.specs.Stated.{first_text}
 use Rattle.ns_gen.specs.Uses.{LinesHave}
 use Rattle.ns_gen.proofs.Uses.{body_has}
 

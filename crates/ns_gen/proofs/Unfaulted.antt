@@ -22,7 +22,7 @@ use Rattle.ns_meant.specs.Program as m
 use Rattle.ns_meant.specs.Tables.{names_of, texts_of, kind_of}
 use Rattle.ns_meant.specs.There as t
 use Rattle.ns_gen.specs.Code.{Line, Way, does, symbol, sends, starts, plain, inner, private_at, super, instr_of, send_instr, code_of}
-use Rattle.ns_gen.specs.Laws.{AreThere, FindsOperands, HaveGoodHeights, Ends, line_names}
+use Rattle.ns_gen.specs.Stated.{AreThere, FindsOperands, HaveGoodHeights, Ends, line_names}
 use Rattle.ns_gen.specs.Uses.{InstrHas, WayHas, LinesHave}
 use Rattle.ns_gen.proofs.Around.{coded}
 use Rattle.ns_gen.proofs.Causes.{HomesAre, no_local, no_level, block_there, good_send, good_start, slot_there, private_there, home_is_method}

@@ -7,22 +7,22 @@ ghost use Rattle.ns_meant.specs.Program.{Meant, Body, Does, Node};
 ghost use Rattle.ns_meant.specs.Tables.{body_names, body_texts, names_of, texts_of, kind_of};
 ghost use Rattle.ns_meant.specs.There.{IsThere, IsRightBody, AreRightBodies};
 ghost use Rattle.ns_gen.specs.Code.{Line, instr_of, places_from, body_lines, greatest_height, body_code, code_of};
-ghost use Rattle.ns_gen.specs.Laws.{GoOn, NamesInOrder, TextsInOrder, OneProgram, TextsStand, AreThere, LinesFind, Within, HaveGoodHeights, Ends};
-ghost use Rattle.ns_gen.specs.Laws.{line_names, first_text, placed, shown};
+ghost use Rattle.ns_gen.specs.Stated.{GoOn, NamesInOrder, TextsInOrder, OneProgram, TextsStand, AreThere, LinesFind, Within, HaveGoodHeights, Ends};
+ghost use Rattle.ns_gen.specs.Stated.{line_names, first_text, placed, shown};
 ghost use Rattle.ns_gen.specs.Uses.{LinesHave};
 ghost use Rattle.ns_gen.specs.Sizes.{size_fault};
 ghost use Rattle.ns_verify.specs.Verify.{bodies_fault, first_class_fault, IsSound};
 ghost use Rattle.ns_meant.specs.Right.{IsRight};
 
 /// The lines of an expression stand before what follows, whatever that is.
-#[tactic(auto, using(crate::proofs::GoesOn::node_goes_on))]
+#[tactic(auto, using(crate::specs::laws::GoesOn::node_goes_on))]
 pub fn lines_go_on()
     ensures { (node : Node) → GoOn node }
 {}
 
 /// The lines of an expression name its selectors, and push its literal texts, in the order in which
 /// the walks over expressions meet them; so do those of a body.
-#[tactic(auto, using(crate::proofs::InOrder::node_in_order, crate::proofs::TextsInOrder::texts_in_order, crate::proofs::NamesThere::body_used))]
+#[tactic(auto, using(crate::specs::lemmas::InOrder::node_in_order, crate::proofs::TextsInOrder::texts_in_order, crate::specs::laws::Names::body_used))]
 pub fn names_and_texts_stand_in_order()
     ensures names { (node : Node) → NamesInOrder node }
     ensures texts { (node : Node) → TextsInOrder node }

@@ -1,7 +1,6 @@
 -- Bodies in turn are the code of all, in the tables that are there in the end.
 use Rattle.std.proofs.Common.{◌≡◌, ◌∙◌, ℕ, ◌+◌, List, [], ◌∷◌, ◌++◌, length, refl, sym, ap, append-nil, append_assoc, length-append}
 use Rattle.std.specs.Prelude.{flat_map}
-use Rattle.ns_base.specs.Names.{put_in}
 use Rattle.ns_code.specs.declared.body.BodyCode.{BodyCode}
 use Rattle.ns_meant.specs.Program as m
 use Rattle.ns_meant.specs.Tables.{put_all, body_names, body_texts}
@@ -10,12 +9,9 @@ use Rattle.ns_bodies.specs.Coding.{Coded, with_finished, with_bodies}
 use Rattle.ns_bodies.specs.Finishing.{finished}
 use Rattle.ns_bodies.specs.declared.finish.Finished.{Finished}
 use Rattle.ns_bodies.specs.declared.finish.Finished.TheVariants.{Fits, TooLarge}
+use Rattle.ns_write.specs.laws.Composing.{put_more}
 use Rattle.ns_generate.specs.Sizes.{put_codes}
 use Rattle.ns_generate.proofs.Stable.{code_stays}
-
-pub put_more : (names more table : List (List ℕ)) → put_all table (names ++ more) ≡ put_all (put_all table names) more
-put_more [] more table = refl
-put_more (name ∷ names) more table = put_more names more (put_in table name)
 
 -- with these tables
 abbrev pub with_tables : List (List ℕ) → List (List ℕ) → Coded → Coded

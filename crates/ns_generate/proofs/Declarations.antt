@@ -1,17 +1,17 @@
 -- The parts of a class, and of what stands in it.
 use Rattle.std.proofs.Common.{◌≡◌, ◌∙◌, ℕ, ◌+◌, List, [], ◌∷◌, ◌++◌, length, ap, refl, sym, length-append, arith}
-use Rattle.std.specs.Prelude.{Option, Some, None, option_map, true, false}
+use Rattle.std.specs.Prelude.{Option, Some, None, option_map}
 use Rattle.std.specs.Option.{option_map_or}
 use Rattle.ns_tree.specs.declared.tree.Class.{Class, out-Class}
 use Rattle.ns_tree.specs.declared.tree.Method.{Method}
 use Rattle.ns_tree.specs.PlainOf.{class_of, method_of, bars_of, statements_of, clause_of, pattern_of, side_of, class_side_of}
 use Rattle.ns_tree.specs.Plain as p
-use Rattle.ns_tree.proofs.Nodes.{class_out}
+use Rattle.ns_tree.specs.laws.Nodes.{class_out}
 use Rattle.ns_scope.specs.declared.scope.ClassScope.{ClassScope}
 use Rattle.ns_scope.specs.declared.scope.Scope.{Scope}
 use Rattle.ns_scope.specs.declared.scope.CodeSide.{CodeSide}
 use Rattle.ns_scope.specs.declared.scope.CodeSide.TheVariants as side
-use Rattle.ns_scope.specs.Scopes.{class_scope, clause_scope, initialiser_scope, method_scope, is_outside}
+use Rattle.ns_scope.specs.Scopes.{class_scope, clause_scope, initialiser_scope, method_scope}
 use Rattle.ns_scope.specs.Bodies as b
 use Rattle.ns_meant.specs.Program as m
 use Rattle.ns_meant.specs.Expressions as e
@@ -104,18 +104,6 @@ own_put around number next n1 n2 class s0 s1 s2 s3 one e1 two e2 three =
     behind ∙ ap (with_bodies (methods m1 ++ class_methods m2)) one ∙ sym (with_more start (methods m1 ++ class_methods m2) s0)
     ∙ ap (λ all. with_bodies all s0) parts
 
-pub own_number : (classes : List ClassScope) (next n1 n2 last : ℕ) (class : Class) → n1 ≡ next + length (b.initialiser_bodies classes (class_of class)) →
-    n2 ≡ n1 + length (b.side_bodies classes side.Instance (side_of (out-Class class).side)) →
-    last ≡ n2 + length (b.class_side_bodies classes (class_side_of (out-Class class).class_side)) → last ≡ next + length (b.own_bodies classes (class_of class))
-own_number classes next n1 n2 last class e1 e2 e3 =
-    let start = b.initialiser_bodies classes (class_of class) in
-    let methods = b.side_bodies classes side.Instance (side_of (out-Class class).side) in
-    let others = b.class_side_bodies classes (class_side_of (out-Class class).class_side) in
-    let parts : start ++ (methods ++ others) ≡ b.own_bodies classes (class_of class) = rw (class_out class) refl in
-    let whole : last ≡ next + length (start ++ (methods ++ others)) =
-    omega (e1, e2, e3, length-append start (methods ++ others), length-append methods others, arith) in
-    whole ∙ ap (λ all. next + length all) parts
-
 -- ---- an initialiser
 
 pub start_put : (around : c.Around) (number next next' : ℕ) (class : Class) (scope : Scope) (s0 s1 s2 : Coded) →
@@ -159,14 +147,6 @@ inner_put here next next' clause bars body s0 s1 s2 one behind two =
     both_put (c.super_bodies here next clause) (λ n. routine_inside here n bars body) (next + length (b.super_blocks here.scope clause)) next' s0 s1 s2 one behind two
 
 -- ---- clauses
-
-pub none_outside : (classes : List ClassScope) (clause : p.SuperClause) → is_outside classes ≡ true → length (b.clause_bodies classes (Some clause)) ≡ 0
-none_outside [] clause h = refl
-none_outside (class ∷ outer) clause h = absurd (let f : false ≡ true = h in cc)
-
-pub one_inside : (classes : List ClassScope) (clause : p.SuperClause) → is_outside classes ≡ false → length (b.clause_bodies classes (Some clause)) ≡ 1
-one_inside [] clause h = absurd (let f : true ≡ false = h in cc)
-one_inside (class ∷ outer) clause h = refl
 
 -- ---- methods
 

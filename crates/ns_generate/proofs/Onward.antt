@@ -1,7 +1,6 @@
 -- Bodies that are put in turn.
-use Rattle.std.proofs.Common.{◌≡◌, ◌<◌, ℕ, ◌+◌, List, [], ◌∷◌, ◌++◌, length, drop, get_or, refl, sym, ap, ◌∙◌, length-append, arith}
+use Rattle.std.proofs.Common.{◌≡◌, ◌<◌, ℕ, ◌+◌, List, [], ◌∷◌, ◌++◌, length, drop, get_or, refl, sym, ap, ◌∙◌}
 use Rattle.std.proofs.lemmas.List.{drop_more}
-use Rattle.ns_scope.specs.declared.scope.Scope.{Scope}
 use Rattle.ns_meant.specs.Program as m
 use Rattle.ns_bodies.specs.Coding.{Coded, with_one, with_bodies}
 
@@ -14,10 +13,6 @@ pub both_put : (first : List m.Body) (second : ℕ → List m.Body) (next next' 
     s1 ≡ with_bodies first s0 → next' ≡ next → s2 ≡ with_bodies (second next') s1 → s2 ≡ with_bodies (first ++ second next) s0
 both_put first second next next' s0 s1 s2 one number two =
     two ∙ ap (λ n. with_bodies (second n) s1) number ∙ ap (with_bodies (second next)) one ∙ sym (with_more first (second next) s0)
-
--- the number behind two parts
-pub behind_both : (x y : List Scope) (next middle last : ℕ) → middle ≡ next + length x → last ≡ middle + length y → last ≡ next + length (x ++ y)
-behind_both x y next middle last e f = omega (e, f, length-append x y, arith)
 
 -- ---- one of a list, and those behind it
 
@@ -36,16 +31,6 @@ loop_put one count rest parts next next' k items item s0 s1 whole within is befo
     ∙ ap (λ all. with_bodies (rest next all) s0) (sym here)
     ∙ before
 
-pub loop_number : {A : Type 0} (one : A → List Scope) (rest : List A → List Scope) → ((x : A) (xs : List A) → rest (x ∷ xs) ≡ one x ++ rest xs) →
-    (next next' k last : ℕ) (items : List A) (item : A) → k < length items → item ≡ get_or items k item →
-    next + length (rest (drop k items)) ≡ last → next' ≡ next + length (one item) → next' + length (rest (drop (k + 1) items)) ≡ last
-loop_number one rest parts next next' k last items item within is before number =
-    let left = drop (k + 1) items in
-    let here : drop k items ≡ item ∷ left = drop_more items k item within ∙ ap (λ x. x ∷ left) (sym is) in
-    let e : next + length (one item ++ rest left) ≡ last =
-    ap (λ all. next + length all) (sym (parts item left)) ∙ ap (λ all. next + length (rest all)) (sym here) ∙ before in
-    omega (e, number, length-append (one item) (rest left), arith)
-
 -- ---- the same, where classes are numbered too
 
 pub loop_put_numbered : {A : Type 0} (one : ℕ → ℕ → A → List m.Body) (classes count : A → ℕ) (rest : ℕ → ℕ → List A → List m.Body) →
@@ -63,12 +48,3 @@ loop_put_numbered one classes count rest parts number number' next next' k items
     ∙ ap (λ all. with_bodies all s0) (sym (parts number next item left))
     ∙ ap (λ all. with_bodies (rest number next all) s0) (sym here)
     ∙ before
-
-pub loop_count : {A : Type 0} (one : A → ℕ) (rest : List A → ℕ) → ((x : A) (xs : List A) → rest (x ∷ xs) ≡ one x + rest xs) →
-    (number number' k last : ℕ) (items : List A) (item : A) → k < length items → item ≡ get_or items k item →
-    number + rest (drop k items) ≡ last → number' ≡ number + one item → number' + rest (drop (k + 1) items) ≡ last
-loop_count one rest parts number number' k last items item within is before put =
-    let left = drop (k + 1) items in
-    let here : drop k items ≡ item ∷ left = drop_more items k item within ∙ ap (λ x. x ∷ left) (sym is) in
-    let e : number + (one item + rest left) ≡ last = ap (number +◌) (sym (parts item left)) ∙ ap (λ all. number + rest all) (sym here) ∙ before in
-    omega (e, put, arith)

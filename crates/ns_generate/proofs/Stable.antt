@@ -1,33 +1,20 @@
 -- The code of a body is the same in a table of names that has grown.
-use Rattle.std.proofs.Common.{◌≡◌, ◌∙◌, ℕ, List, [], ◌∷◌, ◌++◌, refl, sym, ap, subst}
+use Rattle.std.proofs.Common.{◌≡◌, ◌∙◌, ℕ, List, [], ◌∷◌, refl, sym, ap, subst}
 use Rattle.std.specs.Prelude.{flat_map, map, true}
-use Rattle.ns_base.specs.Names.{has, put_in}
+use Rattle.ns_base.specs.Names.{has}
 use Rattle.ns_base.specs.declared.selector.Sel.{Sel}
 use Rattle.ns_code.specs.declared.body.BodyCode.{BodyCode}
 use Rattle.ns_code.specs.declared.instruction.Instr.{Instr}
 use Rattle.ns_code.specs.declared.instruction.Instr.TheVariants as i
 use Rattle.ns_meant.specs.Program as m
 use Rattle.ns_meant.specs.Tables.{put_all, sel_of, body_names, body_head}
-use Rattle.ns_meant.proofs.Places.{has_put, has_stands_all, place_stands_all}
+use Rattle.ns_meant.specs.laws.Places.{place_stands_all}
 use Rattle.ns_gen.specs.Code.{Line, does, symbol, sends, starts, plain, inner, private_at, super, instr_of, greatest_height, places_from, body_lines, body_code}
-use Rattle.ns_gen.specs.Laws.{AreThere, line_names}
-use Rattle.ns_gen.proofs.NamesThere.{body_used}
-
--- names that were put stand in the table
-pub all_there : (names table : List (List ℕ)) → AreThere (put_all table names) names
-all_there [] table = tt
-all_there (name ∷ names) table = (has_stands_all names (put_in table name) name (has_put table name), all_there names (put_in table name))
+use Rattle.ns_gen.specs.Stated.{AreThere, line_names}
+use Rattle.ns_gen.specs.laws.Names.{body_used, all_there, left_there, right_there}
 
 sel_stays : (table more : List (List ℕ)) (name : List ℕ) → has table name ≡ true → sel_of (put_all table more) name ≡ sel_of table name
 sel_stays table more name h = ap (λ n. (let s : Sel = record { 0 = n } in s)) (place_stands_all more table name h)
-
-there_left : (table first second : List (List ℕ)) → AreThere table (first ++ second) → AreThere table first
-there_left table [] second h = tt
-there_left table (name ∷ first) second h = (h.0, there_left table first second h.1)
-
-there_right : (table first second : List (List ℕ)) → AreThere table (first ++ second) → AreThere table second
-there_right table [] second h = h
-there_right table (name ∷ first) second h = there_right table first second h.1
 
 line_stays : (table more : List (List ℕ)) (line : Line) → AreThere table (line_names line) → instr_of (put_all table more) line ≡ instr_of table line
 line_stays table more (does instr) h = refl
@@ -43,8 +30,8 @@ lines_stay : (table more : List (List ℕ)) (lines : List Line) → AreThere tab
 lines_stay table more [] h = refl
 lines_stay table more (line ∷ lines) h =
     ap (λ instr. instr ∷ map (instr_of (put_all table more)) lines)
-    (line_stays table more line (there_left table (line_names line) (flat_map line_names lines) h))
-    ∙ ap (instr_of table line ∷◌) (lines_stay table more lines (there_right table (line_names line) (flat_map line_names lines) h))
+    (line_stays table more line (left_there table (line_names line) (flat_map line_names lines) h))
+    ∙ ap (instr_of table line ∷◌) (lines_stay table more lines (right_there table (line_names line) (flat_map line_names lines) h))
 
 abbrev pub code_with : BodyCode → List Line → List Instr → BodyCode
 code_with head lines instrs = record head { height = greatest_height 0 instrs; instrs = instrs; places = places_from 0 lines }

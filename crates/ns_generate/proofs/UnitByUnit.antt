@@ -2,19 +2,15 @@
 use Rattle.std.proofs.Common.{◌≡◌, ◌<◌, ◌∙◌, ℕ, ◌+◌, List, [], ◌∷◌, ◌++◌, length, drop, get_or, ap, sym, length-append, arith}
 use Rattle.std.specs.Prelude.{map, slice_get, Some}
 use Rattle.std.proofs.lemmas.List.{drop_more}
-use Rattle.std.proofs.lemmas.Option.{slice_get_within, get_or_from_slice_get}
 use Rattle.ns_base.specs.declared.place.Place.{Place}
 use Rattle.ns_tree.specs.declared.tree.Unit as u
 use Rattle.ns_tree.specs.PlainOf.{unit_of, class_of}
 use Rattle.ns_scope.specs.Bodies as b
 use Rattle.ns_meant.specs.Classes as c
-use Rattle.ns_meant.proofs.Counting.{class_counted}
+use Rattle.ns_meant.specs.laws.Counting.{class_counted}
 use Rattle.ns_bodies.specs.Coding.{Coded, with_bodies}
+use Rattle.ns_records.specs.laws.Places.{places_left}
 use Rattle.ns_generate.proofs.Onward.{with_more}
-
-pub places_left : (marks : List (List Place)) (k : ℕ) (places : List Place) → slice_get marks k ≡ Some places → drop k marks ≡ places ∷ drop (k + 1) marks
-places_left marks k places h =
-    drop_more marks k places (slice_get_within marks k places h) ∙ ap (λ p. p ∷ drop (k + 1) marks) (get_or_from_slice_get marks k places places h)
 
 pub unit_put : (number number' next next' k : ℕ) (units : List u.Unit) (unit : u.Unit) (marks : List (List Place)) (places : List Place) (s0 s1 whole : Coded) →
     k < length units → unit ≡ get_or units k unit → slice_get marks k ≡ Some places →

@@ -22,7 +22,7 @@ use Rattle.ns_terminal.specs.laws.TakesTokens.{takes_skip, takes_name, takes_str
 use Rattle.ns_phrase.specs.Expressions as x
 use Rattle.ns_phrase.specs.laws.TakesPhrases.{takes_oper, takes_key, takes_cascaded, takes_expr, takes_slot, takes_statement}
 use Rattle.ns_parse.specs.Classes as c
-use Rattle.ns_parse.proofs.TakesClasses.{takes_member}
+use Rattle.ns_parse.specs.laws.TakesClasses.{takes_member}
 use Rattle.ns_grammar.proofs.Alike.{Moved, Alike, Same, alike_nothing, same_none, same_never, same_one, same_mapped, same_both, same_after, same_inside, same_until, same_placed, same_or, same_maybe, same_less, same_at_none, same_before_none, same_many, same_listed, same_labelled}
 
 -- ---- marks

@@ -8,14 +8,14 @@ use Rattle.ns_tree.specs.Flat.{flat}
 use Rattle.ns_tree.specs.Grammar as g
 use Rattle.ns_tree.specs.Plain as p
 use Rattle.ns_tree.specs.Tree.{AllHaveText, Tree, Spells, Front, BeginsTree}
-use Rattle.ns_tree.proofs.FileFlats.{file_same}
-use Rattle.ns_tree.proofs.Fronts.{Behind, split, told_front}
-use Rattle.ns_tree.proofs.TreeFronts.{fronts_begin_trees}
+use Rattle.ns_tree.specs.laws.FileFlats.{file_same}
+use Rattle.ns_tree.specs.laws.Fronts.{Behind, split, told_front}
+use Rattle.ns_tree.specs.laws.TreeFronts.{fronts_begin_trees}
 use Rattle.ns_terminal.specs.declared.fault.ParseFault.TheVariants.{Syntax}
 use Rattle.ns_terminal.specs.Read.{Outcome, got, fault}
 use Rattle.ns_terminal.specs.laws.Sound.{Took, Spelled}
 use Rattle.ns_parse.specs.Parse as x
-use Rattle.ns_parse.proofs.SoundFile.{parse_spelled}
+use Rattle.ns_parse.specs.laws.SoundFile.{parse_spelled}
 use Rattle.ns_grammar.specs.Places.{Stuck, StopsAt}
 use Rattle.ns_grammar.proofs.Halts.{Fault, Stopped}
 use Rattle.ns_grammar.proofs.HaltsClasses.{halts_file}

@@ -5,7 +5,7 @@ use Rattle.ns_tree.specs.declared.token.Kind.{Kind}
 use Rattle.ns_tree.specs.Flat.{flat}
 use Rattle.ns_tree.specs.Plain as p
 use Rattle.ns_tree.specs.Tree.{BeginsTree}
-use Rattle.ns_tree.proofs.TreeFronts.{fronts_begin_trees}
+use Rattle.ns_tree.specs.laws.TreeFronts.{fronts_begin_trees}
 use Rattle.ns_terminal.specs.Read.{Outcome, got, fault}
 use Rattle.ns_parse.specs.Classes as readers
 use Rattle.ns_parse.specs.Parse as x

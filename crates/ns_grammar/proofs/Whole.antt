@@ -8,11 +8,11 @@ use Rattle.ns_tree.specs.Flat.{flat}
 use Rattle.ns_tree.specs.Grammar as g
 use Rattle.ns_tree.specs.Plain as p
 use Rattle.ns_tree.specs.Tree.{AllHaveText, Tree, Spells}
-use Rattle.ns_tree.proofs.FileFlats.{file_same}
+use Rattle.ns_tree.specs.laws.FileFlats.{file_same}
 use Rattle.ns_terminal.specs.Read.{Outcome, got}
 use Rattle.ns_parse.specs.Classes as readers
 use Rattle.ns_parse.specs.Parse as x
-use Rattle.ns_parse.proofs.SoundFile.{parse_spelled}
+use Rattle.ns_parse.specs.laws.SoundFile.{parse_spelled}
 use Rattle.ns_grammar.proofs.FullClasses.{full_file}
 
 -- The reader of a file that knows enough levels reads the tokens of a tree to their end.

@@ -12,7 +12,7 @@ use Rattle.ns_world.specs.World.{World, WorldView, IsWithin, made}
 use Rattle.ns_kdata.specs.Outcome.{Gives, making}
 use Rattle.ns_kdata.specs.Arguments.{IsThere, bytes_of}
 use Rattle.ns_kdata.specs.Texts.{filled, MakesText}
-use Rattle.ns_world.proofs.Changing.{found_new}
+use Rattle.ns_world.specs.laws.Changing.{found_new}
 use Rattle.std.proofs.lemmas.Bool.{lt-leb}
 use Rattle.ns_kdata.proofs.Filling.{with_cells, fills}
 use Rattle.ns_kdata.proofs.Parts.{text_in_more, there_in_more, not_next_cell}

@@ -7,8 +7,8 @@ use Rattle.ns_world.specs.declared.value.Value.TheVariants.{Nil, True, False, In
 use Rattle.ns_world.specs.Cell.{Cell, ObjectCell, ClassCell, BlockCell, EnvironmentCell, ArrayCell, TextCell, FacetCell, MirrorCell, MessageCell, cell_size, cell_bytes}
 use Rattle.ns_world.specs.Heap.{Heap, heap_size, find_cell, bytes_at, write_byte}
 use Rattle.ns_world.specs.World.{World, WorldView, IsWithin}
-use Rattle.ns_world.proofs.Standing.{stands-within}
-use Rattle.ns_world.proofs.Chains.{found_below, found_in_more}
+use Rattle.ns_world.specs.laws.Standing.{stands-within}
+use Rattle.ns_world.specs.laws.Chains.{found_below, found_in_more}
 use Rattle.ns_kdata.specs.declared.arguments.Part.{Part}
 use Rattle.ns_kdata.specs.Arguments.{IsThere, bytes_of}
 use Rattle.ns_kdata.specs.Texts.{filled, bytes_in}

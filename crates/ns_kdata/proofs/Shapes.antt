@@ -1,11 +1,11 @@
 -- What a shape tells of its cell.
-use Rattle.std.proofs.Common.{◌≡◌, ℕ, ◌<◌, [], length, refl, Option, Some, None, arith}
+use Rattle.std.proofs.Common.{◌≡◌, [], length, refl, Option, Some, None}
 use Rattle.std.specs.Option.{option_map_or}
 use Rattle.ns_world.specs.declared.value.Value.{Value}
 use Rattle.ns_world.specs.declared.value.Value.TheVariants.{Nil, True, False, Int, Sym, Kernel, Ref}
 use Rattle.ns_world.specs.declared.cell.NewCell.TheVariants as new
-use Rattle.ns_world.specs.Cell.{Cell, shape_of, cell_bytes, cell_words, open_words, ObjectCell, ClassCell, BlockCell, EnvironmentCell, ArrayCell, TextCell, FacetCell, MirrorCell, MessageCell}
-use Rattle.ns_world.specs.Heap.{Heap, find_cell, words_at, open_words_at}
+use Rattle.ns_world.specs.Cell.{Cell, shape_of, cell_bytes, ObjectCell, ClassCell, BlockCell, EnvironmentCell, ArrayCell, TextCell, FacetCell, MirrorCell, MessageCell}
+use Rattle.ns_world.specs.Heap.{Heap, find_cell}
 use Rattle.ns_kdata.specs.Arguments.{shape_of_value, text_size_in, array_size_in, array_items, bytes_of, items_of}
 
 text_cell : (o : Option Cell) → text_size_in (option_map_or shape_of o (new.Mirror Nil)) ≡ length (option_map_or cell_bytes o [])
@@ -51,19 +51,3 @@ array_size_told heap False = refl
 array_size_told heap (Int number) = refl
 array_size_told heap (Sym sel) = refl
 array_size_told heap (Kernel class) = refl
-
-items_of_cell : (o : Option Cell) (place : ℕ) → place < length (array_items o) → (option_map_or cell_words o [] ≡ array_items o) × (option_map_or open_words o [] ≡ array_items o)
-items_of_cell None place h = absurd (omega arith)
-items_of_cell (Some (ObjectCell class entries)) place h = absurd (omega arith)
-items_of_cell (Some (ClassCell decl encl holder over)) place h = absurd (omega arith)
-items_of_cell (Some (BlockCell body env home receiver holder)) place h = absurd (omega arith)
-items_of_cell (Some (EnvironmentCell parent locals)) place h = absurd (omega arith)
-items_of_cell (Some (ArrayCell items)) place h = (refl, refl)
-items_of_cell (Some (TextCell bytes)) place h = absurd (omega arith)
-items_of_cell (Some (FacetCell kind)) place h = absurd (omega arith)
-items_of_cell (Some (MirrorCell mirrored)) place h = absurd (omega arith)
-items_of_cell (Some (MessageCell sel args)) place h = absurd (omega arith)
-
--- the elements of an array that has some are its words, and may be written
-pub items_are_words : (heap : Heap) (at place : ℕ) → place < length (items_of heap (Ref at)) → (words_at heap at ≡ items_of heap (Ref at)) × (open_words_at heap at ≡ items_of heap (Ref at))
-items_are_words heap at place h = items_of_cell (find_cell heap at) place h

@@ -1,20 +1,11 @@
 -- What writing one byte of a text changes, and what it leaves.
-use Rattle.std.proofs.Common.{◌≡◌, ◌≢◌, ℕ, List, [], ◌∷◌, length, set, refl, ap, sym, ◌∙◌, Option, Some, None, Bool, true, false, cond, eqb, length-set}
+use Rattle.std.proofs.Common.{◌≡◌, ◌≢◌, ℕ, List, [], ◌∷◌, length, set, refl, ap, sym, ◌∙◌, Option, Some, None, Bool, true, false, eqb, length-set}
 use Rattle.std.specs.Option.{option_map_or}
 use Rattle.std.proofs.lemmas.Bool.{eqb-true, eq-eqb}
-use Rattle.ns_world.specs.Cell.{Cell, ObjectCell, ClassCell, BlockCell, EnvironmentCell, ArrayCell, TextCell, FacetCell, MirrorCell, MessageCell, cell_size, cell_bytes, with_byte}
+use Rattle.ns_world.specs.Cell.{Cell, ObjectCell, ClassCell, BlockCell, EnvironmentCell, ArrayCell, TextCell, FacetCell, MirrorCell, MessageCell, cell_bytes, with_byte}
 use Rattle.ns_world.specs.Heap.{Heap, heap_size, find_cell, set_cell, write_byte, bytes_at}
-use Rattle.ns_world.proofs.Changing.{byte_leaves, byte_plainly, set_size}
-
--- a cell that is replaced is found anew
-pub set_here : (heap : Heap) (at : ℕ) (old new : Cell) → find_cell heap at ≡ Some old → cell_size new ≡ cell_size old → find_cell (set_cell heap at new) at ≡ Some new
-set_here [] at old new e s = absurd (cc)
-set_here (cell ∷ earlier) at old new e s = tested (eqb at (heap_size earlier)) refl e (λ f. set_here earlier at old new f s) (λ f. set_size earlier at old new f s)
-  where
-    tested : (b : Bool) → eqb at (heap_size earlier) ≡ b → cond b (Some cell) (find_cell earlier at) ≡ Some old → (find_cell earlier at ≡ Some old → find_cell (set_cell earlier at new) at ≡ Some new) → (find_cell earlier at ≡ Some old → heap_size (set_cell earlier at new) ≡ heap_size earlier) → find_cell (cond b (new ∷ earlier) (cell ∷ set_cell earlier at new)) at ≡ Some new
-    tested true t e below size = rw t refl
-    tested false t e below size =
-        ap (λ n. cond (eqb at n) (Some cell) (find_cell (set_cell earlier at new) at)) (size e) ∙ rw t (below e)
+use Rattle.ns_world.specs.laws.Changing.{byte_leaves, byte_plainly}
+use Rattle.ns_world.specs.laws.Changing.{set_here}
 
 bytes_with : (cell : Cell) (place byte : ℕ) → length (cell_bytes (with_byte cell place byte)) ≡ length (cell_bytes cell)
 bytes_with (TextCell bytes) place byte = length-set bytes place byte

@@ -206,7 +206,7 @@ fn array_size_at(head: Head) -> u32
 
 /// An element of an Array.
 #[inline(always)]
-#[tactic(auto, using(crate::proofs::Shapes::items_are_words))]
+#[tactic(auto, using(crate::specs::laws::Items::items_are_words))]
 pub fn array_item(world: &World, array: Value, place: u32) -> Value
     requires { place < length (items_of world.now.world.cells array) }
     ensures { result ≡ slice_index_or (items_of world.now.world.cells array) place value_is.Nil }

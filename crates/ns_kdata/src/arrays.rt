@@ -59,7 +59,7 @@ pub fn place_at(world: &World, array: Value, place: Value) -> Option<u32>
 
 /// Stores an element.
 #[inline(always)]
-#[tactic(auto, using(crate::proofs::Shapes::items_are_words))]
+#[tactic(auto, using(crate::specs::laws::Items::items_are_words))]
 pub fn store(world: &mut World, array: Value, place: u32, value: Value)
     requires { place < length (items_of world.old.world.cells array) }
     ensures { world.new ≡ record world.old { world = spec.stored world.old.world array place value } }

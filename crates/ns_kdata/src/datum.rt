@@ -25,7 +25,7 @@ use ns_world::world::World;
 
 /// The answer of a row with its change of the world, or its first fault, after which nothing has
 /// changed. An argument that isn't there is nil. Takes no memory.
-#[tactic(auto, using(crate::proofs::Outcomes::live_there))]
+#[tactic(auto, using(crate::specs::laws::Outcomes::live_there))]
 pub fn datum(
     world: &mut World,
     code: &CodeProgram,
@@ -50,7 +50,7 @@ pub fn datum(
 }
 
 /// The same, by the first two arguments.
-#[tactic(auto, using(crate::proofs::Outcomes::gives_unchanged))]
+#[tactic(auto, using(crate::specs::laws::Outcomes::gives_unchanged))]
 pub fn row_outcome(
     world: &mut World,
     code: &CodeProgram,

@@ -6,7 +6,7 @@ use Rattle.ns_falling.specs.Falling.{run_left}
 use Rattle.ns_machine.specs.Machine.{MachineView}
 use Rattle.ns_machine.specs.Turning.{Ran as HasRunTo}
 use Rattle.ns_moves.specs.Beginning.{NewIsValid, StartKeepsValid}
-use Rattle.ns_moves.specs.Laws.{MovesAdd, StaysStill}
+use Rattle.ns_moves.specs.Stated.{MovesAdd, StaysStill}
 use Rattle.ns_moves.specs.Move.{moves}
 use Rattle.ns_moves.specs.Starts.{new_machine, started}
 use Rattle.ns_moves.specs.State.{State, Unbegun, Going, Pends, Ended, Stuck, ending_of}

@@ -9,7 +9,7 @@ use Rattle.ns_meant.specs.Classes.{meant}
 use Rattle.ns_meant.specs.Program.{Meant}
 use Rattle.ns_meant.specs.Tables.{tables}
 use Rattle.ns_model.specs.Whole.{ran}
-use Rattle.ns_moves.specs.Laws.{MovesAdd, StaysStill}
+use Rattle.ns_moves.specs.Stated.{MovesAdd, StaysStill}
 use Rattle.ns_moves.specs.State.{State, Ended}
 use Rattle.ns_scope.specs.Whole.{IsWhole}
 use Rattle.ns_scope.specs.declared.program.Program.{Program}

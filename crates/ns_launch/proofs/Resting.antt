@@ -3,14 +3,14 @@ use Rattle.std.proofs.Common.{◌≡◌, ℕ, zero, suc, ◌+◌, ◌^◌, ◌�
 use Rattle.ns_code.specs.declared.program.CodeProgram.{CodeProgram}
 use Rattle.ns_facets.specs.declared.row.Grants.{Grants}
 use Rattle.ns_falling.specs.Falling.{LeftIsBelowPower, MovesLower, power_left, run_left}
-use Rattle.ns_moves.specs.Laws.{MovesAdd, StaysStill}
+use Rattle.ns_moves.specs.Stated.{MovesAdd, StaysStill}
 use Rattle.ns_moves.specs.Move.{move, moves}
 use Rattle.ns_moves.specs.Standing.{MovesKeepValid}
 use Rattle.ns_moves.specs.State.{State, world_of}
 use Rattle.ns_moves.specs.Turn.{is_still}
 use Rattle.ns_moves.specs.Valid.{Valid}
 use Rattle.ns_falling.specs.Doubling.{times, until}
-use Rattle.ns_falling.proofs.Doubling.{leads}
+use Rattle.ns_falling.specs.laws.Doubling.{leads}
 use Rattle.ns_launch.specs.Machine.{rested}
 
 -- What is known of moves.

@@ -14,7 +14,8 @@ use Rattle.ns_lex.specs.declared.piece.Piece.TheVariants.{Token}
 use Rattle.ns_lex.specs.Spells.{IsName, IsOperator, Spells}
 use Rattle.ns_lex.specs.Gap.{BeginsNoGap}
 use Rattle.ns_lex.specs.Lexes.{Stands, IsDigits, BeginsName, BeginsFraction, BeginsNoFault}
-use Rattle.ns_lex.proofs.Words.{IsToken, stands_spells, run_all, at_end}
+use Rattle.ns_lex.specs.laws.Stands.{stands_spells}
+use Rattle.ns_lex.proofs.Words.{IsToken, run_all, at_end}
 use Rattle.ns_lex.proofs.Singles.{clash, same_first}
 use Rattle.ns_lex.proofs.Numbers.{run, number_says}
 

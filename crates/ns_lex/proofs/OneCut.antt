@@ -8,7 +8,7 @@ use Rattle.ns_lex.specs.Lexes.{Stands, IsNext, IsFault, Gapped, IsStep, Cuts, Le
 use Rattle.ns_lex.specs.Spells.{Spells}
 use Rattle.ns_lex.specs.declared.piece.Cause.{Cause}
 use Rattle.ns_lex.specs.declared.piece.Cause.TheVariants as cause
-use Rattle.ns_lex.proofs.Words.{stands_spells}
+use Rattle.ns_lex.specs.laws.Stands.{stands_spells}
 use Rattle.ns_lex.proofs.OneKind.{all_in, spelled_kind, spelled_some}
 use Rattle.ns_lex.proofs.OneGap.{Same, equal_cut, gap_cut, run_cut}
 

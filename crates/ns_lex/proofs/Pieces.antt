@@ -20,7 +20,8 @@ use Rattle.ns_lex.specs.declared.piece.Piece.{Piece}
 use Rattle.ns_lex.specs.declared.piece.Piece.TheVariants.{Gap, Token, Fault}
 use Rattle.ns_lex.specs.Gap.{BeginsNoGap}
 use Rattle.ns_lex.specs.Lexes.{BeginsNoFault, IsFault}
-use Rattle.ns_lex.proofs.Words.{IsToken, word_token, stands_spells}
+use Rattle.ns_lex.specs.laws.Stands.{stands_spells}
+use Rattle.ns_lex.proofs.Words.{IsToken, word_token}
 use Rattle.ns_lex.proofs.Singles.{split, clash, single_token}
 use Rattle.ns_lex.proofs.Numbers.{number_token, run}
 use Rattle.ns_lex.proofs.Operators.{operator_token}

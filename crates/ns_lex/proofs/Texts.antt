@@ -15,7 +15,7 @@ use Rattle.ns_lex.specs.Lexes.{Cuts}
 use Rattle.ns_lex.specs.Piece.{Text}
 use Rattle.ns_lex.specs.Spells.{AllOf, IsName, IsKey, IsKeys, IsOperator, Spells}
 use Rattle.ns_lex.specs.Word.{reserved}
-use Rattle.ns_lex.proofs.Words.{stands_spells}
+use Rattle.ns_lex.specs.laws.Stands.{stands_spells}
 
 -- ---- names
 

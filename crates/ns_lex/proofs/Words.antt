@@ -15,6 +15,7 @@ use Rattle.ns_lex.specs.Word.{reserved, name_len, word, word_by, named}
 use Rattle.ns_lex.specs.declared.piece.Piece.TheVariants.{Token}
 use Rattle.ns_lex.specs.Spells.{AllOf, IsName, Spells}
 use Rattle.ns_lex.specs.Lexes.{Stands, Longest, BeforeSlotSet, IsNext}
+use Rattle.ns_lex.specs.laws.Stands.{stands_spells}
 
 -- a byte that begins a name begins no other token
 not_operator : (b : ℕ) → starts_name b ≡ true → is_operator b ≡ true → ⊥
@@ -96,28 +97,6 @@ by_shape : (z : Text) (n len : ℕ) → name_len z ≤ n → (n < name_len z + 1
 by_shape z n len low one two (within h) = omega arith
 by_shape z n len low one two (one_colon h e) = not_below n len (λ l. one (omega arith) e)
 by_shape z n len low one two (two_colons h e f) = not_below n len (λ l. neither (two (omega arith)) e f)
-
--- a text that stands spells its token
-pub stands_spells : (w q : Text) (t : Kind) → Stands w q t → Spells w t
-stands_spells w q (k.Ident s) h = h
-stands_spells w q (k.Word r) h = h
-stands_spells w q (k.Key s) h = h
-stands_spells w q (k.SetKey s) h = h
-stands_spells w q (k.Oper s) h = h
-stands_spells w q (k.Number v) h = h
-stands_spells w q (k.Str s) h = h.0
-stands_spells w q (k.Symbol s) h = h
-stands_spells w q k.Open h = h
-stands_spells w q k.Close h = h
-stands_spells w q k.OpenBlock h = h
-stands_spells w q k.CloseBlock h = h
-stands_spells w q k.OpenTuple h = h
-stands_spells w q k.CloseTuple h = h
-stands_spells w q k.Stop h = h
-stands_spells w q k.Semi h = h
-stands_spells w q k.Caret h = h
-stands_spells w q k.Colon h = h
-stands_spells w q k.SlotSet h = h
 
 -- the first n bytes of z are its next token
 pub record IsToken (z : Text) (t : Kind) (n : ℕ) : Type 0 where

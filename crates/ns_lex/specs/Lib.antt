@@ -14,3 +14,4 @@ pub mod Spells
 pub mod Gap
 pub mod Lexes
 pub mod Spaced
+pub mod laws

@@ -9,19 +9,12 @@ use Rattle.ns_model.specs.Whole.{RunEnd}
 use Rattle.ns_moves.specs.State.{State, Unbegun, Going, Pends, Ended, Stuck, world_of}
 use Rattle.ns_moves.specs.Move.{move, moves}
 use Rattle.ns_moves.specs.Turn.{is_still, ends_with_steps, charges, one_if, charged_in, Turns}
-use Rattle.ns_moves.specs.Laws.{StaysStill}
+use Rattle.ns_moves.specs.Stated.{StaysStill}
 use Rattle.ns_moves.specs.Onward.{MovesGoOnward}
 use Rattle.ns_moves.specs.Standing.{MovesKeepValid}
 use Rattle.ns_moves.specs.Valid.{Valid}
+use Rattle.ns_moves.specs.laws.Still.{moves_on}
 use Rattle.ns_link.specs.Laws.{IsOnTheWay, HasEnded}
-
--- a run that moves on hasn't met the limit on steps
-moves_on : (state : State) → is_still state ≡ false → ends_with_steps state ≡ false
-moves_on (Unbegun arguments progress) e = refl
-moves_on (Going phase frames progress) e = refl
-moves_on (Pends phase pending frames progress) e = refl
-moves_on (Ended ending phase progress) e = absurd (cc)
-moves_on (Stuck progress) e = refl
 
 either : (less ends : Bool) → (less || ends) ≡ true → ends ≡ false → less ≡ true
 either true ends e f = refl

@@ -5,7 +5,7 @@ use Rattle.ns_model.specs.Whole.{RunEnd}
 use Rattle.ns_moves.specs.State.{State, Ended, progress_of}
 use Rattle.ns_moves.specs.Move.{moves}
 use Rattle.ns_moves.specs.Turn.{Turns}
-use Rattle.ns_moves.specs.Laws.{MovesAdd, StaysStill}
+use Rattle.ns_moves.specs.Stated.{MovesAdd, StaysStill}
 use Rattle.ns_moves.specs.Onward.{MovesGoOnward}
 use Rattle.ns_link.specs.Laws.{EndsAs, IsOnTheWay}
 

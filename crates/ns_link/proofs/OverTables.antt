@@ -5,7 +5,7 @@ use Rattle.ns_code.specs.declared.program.CodeProgram.{CodeProgram}
 use Rattle.ns_meant.specs.Program as m
 use Rattle.ns_meant.specs.Tables.{body_head, tables}
 use Rattle.ns_gen.specs.Code.{code_of}
-use Rattle.ns_gen.specs.Laws.{OneProgram}
+use Rattle.ns_gen.specs.Stated.{OneProgram}
 use Rattle.ns_model.specs.Whole.{ran}
 use Rattle.ns_model.specs.Laws.{ReturnsGoHome, RunsEnd}
 use Rattle.ns_model.specs.Tables.{head_of, SameTables, MeansTheSame}

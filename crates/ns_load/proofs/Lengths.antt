@@ -8,7 +8,7 @@ use Rattle.ns_tree.specs.Tokens.{kinds}
 use Rattle.ns_lex.specs.Lexes.{Cuts}
 use Rattle.ns_lex.specs.Piece.{Text}
 use Rattle.ns_lex.specs.Spells.{IsName, IsOperator, Spells, doubled}
-use Rattle.ns_lex.proofs.Words.{stands_spells}
+use Rattle.ns_lex.specs.laws.Stands.{stands_spells}
 use Rattle.ns_scope.specs.Whole.{text_of, AllWithin}
 
 longer : (b : ℕ) (t : Text) → length t + 1 ≤ length (cond (b == 39) (39 ∷ 39 ∷ t) (b ∷ t))

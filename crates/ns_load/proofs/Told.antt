@@ -12,7 +12,6 @@ use Rattle.ns_load.specs.declared.fault.LoadFault.{LoadFault}
 use Rattle.ns_load.specs.declared.fault.LoadFault.TheVariants.{At, Memory}
 use Rattle.ns_load.specs.declared.read.Source.{Source}
 use Rattle.ns_load.proofs.Loads.{behind_units, stops}
-use Rattle.ns_load.proofs.WholeLaws.{loaded_is_whole}
 use Rattle.ns_scope.specs.Whole.{IsFileName, IsWhole}
 use Rattle.ns_scope.specs.declared.program.Program.{Program}
 use Rattle.ns_tree.specs.Plain as p
@@ -94,12 +93,17 @@ fault_texts names k us ms Memory a e l (text, h) = memory_texts names
 
 -- ---- all files
 
+-- What is loaded for 1 to 16 names is a whole program.
+abbrev pub LoadedIsWhole : Type 0
+LoadedIsWhole = (program : Program) (names : List (List ℕ)) (lib : Bool) → 1 ≤ length names → length names ≤ 16 → All IsFileName names
+    → program.files ≡ file_names names lib → length program.units ≡ length program.files → AreRead 0 (map unit_of program.units) program.marks → IsWhole program
+
 -- What is known of a result, one after another, makes it whole.
-pub result_whole : (names : List (List ℕ)) (lib : Bool) (files : List (List ℕ)) (result : Result Program LoadFault) → 1 ≤ length names → length names ≤ 16 → All IsFileName names → files ≡ names
+pub result_whole : LoadedIsWhole → (names : List (List ℕ)) (lib : Bool) (files : List (List ℕ)) (result : Result Program LoadFault) → 1 ≤ length names → length names ≤ 16 → All IsFileName names → files ≡ names
     → IfOk result (λ program. program.files ≡ file_names files lib) → IfOk result (λ program. length program.units ≡ length program.files)
     → IfOk result (λ program. AreRead 0 (map unit_of program.units) program.marks) → IfOk result IsWhole
-result_whole names lib files (Ok program) some few named same f c r = loaded_is_whole program names lib some few named (f ∙ ap (λ ns. file_names ns lib) same) c r
-result_whole names lib files (Err fault) some few named same f c r = tt
+result_whole whole names lib files (Ok program) some few named same f c r = whole program names lib some few named (f ∙ ap (λ ns. file_names ns lib) same) c r
+result_whole whole names lib files (Err fault) some few named same f c r = tt
 
 spelled_texts : (texts : List (Option (List ℕ))) (lib : Bool) (fault : LoadFault) → IsSpelling fault → (fault ≢ Memory → loaded_texts texts lib ≡ stopped fault) → IsFaultOfTexts texts lib fault
 spelled_texts texts lib (At Missing k) s h = absurd s

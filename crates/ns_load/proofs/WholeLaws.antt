@@ -1,6 +1,6 @@
 -- What was read is whole.
 use Rattle.std.proofs.Common.{rules, ◌≡◌, ◌<◌, ℕ, suc, ◌+◌, ◌≤◌, List, [], ◌∷◌, ◌++◌, length, map, take, Bool, true, false, cond, Option, Some, None, Result, Ok, Err, refl, ap, sym, subst, ◌∙◌, arith}
-use Rattle.std.specs.Prelude.{◌==◌, All, IsUtf8, codes}
+use Rattle.std.specs.Prelude.{◌==◌, ◌↔◌, All, IsUtf8, codes}
 use Rattle.std.specs.Str.{IsAscii}
 use Rattle.std.proofs.lemmas.Str.{IsUtf8-from_ascii}
 use Rattle.std.proofs.lemmas.Str.Ascii.{IsAscii-nil, IsAscii-cons}
@@ -8,7 +8,7 @@ use Rattle.std.proofs.lemmas.List.Elements.{All-append, All-cons, All-nil}
 use Rattle.std.proofs.lemmas.List.{length-map, length-append, length-take}
 use Rattle.ns_base.specs.declared.place.Place.{Place}
 use Rattle.ns_lex.specs.Scan.{Tokens, scan}
-use Rattle.ns_lex.proofs.Cutting.{scan_lexes}
+use Rattle.ns_lex.specs.Lexes.{Lexes}
 use Rattle.ns_load.specs.Answer.{AreRead, IsRead}
 use Rattle.ns_load.specs.Loaded.{file_names, library_name}
 use Rattle.ns_load.specs.Place.{behind, marks, past, place_of, places, start}
@@ -16,8 +16,7 @@ use Rattle.ns_load.specs.Source.{parsed, read, scanned, spells}
 use Rattle.ns_load.proofs.Lengths.{cut_count, cut_within}
 use Rattle.ns_parse.specs.Parse.{parse, parse_by}
 use Rattle.ns_terminal.specs.Read.{Outcome}
-use Rattle.ns_parse.proofs.SoundFile.{parse_spelled}
-use Rattle.ns_lex.proofs.Texts.{cuts_told}
+use Rattle.ns_parse.specs.laws.SoundFile.{parse_spelled}
 use Rattle.ns_scope.specs.Whole.{most_bytes, AllWithin, ArePlacesOf, IsPlaceOf, IsWholeUnit, AreWholeUnits, IsFileName, IsWhole}
 use Rattle.ns_scope.specs.declared.program.Program.{Program}
 use Rattle.ns_tree.specs.Deep.{deep}
@@ -26,6 +25,7 @@ use Rattle.ns_terminal.specs.declared.fault.ParseFault.{ParseFault}
 use Rattle.ns_tree.specs.Plain as p
 use Rattle.ns_tree.specs.PlainOf.{unit_of}
 use Rattle.ns_tree.specs.Tokens.{kinds}
+use Rattle.ns_tree.specs.Tree.{AllHaveText}
 use Rattle.ns_tree.specs.declared.token.Kind.{Kind}
 use Rattle.ns_tree.specs.declared.token.Token.{Token}
 
@@ -72,11 +72,16 @@ shallow : (ts : List Kind) (unit : p.SourceUnit) → parse ts ≡ Ok unit → de
 unfolding parse
 shallow ts unit e = shallow_by (deep ts) _ unit e
 
+-- What is known of sources: the tokens of a scan cut it, and those that cut it have texts.
+pub record CutsKnown : Type 0 where
+  pub scanned : (source : List ℕ) (tokens : List Token) → Lexes source tokens ↔ (scan source ≡ Ok tokens)
+  pub told : (source : List ℕ) (tokens : List Token) → Lexes source tokens → AllHaveText (kinds tokens)
+
 -- Tokens that cut a source and spell a unit, with the places that they have there, are a whole unit.
-cut_whole : (file : ℕ) (source : List ℕ) (tokens : List Token) (unit : p.SourceUnit) → length source ≤ 1048576 → scan source ≡ Ok tokens → parse (kinds tokens) ≡ Ok unit → IsWholeUnit file unit (marks file source tokens)
-cut_whole file source tokens unit h s q =
-    let cut = scan_lexes source tokens s in
-    let spells = parse_spelled (kinds tokens) unit (cuts_told 0 source tokens (length source) [] cut) q in
+cut_whole : (known : CutsKnown) (file : ℕ) (source : List ℕ) (tokens : List Token) (unit : p.SourceUnit) → length source ≤ 1048576 → scan source ≡ Ok tokens → parse (kinds tokens) ≡ Ok unit → IsWholeUnit file unit (marks file source tokens)
+cut_whole known file source tokens unit h s q =
+    let cut = (known.scanned source tokens).1 s in
+    let spells = parse_spelled (kinds tokens) unit (known.told source tokens cut) q in
     let long : length (flat unit) ≡ length tokens = ap length (sym spells.spelled) ∙ length-map tokens (λ token. token.kind) in
     record {
       tree = spells.tree;
@@ -87,25 +92,25 @@ cut_whole file source tokens unit h s q =
       placed = marks_are_of file source tokens (place_of file source (length source)) h (place_is_of file source (length source) h);
     }
 
-parsed_whole : (file : ℕ) (source : List ℕ) (tokens : List Token) (unit : p.SourceUnit) (ps : List Place) (r : Result p.SourceUnit ParseFault) → length source ≤ 1048576 → scan source ≡ Ok tokens → parse (kinds tokens) ≡ r → parsed file source tokens r ≡ spells unit ps → IsWholeUnit file unit ps
-parsed_whole file source tokens unit ps (Ok u) h s q e =
+parsed_whole : (known : CutsKnown) (file : ℕ) (source : List ℕ) (tokens : List Token) (unit : p.SourceUnit) (ps : List Place) (r : Result p.SourceUnit ParseFault) → length source ≤ 1048576 → scan source ≡ Ok tokens → parse (kinds tokens) ≡ r → parsed file source tokens r ≡ spells unit ps → IsWholeUnit file unit ps
+parsed_whole known file source tokens unit ps (Ok u) h s q e =
     let eu : u ≡ unit = cc (e) in
     let em : marks file source tokens ≡ ps = cc (e) in
-    subst (IsWholeUnit file unit) em (cut_whole file source tokens unit h s (q ∙ ap Ok eu))
-parsed_whole file source tokens unit ps (Err fault) h s q e = absurd (cc (e))
+    subst (IsWholeUnit file unit) em (cut_whole known file source tokens unit h s (q ∙ ap Ok eu))
+parsed_whole known file source tokens unit ps (Err fault) h s q e = absurd (cc (e))
 
-scanned_whole : (file : ℕ) (source : List ℕ) (unit : p.SourceUnit) (ps : List Place) (s : Tokens) → length source ≤ 1048576 → scan source ≡ s → scanned file source s ≡ spells unit ps → IsWholeUnit file unit ps
-scanned_whole file source unit ps (Ok tokens) h s e = parsed_whole file source tokens unit ps (parse (kinds tokens)) h s refl e
-scanned_whole file source unit ps (Err fault) h s e = absurd (cc (e))
+scanned_whole : (known : CutsKnown) (file : ℕ) (source : List ℕ) (unit : p.SourceUnit) (ps : List Place) (s : Tokens) → length source ≤ 1048576 → scan source ≡ s → scanned file source s ≡ spells unit ps → IsWholeUnit file unit ps
+scanned_whole known file source unit ps (Ok tokens) h s e = parsed_whole known file source tokens unit ps (parse (kinds tokens)) h s refl e
+scanned_whole known file source unit ps (Err fault) h s e = absurd (cc (e))
 
-pub read_is_whole : (file : ℕ) (unit : p.SourceUnit) (ps : List Place) → IsRead file unit ps → IsWholeUnit file unit ps
-read_is_whole file unit ps r = scanned_whole file r.0 unit ps (scan r.0) r.1 refl r.2
+pub read_is_whole : (known : CutsKnown) (file : ℕ) (unit : p.SourceUnit) (ps : List Place) → IsRead file unit ps → IsWholeUnit file unit ps
+read_is_whole known file unit ps r = scanned_whole known file r.0 unit ps (scan r.0) r.1 refl r.2
 
-pub are_whole : (file : ℕ) (units : List p.SourceUnit) (places : List (List Place)) → AreRead file units places → AreWholeUnits file units places
-are_whole file [] [] h = tt
-are_whole file [] (ps ∷ others) h = absurd h
-are_whole file (unit ∷ more) [] h = absurd h
-are_whole file (unit ∷ more) (ps ∷ others) h = (read_is_whole file unit ps h.0, are_whole (file + 1) more others h.1)
+pub are_whole : (known : CutsKnown) (file : ℕ) (units : List p.SourceUnit) (places : List (List Place)) → AreRead file units places → AreWholeUnits file units places
+are_whole known file [] [] h = tt
+are_whole known file [] (ps ∷ others) h = absurd h
+are_whole known file (unit ∷ more) [] h = absurd h
+are_whole known file (unit ∷ more) (ps ∷ others) h = (read_is_whole known file unit ps h.0, are_whole known (file + 1) more others h.1)
 
 -- ---- whole programs
 
@@ -131,13 +136,13 @@ names_longer : (names : List (List ℕ)) (lib : Bool) → (length names ≤ leng
 names_longer names true = let e = length-append names (library_name true) in (omega (arith, e), omega (arith, e))
 names_longer names false = let e = length-append names (library_name false) in (omega (arith, e), omega (arith, e))
 
-pub loaded_is_whole : (program : Program) (names : List (List ℕ)) (lib : Bool) → 1 ≤ length names → length names ≤ 16 → All IsFileName names
+pub loaded_is_whole : (known : CutsKnown) (program : Program) (names : List (List ℕ)) (lib : Bool) → 1 ≤ length names → length names ≤ 16 → All IsFileName names
     → program.files ≡ file_names names lib → length program.units ≡ length program.files → AreRead 0 (map unit_of program.units) program.marks → IsWhole program
-loaded_is_whole program names lib some few named files count read =
+loaded_is_whole known program names lib some few named files count read =
     record {
       some = omega (arith, some, count, ap length files, (names_longer names lib).0);
       not_many = omega (arith, few, count, ap length files, (names_longer names lib).1);
-      units = are_whole 0 (map unit_of program.units) program.marks read;
+      units = are_whole known 0 (map unit_of program.units) program.marks read;
       one_name_each = sym count;
       names = subst (All IsFileName) (sym files) (All-append IsFileName names (library_name lib) named (library_is_named lib));
     }

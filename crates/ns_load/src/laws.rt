@@ -1,4 +1,4 @@
-//! Laws over the definitions. Each is the contract of a function that does nothing.
+//! Laws over the definitions. Each is the contract of a function that does nothing but name the laws on which it rests.
 
 ghost use Rattle.std.specs.Prelude.{◌≡◌, ◌≤◌, ℕ, Bool, List, All, length, map};
 ghost use Rattle.ns_base.specs.declared.place.Place.{Place};
@@ -14,9 +14,15 @@ ghost use Rattle.ns_tree.specs.PlainOf.{unit_of};
 /// columns from 1 on, at most one more than a source has bytes.
 pub fn what_is_read_is_whole()
     ensures { (file : ℕ) (units : List p.SourceUnit) (places : List (List Place)) → AreRead file units places → AreWholeUnits file units places }
-{}
+{
+    ns_lex::laws::sources_are_cut_one_way();
+    ns_lex::laws::tokens_have_texts();
+}
 
 /// What `load` gives for 1 to 16 names of files is a whole program.
 pub fn what_is_loaded_is_whole()
     ensures { LoadedIsWhole }
-{}
+{
+    ns_lex::laws::sources_are_cut_one_way();
+    ns_lex::laws::tokens_have_texts();
+}

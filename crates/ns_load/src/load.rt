@@ -15,6 +15,7 @@ ghost use Rattle.ns_tree.specs.PlainOf.{unit_of};
 
 use crate::fault::LoadFault;
 use crate::file::load_file;
+use crate::laws::what_is_loaded_is_whole;
 use crate::parts::Parts;
 use crate::read::read;
 use ns_base::shelf::Shelf;
@@ -52,6 +53,7 @@ pub fn load<S: Shelf>(
     ensures read_fault { (k : ℕ) → IsErrOf result (At ReadFault k) → Rose (S.faults shelf.old) (S.faults shelf.new) }
     ensures only_read { OnlyRead S.holds S.misses S.faults S.store_faults shelf.old shelf.new }
 {
+    what_is_loaded_is_whole();
     let mut parts = Parts::new(alloc);
     match load_files(alloc, shelf, names, &mut parts) {
         Ok(()) => with_library(alloc, parts, lib),

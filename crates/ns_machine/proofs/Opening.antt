@@ -13,7 +13,7 @@ use Rattle.ns_plan.specs.declared.step.Step.{Step}
 use Rattle.ns_plan.specs.declared.step.Step.TheVariants.{Send, InitSuper}
 use Rattle.ns_plan.specs.Plan.{IsStepAt}
 use Rattle.ns_plan.specs.Steps.{instr_of, place_of, places_of, no_place}
-use Rattle.ns_plan.proofs.Lookup.{steps_count}
+use Rattle.ns_plan.specs.laws.Steps.{steps_count}
 use Rattle.ns_machine.specs.Opening.{super_number}
 
 -- a step that is another is passed over

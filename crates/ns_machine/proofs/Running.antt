@@ -1,16 +1,15 @@
 -- A turn of one step more than the limit ends the run.
-use Rattle.std.proofs.Common.{◌≡◌, ℕ, zero, suc, ◌+◌, ◌<◌, ◌≤◌, ◌⊎◌, inl, inr, refl, ap, sym, subst, ◌∙◌, arith, Bool, true, false, ◌||◌, nat_lt, if◌then◌else◌, min, Some}
+use Rattle.std.proofs.Common.{◌≡◌, ℕ, zero, suc, ◌+◌, ◌≤◌, ◌⊎◌, inl, inr, refl, ap, subst, ◌∙◌, arith, Bool, true, false, ◌||◌, nat_lt, if◌then◌else◌, min}
 use Rattle.std.proofs.lemmas.Bool.{ltb-true}
 use Rattle.ns_code.specs.declared.program.CodeProgram.{CodeProgram}
 use Rattle.ns_facets.specs.declared.row.Grants.{Grants}
-use Rattle.ns_world.specs.World.{World}
-use Rattle.ns_world.specs.declared.ending.Ending.TheVariants.{Done, Error, Limit}
 use Rattle.ns_send.specs.Control.{Progress}
-use Rattle.ns_moves.specs.State.{State, Phase, Unbegun, Going, Pends, Ended, Stuck, progress_of, world_of, ending_of}
-use Rattle.ns_moves.specs.Laws.{StaysStill}
+use Rattle.ns_moves.specs.State.{State, world_of}
+use Rattle.ns_moves.specs.Stated.{StaysStill}
 use Rattle.ns_moves.specs.Onward.{MovesGoOnward}
 use Rattle.ns_moves.specs.Move.{move, moves}
-use Rattle.ns_moves.specs.Turn.{is_still, ends_with_steps, was_charged, charges, one_if, charged_in, Turned, TurnedOut, Turns}
+use Rattle.ns_moves.specs.Turn.{is_still, ends_with_steps, charges, one_if, charged_in, Turned, Turns}
+use Rattle.ns_moves.specs.laws.Still.{limited_still, none_charged}
 use Rattle.ns_base.specs.declared.limits.Limits.{Limits}
 use Rattle.ns_frames.specs.declared.frame.Pending.{Pending}
 use Rattle.ns_frames.specs.declared.registers.Registers.{Registers}
@@ -22,27 +21,10 @@ use Rattle.ns_frames.specs.View.{state_shown}
 use Rattle.ns_engine.specs.Shown.{phase_shown, shown, progress_in}
 use Rattle.ns_engine.specs.Ready.{IsReady}
 use Rattle.ns_engine.specs.Standing.{Stays}
-use Rattle.ns_engine.proofs.Kept.{ready_lawful, shown_progress}
+use Rattle.ns_engine.specs.laws.Kept.{ready_lawful, shown_progress}
 use Rattle.ns_machine.specs.Turning.{Ran}
 
 -- ---- steps that are charged
-
--- the limit on steps ends a run
-ends_still : (s : State) → ends_with_steps s ≡ true → is_still s ≡ true
-ends_still (Unbegun arguments p) is = refl
-ends_still (Going phase frames p) is = absurd (cc)
-ends_still (Pends phase pending frames p) is = absurd (cc)
-ends_still (Ended ending phase p) is = refl
-ends_still (Stuck p) is = refl
-
--- a run that moves no more charges nothing
-none_charged : (code : CodeProgram) (count : ℕ) (s : State) → is_still s ≡ true → charged_in code count s ≡ 0
-none_charged code zero s still = refl
-none_charged code (suc count) (Unbegun arguments p) still = none_charged code count (Unbegun arguments p) still
-none_charged code (suc count) (Going phase frames p) still = absurd (cc)
-none_charged code (suc count) (Pends phase pending frames p) still = absurd (cc)
-none_charged code (suc count) (Ended ending phase p) still = none_charged code count (Ended ending phase p) still
-none_charged code (suc count) (Stuck p) still = none_charged code count (Stuck p) still
 
 -- a move that charges takes a step, or finds none left
 charge_is : (still less ends : Bool) → (if still then false else (less || ends)) ≡ true → (still ≡ false) × ((less ≡ true) ⊎ (ends ≡ true))
@@ -66,7 +48,7 @@ spent_more code onward stay count s rest = by_charge (charges code s) refl
         → suc (charged_in code count (move code s)) + (world_of s).steps ≤ taken_at (moves code count (move code s))
     taken (inl less) = let more = ltb-true (world_of s).steps (world_of (move code s)).steps less in omega (arith, more, rest)
     taken (inr ends) =
-        let still = ends_still (move code s) ends in
+        let still = limited_still (move code s) ends in
         let same : moves code count (move code s) ≡ move code s = stay (move code s) count still in
         let none = none_charged code count (move code s) still in
         let one : taken_at (moves code count (move code s)) ≡ (world_of (move code s)).steps + 1 =
@@ -98,7 +80,7 @@ all_taken code onward stay steps old new turned =
     goes : (b : Bool) → ends_with_steps new ≡ b → steps + (world_of old).steps ≤ (world_of new).steps + one_if b 0 → steps + (world_of old).steps ≤ (world_of new).steps
     goes false is some = omega (arith, some)
     goes true is some =
-        let still = ends_still new is in
+        let still = limited_still new is in
         let moved = (charge_is (is_still new) (nat_lt (world_of new).steps (world_of (move code new)).steps) (ends_with_steps (move code new)) turned.next).0 in
         absurd (cc)
 

@@ -1,30 +1,28 @@
 -- What holds of a machine at every moment.
-use Rattle.std.proofs.Common.{◌≡◌, ℕ, List, [], refl, ap, sym, subst, ◌∙◌, true, Result, Ok, Err, All}
+use Rattle.std.proofs.Common.{◌≡◌, ℕ, List, [], refl, ap, sym, subst, ◌∙◌, Result, Ok, Err, All}
 use Rattle.ns_base.specs.declared.limits.Limits.{Limits}
 use Rattle.ns_code.specs.declared.program.CodeProgram.{CodeProgram}
 use Rattle.ns_facets.specs.declared.row.Grants.{Grants}
 use Rattle.ns_world.specs.declared.value.Value.{Value}
 use Rattle.ns_world.specs.declared.value.Value.TheVariants as value
 use Rattle.ns_world.specs.declared.cell.CellLimit.{CellLimit}
-use Rattle.ns_world.specs.World.{World, WorldView}
-use Rattle.ns_world.specs.Starts.{start_of, has_class}
+use Rattle.ns_world.specs.World.{WorldView}
 use Rattle.ns_world.specs.Lawful.{IsLawful}
-use Rattle.ns_report.proofs.Cells.{class_named}
 use Rattle.ns_send.specs.Control.{Progress, in_world}
 use Rattle.ns_send.specs.Start.{nothing_done, start_made}
 use Rattle.ns_start.specs.Making.{start_shown}
-use Rattle.ns_moves.specs.State.{State, Ended, progress_of, swapped}
+use Rattle.ns_moves.specs.State.{Ended, progress_of, swapped}
 use Rattle.ns_moves.specs.Starts.{unbegun, new_machine}
 use Rattle.ns_moves.specs.Valid.{Valid}
 use Rattle.ns_engine.specs.declared.state.Core.{Core}
 use Rattle.ns_engine.specs.Shown.{phase_shown, progress_in}
-use Rattle.ns_engine.proofs.Kept.{valid_lawful, shown_progress, rooms_stay}
+use Rattle.ns_engine.specs.laws.Kept.{valid_lawful, shown_progress, rooms_stay}
 use Rattle.ns_engine.specs.declared.state.Phase.{Phase as KeptPhase}
 use Rattle.ns_engine.specs.declared.state.Phase.TheVariants.{Start, Hosted}
 use Rattle.ns_world.specs.declared.ending.Ending.{Ending}
 use Rattle.ns_world.specs.declared.ending.Ending.TheVariants.{Limit}
 use Rattle.ns_world.specs.declared.ending.LimitKind.TheVariants.{Cells}
-use Rattle.std.proofs.Common.{Option, None, Bool, if◌then◌else◌, ◌≤◌, ◌++◌, length, append-nil}
+use Rattle.std.proofs.Common.{Option, None, Bool, if◌then◌else◌, ◌≤◌, length, append-nil}
 use Rattle.ns_engine.specs.Ready.{IsReady}
 use Rattle.ns_turns.specs.Turning.{RunsBy}
 use Rattle.ns_base.specs.declared.selector.Sel.{Sel}
@@ -57,16 +55,6 @@ use Rattle.ns_plan.specs.declared.plan.Plan.{Plan}
 use Rattle.ns_engine.specs.declared.own.OwnSends.{OwnSends}
 use Rattle.ns_engine.specs.declared.state.Next.TheVariants as next
 use Rattle.ns_engine.specs.Standing.{Stays}
-
--- the class of each value is there, or is the kernel's
-pub class_there : (world : World) (code : CodeProgram) → IsLawful world code → (v : Value) → has_class world.cells (start_of world.cells v) ≡ true
-class_there world code lawful value.Nil = refl
-class_there world code lawful value.True = refl
-class_there world code lawful value.False = refl
-class_there world code lawful (value.Int number) = refl
-class_there world code lawful (value.Sym sel) = refl
-class_there world code lawful (value.Kernel class) = refl
-class_there world code lawful (value.Ref at) = class_named world code at lawful
 
 -- what it has done is what its state has
 pub stage_progress : (code : CodeProgram) (core : Core) (stage : Stage) → progress_of (stage_shown code core stage) ≡ progress_in core

@@ -21,11 +21,11 @@ use Rattle.ns_meant.specs.Statements.{opers_bodies, un_bodies, primary_bodies, i
 use Rattle.ns_meant.specs.Statements.{init_bodies, statements_bodies, list_bodies}
 use Rattle.ns_meant.specs.Statements.{routine_bodies}
 use Rattle.ns_meant.specs.Classes.{super_arguments, super_bodies, initialiser_of, base_by, head_node}
-use Rattle.ns_meant.proofs.Counting.{super_counted}
+use Rattle.ns_meant.specs.laws.Counting.{super_counted}
 use Rattle.ns_meant.specs.Uses.{Use, DoesHave, ReachHas, NodeHas, NodesHave, MessagesHave, LocalsHave, SlotsHave, MethodHas, BlockHas, ExpressionsHave}
 use Rattle.ns_meant.specs.There.{BlocksIn}
-use Rattle.ns_meant.proofs.Placing.{Sits, sits_left, sits_right, sits_first}
-use Rattle.ns_meant.proofs.Numbering.{message_counted, key_expr_counted, bin_counted, un_counted, expr_counted, init_counted, bars_counted}
+use Rattle.ns_meant.specs.laws.Sits.{Sits, sits_left, sits_right, sits_first}
+use Rattle.ns_meant.specs.laws.Numbering.{message_counted, key_expr_counted, bin_counted, un_counted, expr_counted, init_counted, bars_counted}
 
 module _ (meant : m.Meant) (here : Standing) where
   abbrev Has : Use → Type 0

@@ -9,8 +9,9 @@ use Rattle.ns_meant.specs.Statements.{opers_bodies, un_bodies, primary_bodies, i
 use Rattle.ns_meant.specs.Statements.{init_bodies, statements_bodies, list_bodies, statement_bodies}
 use Rattle.ns_meant.specs.Statements.{routine_bodies}
 use Rattle.ns_meant.proofs.BlockNodes.{block_has}
-use Rattle.ns_meant.proofs.Placing.{sits_behind, Part, ArePlaced, two, inner_part, params_among}
-use Rattle.ns_meant.proofs.Numbering.{expr_counted, message_counted, key_expr_counted, bin_counted, un_counted, slot_counted, bars_counted, statement_counted}
+use Rattle.ns_meant.specs.laws.Sits.{sits_behind}
+use Rattle.ns_meant.proofs.Placing.{Part, ArePlaced, two, inner_part, params_among}
+use Rattle.ns_meant.specs.laws.Numbering.{expr_counted, message_counted, key_expr_counted, bin_counted, un_counted, slot_counted, bars_counted, statement_counted}
 
 module _ (meant : m.Meant) where
   mutual

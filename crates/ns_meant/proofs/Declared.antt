@@ -17,10 +17,11 @@ use Rattle.ns_meant.specs.Classes.{initialiser_body, initialiser_inside, meant_o
 use Rattle.ns_meant.specs.Classes.{members_bodies, member_bodies, what_bodies, class_count, side_count, members_count, member_count, what_count}
 use Rattle.ns_meant.specs.Classes.{units_bodies, units_count}
 use Rattle.ns_meant.specs.There.{IsPlaced}
-use Rattle.ns_meant.proofs.Placing.{Sits, sits_left, sits_right, sits_behind, ArePlaced, placed_both, placed_at, Part, two, inner_part, params_among}
-use Rattle.ns_meant.proofs.Numbering.{both, bars_counted, statements_counted}
-use Rattle.ns_meant.proofs.Counting.{HasNumber, super_counted, what_methods_counted, side_counted, clause_counted, own_counted, class_counted, member_counted}
-use Rattle.ns_meant.proofs.Counting.{units_listed}
+use Rattle.ns_meant.specs.laws.Sits.{Sits, sits_left, sits_right, sits_behind}
+use Rattle.ns_meant.proofs.Placing.{ArePlaced, placed_both, placed_at, Part, two, inner_part, params_among}
+use Rattle.ns_meant.specs.laws.Numbering.{both, bars_counted, statements_counted}
+use Rattle.ns_meant.specs.laws.Counting.{HasNumber, super_counted, what_methods_counted, side_counted, clause_counted, own_counted, class_counted, member_counted}
+use Rattle.ns_meant.specs.laws.Counting.{units_listed}
 use Rattle.ns_meant.proofs.BlockNodes.{method_has, initialiser_has, head_has}
 use Rattle.ns_meant.proofs.Blocks.{message_placed, bars_placed, statements_placed}
 

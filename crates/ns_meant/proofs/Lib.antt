@@ -1,6 +1,4 @@
-pub mod Numbering
 pub mod Places
-pub mod Counting
 pub mod Examples
 mod Placing
 mod Blocks

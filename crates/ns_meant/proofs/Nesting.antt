@@ -10,8 +10,8 @@ use Rattle.ns_meant.specs.Program as m
 use Rattle.ns_meant.specs.Classes.{Around, in_file, within, clause_number, declaration_of, class_declared, side_declared, members_declared, member_declared}
 use Rattle.ns_meant.specs.Classes.{what_declared, class_count, member_count, side_nested, members_nested, meant_of, units_declared}
 use Rattle.ns_meant.specs.Right.{StandsIn, HaveNested, IsNested}
-use Rattle.ns_meant.proofs.Placing.{Sits, sits_left, sits_right, sits_first, sits_behind}
-use Rattle.ns_meant.proofs.Counting.{class_listed, member_listed}
+use Rattle.ns_meant.specs.laws.Sits.{Sits, sits_left, sits_right, sits_first, sits_behind}
+use Rattle.ns_meant.specs.laws.Counting.{class_listed, member_listed}
 
 -- ---- each class of a list is nested right
 

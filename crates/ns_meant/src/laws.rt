@@ -16,7 +16,7 @@ ghost use Rattle.ns_meant.specs.Tables.{put_all, used_names, names_of};
 
 /// The blocks of an expression are as many bodies as scopes, and so are the bodies of a program. So
 /// the number that a walk gives to a body is its place in both lists.
-#[tactic(auto, using(crate::proofs::Numbering::expr_counted, crate::proofs::Counting::units_counted))]
+#[tactic(auto, using(crate::specs::laws::Numbering::expr_counted, crate::specs::laws::Counting::units_counted))]
 pub fn bodies_are_numbered_as_scopes()
     ensures blocks { (here : Standing) (next : ℕ) (expr : Expr) → length (expr_bodies here next expr) ≡ length (scopes.expr_blocks here.scope expr) }
     ensures bodies { (files : List (List ℕ)) (units : List SourceUnit) (marks : List (List Place)) →
@@ -24,7 +24,7 @@ pub fn bodies_are_numbered_as_scopes()
 {}
 
 /// A class and those in it are as many declarations as are counted, and so are those of a program.
-#[tactic(auto, using(crate::proofs::Counting::class_listed, crate::proofs::Counting::units_listed))]
+#[tactic(auto, using(crate::specs::laws::Counting::class_listed, crate::specs::laws::Counting::units_listed))]
 pub fn classes_are_numbered_in_order()
     ensures class { (class : Class) (around : Around) (number next : ℕ) → length (class_declared around number next class) ≡ class_count class }
     ensures classes { (files : List (List ℕ)) (units : List SourceUnit) (marks : List (List Place)) →
@@ -33,7 +33,7 @@ pub fn classes_are_numbered_in_order()
 
 /// The number of a name in a table is its place, at which the name stands. It stays where the table
 /// grows.
-#[tactic(auto, using(crate::proofs::Places::name_at_place, crate::proofs::Places::place_below, crate::proofs::Places::place_stands_all))]
+#[tactic(auto, using(crate::specs::laws::Places::name_at_place, crate::specs::laws::Places::place_below, crate::specs::laws::Places::place_stands_all))]
 pub fn numbers_are_places()
     ensures there { (table : List (List ℕ)) (name : List ℕ) → has table name ≡ true → slice_get table (place_of table name) ≡ Some name }
     ensures below { (table : List (List ℕ)) (name : List ℕ) → has table name ≡ true → place_of table name < length table }

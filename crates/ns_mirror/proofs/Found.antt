@@ -1,27 +1,26 @@
 -- A slot that is found stands inside of its object.
-use Rattle.std.proofs.Common.{◌≡◌, ◌≢◌, ℕ, ◌+◌, ◌<◌, List, [], ◌∷◌, length, slice_get, refl, ap, sym, ◌∙◌, arith, Option, Some, None, Bool, true, false, cond, eqb, ◌||◌}
+use Rattle.std.proofs.Common.{◌≡◌, ◌≢◌, ℕ, ◌+◌, ◌<◌, List, [], ◌∷◌, length, slice_get, refl, ap, sym, ◌∙◌, arith, Option, Some, None, true}
 use Rattle.std.specs.Option.{option_map_or, IfSome}
 use Rattle.ns_base.specs.declared.selector.Sel.{Sel}
 use Rattle.ns_code.specs.declared.program.CodeProgram.{CodeProgram}
 use Rattle.ns_code.specs.declared.class.ClassCode.{ClassCode}
-use Rattle.ns_code.specs.declared.class.SlotCode.{SlotCode}
 use Rattle.ns_world.specs.declared.value.Value.{Value}
 use Rattle.ns_world.specs.declared.value.Value.TheVariants.{Nil, True, False, Int, Sym, Kernel, Ref}
-use Rattle.ns_world.specs.declared.cell.NewCell.TheVariants as new
-use Rattle.ns_world.specs.Cell.{Cell, ObjectCell, ClassCell, BlockCell, EnvironmentCell, ArrayCell, TextCell, FacetCell, MirrorCell, MessageCell, cell_words, open_words, shape_of}
+use Rattle.ns_world.specs.Cell.{Cell, ObjectCell, ClassCell, BlockCell, EnvironmentCell, ArrayCell, TextCell, FacetCell, MirrorCell, MessageCell, cell_words, open_words}
 use Rattle.ns_world.specs.Heap.{Heap, find_cell, is_class, chain_of, superclass_of, is_chain_start, no_class, words_at, open_words_at}
 use Rattle.ns_world.specs.World.{World}
 use Rattle.ns_world.specs.Layout.{declaration_of, entries_of, layout_of, entry_word}
 use Rattle.ns_world.specs.Lawful.{IsLawful}
-use Rattle.std.specs.Prelude.{is_none}
-use Rattle.std.proofs.lemmas.Bool.{eqb-true, eq-eqb, true≢false}
-use Rattle.ns_world.proofs.Above.{chain_none, class_of_start}
-use Rattle.ns_classes.proofs.Bounds.{layout_step, lawful_small}
-use Rattle.ns_classes.proofs.Entries.{started}
+use Rattle.std.proofs.lemmas.Bool.{eqb-true}
+use Rattle.ns_world.specs.laws.Above.{class_of_start}
+use Rattle.ns_world.specs.laws.Starts.{none_starts}
+use Rattle.ns_classes.specs.laws.Bounds.{layout_step}
+use Rattle.ns_classes.specs.laws.Entries.{started}
 use Rattle.ns_mirror.specs.declared.slots.Entry.{Entry}
 use Rattle.ns_mirror.specs.declared.slots.SlotPlace.{SlotPlace}
-use Rattle.ns_mirror.specs.Looking.{object_class, object_class_in}
+use Rattle.ns_mirror.specs.Looking.{object_class}
 use Rattle.ns_mirror.specs.Slots.{declared_slots, entry_of, place_of, slot_in, slot_or, slot_along}
+use Rattle.ns_mirror.specs.lemmas.Found.{entry_inside, class_of, no_slot}
 
 -- the slots of a declaration are among its entries
 pub slots_are_entries : (code : CodeProgram) (decl number : ℕ) → number < length (declared_slots code decl) → number < entries_of code decl
@@ -30,17 +29,6 @@ slots_are_entries code decl number h = found (slice_get code.classes decl) h
     found : (o : Option ClassCode) → number < length (option_map_or (λ (class : ClassCode). class.slots) o []) → number < option_map_or (λ (class : ClassCode). length class.slots + length class.nested) o 0
     found None h = absurd (omega (arith, h))
     found (Some class) h = omega (arith, h)
-
-pub entry_inside : (slots : List SlotCode) (sel : Sel) (first : ℕ) (entry : Entry) → entry_of slots sel first ≡ Some entry → entry.number < first + length slots
-entry_inside [] sel first entry e = absurd (cc)
-entry_inside (slot ∷ slots) sel first entry e = tested (eqb slot.name.0 sel.0) e (entry_inside slots sel (first + 1) entry)
-  where
-    tested : (b : Bool) → cond b (Some (record { number = first; mutable = slot.mutable })) (entry_of slots sel (first + 1)) ≡ Some entry → (entry_of slots sel (first + 1) ≡ Some entry → entry.number < (first + 1) + length slots) → entry.number < first + length (slot ∷ slots)
-    tested true f below =
-        let here : Entry = record { number = first; mutable = slot.mutable } in
-        let is : here ≡ entry = cc in
-        omega (arith, ap (λ (x : Entry). x.number) is)
-    tested false f below = omega (arith, below f)
 
 in_holder : (heap : Heap) (code : CodeProgram) (holder : ℕ) (sel : Sel) (place : SlotPlace) → slot_in heap code holder sel ≡ Some place → place.word < layout_of heap code (superclass_of heap holder) + entries_of code (declaration_of heap holder)
 in_holder heap code holder sel place e = found (entry_of (declared_slots code (declaration_of heap holder)) sel 0) refl e
@@ -70,21 +58,6 @@ along_inside world code sel place (holder ∷ holders) class lawful s e f =
         let found : slot_in world.cells code class sel ≡ Some place = ap (λ n. slot_in world.cells code n sel) is ∙ (t ∙ f) in
         omega (arith, in_holder world.cells code class sel place found, step)
 
--- a lawful world is smaller than the number of no class, where there is no chain
-no_chain : (world : World) (code : CodeProgram) → IsLawful world code → chain_of world.cells no_class ≡ []
-no_chain world code lawful = chain_none world.cells no_class (lawful_small world code lawful) (eq-eqb no_class no_class refl)
-
--- a chain can start at the number of no class
-none_starts : (heap : Heap) → is_chain_start heap no_class ≡ true
-none_starts heap = tested (is_class (find_cell heap no_class))
-  where
-    tested : (b : Bool) → (b || eqb no_class no_class) ≡ true
-    tested true = refl
-    tested false = eq-eqb no_class no_class refl
-
-abbrev pub class_of : Option Cell → ℕ
-class_of o = object_class_in (option_map_or shape_of o (new.Mirror Nil))
-
 cell_starts : (world : World) (code : CodeProgram) (at : ℕ) → IsLawful world code → (o : Option Cell) → find_cell world.cells at ≡ o → is_chain_start world.cells (class_of o) ≡ true
 cell_starts world code at lawful (Some (ObjectCell class entries)) e = (lawful.cells at (ObjectCell class entries) e).0.class_is
 cell_starts world code at lawful None e = none_starts world.cells
@@ -111,12 +84,6 @@ class_starts world code (Kernel class) lawful = none_starts world.cells
 pub class_there : (world : World) (code : CodeProgram) (value : Value) → IsLawful world code → object_class world.cells value ≢ no_class → is_class (find_cell world.cells (object_class world.cells value)) ≡ true
 class_there world code value lawful h =
     class_of_start world.cells (object_class world.cells value) (class_starts world code value lawful) (λ t. h (eqb-true (object_class world.cells value) no_class t))
-
-pub no_slot : (world : World) (code : CodeProgram) (sel : Sel) (place : SlotPlace) → IsLawful world code → slot_along world.cells code (chain_of world.cells no_class) sel ≡ Some place → ⊥
-no_slot world code sel place lawful f =
-    let none : None ≡ Some place = ap (λ chain. slot_along world.cells code chain sel) (sym (no_chain world code lawful)) ∙ f in
-    let e : true ≡ false = ap is_none none in
-    true≢false e
 
 cell_inside : (world : World) (code : CodeProgram) (at : ℕ) (sel : Sel) (place : SlotPlace) → IsLawful world code → (o : Option Cell) → find_cell world.cells at ≡ o → slot_along world.cells code (chain_of world.cells (class_of o)) sel ≡ Some place → (place.word < length (option_map_or open_words o [])) × (place.word < length (option_map_or cell_words o []))
 cell_inside world code at sel place lawful (Some (ObjectCell class entries)) e f =

@@ -4,10 +4,3 @@ pub mod Public
 pub mod Found
 pub mod Names
 pub mod Reflecting
-pub mod LivingSlots
-pub mod LivingEnclosing
-pub mod Living
-pub mod Named
-pub mod Written
-pub mod Lawful
-pub mod Leading

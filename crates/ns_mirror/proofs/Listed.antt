@@ -8,7 +8,7 @@ use Rattle.ns_world.specs.declared.value.Value.TheVariants.{Nil, Ref}
 use Rattle.ns_world.specs.Cell.{ArrayCell, open_words}
 use Rattle.ns_world.specs.Heap.{heap_size, open_words_at}
 use Rattle.ns_world.specs.World.{World, WorldView, made}
-use Rattle.ns_world.proofs.Changing.{found_new}
+use Rattle.ns_world.specs.laws.Changing.{found_new}
 use Rattle.ns_kdata.specs.Outcome.{Gives, making}
 use Rattle.ns_mirror.specs.Arrays.{listed, MakesArray}
 use Rattle.ns_mirror.proofs.Listing.{with_cells, lists}

@@ -1,23 +1,13 @@
 -- Writing values one after another fills a new array.
-use Rattle.std.proofs.Common.{◌≡◌, ℕ, suc, ◌+◌, List, [], ◌∷◌, ◌++◌, length, set, refl, ap, sym, ◌∙◌, arith, Option, Some, None, Bool, true, false, cond, eqb, length-set, append_assoc, length-append}
+use Rattle.std.proofs.Common.{◌≡◌, ℕ, suc, ◌+◌, List, [], ◌∷◌, ◌++◌, length, set, refl, ap, sym, ◌∙◌, arith, Option, Some, None, Bool, true, false, eqb, length-set, append_assoc, length-append}
 use Rattle.std.specs.Option.{option_map_or}
 use Rattle.std.proofs.lemmas.Bool.{eqb-true, eq-eqb}
 use Rattle.ns_world.specs.declared.value.Value.{Value}
-use Rattle.ns_world.specs.Cell.{Cell, ObjectCell, ClassCell, BlockCell, EnvironmentCell, ArrayCell, TextCell, FacetCell, MirrorCell, MessageCell, cell_size, open_words, with_word}
+use Rattle.ns_world.specs.Cell.{Cell, ObjectCell, ClassCell, BlockCell, EnvironmentCell, ArrayCell, TextCell, FacetCell, MirrorCell, MessageCell, open_words, with_word}
 use Rattle.ns_world.specs.Heap.{Heap, heap_size, find_cell, set_cell, write_word, open_words_at}
 use Rattle.ns_world.specs.World.{World, WorldView, written}
-use Rattle.ns_world.proofs.Changing.{writing_leaves, word_plainly, set_size}
+use Rattle.ns_world.specs.laws.Changing.{writing_leaves, word_plainly, set_here}
 use Rattle.ns_mirror.specs.Arrays.{listed}
-
--- a cell that is replaced is found anew
-set_here : (heap : Heap) (at : ℕ) (old new : Cell) → find_cell heap at ≡ Some old → cell_size new ≡ cell_size old → find_cell (set_cell heap at new) at ≡ Some new
-set_here [] at old new e s = absurd (cc)
-set_here (cell ∷ earlier) at old new e s = tested (eqb at (heap_size earlier)) refl e (λ f. set_here earlier at old new f s) (λ f. set_size earlier at old new f s)
-  where
-    tested : (b : Bool) → eqb at (heap_size earlier) ≡ b → cond b (Some cell) (find_cell earlier at) ≡ Some old → (find_cell earlier at ≡ Some old → find_cell (set_cell earlier at new) at ≡ Some new) → (find_cell earlier at ≡ Some old → heap_size (set_cell earlier at new) ≡ heap_size earlier) → find_cell (cond b (new ∷ earlier) (cell ∷ set_cell earlier at new)) at ≡ Some new
-    tested true t e below size = rw t refl
-    tested false t e below size =
-        ap (λ n. cond (eqb at n) (Some cell) (find_cell (set_cell earlier at new) at)) (size e) ∙ rw t (below e)
 
 words_with : (cell : Cell) (place : ℕ) (value : Value) → length (open_words (with_word cell place value)) ≡ length (open_words cell)
 words_with (ObjectCell class entries) place value = length-set entries place value

@@ -15,11 +15,11 @@ use Rattle.ns_world.specs.Layout.{declaration_of, entries_of, entries_along}
 use Rattle.ns_world.specs.Starts.{declaration_in}
 use Rattle.ns_world.specs.Lawful.{IsLawful}
 use Rattle.std.proofs.lemmas.Bool.{eqb-true, true≢false}
-use Rattle.ns_world.proofs.Chains.{class_below}
-use Rattle.ns_world.proofs.Above.{class_of_start}
-use Rattle.ns_world.proofs.Changing.{differs, found_old}
-use Rattle.ns_classes.proofs.Bounds.{layout_few}
-use Rattle.ns_classes.proofs.Entries.{started}
+use Rattle.ns_world.specs.laws.Chains.{class_below}
+use Rattle.ns_world.specs.laws.Above.{class_of_start}
+use Rattle.ns_world.specs.laws.Changing.{found_old, chain_old}
+use Rattle.ns_classes.specs.laws.Bounds.{layout_few}
+use Rattle.ns_classes.specs.laws.Entries.{started}
 use Rattle.ns_mirror.specs.Arrays.{listed}
 use Rattle.ns_mirror.specs.Slots.{declared_slots, slot_symbols, slot_names_along}
 use Rattle.ns_mirror.proofs.Listing.{sizes_stay}
@@ -78,9 +78,6 @@ below_next world code class lawful s = tested (eqb class no_class) refl
     tested true e = λ q. let is : class ≡ no_class = eqb-true class no_class e in omega (arith, q, is, lawful.within.cells, lawful.within.limits.1.1)
     tested false e = λ q. let c = class_below world.cells class (class_of_start world.cells class s (λ t. let f : true ≡ false = sym t ∙ e in true≢false f)) in omega (arith, c, q)
 
-chain_kept : (heap : Heap) (cell : Cell) (class : ℕ) → class ≢ heap_size heap → chain_of (cell ∷ heap) class ≡ chain_of heap class
-chain_kept heap cell class h = rw (differs class (heap_size heap) h) refl
-
 declaration_kept : (heap : Heap) (cell : Cell) (class : ℕ) → class ≢ heap_size heap → declaration_of (cell ∷ heap) class ≡ declaration_of heap class
 declaration_kept heap cell class h = ap (λ o. declaration_in (option_map_or shape_of o (Mirror Nil))) (found_old heap cell class h)
 
@@ -99,7 +96,7 @@ along_kept world code cell (holder ∷ holders) class lawful s e =
 -- where a cell is made, the names along a chain stay, and it can still start there
 pub names_kept : (world : World) (code : CodeProgram) (cell : Cell) (class : ℕ) → IsLawful world code → is_chain_start world.cells class ≡ true → slot_names_along (cell ∷ world.cells) code (chain_of (cell ∷ world.cells) class) ≡ slot_names_along world.cells code (chain_of world.cells class)
 names_kept world code cell class lawful s =
-    ap (slot_names_along (cell ∷ world.cells) code) (chain_kept world.cells cell class (below_next world code class lawful s))
+    ap (slot_names_along (cell ∷ world.cells) code) (chain_old world.cells cell class (below_next world code class lawful s))
     ∙ along_kept world code cell (chain_of world.cells class) class lawful s refl
 
 pub start_kept : (world : World) (code : CodeProgram) (cell : Cell) (class : ℕ) → IsLawful world code → is_chain_start world.cells class ≡ true → is_chain_start (cell ∷ world.cells) class ≡ true

@@ -8,3 +8,5 @@ pub mod Living
 pub mod Lawful
 pub mod Leading
 pub mod Stated
+pub mod lemmas
+pub mod laws

@@ -25,7 +25,7 @@ use Rattle.ns_send.specs.Blocks.{method_next, turns_of}
 use Rattle.ns_send.specs.Sends.{sent_plain}
 use Rattle.ns_send.specs.Start.{facet_if, facets_of, top_if, tops_of, standing_cells, start_cells, nothing_done}
 use Rattle.ns_send.specs.Start.{all_made, start_made, manifest, platform, first_class}
-use Rattle.ns_send.proofs.Onward.{charged_all}
+use Rattle.ns_send.specs.laws.Onward.{charged_all}
 use Rattle.ns_meant.specs.Program.{Meant}
 use Rattle.ns_model.specs.Outcome.{Outcome, Yields, Returns, Ends, Spent}
 use Rattle.ns_model.specs.Run.{run, fuel_of}

@@ -16,7 +16,7 @@ use Rattle.ns_world.specs.Heap.{Heap, heap_size, find_cell, is_superclass, has_s
 use Rattle.ns_world.specs.World.{World, stepped, entered, made}
 use Rattle.ns_world.specs.Layout.{declaration_of}
 use Rattle.ns_world.specs.Later.{IsLater}
-use Rattle.ns_world.proofs.Chains.{class_below}
+use Rattle.ns_world.specs.laws.Chains.{class_below}
 use Rattle.ns_kdata.specs.Arguments.{shape_of_value}
 use Rattle.ns_send.specs.declared.site.Site.{Site}
 use Rattle.ns_send.specs.Site.{error}
@@ -31,9 +31,9 @@ use Rattle.ns_send.specs.Onward.{after_reached, reached, part_reached, waiting_r
 use Rattle.ns_send.specs.Actions.{Sends, SendsPlain, Performs, Evaluates, Continues, BeginsPart, EndsBody, MakesBlock, MakesText, MakesArray}
 use Rattle.ns_send.specs.Actions.{FillsSlot, StoresLocal}
 use Rattle.ns_send.specs.Spending.{ControlSpends}
-use Rattle.ns_send.proofs.Onward.{charged_all}
-use Rattle.ns_send.proofs.LeadingOn.{action_leads}
-use Rattle.ns_send.proofs.Spending.{action_spends}
+use Rattle.ns_send.specs.laws.Onward.{charged_all}
+use Rattle.ns_send.specs.laws.LeadingOn.{action_leads}
+use Rattle.ns_send.specs.laws.Spending.{action_spends}
 use Rattle.ns_model.proofs.Fuel.{Later, Past, AfterLater, Moves, PartLater, WaitsLater, Facts}
 
 -- ---- from what the actions are known to leave

@@ -15,9 +15,9 @@ use Rattle.ns_world.specs.Heap.{Heap, heap_size, find_cell, has_superclass}
 use Rattle.ns_world.specs.World.{World, made}
 use Rattle.ns_world.specs.Lawful.{IsLawful, IsLiveValue}
 use Rattle.ns_world.specs.Keeping.{MayBeMade}
-use Rattle.ns_world.proofs.Chains.{found_below, found_in_more}
+use Rattle.ns_world.specs.laws.Chains.{found_below, found_in_more}
 use Rattle.ns_kdata.specs.Lawful.{MayHold}
-use Rattle.ns_kdata.proofs.Filled.{filled_keeps}
+use Rattle.ns_kdata.specs.laws.Filled.{filled_keeps}
 use Rattle.ns_send.specs.Control.{Progress, in_world, After, Gives, Halts, charged}
 use Rattle.ns_send.specs.Start.{numbers_from, size_of_cells, all_made}
 use Rattle.ns_moves.specs.Valid.{fitting, array_behind, blocks_have_homes}

@@ -31,9 +31,9 @@ use Rattle.ns_send.specs.Start.{start_cells, nothing_done, all_made, start_made}
 use Rattle.ns_send.specs.Sends.{Target, To, ToPrivate, ToSuper, to_value, answered_by, sent}
 use Rattle.ns_send.specs.Actions.{Sends, Evaluates, Continues, BeginsPart, EndsBody, MakesBlock, MakesText, MakesArray, FillsSlot, StoresLocal}
 use Rattle.ns_send.specs.Spending.{ControlSpends, PartSpends, WaitingSpends, CellSpends, EndSpends, action_steps}
-use Rattle.ns_send.proofs.Onward.{charged_all}
-use Rattle.ns_send.proofs.Counting.{made_counts, step_charged}
-use Rattle.ns_send.proofs.Spending.{answered_spends, action_spends}
+use Rattle.ns_send.specs.laws.Onward.{charged_all}
+use Rattle.ns_send.specs.laws.Counting.{made_counts, step_charged}
+use Rattle.ns_send.specs.laws.Spending.{answered_spends, action_spends}
 use Rattle.ns_moves.specs.State.{Leaving, Loud, Silent, Frame, Running, Looping, Sending, Performing, Evaluating, Phase, Start, First, Second, Hosted}
 use Rattle.ns_moves.specs.State.{State, Unbegun, Going, Pends, Ended, Stuck}
 use Rattle.ns_moves.specs.Steps.{Step, steps_of, steps_from, literal}
@@ -45,7 +45,7 @@ use Rattle.ns_moves.specs.Move.{move}
 use Rattle.ns_moves.specs.ValidFrames.{homes_fall}
 use Rattle.ns_moves.specs.Starts.{unbegun}
 use Rattle.ns_moves.specs.Counted.{NewIsCounted, StartKeepsCount, AreCounted, FramesAreCounted, MovesKeepCount}
-use Rattle.ns_moves.proofs.Walking.{on_top_all, taken_all, picked_all}
+use Rattle.ns_moves.specs.laws.Operands.{on_top_all, taken_all, picked_all}
 
 -- ---- homes
 

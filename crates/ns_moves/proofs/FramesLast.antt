@@ -22,27 +22,12 @@ use Rattle.ns_moves.specs.Jumps.{is_boolean}
 use Rattle.ns_moves.specs.ValidFrames.{Awaited, Nothing, SendValue, BlockValue, PartEnd, awaited_below, kind_of, is_in_method, has_home_of}
 use Rattle.ns_moves.specs.ValidFrames.{FitsLeaving, environment_body, RunningIsValid, belongs_to, LoopingIsValid, FrameIsValid, FramesAreValid}
 use Rattle.ns_moves.proofs.FramesKnown.{Known}
+use Rattle.ns_moves.specs.laws.Frames.{first_valid, others_valid}
 
 -- A run goes on lawfully, and no method less has begun.
 pub record Onto (code : CodeProgram) (old new : Progress) : Type 0 where
   pub run : RunsOn code old.world new.world
   pub begun : old.begun ≤ new.begun
-
--- ---- lists of frames
-
-pub first_valid : (code : CodeProgram) (p : Progress) (awaited : Awaited) (frame : Frame) (frames : List Frame) → FramesAreValid code p awaited (frame ∷ frames)
-    → FrameIsValid code p awaited frame
-first_valid code p Nothing frame frames valid = valid.0
-first_valid code p SendValue frame frames valid = valid.0
-first_valid code p BlockValue frame frames valid = valid.0
-first_valid code p PartEnd frame frames valid = valid.0
-
-pub others_valid : (code : CodeProgram) (p : Progress) (awaited : Awaited) (frame : Frame) (frames : List Frame) → FramesAreValid code p awaited (frame ∷ frames)
-    → FramesAreValid code p (awaited_below code frame) frames
-others_valid code p Nothing frame frames valid = valid.1
-others_valid code p SendValue frame frames valid = valid.1
-others_valid code p BlockValue frame frames valid = valid.1
-others_valid code p PartEnd frame frames valid = valid.1
 
 pub both_valid : (code : CodeProgram) (p : Progress) (awaited : Awaited) (frame : Frame) (frames : List Frame) → FrameIsValid code p awaited frame
     → FramesAreValid code p (awaited_below code frame) frames → FramesAreValid code p awaited (frame ∷ frames)

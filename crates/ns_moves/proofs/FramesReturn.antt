@@ -30,7 +30,8 @@ use Rattle.ns_moves.specs.ValidFrames.{FitsLeaving, RunningIsValid, counts_fit, 
 use Rattle.ns_moves.specs.Valid.{has_frame}
 use Rattle.ns_moves.specs.Standing.{FramesStand}
 use Rattle.ns_moves.proofs.FramesKnown.{Known}
-use Rattle.ns_moves.proofs.FramesLast.{Onto, first_valid, others_valid, both_valid, value_lasts, frames_last}
+use Rattle.ns_moves.specs.laws.Frames.{first_valid, others_valid}
+use Rattle.ns_moves.proofs.FramesLast.{Onto, both_valid, value_lasts, frames_last}
 use Rattle.ns_moves.proofs.FramesStanding.{value_comes, part_ends}
 
 -- whether a value is waited for

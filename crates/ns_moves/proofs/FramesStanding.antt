@@ -4,7 +4,6 @@ use Rattle.std.specs.Prelude.{IsSome}
 use Rattle.std.specs.Option.{option_map_or, ForSome}
 use Rattle.std.proofs.lemmas.List.{length-drop}
 use Rattle.std.proofs.lemmas.Option.{get_or_from_slice_get, slice_get-get_or}
-use Rattle.ns_base.specs.declared.place.Place.{Place as SourcePlace}
 use Rattle.ns_code.specs.declared.program.CodeProgram.{CodeProgram}
 use Rattle.ns_code.specs.declared.body.BodyCode.{BodyCode}
 use Rattle.ns_code.specs.declared.instruction.Instr.{Instr}
@@ -17,12 +16,9 @@ use Rattle.ns_moves.specs.Steps.{Step, place_in, placed, steps_of, steps_from}
 use Rattle.ns_moves.specs.ValidFrames.{is_send, is_super_part, next_number, height_of}
 use Rattle.ns_moves.specs.ValidFrames.{StandsBefore, WaitsBehind}
 use Rattle.ns_moves.proofs.FramesKnown.{SoundKnown}
+use Rattle.ns_moves.specs.laws.Steps.{placed_length, placed_at}
 
 -- ---- steps
-
-pub placed_length : (places : List (ℕ × SourcePlace)) (number : ℕ) (instrs : List Instr) → length (placed places number instrs) ≡ length instrs
-placed_length places number [] = refl
-placed_length places number (instr ∷ instrs) = let e = placed_length places (number + 1) instrs in cc
 
 -- a step and what is left, behind so many
 dropped_at : {A : Type 0} (k : ℕ) (xs : List A) (x : A) (rest : List A) → drop k xs ≡ x ∷ rest → (slice_get xs k ≡ Some x) × (drop (suc k) xs ≡ rest)
@@ -30,19 +26,6 @@ dropped_at zero [] x rest e = absurd (cc)
 dropped_at zero (y ∷ ys) x rest e = (let same : y ≡ x = cc in ap Some same, let same : ys ≡ rest = cc in same)
 dropped_at (suc k) [] x rest e = absurd (cc)
 dropped_at (suc k) (y ∷ ys) x rest e = dropped_at k ys x rest e
-
-placed_at : (places : List (ℕ × SourcePlace)) (number k : ℕ) (instrs : List Instr) (step : Step) → slice_get (placed places number instrs) k ≡ Some step
-    → (slice_get instrs k ≡ Some step.0) × (step.1 ≡ place_in places (number + k))
-placed_at places number zero [] step e = absurd (cc)
-placed_at places number (suc k) [] step e = absurd (cc)
-placed_at places number zero (instr ∷ instrs) step e =
-    let same : (let own : Step = (instr, place_in places number) in own) ≡ step = cc in
-    let none : number ≡ number + 0 = omega arith in
-    (ap (λ (s : Step). Some s.0) same, ap (λ (s : Step). s.1) (sym same) ∙ ap (place_in places) none)
-placed_at places number (suc k) (instr ∷ instrs) step e =
-    let there = placed_at places (number + 1) k instrs step e in
-    let same : number + 1 + k ≡ number + suc k = omega arith in
-    (there.0, there.1 ∙ ap (place_in places) same)
 
 -- The next step of a body: its instruction, its place, and what is left behind it.
 pub record IsNext (code : CodeProgram) (number : ℕ) (body : BodyCode) (step : Step) (rest : List Step) : Type 0 where

@@ -4,7 +4,8 @@ use Rattle.ns_code.specs.declared.instruction.Instr.TheVariants as i
 use Rattle.ns_verify.specs.Uses.{IsUsable, IsSendOf}
 use Rattle.ns_moves.specs.WorldAsks.{TakesArguments, CanLeave, InstrAsks, RunsOn as StepRunsOn}
 use Rattle.ns_moves.proofs.InstrHomes.{block_home_there}
-use Rattle.ns_moves.proofs.InstrFacts.{is_selector, level_there, block_in}
+use Rattle.ns_moves.specs.laws.Levels.{level_there}
+use Rattle.ns_moves.proofs.InstrFacts.{is_selector, block_in}
 use Rattle.ns_base.specs.declared.selector.Sel.{Sel}
 use Rattle.ns_code.specs.declared.program.CodeProgram.{CodeProgram}
 use Rattle.ns_code.specs.declared.body.BodyCode.{BodyCode}

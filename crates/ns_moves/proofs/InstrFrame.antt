@@ -21,7 +21,8 @@ use Rattle.ns_send.specs.Fitting.{FitsMessage}
 use Rattle.ns_moves.specs.Operands.{on_top, taken_off}
 use Rattle.ns_moves.specs.Instructions.{executed}
 use Rattle.ns_moves.proofs.FramesArrive.{part_stands}
-use Rattle.ns_moves.proofs.InstrFacts.{is_selector, instr_fits, place_fits, level_there, out_there, block_in}
+use Rattle.ns_moves.specs.laws.Levels.{level_there}
+use Rattle.ns_moves.proofs.InstrFacts.{is_selector, instr_fits, place_fits, out_there, block_in}
 use Rattle.ns_moves.proofs.InstrStacks.{top_there, taken_there, picked_there, none_at_all}
 use Rattle.ns_base.specs.declared.place.Place.{Place as SourcePlace}
 use Rattle.ns_base.specs.declared.selector.Sel.{Sel}

@@ -13,7 +13,7 @@ use Rattle.ns_world.specs.Cell.{Cell, BlockCell, TextCell, ArrayCell}
 use Rattle.ns_world.specs.World.{stepped}
 use Rattle.ns_world.specs.Later.{MayCome}
 use Rattle.ns_world.specs.Starts.{start_of}
-use Rattle.ns_world.proofs.Leading.{later_same, later_on, later_left, later_stepped}
+use Rattle.ns_world.specs.laws.Leading.{later_same, later_on, later_left, later_stepped}
 use Rattle.ns_find.specs.declared.found.Sending.TheVariants.{Plain, Inner}
 use Rattle.ns_find.specs.Find.{found_from}
 use Rattle.ns_kdata.specs.Arguments.{items_of}
@@ -24,11 +24,11 @@ use Rattle.ns_send.specs.Blocks.{new_cell, evaluated, method_next}
 use Rattle.ns_send.specs.Classes.{super_part, body_ended, part_ended, kept_by}
 use Rattle.ns_send.specs.Sends.{Target, To, ToPrivate, ToSuper, to_value, receiver_of, sent}
 use Rattle.ns_send.specs.Onward.{reached, after_reached, part_reached, touched}
-use Rattle.ns_send.proofs.Onward.{Going, charged_all, may_come}
-use Rattle.ns_send.proofs.BlocksOnward.{any_cell_onward, any_cell_later, evaluated_onward, next_onward}
-use Rattle.ns_send.proofs.ClassesOnward.{super_onward, ended_onward, filled_onward}
-use Rattle.ns_send.proofs.LawfulValues.{local_onward}
-use Rattle.ns_send.proofs.SendsOnward.{sent_onward, stepped_onward}
+use Rattle.ns_send.specs.laws.Onward.{Going, charged_all, may_come}
+use Rattle.ns_send.specs.laws.BlocksOnward.{any_cell_onward, any_cell_later, evaluated_onward, next_onward}
+use Rattle.ns_send.specs.laws.ClassesOnward.{super_onward, ended_onward, filled_onward}
+use Rattle.ns_send.specs.laws.LawfulValues.{local_onward}
+use Rattle.ns_send.specs.laws.SendsOnward.{sent_onward, stepped_onward}
 use Rattle.ns_moves.specs.State.{Leaving, Loud, Silent, Frame, Running, Looping, Sending, Performing, Evaluating, Phase, State, Unbegun}
 use Rattle.ns_moves.specs.State.{Going as Goes, Pends, Ended, Stuck, progress_of}
 use Rattle.ns_moves.specs.Steps.{Step, steps_from, literal}
@@ -38,7 +38,8 @@ use Rattle.ns_moves.specs.Jumps.{goes_back, jumped, takes_jump, is_boolean, jump
 use Rattle.ns_moves.specs.Instructions.{executed}
 use Rattle.ns_moves.specs.Move.{sent_on, move}
 use Rattle.ns_moves.specs.Onward.{GoesOnward, MovesGoOnward}
-use Rattle.ns_moves.proofs.Walking.{on_top_all, taken_all, picked_all, delivered_at, settled_at, arrived_at, part_arrived_at, acted_at}
+use Rattle.ns_moves.specs.laws.Operands.{on_top_all, taken_all, picked_all}
+use Rattle.ns_moves.proofs.Walking.{delivered_at, settled_at, arrived_at, part_arrived_at, acted_at}
 
 pub stays : (p : Progress) → GoesOnward p p
 stays p = record { later = later_same p.world; begun = omega arith }

@@ -11,7 +11,7 @@ use Rattle.ns_world.specs.Heap.{Heap, heap_size, find_cell}
 use Rattle.ns_world.specs.Seek.{first_such, earlier_or, is_top}
 use Rattle.ns_world.specs.Lawful.{IsLiveValue}
 use Rattle.ns_world.specs.Starts.{is_receiver_cell}
-use Rattle.ns_world.proofs.Chains.{found_below, found_in_more}
+use Rattle.ns_world.specs.laws.Chains.{found_below, found_in_more}
 use Rattle.ns_facets.specs.declared.row.Grants.{Grants}
 use Rattle.ns_facets.specs.Platform.{cell_value}
 use Rattle.ns_send.specs.Start.{standing_cells, size_of_cells, manifest, platform, first_class}

@@ -23,8 +23,8 @@ use Rattle.ns_send.specs.Bodies.{initialiser_of}
 use Rattle.ns_send.specs.Start.{standing_cells, manifest, platform, first_class}
 use Rattle.ns_send.specs.Sends.{site_at}
 use Rattle.ns_send.specs.Lawful.{FitsSelector}
-use Rattle.ns_send.proofs.Sites.{site_fits}
-use Rattle.ns_send.proofs.OwnSelectors.{own_is, own_arity}
+use Rattle.ns_send.specs.laws.Sites.{site_fits}
+use Rattle.ns_send.specs.laws.OwnSelectors.{own_is, own_arity}
 use Rattle.ns_moves.specs.State.{Unbegun, Going, Pends, Ended, Stuck}
 use Rattle.ns_moves.specs.Steps.{place_in, placed, super_place, super_place_or, opening_place}
 use Rattle.ns_moves.specs.Returns.{own_sel, opening}

@@ -24,8 +24,8 @@ use Rattle.ns_send.specs.Bodies.{initialiser_of, no_home, opened}
 use Rattle.ns_send.specs.Blocks.{new_cell}
 use Rattle.ns_send.specs.Classes.{class_made, keeping, newly_kept, kept_or, factory_selector, super_selector, declared_part, object_part}
 use Rattle.ns_send.specs.Classes.{part_of, super_part, body_ended, part_ended}
-use Rattle.ns_send.proofs.Onward.{charged_all}
-use Rattle.ns_send.proofs.Counting.{made_counts, frame_charged, nothing_charged, opened_counts}
+use Rattle.ns_send.specs.laws.Onward.{charged_all}
+use Rattle.ns_send.specs.laws.Counting.{made_counts, frame_charged, nothing_charged, opened_counts}
 use Rattle.ns_moves.specs.State.{Leaving, Loud, Silent, Frame, Running, Looping, Phase, Start, First, Second, Hosted, Ended}
 use Rattle.ns_moves.specs.Turn.{is_step_limit}
 use Rattle.ns_moves.specs.Returns.{concluded, delivered, settled, returned, is_home, has_home, unwound, returned_home}

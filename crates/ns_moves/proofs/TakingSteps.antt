@@ -23,9 +23,9 @@ use Rattle.ns_send.specs.Blocks.{is_block_shape, block_body_in, block_entered, a
 use Rattle.ns_send.specs.Sends.{answered_by}
 use Rattle.ns_send.specs.Onward.{reached}
 use Rattle.ns_send.specs.Spending.{ControlSpends, Stopped}
-use Rattle.ns_send.proofs.Onward.{charged_all}
-use Rattle.ns_send.proofs.Counting.{step_charged, frame_charged, nothing_charged, opened_counts}
-use Rattle.ns_send.proofs.Spending.{answered_spends}
+use Rattle.ns_send.specs.laws.Onward.{charged_all}
+use Rattle.ns_send.specs.laws.Counting.{step_charged, frame_charged, nothing_charged, opened_counts}
+use Rattle.ns_send.specs.laws.Spending.{answered_spends}
 use Rattle.ns_moves.specs.State.{Leaving, Frame, Running, Phase, State, Going, Ended, progress_of, world_of}
 use Rattle.ns_moves.specs.Turn.{ends_with_steps}
 use Rattle.ns_moves.specs.Steps.{Step}

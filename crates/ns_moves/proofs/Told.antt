@@ -18,7 +18,7 @@ use Rattle.ns_send.specs.Control.{Progress, Activation}
 use Rattle.ns_send.specs.declared.site.Site.{Site}
 use Rattle.ns_send.specs.Sends.{Target, To, ToPrivate, ToSuper, to_value, receiver_of, found_at, site_at, sent}
 use Rattle.ns_send.specs.Actions.{FillsSlot, StoresLocal}
-use Rattle.ns_send.proofs.Spending.{action_spends}
+use Rattle.ns_send.specs.laws.Spending.{action_spends}
 use Rattle.ns_moves.specs.State.{Leaving, Frame, Running, Looping, Sending, Performing, Evaluating, Phase, State, Unbegun, Going, Pends, Ended, Stuck}
 use Rattle.ns_moves.specs.State.{progress_of, world_of}
 use Rattle.ns_moves.specs.Steps.{Step, steps_from, literal}
@@ -30,7 +30,7 @@ use Rattle.ns_moves.specs.Move.{sent_on, move}
 use Rattle.ns_moves.specs.Turn.{ends_with_steps, was_charged}
 use Rattle.ns_moves.specs.Charging.{jump_charges, instr_charges, will_charge}
 use Rattle.ns_moves.specs.Charges.{is_stuck, TookStep, TookNone, Took, TakesAsTold, ChargesAsTold}
-use Rattle.ns_moves.proofs.Walking.{on_top_all, taken_all, picked_all}
+use Rattle.ns_moves.specs.laws.Operands.{on_top_all, taken_all, picked_all}
 use Rattle.ns_moves.proofs.TakingNone.{settled_none, cell_none, returned_none, home_none, part_none}
 use Rattle.ns_moves.proofs.TakingSteps.{send_took, evaluation_took, action_took, jump_took}
 

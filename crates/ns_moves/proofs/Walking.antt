@@ -1,5 +1,5 @@
 -- What holds of where operands lead, and what a state has done by then.
-use Rattle.std.proofs.Common.{◌≡◌, ℕ, zero, suc, List, [], ◌∷◌, refl}
+use Rattle.std.proofs.Common.{◌≡◌, List, [], ◌∷◌, refl}
 use Rattle.ns_code.specs.declared.program.CodeProgram.{CodeProgram}
 use Rattle.ns_world.specs.declared.value.Value.{Value}
 use Rattle.ns_kcode.specs.declared.state.KMethod.{KMethod}
@@ -7,29 +7,9 @@ use Rattle.ns_send.specs.declared.site.Site.{Site}
 use Rattle.ns_send.specs.Control.{Progress, After, Gives, Halts, Control, Now, Enter, Evaluate, Begin, Perform, Part, Skip, Stop, EnterPart, Waiting}
 use Rattle.ns_send.specs.Control.{Waits, Finishes}
 use Rattle.ns_send.specs.Onward.{reached, after_reached, part_reached, waiting_reached}
-use Rattle.ns_moves.specs.State.{Frame, Running, Looping, Phase, Start, First, Second, Hosted, State, progress_of}
-use Rattle.ns_moves.specs.Operands.{on_top, taken_off, picked}
+use Rattle.ns_moves.specs.State.{Frame, Running, Looping, Phase, Start, First, Second, Hosted, progress_of}
 use Rattle.ns_moves.specs.Returns.{concluded, delivered, settled}
 use Rattle.ns_moves.specs.Arrivals.{arrived, part_arrived, acted_on}
-
--- ---- operands
-
-pub on_top_all : (P : State → Type 0) (missing : State) (stack : List Value) (go : Value → List Value → State) → P missing
-    → ((v : Value) (below : List Value) → P (go v below)) → P (on_top missing stack go)
-on_top_all P missing [] go m g = m
-on_top_all P missing (v ∷ below) go m g = g v below
-
-pub taken_all : (P : State → Type 0) (missing : State) (count : ℕ) (values stack : List Value) (go : List Value → List Value → State) → P missing
-    → ((vs below : List Value) → P (go vs below)) → P (taken_off missing count values stack go)
-taken_all P missing zero values stack go m g = g values stack
-taken_all P missing (suc count) values [] go m g = m
-taken_all P missing (suc count) values (v ∷ stack) go m g = taken_all P missing count (v ∷ values) stack go m g
-
-pub picked_all : (P : State → Type 0) (missing : State) (place : ℕ) (stack : List Value) (go : Value → State) → P missing → ((v : Value) → P (go v))
-    → P (picked missing place stack go)
-picked_all P missing place [] go m g = m
-picked_all P missing zero (v ∷ stack) go m g = g v
-picked_all P missing (suc place) (v ∷ stack) go m g = picked_all P missing place stack go m g
 
 -- ---- what a state has done that an action leads to
 

@@ -22,12 +22,12 @@ use Rattle.ns_send.specs.Blocks.{new_block, new_text, new_array}
 use Rattle.ns_send.specs.Sends.{Target, To, ToPrivate, ToSuper, to_value, sent}
 use Rattle.ns_send.specs.Lawful.{FitsTarget, FitsSelector}
 use Rattle.ns_send.specs.Actions.{Sends, BeginsPart, EndsPart, EndsBody, MakesBlock, MakesText, MakesArray, FillsSlot, StoresLocal}
-use Rattle.ns_send.proofs.Onward.{charged_all}
-use Rattle.ns_send.proofs.Spending.{action_spends}
-use Rattle.ns_send.proofs.Ending.{action_ends}
-use Rattle.ns_send.proofs.LawfulSends.{sent_lawful}
-use Rattle.ns_send.proofs.LawfulParts.{ended_lawful}
-use Rattle.ns_send.proofs.LawfulValues.{text_lawful, array_lawful, block_lawful}
+use Rattle.ns_send.specs.laws.Onward.{charged_all}
+use Rattle.ns_send.specs.laws.Spending.{action_spends}
+use Rattle.ns_send.specs.laws.Ending.{action_ends}
+use Rattle.ns_send.specs.laws.LawfulSends.{sent_lawful}
+use Rattle.ns_send.specs.laws.LawfulParts.{ended_lawful}
+use Rattle.ns_send.specs.laws.LawfulValues.{text_lawful, array_lawful, block_lawful}
 use Rattle.ns_moves.specs.State.{Leaving, Loud, Silent, Frame, Running, Phase, State, Going, Ended, Stuck}
 use Rattle.ns_moves.specs.Steps.{Step, steps_from, literal}
 use Rattle.ns_moves.specs.Operands.{on_top, taken_off, picked}

@@ -29,18 +29,18 @@ use Rattle.ns_send.specs.Actions.{Action, Sends, SendsPlain, Performs, Evaluates
 use Rattle.ns_send.specs.Actions.{MakesArray, FillsSlot, StoresLocal, progress_after}
 use Rattle.ns_send.specs.Adding.{Adds, is_block_of}
 use Rattle.ns_send.specs.Spending.{Charged, GivenBack, Stopped, ControlSpends, PartSpends, WaitingSpends, CellSpends, EndSpends, action_steps}
-use Rattle.ns_send.proofs.AddingOn.{action_adds}
-use Rattle.ns_send.proofs.Counting.{step_charged}
-use Rattle.ns_send.proofs.Spending.{action_spends}
-use Rattle.ns_send.proofs.SendsOnward.{stepped_onward}
-use Rattle.ns_send.proofs.LawfulBlocks.{evaluated_lawful}
-use Rattle.ns_send.proofs.LawfulSends.{sent_lawful, plain_lawful, performed_lawful}
-use Rattle.ns_send.proofs.SentFrom.{from_lawful, from_spends}
-use Rattle.ns_send.proofs.LawfulParts.{super_lawful, ended_lawful, next_lawful}
-use Rattle.ns_send.proofs.LawfulValues.{text_lawful, array_lawful, block_lawful, slot_lawful, local_lawful}
-use Rattle.ns_world.proofs.Charging.{leave_keeps, step_keeps}
-use Rattle.ns_send.proofs.Growing.{step_cells}
-use Rattle.ns_send.proofs.Adding.{cells_same}
+use Rattle.ns_send.specs.laws.AddingOn.{action_adds}
+use Rattle.ns_send.specs.laws.Counting.{step_charged}
+use Rattle.ns_send.specs.laws.Spending.{action_spends}
+use Rattle.ns_send.specs.laws.SendsOnward.{stepped_onward}
+use Rattle.ns_send.specs.laws.LawfulBlocks.{evaluated_lawful}
+use Rattle.ns_send.specs.laws.LawfulSends.{sent_lawful, plain_lawful, performed_lawful}
+use Rattle.ns_send.specs.laws.SentFrom.{from_lawful, from_spends}
+use Rattle.ns_send.specs.laws.LawfulParts.{super_lawful, ended_lawful, next_lawful}
+use Rattle.ns_send.specs.laws.LawfulValues.{text_lawful, array_lawful, block_lawful, slot_lawful, local_lawful}
+use Rattle.ns_world.specs.laws.Charging.{leave_keeps, step_keeps}
+use Rattle.ns_send.specs.laws.Growing.{step_cells}
+use Rattle.ns_send.specs.laws.Adding.{cells_same}
 use Rattle.ns_moves.specs.State.{Phase, Start, First, Second, Hosted}
 use Rattle.ns_moves.specs.Move.{sent_on}
 use Rattle.ns_moves.specs.Valid.{WorldIsValid, HasArgumentsIn, has_begun}

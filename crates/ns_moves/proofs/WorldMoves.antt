@@ -14,11 +14,11 @@ use Rattle.ns_send.specs.Blocks.{evaluated, method_next}
 use Rattle.ns_send.specs.Lawful.{FitsSelector}
 use Rattle.ns_send.specs.Actions.{Evaluates, Continues}
 use Rattle.ns_send.specs.Spending.{action_steps}
-use Rattle.ns_send.proofs.Spending.{action_spends}
-use Rattle.ns_send.proofs.Ending.{action_ends, waited_ends}
-use Rattle.ns_send.proofs.LawfulBlocks.{evaluated_lawful}
-use Rattle.ns_send.proofs.SentFrom.{from_lawful, from_spends}
-use Rattle.ns_send.proofs.LawfulParts.{next_lawful}
+use Rattle.ns_send.specs.laws.Spending.{action_spends}
+use Rattle.ns_send.specs.laws.Ending.{action_ends, waited_ends}
+use Rattle.ns_send.specs.laws.LawfulBlocks.{evaluated_lawful}
+use Rattle.ns_send.specs.laws.SentFrom.{from_lawful, from_spends}
+use Rattle.ns_send.specs.laws.LawfulParts.{next_lawful}
 use Rattle.ns_moves.specs.State.{Frame, Running, Looping, Sending, Performing, Evaluating, Phase, State, Unbegun, Going, Pends, Ended, Stuck}
 use Rattle.ns_moves.specs.Arrivals.{arrived}
 use Rattle.ns_moves.specs.Move.{sent_on, move}

@@ -21,4 +21,5 @@ pub mod WorldStays
 pub mod WorldAsks
 pub mod Standing
 pub mod Beginning
-pub mod Laws
+pub mod Stated
+pub mod laws

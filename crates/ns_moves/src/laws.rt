@@ -9,8 +9,8 @@ ghost use Rattle.ns_moves.specs.Steps.{Step};
 ghost use Rattle.ns_moves.specs.Counted.{NewIsCounted, StartKeepsCount, MovesKeepCount};
 ghost use Rattle.ns_moves.specs.Onward.{MovesGoOnward};
 ghost use Rattle.ns_moves.specs.Charges.{TakesAsTold, ChargesAsTold};
-ghost use Rattle.ns_moves.specs.Laws.{MovesAdd, ChargesAdd, StaysStill, TurnsAdd, TurnsLeaveOne, SendsOn, PerformsOn};
-ghost use Rattle.ns_moves.specs.Laws.{ReturnsLand, ReturnsLandBelow, HomesAreBelow, AreTaken, GoesBackTo, IsPushed, StaysBelow};
+ghost use Rattle.ns_moves.specs.Stated.{MovesAdd, ChargesAdd, StaysStill, TurnsAdd, TurnsLeaveOne, SendsOn, PerformsOn};
+ghost use Rattle.ns_moves.specs.Stated.{ReturnsLand, ReturnsLandBelow, HomesAreBelow, AreTaken, GoesBackTo, IsPushed, StaysBelow};
 
 /// So many moves and then so many are all these moves, and charge as many steps.
 #[tactic(auto, using(crate::proofs::Turns::moves_add, crate::proofs::Turns::charges_add))]

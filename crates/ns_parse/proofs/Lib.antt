@@ -1,4 +1,1 @@
 pub mod Labels
-pub mod SoundClasses
-pub mod SoundFile
-pub mod TakesClasses

@@ -29,7 +29,7 @@ use Rattle.ns_send.specs.Bodies.{enclosing}
 use Rattle.ns_world.specs.Heap.{Heap}
 use Rattle.ns_plan.specs.declared.step.Member.{Member}
 use Rattle.ns_plan.specs.declared.step.Member.TheVariants.{Method, Getter, Setter, Nested, Absent}
-use Rattle.ns_plan.specs.Laws.{MembersAreFound, PrivateSendsHaveMembers, PrivateSendsFind}
+use Rattle.ns_plan.specs.Stated.{MembersAreFound, PrivateSendsHaveMembers, PrivateSendsFind}
 use Rattle.ns_plan.specs.Privates.{found_in, reads, writes, slot_member, slots_member, nested_member, method_member, side_member, declaration_out, level_side, member_at}
 use Rattle.ns_plan.proofs.Finding.{out_is}
 

@@ -17,7 +17,7 @@ use Rattle.ns_send.specs.Lawful.{declaration_at}
 use Rattle.ns_plan.specs.declared.step.Member.{Member}
 use Rattle.ns_plan.specs.declared.step.Member.TheVariants.{Method, Getter, Setter, Nested, Absent}
 use Rattle.ns_plan.specs.Privates.{IsAmong, reads, writes, slots_member, nested_member, method_member, side_member, private_member, declaration_out, level_side, member_at}
-use Rattle.ns_plan.specs.Laws.{MembersAreEntries}
+use Rattle.ns_plan.specs.Stated.{MembersAreEntries}
 use Rattle.ns_plan.proofs.Finding.{Declared, out_is}
 
 -- so is one that may be none

@@ -27,7 +27,7 @@ use Rattle.ns_send.specs.Lawful.{FitsActivation, declaration_at, outer_of}
 use Rattle.ns_plan.specs.declared.step.Member.{Member}
 use Rattle.ns_plan.specs.declared.step.Member.TheVariants.{Method, Getter, Setter, Nested, Absent}
 use Rattle.ns_plan.specs.Privates.{found_in, reads, writes, slots_member, nested_member, method_member, side_member, private_member, declaration_out, level_side, member_at}
-use Rattle.ns_plan.specs.Laws.{MembersAreFound}
+use Rattle.ns_plan.specs.Stated.{MembersAreFound}
 
 module _ (heap : Heap) (code : CodeProgram) (holder sel : ℕ) where
   -- what is found with a member, if there is one

@@ -17,9 +17,10 @@ use Rattle.ns_moves.specs.ValidFrames.{Nothing, Stands, next_number}
 use Rattle.ns_plan.specs.declared.step.Step.{Step}
 use Rattle.ns_plan.specs.Steps.{instr_of}
 use Rattle.ns_plan.specs.Plan.{IsStep, IsStepAt}
-use Rattle.ns_plan.specs.Laws.{BodiesBegin, StepsGoOn, JumpsLand, StepsAreUsable, RunningHasStep}
+use Rattle.ns_plan.specs.Stated.{BodiesBegin, StepsGoOn, JumpsLand, StepsAreUsable, RunningHasStep}
 use Rattle.ns_plan.proofs.Rows.{HasBody, body_there}
-use Rattle.ns_plan.proofs.Lookup.{HasInstr, instr_there, steps_count, left_from}
+use Rattle.ns_plan.specs.laws.Steps.{steps_count}
+use Rattle.ns_plan.proofs.Lookup.{HasInstr, instr_there, left_from}
 
 -- the instruction of a step is that of its number
 instr_is : (code : CodeProgram) (body next : ℕ) (step : Step) (at : HasInstr code body next) → IsStepAt code body next step → instr_of step ≡ at.instr

@@ -1,7 +1,6 @@
 -- The step of each instruction stands where its body begins, and its place at its number.
 use Rattle.std.proofs.Common.{◌≡◌, ℕ, zero, suc, ◌+◌, ◌≤◌, ◌<◌, List, [], ◌∷◌, ◌++◌, length, map, get_or, refl, sym, ap, subst, ◌∙◌, arith, Option, Some, None, All, Bool, true, false, cond, nat_eq}
 use Rattle.std.specs.Prelude.{slice_get}
-use Rattle.std.specs.Option.{option_map_or}
 use Rattle.std.specs.List.{slice_index_or}
 use Rattle.std.proofs.lemmas.Bool.{eqb-true}
 use Rattle.std.proofs.lemmas.Option.{none-some, same_Some, slice_get-get_or, slice_get_past, slice_get_within, get_or_from_slice_get}
@@ -22,6 +21,7 @@ use Rattle.ns_plan.specs.Rows.{entry_in, entry_of}
 use Rattle.ns_plan.specs.Plan.{IsStep, IsStepAt}
 use Rattle.ns_plan.proofs.Made.{prepared_length}
 use Rattle.ns_plan.proofs.Rows.{HasBody, body_there}
+use Rattle.ns_plan.specs.laws.Steps.{steps_are, steps_count}
 
 -- how many places the bodies before one have
 abbrev pub first_in : List BodyCode → ℕ → ℕ
@@ -219,10 +219,6 @@ its_member code body number (i.Jump n) = tt
 its_member code body number (i.JumpFalse n) = tt
 its_member code body number (i.JumpTrue n) = tt
 
-placed_length : (places : List (ℕ × Place)) (at : ℕ) (instrs : List Instr) → length (placed places at instrs) ≡ length instrs
-placed_length places at [] = refl
-placed_length places at (instr ∷ instrs) = let rest : length (placed places (at + 1) instrs) ≡ length instrs = placed_length places (at + 1) instrs in omega (arith, rest)
-
 placed_there : (places : List (ℕ × Place)) (at : ℕ) (instrs : List Instr) (k m : ℕ) (instr : Instr) (d : moves.Step) → slice_get instrs k ≡ Some instr → m ≡ at + k → get_or (placed places at instrs) k d ≡ (instr, place_in places m)
 placed_there places at [] k m instr d is e = absurd (none-some instr is)
 placed_there places at (one ∷ instrs) zero m instr d is e =
@@ -230,12 +226,6 @@ placed_there places at (one ∷ instrs) zero m instr d is e =
     let here : at ≡ m = omega (arith, e) in
     cc (same, here)
 placed_there places at (one ∷ instrs) (suc k) m instr d is e = placed_there places (at + 1) instrs k m instr d is (omega (arith, e))
-
-pub steps_are : (code : CodeProgram) (number : ℕ) (body : BodyCode) → slice_get code.bodies number ≡ Some body → steps_of code number ≡ placed body.places 0 body.instrs
-steps_are code number body is = ap (λ o. option_map_or (λ (b : BodyCode). placed b.places 0 b.instrs) o ((i.ReturnSelf, None) ∷ [])) is
-
-pub steps_count : (code : CodeProgram) (number : ℕ) (body : BodyCode) → slice_get code.bodies number ≡ Some body → length (steps_of code number) ≡ length body.instrs
-steps_count code number body is = ap length (steps_are code number body is) ∙ placed_length body.places 0 body.instrs
 
 -- what is left from an instruction on begins with it and its place
 pub left_from : (code : CodeProgram) (number next : ℕ) (body : BodyCode) (instr : Instr) → slice_get code.bodies number ≡ Some body → slice_get body.instrs next ≡ Some instr → steps_from code number next ≡ (instr, place_in body.places next) ∷ steps_from code number (next + 1)

@@ -5,4 +5,5 @@ pub mod Steps
 pub mod Rows
 pub mod Making
 pub mod Plan
-pub mod Laws
+pub mod Stated
+pub mod laws

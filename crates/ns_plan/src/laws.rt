@@ -1,7 +1,7 @@
 //! Laws of steps. Each function does nothing, and its contract is the law.
 
 ghost use Rattle.ns_code.specs.declared.program.CodeProgram.{CodeProgram};
-ghost use Rattle.ns_plan.specs.Laws.{BodiesBegin, StepsGoOn, JumpsLand, StepsAreUsable, RunningHasStep, MembersAreFound, MembersAreEntries, PrivateSendsHaveMembers, PrivateSendsFind, FramesAreWithin};
+ghost use Rattle.ns_plan.specs.Stated.{BodiesBegin, StepsGoOn, JumpsLand, StepsAreUsable, RunningHasStep, MembersAreFound, MembersAreEntries, PrivateSendsHaveMembers, PrivateSendsFind, FramesAreWithin};
 
 use ns_send::finding::enclosing_objects_are_there;
 use ns_verify::laws::{heights_agree, sound_code_has_no_cause, sound_instructions_are_usable};

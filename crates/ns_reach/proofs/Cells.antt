@@ -10,7 +10,7 @@ use Rattle.ns_world.specs.declared.cell.FacetKind.TheVariants.{Manifest, Platfor
 use Rattle.ns_world.specs.Cell.{Cell, ObjectCell, ClassCell, BlockCell, EnvironmentCell, ArrayCell, TextCell, FacetCell, MirrorCell, MessageCell, cell_words, with_word}
 use Rattle.ns_world.specs.Heap.{Heap, heap_size, find_cell, set_cell, write_word}
 use Rattle.ns_world.specs.Seek.{first_such, earlier_or, is_facet, is_top}
-use Rattle.ns_world.proofs.Changing.{word_plainly, changing_leaves, set_here}
+use Rattle.ns_world.specs.laws.Changing.{word_plainly, changing_leaves, set_here}
 use Rattle.ns_reach.specs.Within.{In, AllIn, NumberIn, CellIn}
 
 -- ---- lists of values

@@ -13,9 +13,9 @@ use Rattle.ns_world.specs.declared.ending.Ending.TheVariants.{Limit}
 use Rattle.ns_world.specs.Cell.{Cell, FacetCell, cell_size, with_word}
 use Rattle.ns_world.specs.Heap.{Heap, heap_size, find_cell, set_cell, write_word}
 use Rattle.ns_world.specs.World.{World, made, stepped, entered, left, written}
-use Rattle.ns_world.proofs.Changing.{found_old, writing_leaves}
-use Rattle.ns_world.proofs.Chains.{found_below}
-use Rattle.ns_world.proofs.Firsts.{facets_after_word, tops_after_word}
+use Rattle.ns_world.specs.laws.Changing.{found_old, writing_leaves}
+use Rattle.ns_world.specs.laws.Chains.{found_below}
+use Rattle.ns_world.specs.laws.Firsts.{facets_after_word, tops_after_word}
 use Rattle.ns_send.specs.declared.site.Site.{Site}
 use Rattle.ns_send.specs.Site.{fault_ending}
 use Rattle.ns_send.specs.Control.{Progress, in_world, charged}

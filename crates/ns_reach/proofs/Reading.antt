@@ -13,8 +13,8 @@ use Rattle.ns_world.specs.declared.kernel.KernelRow.TheVariants as row
 use Rattle.ns_world.specs.Cell.{Cell, ObjectCell, ClassCell, BlockCell, EnvironmentCell, ArrayCell, TextCell, FacetCell, MirrorCell, MessageCell, cell_words, shape_of}
 use Rattle.ns_world.specs.Heap.{Heap, heap_size, find_cell, chain_of, chain_at, chain_above, shape_at, words_at, word_at, superclass_in, superclass_of, declared_class, no_class}
 use Rattle.ns_world.specs.Starts.{start_of, start_of_cell, facet_row, kernel_class_row}
-use Rattle.ns_world.proofs.Changing.{found_old}
-use Rattle.ns_world.proofs.Chains.{found_below}
+use Rattle.ns_world.specs.laws.Changing.{found_old}
+use Rattle.ns_world.specs.laws.Chains.{found_below}
 use Rattle.ns_kdata.specs.Arguments.{items_of, array_items, argument, shape_of_value}
 use Rattle.ns_find.specs.declared.found.Found.{Found}
 use Rattle.ns_find.specs.declared.found.Found.TheVariants as found
@@ -24,7 +24,7 @@ use Rattle.ns_find.specs.declared.members.Side.{Side}
 use Rattle.ns_find.specs.declared.members.Side.TheVariants.{Instance as InstanceSide, Class as ClassSide}
 use Rattle.ns_find.specs.Find.{found_from, found_private, super_start}
 use Rattle.ns_find.specs.Belonging.{Belongs, factories_at}
-use Rattle.ns_find.proofs.Belonging.{instance_belongs, class_belongs, kernel_belongs, private_belongs}
+use Rattle.ns_find.specs.laws.Belonging.{instance_belongs, class_belongs, kernel_belongs, private_belongs}
 use Rattle.ns_reach.specs.Within.{In, AllIn, CellIn}
 use Rattle.ns_reach.proofs.Cells.{words_in, at_index}
 

@@ -14,7 +14,7 @@ use Rattle.ns_world.specs.Heap.{Heap, heap_size, find_cell, no_class}
 use Rattle.ns_world.specs.Reach.{Reach, IsRoot, IsHeld, held}
 use Rattle.ns_world.specs.World.{World}
 use Rattle.ns_world.specs.Lawful.{IsLawful}
-use Rattle.ns_world.proofs.Firsts.{found_past}
+use Rattle.ns_world.specs.laws.Firsts.{found_past}
 use Rattle.ns_send.specs.Control.{Progress, Activation}
 use Rattle.ns_send.specs.Bodies.{enclosing}
 use Rattle.ns_send.specs.Lawful.{FitsActivation, declaration_at}

@@ -1,15 +1,11 @@
 -- The names of a class's record, put in turn.
-use Rattle.std.proofs.Common.{◌≡◌, ◌∙◌, ℕ, List, [], ◌∷◌, ◌++◌, ap, sym, refl}
+use Rattle.std.proofs.Common.{◌≡◌, ◌∙◌, ℕ, List, ◌++◌, ap, sym}
 use Rattle.std.specs.Prelude.{map}
-use Rattle.ns_base.specs.Names.{put_in}
 use Rattle.ns_meant.specs.Program as m
-use Rattle.ns_meant.specs.Tables.{put_all, class_names}
+use Rattle.ns_meant.specs.Tables.{class_names}
 use Rattle.ns_write.specs.Drafts.{Written, with_name}
+use Rattle.ns_write.specs.laws.Composing.{put_more}
 use Rattle.ns_records.specs.Naming.{with_names}
-
-put_more : (names more table : List (List ℕ)) → put_all table (names ++ more) ≡ put_all (put_all table names) more
-put_more [] more table = refl
-put_more (name ∷ names) more table = put_more names more (put_in table name)
 
 pub names_more : (names more : List (List ℕ)) (before : Written) → with_names (names ++ more) before ≡ with_names more (with_names names before)
 names_more names more before = ap (λ (n : List (List ℕ)). (let w : Written = record before { names = n } in w)) (put_more names more before.names)

@@ -5,9 +5,8 @@ use Rattle.std.proofs.lemmas.List.{drop_more}
 use Rattle.ns_tree.specs.declared.tree.Access.TheVariants as a
 use Rattle.ns_tree.specs.declared.tree.Class.{Class, out-Class}
 use Rattle.ns_tree.specs.PlainOf.{class_of, bars_of, statements_of, clause_of, pattern_of, side_of, class_side_of}
-use Rattle.ns_tree.proofs.Nodes.{class_out}
+use Rattle.ns_tree.specs.laws.Nodes.{class_out}
 use Rattle.ns_scope.specs.declared.scope.ClassScope.{ClassScope}
-use Rattle.ns_scope.specs.declared.scope.Scope.{Scope}
 use Rattle.ns_scope.specs.declared.scope.CodeSide.TheVariants as side
 use Rattle.ns_scope.specs.Scopes.{class_scope, initialiser_scope, factory_params}
 use Rattle.ns_scope.specs.Bodies as b
@@ -34,25 +33,6 @@ loop_listed one classes count rest parts number number' next next' k items item 
     ∙ ap (λ l. all ++ rest number next l) (sym here)
     ∙ before
 
-pub loop_count : {A : Type 0} (one : A → ℕ) (rest : List A → ℕ) → ((x : A) (xs : List A) → rest (x ∷ xs) ≡ one x + rest xs) →
-    (number number' k last : ℕ) (items : List A) (item : A) → k < length items → item ≡ get_or items k item →
-    number + rest (drop k items) ≡ last → number' ≡ number + one item → number' + rest (drop (k + 1) items) ≡ last
-loop_count one rest parts number number' k last items item within is before put =
-    let left = drop (k + 1) items in
-    let here : drop k items ≡ item ∷ left = drop_more items k item within ∙ ap (λ x. x ∷ left) (sym is) in
-    let e : number + (one item + rest left) ≡ last = ap (number +◌) (sym (parts item left)) ∙ ap (λ all. number + rest all) (sym here) ∙ before in
-    omega (e, put, arith)
-
-pub loop_number : {A : Type 0} (one : A → List Scope) (rest : List A → List Scope) → ((x : A) (xs : List A) → rest (x ∷ xs) ≡ one x ++ rest xs) →
-    (next next' k last : ℕ) (items : List A) (item : A) → k < length items → item ≡ get_or items k item →
-    next + length (rest (drop k items)) ≡ last → next' ≡ next + length (one item) → next' + length (rest (drop (k + 1) items)) ≡ last
-loop_number one rest parts next next' k last items item within is before number =
-    let left = drop (k + 1) items in
-    let here : drop k items ≡ item ∷ left = drop_more items k item within ∙ ap (λ x. x ∷ left) (sym is) in
-    let e : next + length (one item ++ rest left) ≡ last =
-    ap (λ all. next + length all) (sym (parts item left)) ∙ ap (λ all. next + length (rest all)) (sym here) ∙ before in
-    omega (e, number, length-append (one item) (rest left), arith)
-
 -- ---- the declaration of a class
 
 -- the number behind an initialiser
@@ -64,19 +44,6 @@ start_number classes first n0 n1 class one two =
     let blocks = start_blocks there (option_map clause_of (out-Class class).clause) (bars_of (out-Class class).slots) (statements_of (out-Class class).body) in
     let parts : there ∷ blocks ≡ b.initialiser_bodies classes (class_of class) = rw (class_out class) refl in
     let whole : n1 ≡ first + length (there ∷ blocks) = omega (one, two, arith) in
-    whole ∙ ap (λ all. first + length all) parts
-
--- the number behind the bodies of a class
-pub own_number : (classes : List ClassScope) (first n1 n2 last : ℕ) (class : Class) → n1 ≡ first + length (b.initialiser_bodies classes (class_of class)) →
-    n2 ≡ n1 + length (b.side_bodies classes side.Instance (side_of (out-Class class).side)) →
-    last ≡ n2 + length (b.class_side_bodies classes (class_side_of (out-Class class).class_side)) → last ≡ first + length (b.own_bodies classes (class_of class))
-own_number classes first n1 n2 last class e1 e2 e3 =
-    let start = b.initialiser_bodies classes (class_of class) in
-    let methods = b.side_bodies classes side.Instance (side_of (out-Class class).side) in
-    let others = b.class_side_bodies classes (class_side_of (out-Class class).class_side) in
-    let parts : start ++ (methods ++ others) ≡ b.own_bodies classes (class_of class) = rw (class_out class) refl in
-    let whole : last ≡ first + length (start ++ (methods ++ others)) =
-    omega (e1, e2, e3, length-append start (methods ++ others), length-append methods others, arith) in
     whole ∙ ap (λ all. first + length all) parts
 
 pub methods_made : (inside : c.Around) (first n0 n1 : ℕ) (class : Class) (methods : List m.Method) → n0 ≡ first + 1 →

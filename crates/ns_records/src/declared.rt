@@ -188,7 +188,7 @@ fn clause_number(around: &Around<'_>, next: u32, clause: &Option<SuperClause>) -
 }
 
 /// A clause is a body where a declaration stands around.
-#[tactic(auto, using(crate::proofs::Clauses::none_outside, crate::proofs::Clauses::one_inside))]
+#[tactic(auto, using(crate::specs::laws::Bodies::none_outside, crate::specs::laws::Bodies::one_inside))]
 fn count_clause(
     around: &Around<'_>,
     count: &mut u32,

@@ -1,5 +1,5 @@
 -- The text of a cell by its kind.
-use Rattle.std.proofs.Common.{◌≡◌, ℕ, List, [], ◌++◌, refl, ap, Option, Some, None, true, false}
+use Rattle.std.proofs.Common.{◌≡◌, ℕ, List, [], ◌++◌, refl, Option, Some, None, true, false}
 use Rattle.std.specs.Prelude.{codes}
 use Rattle.std.specs.Option.{option_map_or}
 use Rattle.ns_code.specs.declared.program.CodeProgram.{CodeProgram}
@@ -8,9 +8,7 @@ use Rattle.ns_world.specs.declared.cell.NewCell.TheVariants as new
 use Rattle.ns_world.specs.Cell.{Cell, ObjectCell, ClassCell, BlockCell, EnvironmentCell, ArrayCell, TextCell, FacetCell, MirrorCell, MessageCell, shape_of, cell_bytes}
 use Rattle.ns_world.specs.Heap.{Heap, find_cell, is_class, bytes_at}
 use Rattle.ns_world.specs.Layout.{declaration_of}
-use Rattle.ns_world.specs.World.{World}
-use Rattle.ns_world.specs.Starts.{start_of, start_of_cell, has_class, declaration_in}
-use Rattle.ns_world.specs.Lawful.{IsLawful}
+use Rattle.ns_world.specs.Starts.{declaration_in}
 use Rattle.ns_kdata.specs.Arguments.{is_text, is_text_shape}
 use Rattle.ns_kdata.specs.Texts.{quoted}
 use Rattle.ns_mirror.specs.Naming.{declared_text}
@@ -63,19 +61,3 @@ object_cell code class None t c = refl
 -- any other cell is shown by the name of its class
 pub object_shown : (heap : Heap) (code : CodeProgram) (at : ℕ) (class : List ℕ) → is_text heap (Ref at) ≡ false → is_class (find_cell heap at) ≡ false → cell_text code (find_cell heap at) class ≡ codes "object " ++ class
 object_shown heap code at class t c = object_cell code class (find_cell heap at) t c
-
-named : (world : World) (code : CodeProgram) (at : ℕ) → IsLawful world code → (o : Option Cell) → find_cell world.cells at ≡ o → has_class world.cells (start_of_cell (option_map_or shape_of o (new.Mirror Nil)) at) ≡ true
-named world code at lawful None e = refl
-named world code at lawful (Some (ObjectCell class entries)) e = (lawful.cells at (ObjectCell class entries) e).0.class_is
-named world code at lawful (Some (ClassCell decl encl holder over)) e = ap is_class e
-named world code at lawful (Some (BlockCell body env home receiver holder)) e = refl
-named world code at lawful (Some (EnvironmentCell parent locals)) e = refl
-named world code at lawful (Some (ArrayCell items)) e = refl
-named world code at lawful (Some (TextCell bytes)) e = refl
-named world code at lawful (Some (FacetCell kind)) e = refl
-named world code at lawful (Some (MirrorCell value)) e = refl
-named world code at lawful (Some (MessageCell sel args)) e = refl
-
--- the class of a cell is there, or is the kernel's
-pub class_named : (world : World) (code : CodeProgram) (at : ℕ) → IsLawful world code → has_class world.cells (start_of world.cells (Ref at)) ≡ true
-class_named world code at lawful = named world code at lawful (find_cell world.cells at) refl

@@ -34,8 +34,9 @@ use Rattle.ns_engine.specs.Doing.{IsSettled}
 use Rattle.ns_engine.specs.Ready.{Moves}
 use Rattle.ns_returns.specs.Handing.{CanTake, GivesLive}
 use Rattle.ns_returns.specs.Acting.{CanAct, Awaits}
-use Rattle.ns_returns.proofs.Left.{over, IsLeft, left_stays, stays_on, left_takes}
-use Rattle.ns_engine.proofs.Made.{in_other}
+use Rattle.ns_returns.proofs.Left.{over, IsLeft, left_stays, left_takes}
+use Rattle.ns_engine.specs.laws.Worlds.{in_other}
+use Rattle.ns_engine.specs.laws.Kept.{stays_on}
 use Rattle.ns_returns.proofs.Clauses.{after_lawful}
 use Rattle.ns_returns.proofs.Topmost.{sure}
 

@@ -19,12 +19,12 @@ use Rattle.ns_frames.specs.Stack.{stood, in_use, with_top, IsLaid, KeepsRoom}
 use Rattle.ns_frames.specs.Leaving.{turned}
 use Rattle.ns_frames.specs.Room.{bound, AreWithin}
 use Rattle.ns_frames.specs.View.{site_shown, frames_shown}
+use Rattle.ns_frames.specs.laws.Room.{within_more}
 use Rattle.ns_engine.specs.declared.state.Core.{Core}
 use Rattle.ns_engine.specs.declared.state.Next.TheVariants as next
 use Rattle.ns_engine.specs.Shown.{phase_shown, progress_in}
 use Rattle.ns_engine.specs.Standing.{height_in, greatest_of, Stands}
 use Rattle.ns_returns.specs.Acting.{Awaits}
-use Rattle.ns_returns.proofs.Handed.{within_more}
 
 -- a method on top needs no values above its floor
 pub laid_at_floor : (stack : Stack) (at : Registers) (looping : LoopingFrame) (others : List Frame) → stack.frames.items ≡ Looping looping ∷ others

@@ -27,9 +27,10 @@ use Rattle.ns_engine.specs.declared.state.Next.{Next}
 use Rattle.ns_engine.specs.Shown.{phase_shown, progress_in}
 use Rattle.ns_engine.specs.Framed.{HasRoomOnTop, answers}
 use Rattle.ns_engine.specs.Doing.{running_of, IsSettled}
+use Rattle.ns_engine.specs.laws.Kept.{stays_on}
 use Rattle.ns_returns.specs.Handing.{GivesLive}
 use Rattle.ns_returns.specs.Ending.{CanEnd, IsEnded}
-use Rattle.ns_returns.proofs.Left.{over, IsLeft, left_stays, stays_on}
+use Rattle.ns_returns.proofs.Left.{over, IsLeft, left_stays}
 use Rattle.ns_returns.proofs.Ended.{room_below}
 
 pub clause_exit : (code : CodeProgram) (core : Core) (at : Registers) (frame : RunningFrame) (value : Value) (class : ℕ) → CanEnd code core at frame value

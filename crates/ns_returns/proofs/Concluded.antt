@@ -29,7 +29,7 @@ use Rattle.ns_engine.specs.declared.own.OwnSends.{OwnSends}
 use Rattle.ns_engine.specs.Shown.{phase_shown, progress_in}
 use Rattle.ns_engine.specs.Standing.{HasRooms, AreStanding}
 use Rattle.ns_engine.specs.Own.{AreOwn}
-use Rattle.ns_engine.proofs.Pushed.{ended_stays}
+use Rattle.ns_engine.specs.laws.Pushed.{ended_stays}
 use Rattle.ns_returns.specs.Handing.{IsHanded}
 
 stood_none : (stack : Stack) (at : Registers) → stack.frames.items ≡ [] → stood stack at ≡ []

@@ -23,9 +23,10 @@ use Rattle.ns_engine.specs.declared.state.Next.{Next}
 use Rattle.ns_engine.specs.declared.state.Next.TheVariants as next
 use Rattle.ns_engine.specs.Shown.{phase_shown, progress_in}
 use Rattle.ns_engine.specs.Framed.{HasRoomOnTop, answers, AnswersHaveRoom}
+use Rattle.ns_engine.specs.laws.Kept.{stays_on}
 use Rattle.ns_returns.specs.Handing.{IsHanded}
 use Rattle.ns_returns.specs.Ending.{CanEnd, IsEnded, IsAnswered}
-use Rattle.ns_returns.proofs.Left.{over, IsLeft, left_standing, left_stays, stays_on}
+use Rattle.ns_returns.proofs.Left.{over, IsLeft, left_standing, left_stays}
 
 -- ---- what the topmost frame is sure of
 

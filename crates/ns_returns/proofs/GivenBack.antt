@@ -5,7 +5,7 @@ use Rattle.ns_world.specs.Lawful.{IsLawful}
 use Rattle.ns_world.specs.World.{World, left}
 use Rattle.ns_send.specs.Control.{Progress}
 use Rattle.ns_send.specs.Classes.{part_ended}
-use Rattle.ns_frames.specs.Laws.{parts_ended}
+use Rattle.ns_frames.specs.Stated.{parts_ended}
 
 parts_suc : (count : ℕ) (p : Progress) → parts_ended (suc count) p ≡ part_ended (parts_ended count p)
 parts_suc zero p = refl

@@ -1,5 +1,5 @@
 -- Values that come to what stands on top.
-use Rattle.std.proofs.Common.{◌≡◌, ℕ, ◌<◌, ◌≤◌, List, [], ◌∷◌, length, take, drop, reverse, refl, ap, sym, ◌∙◌, subst, arith, Ok, Err}
+use Rattle.std.proofs.Common.{◌≡◌, ℕ, ◌<◌, List, [], ◌∷◌, length, take, drop, reverse, refl, ap, sym, ◌∙◌, subst, arith, Ok, Err}
 use Rattle.ns_base.specs.declared.place.Place.{Place as SourcePlace}
 use Rattle.ns_code.specs.declared.program.CodeProgram.{CodeProgram}
 use Rattle.ns_world.specs.declared.value.Value.{Value}
@@ -16,9 +16,10 @@ use Rattle.ns_frames.specs.Row.{FrameRow}
 use Rattle.ns_frames.specs.Standing.{Stood, standing, at_next, AreLaid}
 use Rattle.ns_frames.specs.Stack.{stood, IsLaid, KeepsRoom}
 use Rattle.ns_frames.specs.Leaving.{delivered, with_answer, HasPlace}
-use Rattle.ns_frames.specs.Laws.{IsDelivered}
+use Rattle.ns_frames.specs.Stated.{IsDelivered}
 use Rattle.ns_frames.specs.Room.{AreWithin}
 use Rattle.ns_frames.specs.View.{site_shown, frames_shown}
+use Rattle.ns_frames.specs.laws.Room.{within_more, within_answer}
 use Rattle.ns_engine.specs.declared.state.Core.{Core}
 use Rattle.ns_engine.specs.declared.state.Next.{Next}
 use Rattle.ns_engine.specs.declared.state.Next.TheVariants as next
@@ -26,7 +27,7 @@ use Rattle.ns_engine.specs.Shown.{phase_shown, progress_in}
 use Rattle.ns_engine.specs.Standing.{height_in, greatest_of}
 use Rattle.ns_engine.specs.Framed.{HasRoomOnTop}
 use Rattle.ns_engine.specs.Doing.{IsSettled}
-use Rattle.ns_engine.proofs.Pushed.{stack_stays, ended_stays, operands_count}
+use Rattle.ns_engine.specs.laws.Pushed.{stack_stays, ended_stays, operands_count}
 use Rattle.ns_returns.specs.Handing.{CanTake, IsHanded}
 
 -- ---- a fault
@@ -49,18 +50,6 @@ pub some_left : (frames : List Frame) (n : ℕ) → n ≡ length frames → 0 < 
 some_left frames n e low = omega (arith, e, low)
 
 -- ---- what stands within what is filled
-
-pub within_more : (height : ℕ → ℕ) (greatest filled more : ℕ) (frames : List Frame) → filled ≤ more → AreWithin height greatest filled frames
-    → AreWithin height greatest more frames
-within_more height greatest filled more [] low within = tt
-within_more height greatest filled more (frame ∷ frames) low within =
-    let here = within.0 in (omega (arith, here, low), within.1, within_more height greatest filled more frames low within.2)
-
-within_answer : (height : ℕ → ℕ) (greatest filled : ℕ) (value : Value) (frames : List Frame) → AreWithin height greatest filled frames
-    → AreWithin height greatest filled (with_answer value frames)
-within_answer height greatest filled value [] within = within
-within_answer height greatest filled value (Running frame ∷ frames) within = within
-within_answer height greatest filled value (Looping frame ∷ frames) within = within
 
 -- a body on top with room for a value has a place for it
 pub has_place : (code : CodeProgram) (core : Core) (at : Registers) → CanTake code core at → HasPlace core.stack.frames.items at.top (length core.stack.values.items)

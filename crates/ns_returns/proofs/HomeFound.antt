@@ -1,5 +1,5 @@
 -- How far down a home stands.
-use Rattle.std.proofs.Common.{◌≡◌, ◌⊎◌, inl, inr, ℕ, suc, ◌+◌, ◌-◌, ◌≤◌, ◌==◌, List, [], ◌∷◌, length, take, drop, reverse, refl, ap, sym, ◌∙◌, subst, arith, Option, Some, None, Bool, true, false, if◌then◌else◌}
+use Rattle.std.proofs.Common.{◌≡◌, ◌⊎◌, inl, inr, ℕ, suc, ◌+◌, ◌-◌, ◌≤◌, ◌==◌, List, [], ◌∷◌, length, take, drop, reverse, refl, sym, ◌∙◌, subst, arith, Option, Some, None, Bool, true, false, if◌then◌else◌}
 use Rattle.std.proofs.lemmas.Option.{same_Some}
 use Rattle.ns_code.specs.declared.program.CodeProgram.{CodeProgram}
 use Rattle.ns_world.specs.declared.value.Value.{Value}
@@ -10,6 +10,7 @@ use Rattle.ns_frames.specs.declared.frame.Leaving.TheVariants.{Method, Body, Cla
 use Rattle.ns_frames.specs.declared.registers.Registers.{Registers}
 use Rattle.ns_frames.specs.Standing.{Stood, Runs, Loops, standing, at_next}
 use Rattle.ns_frames.specs.Leaving.{frames_to, is_home, is_method, one_more}
+use Rattle.ns_frames.specs.laws.Counts.{many_stand, many_next}
 use Rattle.ns_engine.specs.declared.state.Core.{Core}
 use Rattle.ns_engine.specs.Framed.{HasRoomOnTop, answers, AnswersHaveRoom}
 use Rattle.ns_returns.specs.Unwinding.{CanUnwind}
@@ -38,21 +39,12 @@ pub few_frames : (code : CodeProgram) (core : Core) (at : Registers) (home count
     → count ≤ length core.stack.frames.items
 few_frames code core at home count value can = few home core.stack.frames.items count can.home_is
 
-pub stood_many : (frames : List Frame) (values : List Value) → length (standing frames values) ≡ length frames
-stood_many [] values = refl
-stood_many (Running frame ∷ frames) values = ap suc (stood_many frames (take frame.floor values))
-stood_many (Looping frame ∷ frames) values = ap suc (stood_many frames (take frame.floor values))
-
-pub next_many : (next : ℕ) (frames : List Frame) → length (at_next next frames) ≡ length frames
-next_many next [] = refl
-next_many next (frame ∷ frames) = refl
-
 pub few_depth : (code : CodeProgram) (core : Core) (at : Registers) (home count : ℕ) (value : Value) → CanUnwind code core at home count value
     → count ≤ core.run.world.world.depth
 few_depth code core at home count value can =
     let low = few_frames code core at home count value can in
     let depth : core.run.world.world.depth ≡ length core.stack.frames.items =
-    can.framed.depth ∙ (stood_many (at_next at.next core.stack.frames.items) (take at.top core.stack.values.items) ∙ next_many at.next core.stack.frames.items) in
+    can.framed.depth ∙ (many_stand (at_next at.next core.stack.frames.items) (take at.top core.stack.values.items) ∙ many_next at.next core.stack.frames.items) in
     omega (arith, low, depth)
 
 -- ---- room for its answer
@@ -85,8 +77,3 @@ room_there code home (Looping frame ∷ frames) values count e rooms =
     room_step code home (Looping frame) frames (Loops frame) (standing frames (take frame.floor values)) count
     (λ is. rooms.0) (λ k there. room_there code home frames (take frame.floor values) k there rooms.1)
     (step home (Looping frame) frames count e)
-
-pub next_apart : (home next : ℕ) (frames : List Frame) → frames_to home (at_next next frames) ≡ frames_to home frames
-next_apart home next [] = refl
-next_apart home next (Running frame ∷ frames) = refl
-next_apart home next (Looping frame ∷ frames) = refl

@@ -17,7 +17,7 @@ use Rattle.ns_frames.specs.declared.registers.Registers.{Registers}
 use Rattle.ns_frames.specs.Standing.{Stood, Runs, Loops, below, pushed}
 use Rattle.ns_frames.specs.Stack.{stood, IsLaid}
 use Rattle.ns_frames.specs.Leaving.{frames_to}
-use Rattle.ns_frames.specs.Laws.{is_there, FindsHome}
+use Rattle.ns_frames.specs.Stated.{is_there, FindsHome}
 use Rattle.ns_frames.specs.View.{site_shown, activation_shown, frames_shown}
 use Rattle.ns_engine.specs.declared.state.Core.{Core}
 use Rattle.ns_engine.specs.declared.state.Next.{Next}
@@ -25,7 +25,7 @@ use Rattle.ns_engine.specs.declared.state.Next.TheVariants as next
 use Rattle.ns_engine.specs.Shown.{phase_shown, progress_in}
 use Rattle.ns_engine.specs.Framed.{AreFramed}
 use Rattle.ns_engine.specs.Doing.{done, Finds, CanDo, Does}
-use Rattle.ns_engine.proofs.Pushed.{ended_stays, top_stands}
+use Rattle.ns_engine.specs.laws.Pushed.{ended_stays, top_stands}
 use Rattle.ns_returns.specs.Unwinding.{CanUnwind, IsUnwound}
 use Rattle.ns_returns.proofs.Returned.{unpushed}
 

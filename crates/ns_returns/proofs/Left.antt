@@ -1,25 +1,20 @@
 -- The topmost frame, taken off.
-use Rattle.std.proofs.Common.{◌≡◌, ℕ, List, [], ◌∷◌, length, refl, ap, sym, ◌∙◌, subst}
+use Rattle.std.proofs.Common.{◌≡◌, length, refl, ap, sym, subst}
 use Rattle.ns_code.specs.declared.program.CodeProgram.{CodeProgram}
 use Rattle.ns_world.specs.Lawful.{IsLawful}
 use Rattle.ns_world.specs.World.{WorldView}
 use Rattle.ns_act.specs.Room.{SameRest}
-use Rattle.ns_frames.specs.declared.frame.Frame.{Frame}
 use Rattle.ns_frames.specs.declared.registers.Registers.{Registers}
 use Rattle.ns_frames.specs.declared.stack.Stack.{Stack}
 use Rattle.ns_frames.specs.Row.{ValueRow, FrameRow}
 use Rattle.ns_frames.specs.Standing.{below}
 use Rattle.ns_frames.specs.Stack.{stood, IsLaid}
 use Rattle.ns_frames.specs.Room.{AreWithin}
+use Rattle.ns_frames.specs.laws.Room.{within_below}
 use Rattle.ns_engine.specs.declared.state.Core.{Core}
 use Rattle.ns_engine.specs.Standing.{height_in, greatest_of, HasRooms, AreStanding, Stands, Stays}
 use Rattle.ns_engine.specs.Framed.{HasRoomOnTop}
 use Rattle.ns_returns.specs.Handing.{CanTake}
-
-within_below : (height : ℕ → ℕ) (greatest filled : ℕ) (frames : List Frame) → AreWithin height greatest filled frames
-    → AreWithin height greatest filled (below frames)
-within_below height greatest filled [] within = within
-within_below height greatest filled (frame ∷ frames) within = within.2
 
 -- the machine in another world, over another stack
 abbrev pub over : Core → WorldView → Stack → Core
@@ -48,18 +43,6 @@ left_stays core at here world stack is = record {
   values = ap (λ (row : ValueRow). row.room) is.values;
   frames = ap (λ (row : FrameRow). row.room) is.frames;
   places = refl;
-}
-
--- what stays over two steps stays
-pub stays_on : (first second third : Core) → Stays first second → Stays second third → Stays first third
-stays_on first second third one two = record {
-  world = record {
-    limits = two.world.limits ∙ one.world.limits;
-    room = (two.world.room.0 ∙ one.world.room.0, two.world.room.1 ∙ one.world.room.1);
-  };
-  values = two.values ∙ one.values;
-  frames = two.frames ∙ one.frames;
-  places = two.places ∙ one.places;
 }
 
 left_rooms : (code : CodeProgram) (core : Core) (at here : Registers) (world : WorldView) (stack : Stack) → HasRooms code core

@@ -20,8 +20,8 @@ use Rattle.ns_engine.specs.declared.state.Next.TheVariants as next
 use Rattle.ns_engine.specs.Shown.{phase_shown, progress_in}
 use Rattle.ns_engine.specs.Standing.{height_in, greatest_of}
 use Rattle.ns_engine.specs.Arriving.{shape_of, CanEnter}
-use Rattle.ns_engine.proofs.Arrived.{size_fits, frame_floor, frame_base, frame_size}
-use Rattle.ns_engine.proofs.Pushed.{stack_stays}
+use Rattle.ns_engine.specs.laws.Sizes.{size_fits, frame_floor, frame_base, frame_size}
+use Rattle.ns_engine.specs.laws.Pushed.{stack_stays}
 use Rattle.ns_returns.specs.Parts.{part_call, listed, PartBegins}
 
 begins : ((code : CodeProgram) (places : List SourcePlace) (phase : Phase) → PartsBegin code places phase)

@@ -23,7 +23,7 @@ use Rattle.ns_frames.specs.declared.frame.RunningFrame.{RunningFrame}
 use Rattle.ns_frames.specs.declared.registers.Registers.{Registers}
 use Rattle.ns_frames.specs.Standing.{Stood, Runs, Loops, below, pushed_all}
 use Rattle.ns_frames.specs.Stack.{stood, in_use, with_top, IsLaid}
-use Rattle.ns_frames.specs.Laws.{AreTaken}
+use Rattle.ns_frames.specs.Stated.{AreTaken}
 use Rattle.ns_frames.specs.View.{site_shown, activation_shown, frames_shown}
 use Rattle.ns_engine.specs.declared.state.Core.{Core}
 use Rattle.ns_engine.specs.declared.state.Next.{Next}
@@ -31,10 +31,10 @@ use Rattle.ns_engine.specs.declared.state.Next.TheVariants as next
 use Rattle.ns_engine.specs.Shown.{phase_shown, progress_in}
 use Rattle.ns_engine.specs.Standing.{Stays}
 use Rattle.ns_engine.specs.Doing.{done, Finds, CanDo, Does}
-use Rattle.ns_engine.proofs.Pushed.{top_stands}
-use Rattle.ns_engine.proofs.Made.{in_other}
+use Rattle.ns_engine.specs.laws.Pushed.{top_stands}
+use Rattle.ns_engine.specs.laws.Worlds.{in_other}
+use Rattle.ns_engine.specs.laws.Kept.{stays_on}
 use Rattle.ns_returns.specs.Parts.{listed, PartBegins}
-use Rattle.ns_returns.proofs.Left.{stays_on}
 use Rattle.ns_returns.proofs.PartLocals.{HasAll, part_all}
 
 -- what stays in another world of the same limits

@@ -29,17 +29,17 @@ use Rattle.ns_frames.specs.Standing.{Stood, standing, at_next, below, operands_i
 use Rattle.ns_frames.specs.Stack.{stood, in_use, with_top, IsLaid}
 use Rattle.ns_frames.specs.Room.{AreWithin, bound}
 use Rattle.ns_frames.specs.View.{site_shown, activation_shown}
+use Rattle.ns_frames.specs.laws.Counts.{many_stand, many_next}
 use Rattle.ns_engine.specs.declared.state.Core.{Core}
 use Rattle.ns_engine.specs.Shown.{progress_in}
 use Rattle.ns_engine.specs.Standing.{height_in, greatest_of}
 use Rattle.ns_engine.specs.Arriving.{CanEnter}
 use Rattle.ns_engine.specs.Entering.{WhatIsReachedIsEntered}
 use Rattle.ns_engine.specs.Doing.{CanDo}
-use Rattle.ns_engine.proofs.Pushed.{operands_count}
-use Rattle.ns_engine.proofs.Made.{in_other}
-use Rattle.ns_engine.proofs.Kept.{rooms_stay}
+use Rattle.ns_engine.specs.laws.Pushed.{operands_count}
+use Rattle.ns_engine.specs.laws.Worlds.{in_other}
+use Rattle.ns_engine.specs.laws.Kept.{rooms_stay}
 use Rattle.ns_returns.specs.Parts.{part_call, listed}
-use Rattle.ns_returns.proofs.HomeFound.{stood_many, next_many}
 use Rattle.ns_returns.proofs.PartFound.{PartFinds}
 use Rattle.ns_returns.proofs.PartDone.{IsReached, world_stays, locals_are}
 
@@ -122,7 +122,7 @@ enters reached keeps spends hands code core world at argc frame items entered ca
 
     depth : length core.stack.frames.items < world.world.limits.depth
     depth =
-        let before = can.framed.depth ∙ (stood_many (at_next at.next core.stack.frames.items) (take at.top core.stack.values.items) ∙ next_many at.next core.stack.frames.items) in
+        let before = can.framed.depth ∙ (many_stand (at_next at.next core.stack.frames.items) (take at.top core.stack.values.items) ∙ many_next at.next core.stack.frames.items) in
         let one = spent.depth in
         let within = lawful.0.within.depth in
         omega (arith, before, one, within)

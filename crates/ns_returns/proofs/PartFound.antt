@@ -32,7 +32,7 @@ use Rattle.ns_engine.specs.declared.state.Core.{Core}
 use Rattle.ns_engine.specs.Shown.{progress_in}
 use Rattle.ns_engine.specs.Standing.{height_in}
 use Rattle.ns_engine.specs.Doing.{Finds, FindsIn, CanDo}
-use Rattle.ns_engine.proofs.Pushed.{top_stands}
+use Rattle.ns_engine.specs.laws.Pushed.{top_stands}
 
 -- ---- operands that are taken
 

@@ -19,7 +19,7 @@ use Rattle.ns_engine.specs.declared.state.Next.{Next}
 use Rattle.ns_engine.specs.Shown.{phase_shown, progress_in}
 use Rattle.ns_engine.specs.Framed.{AreFramed}
 use Rattle.ns_engine.specs.Doing.{done, Finds, CanDo, Does}
-use Rattle.ns_engine.proofs.Pushed.{top_stands}
+use Rattle.ns_engine.specs.laws.Pushed.{top_stands}
 use Rattle.ns_returns.specs.Ending.{CanEnd, IsEnded}
 
 -- the frames without an operand are as sure of what is below them

@@ -15,6 +15,7 @@ use Rattle.ns_frames.specs.Standing.{Stood, Loops, standing, at_next, below}
 use Rattle.ns_frames.specs.Stack.{stood}
 use Rattle.ns_frames.specs.Room.{AreWithin, bound, DepthGivesRoom}
 use Rattle.ns_frames.specs.View.{frames_shown}
+use Rattle.ns_frames.specs.laws.Counts.{many_stand}
 use Rattle.ns_engine.specs.declared.state.Core.{Core}
 use Rattle.ns_engine.specs.declared.state.Next.TheVariants as next
 use Rattle.ns_engine.specs.Shown.{phase_shown, progress_in}
@@ -22,7 +23,6 @@ use Rattle.ns_engine.specs.Standing.{height_in, greatest_of}
 use Rattle.ns_engine.specs.Framed.{HasRoomOnTop, AreFramed}
 use Rattle.ns_engine.specs.Ready.{IsReady}
 use Rattle.ns_returns.specs.Acting.{IsActing, IsLooping, CanAct}
-use Rattle.ns_returns.proofs.HomeFound.{stood_many}
 
 pub acting_loops : (code : CodeProgram) (core : Core) (at : Registers) → CanAct code core at → IsLooping core.stack.frames.items
 acting_loops code core at can = by_frames core.stack.frames.items can.acting
@@ -49,7 +49,7 @@ sure code core at looping can top =
     let stood_is = ap (λ (frames : List Frame). standing (at_next at.next frames) (take at.top core.stack.values.items)) top in
     record {
       live = live;
-      depth = framed.depth ∙ ap suc (stood_many (below core.stack.frames.items) (take looping.floor (take at.top core.stack.values.items)));
+      depth = framed.depth ∙ ap suc (many_stand (below core.stack.frames.items) (take looping.floor (take at.top core.stack.values.items)));
       room = subst (λ (s : List Stood). HasRoomOnTop code (below s)) (sym stood_is) framed.rooms.0;
       reach = within.1;
       stood_is = stood_is ∙ ap (λ (s : List Stood). Loops looping ∷ below s) (sym stood_is);

@@ -17,19 +17,20 @@ use Rattle.ns_frames.specs.Row.{ValueRow, FrameRow}
 use Rattle.ns_frames.specs.Standing.{Stood, at_next}
 use Rattle.ns_frames.specs.Stack.{stood, IsLaid}
 use Rattle.ns_frames.specs.Room.{AreWithin}
-use Rattle.ns_frames.specs.Laws.{parts_ended, Unwinds}
+use Rattle.ns_frames.specs.Stated.{parts_ended, Unwinds}
 use Rattle.ns_frames.specs.View.{frames_shown}
+use Rattle.ns_frames.specs.laws.Counts.{next_apart}
 use Rattle.ns_engine.specs.declared.state.Core.{Core}
 use Rattle.ns_engine.specs.declared.state.Next.{Next}
 use Rattle.ns_engine.specs.Shown.{phase_shown, progress_in}
 use Rattle.ns_engine.specs.Standing.{height_in, greatest_of, Stays}
 use Rattle.ns_engine.specs.Framed.{HasRoomOnTop}
-use Rattle.ns_engine.proofs.Kept.{rooms_stay}
+use Rattle.ns_engine.specs.laws.Kept.{rooms_stay, stays_on}
 use Rattle.ns_returns.specs.Handing.{CanTake, IsHanded}
 use Rattle.ns_returns.specs.Unwinding.{CanUnwind, IsUnwound}
-use Rattle.ns_returns.proofs.Left.{over, stays_on}
+use Rattle.ns_returns.proofs.Left.{over}
 use Rattle.ns_returns.proofs.GivenBack.{parts_lawful, parts_cells}
-use Rattle.ns_returns.proofs.HomeFound.{room_there, next_apart}
+use Rattle.ns_returns.proofs.HomeFound.{room_there}
 
 within_drop : (height : ℕ → ℕ) (greatest filled count : ℕ) (frames : List Frame) → AreWithin height greatest filled frames
     → AreWithin height greatest filled (drop count frames)

@@ -5,7 +5,7 @@ ghost use Rattle.ns_base.specs.declared.place.Place.{Place as SourcePlace};
 ghost use Rattle.ns_code.specs.declared.instruction.Instr.TheVariants as instr;
 ghost use Rattle.ns_send.specs.Control.{Progress, in_world};
 ghost use Rattle.ns_act.specs.Room.{SameRest};
-ghost use Rattle.ns_frames.specs.Laws.{parts_ended};
+ghost use Rattle.ns_frames.specs.Stated.{parts_ended};
 ghost use Rattle.ns_engine.specs.Doing.{CanDo, Does};
 ghost use Rattle.ns_engine.specs.Own.{AreOwn};
 ghost use Rattle.ns_returns.specs.Unwinding.{CanUnwind, IsUnwound};

@@ -34,7 +34,7 @@ pub fn init_super(code: &CodeProgram, core: &mut Core, at: Registers, argc: u8) 
 }
 
 /// The same, by their count in 32 bits.
-#[tactic(auto, using(ns_engine::proofs::Pushed::runs, ns_engine::proofs::Pushed::one_more, ns_engine::proofs::Taken::some_operand))]
+#[tactic(auto, using(ns_engine::specs::laws::Pushed::runs, ns_engine::specs::laws::Pushed::one_more, ns_engine::specs::laws::Taken::some_operand))]
 fn begin_part(code: &CodeProgram, core: &mut Core, at: Registers, count: u32) -> Next
     requires { CanDo code.now core.old at (instr.InitSuper count) }
     ensures { (place : Option SourcePlace) → Does code.now (instr.InitSuper count) place core.old at core.new result }

@@ -8,14 +8,15 @@ use Rattle.std.proofs.lemmas.Slice.Eq.{bytes_eq-Decides}
 use Rattle.ns_tree.specs.Bytes as t
 use Rattle.ns_tree.specs.Flat.{flat_bin, flat_keys}
 use Rattle.ns_tree.specs.Plain as p
-use Rattle.ns_tree.specs.Tree.{IsKey, AllHaveText}
+use Rattle.ns_tree.specs.Tree.{AllHaveText}
 use Rattle.ns_scope.specs.Bodies.{bin_blocks}
 use Rattle.ns_code.specs.Selector.{text_arity}
 use Rattle.ns_rules.specs.declared.fault.Many.TheVariants as many
 use Rattle.ns_rules.specs.Faults.{key_places, keywords_found}
 use Rattle.ns_meant.specs.Uses.{how_many}
 use Rattle.ns_meant.specs.Expressions.{Standing, joined, keys_nodes}
-use Rattle.ns_right.proofs.Texts.{colons, colons_both, key_colons, key_starts, starts_left, starts_arity, operator_arity}
+use Rattle.ns_right.specs.laws.Texts.{colons, colons_both, key_colons, key_starts, starts_left, starts_arity}
+use Rattle.ns_right.proofs.Texts.{operator_arity}
 use Rattle.ns_right.proofs.Patterns.{texts_right}
 use Rattle.ns_right.proofs.Differ.{not_past, and_left, and_right, not_true}
 
@@ -40,14 +41,6 @@ operator_starts (byte ∷ bytes) o = by (list_all t.is_operator_byte (byte ∷ b
 
 pub oper_arity : (text : List ℕ) → t.is_operator text ≡ true → 1 ≡ text_arity text
 oper_arity text o = sym (operator_arity text o (operator_starts text o))
-
--- ---- keys
-
-pub key_arity : (text : List ℕ) → IsKey text → 1 ≡ text_arity text
-key_arity text key = sym (starts_arity text (key_starts text key) ∙ key_colons text key)
-
-pub setter_arity : (name : List ℕ) → t.is_name name ≡ true → 1 ≡ text_arity (name ++ codes ":")
-setter_arity name h = key_arity (name ++ codes ":") (name, h, refl)
 
 joined_colons : (keys : p.Keys) (here : Standing) (next : ℕ) → AllHaveText (flat_keys keys) → how_many (keys_nodes here next keys) ≡ colons (joined keys)
 joined_colons p.no_keys here next texts = refl

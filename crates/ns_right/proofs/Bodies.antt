@@ -16,9 +16,9 @@ use Rattle.ns_meant.specs.Classes.{Around, within, standing, in_method, head_nod
 use Rattle.ns_meant.specs.Classes.{method_bodies, what_methods, members_methods, side_methods, class_side_methods, what_listed}
 use Rattle.ns_meant.specs.Classes.{methods_listed, side_listed, class_side_listed, class_bodies, declaration_of}
 use Rattle.ns_meant.specs.Right.{HasInitialiser, HasClause, HaveMethods}
-use Rattle.ns_meant.proofs.Counting.{HasNumber, clause_counted, what_methods_counted}
+use Rattle.ns_meant.specs.laws.Counting.{HasNumber, clause_counted, what_methods_counted}
 use Rattle.ns_right.specs.Spelled.{WhatTakes, MembersTake, SideTakes, ClassSideTakes}
-use Rattle.ns_right.proofs.Sits.{Sits, sits_left, sits_right, sits_first}
+use Rattle.ns_meant.specs.laws.Sits.{Sits, sits_left, sits_right, sits_first}
 
 module _ (meant : m.Meant) where
   pub clause_there : (class : m.Declaration) (clause : Option p.SuperClause) (around : Around) (next : ℕ) → class.outer ≡ around.outer →

@@ -8,7 +8,7 @@ use Rattle.ns_rules.specs.Least.{least, faults}
 use Rattle.ns_meant.specs.Program as m
 use Rattle.ns_meant.specs.Classes.{meant_of}
 use Rattle.ns_meant.specs.Right.{IsNested, IsRightClass}
-use Rattle.ns_meant.proofs.Counting.{units_listed}
+use Rattle.ns_meant.specs.laws.Counting.{units_listed}
 use Rattle.ns_right.proofs.Named.{classes_name_what_is_there}
 use Rattle.ns_right.proofs.Declared.{members_of_classes_differ}
 

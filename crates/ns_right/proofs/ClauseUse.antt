@@ -28,7 +28,7 @@ use Rattle.ns_right.proofs.Inside.{AllUse, Part, right_tokens, message_use}
 use Rattle.ns_right.proofs.Patterns.{texts_left, texts_right}
 use Rattle.ns_right.proofs.Reach.{reaches}
 use Rattle.ns_right.proofs.Sending.{send_has, named_has, name_good}
-use Rattle.ns_right.proofs.Sits.{Sits, sits_first}
+use Rattle.ns_meant.specs.laws.Sits.{Sits, sits_first}
 use Rattle.ns_right.proofs.Tables.{has_locals}
 use Rattle.ns_right.proofs.Tokens.{Lawful, lawful_texts}
 use Rattle.ns_right.proofs.OwnUse.{Surrounds}

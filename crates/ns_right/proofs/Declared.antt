@@ -25,10 +25,10 @@ use Rattle.ns_meant.specs.Program as m
 use Rattle.ns_meant.specs.There.{slot_selectors, nested_names}
 use Rattle.ns_meant.specs.Classes.{Around, within, slots_of, bars_slots, members_nested, side_nested, methods_listed, side_listed, class_side_listed}
 use Rattle.ns_meant.specs.Classes.{class_declared, side_declared, members_declared, declaration_of, class_count, meant_of}
-use Rattle.ns_meant.proofs.Counting.{class_listed}
+use Rattle.ns_meant.specs.laws.Counting.{class_listed}
 use Rattle.ns_right.specs.Differ.{MembersDiffer}
 use Rattle.ns_right.specs.Faultless.{Faultless}
-use Rattle.ns_right.proofs.Sits.{Sits, sits_left, sits_right, sits_first, sits_behind}
+use Rattle.ns_meant.specs.laws.Sits.{Sits, sits_left, sits_right, sits_first, sits_behind}
 use Rattle.ns_right.proofs.Walk.{Gives, classes_are}
 use Rattle.ns_right.proofs.Faults.{empty_left, empty_right, program_faultless}
 use Rattle.ns_right.proofs.Differ.{not_past, names_of, declared_differ}

@@ -11,7 +11,7 @@ use Rattle.ns_rules.specs.Rules.{found_if, top_name_found}
 use Rattle.ns_rules.specs.Faults.{class_names, side_names, members_names, what_names, classes_found, class_name, class_faults, unit_faults}
 use Rattle.ns_rules.specs.Least.{least, faults, faults_behind, placed, with_top}
 use Rattle.ns_meant.specs.Classes.{class_count, side_count, members_count, what_count, units_count, meant_of}
-use Rattle.ns_meant.proofs.Counting.{units_listed}
+use Rattle.ns_meant.specs.laws.Counting.{units_listed}
 use Rattle.ns_right.proofs.Classes.{as_many_marks}
 use Rattle.ns_right.proofs.Differ.{if_none}
 use Rattle.ns_right.proofs.Faults.{empty_left, empty_right, empty_map, none_found}

@@ -15,8 +15,8 @@ use Rattle.ns_code.specs.Selector.{text_arity}
 use Rattle.ns_meant.specs.Program as m
 use Rattle.ns_meant.specs.Classes.{Around, standing, super_selector, side_methods, class_side_methods, initialiser_body, initialiser_inside, own_bodies}
 use Rattle.ns_meant.specs.Classes.{bars_slots}
-use Rattle.ns_meant.proofs.Numbering.{bars_counted}
-use Rattle.ns_meant.proofs.Counting.{super_counted, side_counted}
+use Rattle.ns_meant.specs.laws.Numbering.{bars_counted}
+use Rattle.ns_meant.specs.laws.Counting.{super_counted, side_counted}
 use Rattle.ns_right.specs.Reached.{IsReached}
 use Rattle.ns_right.proofs.Around.{Stands}
 use Rattle.ns_right.proofs.Balance as balance
@@ -31,7 +31,8 @@ use Rattle.ns_right.proofs.OwnUse.{Surrounds, side_use, class_side_use}
 use Rattle.ns_right.proofs.Patterns.{texts_left, texts_right}
 use Rattle.ns_right.proofs.Reach.{reaches}
 use Rattle.ns_right.proofs.Routines.{Uses}
-use Rattle.ns_right.proofs.Sits.{Sits, sits_left, sits_right, sits_first, sits_behind, all_both}
+use Rattle.ns_meant.specs.laws.Sits.{Sits, sits_left, sits_right, sits_first, sits_behind}
+use Rattle.ns_right.proofs.Sits.{all_both}
 use Rattle.ns_right.proofs.Statements.{bars_count, slots_count, statements_expressions}
 use Rattle.ns_right.proofs.Statements as statements
 use Rattle.ns_right.proofs.Tables.{has_locals}

@@ -19,13 +19,14 @@ use Rattle.ns_meant.specs.There.{StandsInMethod, parent_of}
 use Rattle.ns_meant.specs.Statements.{inside, block_body, routine_bodies, expr_bodies, cascade_bodies, message_bodies, key_expr_bodies, keys_bodies, bin_bodies}
 use Rattle.ns_meant.specs.Statements.{opers_bodies, un_bodies, primary_bodies, items_bodies, block_bodies, bars_bodies, slots_bodies, slot_bodies}
 use Rattle.ns_meant.specs.Statements.{init_bodies, statements_bodies, list_bodies, statement_bodies}
-use Rattle.ns_meant.proofs.Numbering.{expr_counted, message_counted, key_expr_counted, bin_counted, un_counted, slot_counted, bars_counted, statement_counted}
+use Rattle.ns_meant.specs.laws.Numbering.{expr_counted, message_counted, key_expr_counted, bin_counted, un_counted, slot_counted, bars_counted, statement_counted}
 use Rattle.ns_right.proofs.Around.{Stands, out_of_parent}
 use Rattle.ns_right.proofs.Balance as balance
 use Rattle.ns_right.proofs.Faults.{empty_left, empty_right}
 use Rattle.ns_right.proofs.FewLocals.{few_locals}
 use Rattle.ns_right.proofs.Routines.{Uses, block_uses}
-use Rattle.ns_right.proofs.Sits.{Sits, sits_left, sits_right, sits_first, sits_behind, AreAll, all_both}
+use Rattle.ns_meant.specs.laws.Sits.{Sits, sits_left, sits_right, sits_first, sits_behind}
+use Rattle.ns_right.proofs.Sits.{AreAll, all_both}
 use Rattle.ns_right.proofs.Tables.{has_locals}
 use Rattle.ns_right.proofs.Tokens.{Lawful, Balanced, lawful_left, lawful_right, lawful_texts, few_open}
 

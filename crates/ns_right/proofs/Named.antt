@@ -15,11 +15,11 @@ use Rattle.ns_meant.specs.Statements.{bars_bodies, statements_bodies}
 use Rattle.ns_meant.specs.Classes.{within, standing, clause_bodies, initialiser_body, initialiser_inside, super_bodies, side_methods}
 use Rattle.ns_meant.specs.Classes.{class_side_methods, own_bodies, nested_bodies, declaration_of, factory_selector, bars_slots, slots_of, meant_of}
 use Rattle.ns_meant.specs.Right.{AreIdentifiers}
-use Rattle.ns_meant.proofs.Numbering.{both, bars_counted, statements_counted}
-use Rattle.ns_meant.proofs.Counting.{super_counted, clause_counted, side_counted}
+use Rattle.ns_meant.specs.laws.Numbering.{both, bars_counted, statements_counted}
+use Rattle.ns_meant.specs.laws.Counting.{super_counted, clause_counted, side_counted}
 use Rattle.ns_right.specs.Named.{NamesWhatIsThere, SpelledIn}
 use Rattle.ns_right.specs.Spelled.{FactoryTakes, SlotsNamed, BarsNamed}
-use Rattle.ns_right.proofs.Sits.{Sits, sits_left, sits_right}
+use Rattle.ns_meant.specs.laws.Sits.{Sits, sits_left, sits_right}
 use Rattle.ns_right.proofs.Spelling.{units_spelled}
 use Rattle.ns_right.proofs.Walk.{Gives, classes_are}
 use Rattle.ns_right.proofs.Bodies.{clause_there, initialiser_there, side_there, class_side_there}

@@ -14,8 +14,8 @@ use Rattle.ns_meant.specs.Program as m
 use Rattle.ns_meant.specs.Statements.{routine, routine_bodies}
 use Rattle.ns_meant.specs.Classes.{Around, in_method}
 use Rattle.ns_meant.specs.Classes.{method_bodies, what_methods, members_methods, side_methods, class_side_methods}
-use Rattle.ns_meant.proofs.Numbering.{bars_counted}
-use Rattle.ns_meant.proofs.Counting.{what_methods_counted}
+use Rattle.ns_meant.specs.laws.Numbering.{bars_counted}
+use Rattle.ns_meant.specs.laws.Counting.{what_methods_counted}
 use Rattle.ns_right.proofs.Around.{ClassesTell, Stands}
 use Rattle.ns_right.proofs.Balance as balance
 use Rattle.ns_right.proofs.ClassBalance as class_balance
@@ -23,7 +23,8 @@ use Rattle.ns_right.proofs.Faults.{empty_left, empty_right}
 use Rattle.ns_right.proofs.FewLocals.{few_locals}
 use Rattle.ns_right.proofs.Inside.{AllUse, Part, two, left_tokens, bars_use, statements_use}
 use Rattle.ns_right.proofs.Routines.{Uses, method_uses}
-use Rattle.ns_right.proofs.Sits.{Sits, sits_left, sits_right, sits_first, sits_behind, all_both}
+use Rattle.ns_meant.specs.laws.Sits.{Sits, sits_left, sits_right, sits_first, sits_behind}
+use Rattle.ns_right.proofs.Sits.{all_both}
 use Rattle.ns_right.proofs.Tables.{has_locals}
 use Rattle.ns_right.proofs.Tokens.{Lawful, lawful_left, lawful_right, lawful_texts, few_open}
 

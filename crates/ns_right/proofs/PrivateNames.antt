@@ -15,12 +15,12 @@ use Rattle.ns_meant.specs.Program as m
 use Rattle.ns_meant.specs.There.{slot_selectors, nested_names}
 use Rattle.ns_meant.specs.Classes.{Around, within, slots_of, bars_slots, members_nested, side_nested, methods_listed, side_listed, class_side_listed}
 use Rattle.ns_meant.specs.Classes.{class_declared, side_declared, members_declared, declaration_of, class_count}
-use Rattle.ns_meant.proofs.Counting.{class_listed}
+use Rattle.ns_meant.specs.laws.Counting.{class_listed}
 use Rattle.ns_right.specs.Spelled.{AreMethods, HasMethodsAlone, IsSpelled}
 use Rattle.ns_right.proofs.AmongNames.{Among, Either, If, or_else, first_one, left_first, left_more, right_first, right_more}
 use Rattle.ns_right.proofs.Around.{TellsPrivate}
 use Rattle.ns_right.proofs.Members.{any_both}
-use Rattle.ns_right.proofs.Sits.{Sits, sits_left, sits_right, sits_first, sits_behind}
+use Rattle.ns_meant.specs.laws.Sits.{Sits, sits_left, sits_right, sits_first, sits_behind}
 use Rattle.ns_right.proofs.Tables.{AllAre, IsHidden, all_both, private_told, hidden_moved}
 
 -- ---- slots

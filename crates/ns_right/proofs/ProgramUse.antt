@@ -14,7 +14,7 @@ use Rattle.ns_meant.specs.Program as m
 use Rattle.ns_meant.specs.Classes.{Around, in_file, within, clause_bodies, own_bodies, class_bodies, nested_bodies, members_bodies, member_bodies, what_bodies}
 use Rattle.ns_meant.specs.Classes.{units_bodies, declaration_of, class_declared, side_declared, members_declared, member_declared, what_declared, units_declared}
 use Rattle.ns_meant.specs.Classes.{class_count, member_count, meant_of}
-use Rattle.ns_meant.proofs.Counting.{HasNumber, clause_counted, own_counted, class_counted, member_counted, class_listed, member_listed}
+use Rattle.ns_meant.specs.laws.Counting.{HasNumber, clause_counted, own_counted, class_counted, member_counted, class_listed, member_listed}
 use Rattle.ns_right.specs.Each.{EachClass, EachSide, EachMember, EachIn, EachWhat, EachUnit}
 use Rattle.ns_right.specs.Faultless.{Faultless}
 use Rattle.ns_right.specs.Named.{SpelledIn}
@@ -28,7 +28,8 @@ use Rattle.ns_right.proofs.OwnUse.{Surrounds}
 use Rattle.ns_right.proofs.ClauseUse.{clause_use}
 use Rattle.ns_right.proofs.PrivateNames.{class_tells}
 use Rattle.ns_right.proofs.Routines.{Uses}
-use Rattle.ns_right.proofs.Sits.{Sits, sits_left, sits_right, sits_first, sits_behind, sits_itself, all_both, all_at}
+use Rattle.ns_meant.specs.laws.Sits.{Sits, sits_left, sits_right, sits_first, sits_behind}
+use Rattle.ns_right.proofs.Sits.{sits_itself, all_both, all_at}
 use Rattle.ns_right.proofs.Spelling.{units_spelled}
 use Rattle.ns_right.proofs.Tokens.{Lawful, lawful_left, lawful_right, lawful_source, few_open}
 

@@ -16,7 +16,7 @@ use Rattle.ns_meant.specs.Expressions.{value_of, as_receiver, as_value, names_sa
 use Rattle.ns_meant.specs.Expressions.{reach_of, reach_outer, name_sent, keys_sent}
 use Rattle.ns_right.specs.Reaching.{LocalHas, Reaches}
 use Rattle.ns_right.proofs.Texts.{identifier_arity}
-use Rattle.ns_right.proofs.Arities.{setter_arity}
+use Rattle.ns_right.specs.laws.Setters.{setter_arity}
 
 module _ (Has : Use → Type 0) (here : Standing) (reaches : Reaches Has here.scope) where
   abbrev pub ReceiverHas : Receiver → Type 0

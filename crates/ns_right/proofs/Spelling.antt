@@ -20,7 +20,7 @@ use Rattle.ns_meant.specs.Classes.{unit_class}
 use Rattle.ns_right.specs.Each.{EachClass, EachSide, EachMember, EachWhat, EachUnit}
 use Rattle.ns_right.specs.Named.{SpelledIn}
 use Rattle.ns_right.specs.Spelled.{IsSpelled, FactoryTakes, MethodTakes, MembersTake, SideTakes, ClassSideTakes, AreMethods, HasMethodsAlone, SlotsNamed, BarsNamed}
-use Rattle.ns_right.proofs.Texts.{name_is}
+use Rattle.ns_right.specs.laws.Texts.{name_is}
 use Rattle.ns_right.proofs.Patterns.{texts_left, texts_right, form_there, factory_there, pattern_takes}
 
 -- ---- slots

@@ -1,95 +1,12 @@
 -- What the texts of tokens are: identifiers, and how many arguments a text takes.
-use Rattle.std.proofs.Common.{◌≡◌, ℕ, ◌+◌, List, [], ◌∷◌, ◌++◌, length, refl, sym, ap, ◌∙◌, subst, arith}
-use Rattle.std.specs.Prelude.{Bool, true, false, cond, ◌&&◌, ◌||◌, ◌==◌, count_by, nat_le, nat_eq, flat_map, if◌then◌else◌}
-use Rattle.std.specs.List.{list_all}
-use Rattle.std.proofs.lemmas.Bool.{eqb-true}
-use Rattle.std.proofs.lemmas.List.Sums.{sum_by-cons, sum_by-append}
+use Rattle.std.proofs.Common.{◌≡◌, ℕ, ◌+◌, List, [], ◌∷◌, length, refl, sym, ap, ◌∙◌, arith}
+use Rattle.std.specs.Prelude.{true, false, flat_map, if◌then◌else◌}
 use Rattle.ns_tree.specs.declared.tree.Named.{Named}
 use Rattle.ns_tree.specs.Bytes as t
 use Rattle.ns_tree.specs.Tree.{IsKey}
-use Rattle.ns_code.specs.Spelling.{begins_name, goes_on_name, is_identifier}
+use Rattle.ns_code.specs.Spelling.{begins_name}
 use Rattle.ns_code.specs.Selector.{text_arity}
-
--- ---- the two words for a name
-
-or_turned : (x y z : Bool) → (x || (y || z)) ≡ ((x || z) || y)
-or_turned true y z = refl
-or_turned false true true = refl
-or_turned false true false = refl
-or_turned false false true = refl
-or_turned false false false = refl
-
-begins_same : (byte : ℕ) → t.begins_name byte ≡ begins_name byte
-begins_same byte = or_turned (nat_le 65 byte && nat_le byte 90) (nat_eq byte 95) (nat_le 97 byte && nat_le byte 122)
-
-goes_on_same : (byte : ℕ) → (t.begins_name byte || t.is_digit byte) ≡ goes_on_name byte
-goes_on_same byte = ap (λ b. b || (nat_le 48 byte && nat_le byte 57)) (begins_same byte)
-
-all_same : (p q : ℕ → Bool) → ((byte : ℕ) → p byte ≡ q byte) → (bytes : List ℕ) → list_all p bytes ≡ list_all q bytes
-all_same p q same [] = refl
-all_same p q same (byte ∷ bytes) = ap (λ b. b && list_all p bytes) (same byte) ∙ ap (λ b. q byte && b) (all_same p q same bytes)
-
-pub name_same : (text : List ℕ) → t.is_name text ≡ is_identifier text
-name_same [] = refl
-name_same (byte ∷ bytes) =
-    ap (λ b. b && list_all (λ c. t.begins_name c || t.is_digit c) bytes) (begins_same byte)
-    ∙ ap (λ b. begins_name byte && b) (all_same (λ c. t.begins_name c || t.is_digit c) goes_on_name goes_on_same bytes)
-
-pub name_is : (text : List ℕ) → t.is_name text ≡ true → is_identifier text ≡ true
-name_is text h = sym (name_same text) ∙ h
-
--- ---- colons
-
-abbrev pub colon : ℕ → ℕ
-colon byte = cond (byte == 58) 1 0
-
-abbrev pub colons : List ℕ → ℕ
-colons text = count_by (λ b. b == 58) text
-
-and_left : (x y : Bool) → (x && y) ≡ true → x ≡ true
-and_left true y h = refl
-and_left false y h = h
-
-and_right : (x y : Bool) → (x && y) ≡ true → y ≡ true
-and_right true y h = h
-and_right false y h = absurd (let f : false ≡ true = h in cc)
-
--- a byte of a name is no colon
-no_colon : (byte : ℕ) → goes_on_name byte ≡ true → (byte == 58) ≡ false
-no_colon byte h = by (byte == 58) refl where
-  by : (is : Bool) → (byte == 58) ≡ is → (byte == 58) ≡ false
-  by false e = e
-  by true e = absurd (let f : goes_on_name 58 ≡ true = subst (λ b. goes_on_name b ≡ true) (eqb-true byte 58 e) h in let g : false ≡ true = f in cc)
-
-none_in_name : (bytes : List ℕ) → list_all goes_on_name bytes ≡ true → colons bytes ≡ 0
-none_in_name [] h = refl
-none_in_name (byte ∷ bytes) h =
-    sum_by-cons colon byte bytes
-    ∙ ap (λ b. cond b 1 0 + colons bytes) (no_colon byte (and_left (goes_on_name byte) (list_all goes_on_name bytes) h))
-    ∙ ap (λ n. 0 + n) (none_in_name bytes (and_right (goes_on_name byte) (list_all goes_on_name bytes) h))
-
-begins_goes_on : (byte : ℕ) → begins_name byte ≡ true → goes_on_name byte ≡ true
-begins_goes_on byte h = ap (λ b. b || (nat_le 48 byte && nat_le byte 57)) h
-
-none_in_identifier : (text : List ℕ) → is_identifier text ≡ true → colons text ≡ 0
-none_in_identifier [] h = refl
-none_in_identifier (byte ∷ bytes) h =
-    let begins = and_left (begins_name byte) (list_all goes_on_name bytes) h in
-    sum_by-cons colon byte bytes
-    ∙ ap (λ b. cond b 1 0 + colons bytes) (no_colon byte (begins_goes_on byte begins))
-    ∙ ap (λ n. 0 + n) (none_in_name bytes (and_right (begins_name byte) (list_all goes_on_name bytes) h))
-
-pub colons_both : (a b : List ℕ) → colons (a ++ b) ≡ colons a + colons b
-colons_both a b = sum_by-append colon a b
-
--- ---- how many arguments a text takes
-
--- a text that begins as a name takes one for each colon
-pub starts_arity : (text : List ℕ) → t.starts_name text ≡ true → text_arity text ≡ colons text
-starts_arity [] h = absurd (let f : false ≡ true = h in cc)
-starts_arity (byte ∷ bytes) h =
-    let begins : begins_name byte ≡ true = sym (begins_same byte) ∙ h in
-    ap (λ b. if b then colons (byte ∷ bytes) else 1) begins
+use Rattle.ns_right.specs.laws.Texts.{begins_same, name_is, colons, none_in_identifier, colons_both, starts_arity, name_starts, key_colons, starts_left, key_starts}
 
 -- a text that doesn't takes one
 pub operator_arity : (text : List ℕ) → t.is_operator text ≡ true → t.starts_name text ≡ false → text_arity text ≡ 1
@@ -97,10 +14,6 @@ operator_arity [] o h = absurd (let f : false ≡ true = o in cc)
 operator_arity (byte ∷ bytes) o h =
     let begins : begins_name byte ≡ false = sym (begins_same byte) ∙ h in
     ap (λ b. if b then colons (byte ∷ bytes) else 1) begins
-
-name_starts : (text : List ℕ) → t.is_name text ≡ true → t.starts_name text ≡ true
-name_starts [] h = absurd (let f : false ≡ true = h in cc)
-name_starts (byte ∷ bytes) h = and_left (t.begins_name byte) (list_all (λ c. t.begins_name c || t.is_digit c) bytes) h
 
 pub identifier_arity : (text : List ℕ) → t.is_name text ≡ true → text_arity text ≡ 0
 identifier_arity text h = starts_arity text (name_starts text h) ∙ none_in_identifier text (name_is text h)
@@ -112,11 +25,6 @@ abbrev pub AreKeys : List Named → Type 0
 AreKeys [] = Unit {0}
 AreKeys (key ∷ keys) = IsKey key.text × AreKeys keys
 
-pub key_colons : (text : List ℕ) → IsKey text → colons text ≡ 1
-key_colons text key =
-    ap colons key.2 ∙ colons_both key.0 (58 ∷ [])
-    ∙ ap (λ n. n + 1) (none_in_identifier key.0 (name_is key.0 key.1))
-
 keys_colons : (keys : List Named) → AreKeys keys → colons (flat_map (λ key. key.text) keys) ≡ length keys
 keys_colons [] h = refl
 keys_colons (key ∷ keys) h =
@@ -124,13 +32,6 @@ keys_colons (key ∷ keys) h =
     ∙ ap (λ n. n + colons (flat_map (λ key. key.text) keys)) (key_colons key.text h.0)
     ∙ ap (λ n. 1 + n) (keys_colons keys h.1)
     ∙ omega arith
-
-pub starts_left : (a b : List ℕ) → t.starts_name a ≡ true → t.starts_name (a ++ b) ≡ true
-starts_left [] b h = absurd (let f : false ≡ true = h in cc)
-starts_left (byte ∷ a) b h = h
-
-pub key_starts : (text : List ℕ) → IsKey text → t.starts_name text ≡ true
-key_starts text key = subst (λ x. t.starts_name x ≡ true) (sym key.2) (starts_left key.0 (58 ∷ []) (name_starts key.0 key.1))
 
 -- the selector of some keys takes one argument for each
 pub keys_arity : (key : Named) (keys : List Named) → AreKeys (key ∷ keys) → text_arity (flat_map (λ key. key.text) (key ∷ keys)) ≡ length (key ∷ keys)

@@ -9,9 +9,10 @@ use Rattle.ns_meant.specs.Program as m
 use Rattle.ns_meant.specs.Classes.{Around, in_file, within, clause_bodies, own_bodies, class_bodies, nested_bodies, members_bodies, member_bodies}
 use Rattle.ns_meant.specs.Classes.{what_bodies, units_bodies, declaration_of, class_declared, side_declared, members_declared, member_declared}
 use Rattle.ns_meant.specs.Classes.{what_declared, units_declared, class_count, member_count, meant_of}
-use Rattle.ns_meant.proofs.Counting.{HasNumber, clause_counted, own_counted, class_counted, member_counted, class_listed, member_listed}
+use Rattle.ns_meant.specs.laws.Counting.{HasNumber, clause_counted, own_counted, class_counted, member_counted, class_listed, member_listed}
 use Rattle.ns_right.specs.Each.{EachClass, EachSide, EachMember, EachIn, EachWhat, EachUnit}
-use Rattle.ns_right.proofs.Sits.{Sits, sits_left, sits_right, sits_behind, sits_itself, AreAll, all_both, all_at}
+use Rattle.ns_meant.specs.laws.Sits.{Sits, sits_left, sits_right, sits_behind}
+use Rattle.ns_right.proofs.Sits.{sits_itself, AreAll, all_both, all_at}
 
 -- The record of a class has the property, where the class has another, and its record and its bodies sit in the program.
 abbrev pub Gives : m.Meant → (List ClassScope → p.Class → Type 0) → (ℕ → m.Declaration → Type 0) → Type 0

@@ -6,3 +6,4 @@ pub mod Reached
 pub mod Reaching
 pub mod Spelled
 pub mod Using
+pub mod laws

@@ -5,8 +5,8 @@ use Rattle.ns_code.specs.declared.program.CodeProgram.{CodeProgram}
 use Rattle.ns_facets.specs.declared.row.Grants.{Grants}
 use Rattle.ns_falling.specs.Doubling.{Leads, times, until}
 use Rattle.ns_falling.specs.Falling.{LeftIsBelowPower, MovesLower, power_left, run_left}
-use Rattle.ns_falling.proofs.Doubling.{leads}
-use Rattle.ns_moves.specs.Laws.{TurnsLeaveOne}
+use Rattle.ns_falling.specs.laws.Doubling.{leads}
+use Rattle.ns_moves.specs.Stated.{TurnsLeaveOne}
 use Rattle.ns_moves.specs.Move.{move}
 use Rattle.ns_moves.specs.Standing.{MovesKeepValid}
 use Rattle.ns_moves.specs.State.{State, world_of}

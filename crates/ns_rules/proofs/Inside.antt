@@ -2,7 +2,7 @@
 use Rattle.std.proofs.Common.{◌≡◌, refl, ◌++◌}
 use Rattle.ns_tree.specs.declared.tree.Block.{Block, out-Block}
 use Rattle.ns_tree.specs.PlainOf.{block_of, bars_of}
-use Rattle.ns_tree.proofs.Nodes.{block_out}
+use Rattle.ns_tree.specs.laws.Nodes.{block_out}
 use Rattle.ns_scope.specs.declared.scope.Scope.{Scope}
 use Rattle.ns_scope.specs.Names.{locals_of}
 use Rattle.ns_scope.specs.Scopes.{block_scope}

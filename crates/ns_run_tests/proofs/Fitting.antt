@@ -14,7 +14,7 @@ use Rattle.ns_code.specs.declared.class.NestedCode.{NestedCode}
 use Rattle.ns_code.specs.declared.class.MethodCode.{MethodCode}
 use Rattle.ns_code.specs.Spelling.{is_selector}
 use Rattle.ns_code.specs.Fits.{IsFileName, IsShort, IsName, IsLocalName, InstrFits, PlaceFits, SlotFits, NestedFits, MethodFits, ClassFits, BodyFits, Fits}
-use Rattle.ns_world.proofs.Chains.{both_of}
+use Rattle.ns_world.specs.laws.Chains.{both_of}
 use Rattle.ns_run_tests.specs.Program.{body_of, program_code, program_names, program_classes, class_base, class_part, class_sub, class_other}
 
 all_by : {X : Type 0} (P : X → Type 0) (test : X → Bool) → ((x : X) → test x ≡ true → P x) → (xs : List X) → list_all test xs ≡ true → All P xs

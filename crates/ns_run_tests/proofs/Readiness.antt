@@ -14,9 +14,9 @@ use Rattle.ns_world.specs.Heap.{Heap, find_cell, has_superclass}
 use Rattle.ns_world.specs.World.{World, WorldView, MakesCell, Charges, SameRoom, printed, written, byte_written}
 use Rattle.ns_world.specs.Lawful.{IsLawful, IsLiveValue, class_of_object}
 use Rattle.ns_world.specs.Keeping.{MayBeMade, MayBeWritten}
-use Rattle.ns_world.proofs.Making.{making_keeps}
-use Rattle.ns_world.proofs.Writing.{writing_keeps, byte_keeps}
-use Rattle.ns_world.proofs.Charging.{print_keeps}
+use Rattle.ns_world.specs.laws.Making.{making_keeps}
+use Rattle.ns_world.specs.laws.Writing.{writing_keeps, byte_keeps}
+use Rattle.ns_world.specs.laws.Charging.{print_keeps}
 use Rattle.ns_kdata.specs.Arguments.{is_array}
 use Rattle.ns_run_tests.specs.Program.{program_code}
 use Rattle.ns_run_tests.specs.Cells.{tried_with, tried_cells}

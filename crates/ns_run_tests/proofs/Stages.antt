@@ -16,9 +16,9 @@ use Rattle.ns_world.specs.Heap.{Heap, heap_size, find_cell, has_superclass, chai
 use Rattle.ns_world.specs.World.{made}
 use Rattle.ns_world.specs.Lawful.{HasHolder, HasEnclosing, FitsBody, FitsEnvironment, BlockIsLawful, IsLawful, class_of_object}
 use Rattle.ns_world.specs.Keeping.{IsEnclosed, MayBeMade}
-use Rattle.ns_world.proofs.Making.{making_keeps}
-use Rattle.ns_world.proofs.Charging.{empty_is_lawful}
-use Rattle.ns_classes.proofs.Lawfully.{slot_filled}
+use Rattle.ns_world.specs.laws.Making.{making_keeps}
+use Rattle.ns_world.specs.laws.Charging.{empty_is_lawful}
+use Rattle.ns_classes.specs.laws.Lawfully.{slot_filled}
 use Rattle.ns_run_tests.specs.Program.{sel, body_of, program_code, program_classes, program_bodies, class_base, class_part, class_sub, class_other}
 use Rattle.ns_run_tests.specs.Cells.{tried_limits, tried_with, facet_cells, class_cells, empty_objects, filled_objects, part_cells, tried_cells}
 use Rattle.ns_run_tests.proofs.Fitting.{program_fits}

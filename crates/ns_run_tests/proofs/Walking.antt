@@ -8,9 +8,9 @@ use Rattle.ns_world.specs.declared.cell.NewCell.{NewCell}
 use Rattle.ns_world.specs.declared.cell.NewCell.TheVariants.{Mirror}
 use Rattle.ns_world.specs.Cell.{Cell, cell_size, shape_of, ObjectCell, ClassCell, BlockCell, EnvironmentCell, ArrayCell, TextCell, FacetCell, MirrorCell, MessageCell}
 use Rattle.ns_world.specs.Heap.{Heap, heap_size, find_cell, shape_at}
-use Rattle.ns_world.proofs.Changing.{found_new}
-use Rattle.ns_world.proofs.Chains.{found_in_more}
-use Rattle.ns_world.proofs.Standing.{stands-within}
+use Rattle.ns_world.specs.laws.Changing.{found_new}
+use Rattle.ns_world.specs.laws.Chains.{found_in_more}
+use Rattle.ns_world.specs.laws.Standing.{stands-within}
 use Rattle.ns_run_tests.specs.Looking.{size_of_shape, IsNext}
 
 size_told : (cell : Cell) → size_of_shape (shape_of cell) ≡ cell_size cell

@@ -259,7 +259,7 @@ fn set_item_of_array(world: &mut World, array: u32, place: u32, value: Value)
     }
 }
 
-#[tactic(auto, using(ns_kdata::proofs::Shapes::items_are_words))]
+#[tactic(auto, using(ns_kdata::specs::laws::Items::items_are_words))]
 fn write_item(world: &mut World, array: u32, place: u32, value: Value)
     requires ready { IsReady world.old }
     requires array { arguments.is_array world.old.world.cells (Ref array) ≡ true }

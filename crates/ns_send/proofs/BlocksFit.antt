@@ -14,7 +14,7 @@ use Rattle.ns_send.specs.Bodies.{has_environment, enclosing}
 use Rattle.ns_send.specs.Lawful.{FitsActivation, declaration_at, IsBlockIn}
 use Rattle.ns_send.specs.Fitting.{FitsOwnEnvironment}
 use Rattle.ns_send.proofs.Opening.{earlier, at_depth}
-use Rattle.ns_send.proofs.Places.{places_fit}
+use Rattle.ns_send.specs.lemmas.Places.{places_fit}
 
 -- what fits a body fits each body of its class and side
 same_fits : (heap : Heap) (code : CodeProgram) (inner outer : BodyCode) (self : Value) (holder : ℕ) → inner.class ≡ outer.class → inner.side ≡ outer.side → FitsBody heap code outer self holder → FitsBody heap code inner self holder

@@ -9,12 +9,12 @@ use Rattle.ns_world.specs.Cell.{Cell, ArrayCell, MessageCell, open_words}
 use Rattle.ns_world.specs.Heap.{heap_size, find_cell, is_class, open_words_at}
 use Rattle.ns_world.specs.World.{World, made}
 use Rattle.ns_world.specs.Lawful.{IsLawful}
-use Rattle.ns_world.proofs.Chains.{found_below, found_in_more, class_below}
-use Rattle.ns_kdata.proofs.Filled.{filled_keeps}
+use Rattle.ns_world.specs.laws.Chains.{found_below, found_in_more, class_below}
+use Rattle.ns_kdata.specs.laws.Filled.{filled_keeps}
 use Rattle.ns_send.specs.Lawful.{FitsSelector}
 use Rattle.ns_send.specs.Suits.{Follows}
-use Rattle.ns_send.proofs.Later.{made_cells}
-use Rattle.ns_send.proofs.LawfulBodies.{new_found}
+use Rattle.ns_world.specs.laws.Making.{made_cells}
+use Rattle.ns_send.specs.lemmas.LawfulBodies.{new_found}
 
 -- what may be written of a cell may be written where another was made
 words_more : (world after : World) (cell : Cell) → made world cell ≡ Some after → (at word : ℕ) → word < length (open_words_at world.cells at) → word < length (open_words_at after.cells at)

@@ -9,22 +9,21 @@ use Rattle.ns_world.specs.declared.value.Value.TheVariants.{Nil, True, False, In
 use Rattle.ns_world.specs.declared.cell.NewCell.TheVariants.{Mirror}
 use Rattle.ns_world.specs.Cell.{Cell, ObjectCell, ClassCell, BlockCell, EnvironmentCell, ArrayCell, TextCell, FacetCell, MirrorCell, MessageCell, shape_of}
 use Rattle.ns_world.specs.Heap.{Heap, find_cell, is_class, words_at, open_words_at}
-use Rattle.ns_world.specs.Starts.{start_of, start_of_cell, has_class, is_receiver_cell}
+use Rattle.ns_world.specs.Starts.{start_of, start_of_cell, is_receiver_cell}
 use Rattle.ns_world.specs.World.{World}
 use Rattle.ns_world.specs.Layout.{declaration_of, entries_of, entry_word}
 use Rattle.ns_world.specs.Lawful.{IsLawful, IsLiveValue, HasHolder, class_of_object}
 use Rattle.ns_find.specs.declared.found.Sending.TheVariants.{Inner}
 use Rattle.ns_find.specs.Find.{found_from, found_private, super_start, is_start}
 use Rattle.ns_find.specs.Belonging.{HasSlot}
-use Rattle.ns_classes.proofs.Entries.{entry_inside}
-use Rattle.ns_mirror.proofs.Reflecting.{class_named}
+use Rattle.ns_classes.specs.laws.Entries.{entry_inside}
 use Rattle.ns_send.specs.Control.{Activation}
 use Rattle.ns_send.specs.Bodies.{enclosing, side_of_body, side_at}
 use Rattle.ns_send.specs.Lawful.{FitsActivation, declaration_at}
 use Rattle.ns_send.specs.Suits.{Suits, IsEnclosingPlace}
-use Rattle.ns_send.proofs.Suiting.{private_suits}
-use Rattle.ns_send.proofs.Places.{places_fit}
-use Rattle.ns_send.proofs.LawfulSends.{super_fits, body_declared}
+use Rattle.ns_send.specs.lemmas.Suiting.{private_suits}
+use Rattle.ns_send.specs.lemmas.Places.{places_fit}
+use Rattle.ns_send.specs.laws.LawfulSends.{super_fits, body_declared}
 
 -- the enclosing object at a level that there is
 pub place_there : (world : World) (code : CodeProgram) (activation : Activation) (level : ℕ) → IsLawful world code → FitsActivation world.cells code activation → IsSome (declaration_at code activation.body level)
@@ -88,10 +87,6 @@ start_there world code (Ref at) lawful live = told (find_cell world.cells at) re
     told (Some (FacetCell kind)) e r = refl
     told (Some (MirrorCell mirrored)) e r = refl
     told (Some (MessageCell sel args)) e r = refl
-
--- and has a class with a name
-pub class_there : (world : World) (code : CodeProgram) (value : Value) → IsLawful world code → has_class world.cells (start_of world.cells value) ≡ true
-class_there world code value lawful = class_named world code value lawful
 
 -- an object's words may all be written
 pub words_open : (heap : Heap) (at : ℕ) → IsSome (class_of_object (find_cell heap at)) → open_words_at heap at ≡ words_at heap at

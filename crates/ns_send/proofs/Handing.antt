@@ -19,9 +19,9 @@ use Rattle.ns_world.specs.World.{World, stepped, entered}
 use Rattle.ns_world.specs.Starts.{start_of}
 use Rattle.ns_world.specs.Lawful.{IsLawful, IsLiveValue, BlockIsLawful}
 use Rattle.ns_world.specs.Later.{RunsOn}
-use Rattle.ns_world.proofs.Lawfully.{fits_stays}
-use Rattle.ns_world.proofs.Lasting.{keeps_of}
-use Rattle.ns_world.proofs.Leading.{later_on, later_stepped, later_entered}
+use Rattle.ns_world.specs.laws.Lawfully.{fits_stays}
+use Rattle.ns_world.specs.laws.Lasting.{keeps_of}
+use Rattle.ns_world.specs.laws.Leading.{later_on, later_stepped, later_entered}
 use Rattle.ns_find.specs.declared.found.Sending.TheVariants.{Plain, Inner}
 use Rattle.ns_find.specs.Find.{found_from, found_private, super_start}
 use Rattle.ns_kdata.specs.Arguments.{items_of}
@@ -33,18 +33,20 @@ use Rattle.ns_send.specs.Sends.{Target, To, ToPrivate, ToSuper, site_at, sent, s
 use Rattle.ns_send.specs.Lawful.{LawfulRun, FitsSelector, FitsTarget, declaration_at}
 use Rattle.ns_send.specs.Actions.{Action, Sends, SendsPlain, Performs, Evaluates, Continues, BeginsPart, EndsPart, EndsBody, MakesBlock, MakesText, MakesArray, FillsSlot, StoresLocal}
 use Rattle.ns_send.specs.Fitting.{FitsNext, Asks, HandsOn}
-use Rattle.ns_send.proofs.Onward.{charged_all}
-use Rattle.ns_send.proofs.BlocksOnward.{evaluated_onward}
-use Rattle.ns_send.proofs.LawfulBlocks.{self_live, evaluated_lawful}
-use Rattle.ns_send.proofs.LawfulSends.{super_fits, body_declared}
-use Rattle.ns_send.proofs.Suiting.{found_suits, private_suits}
-use Rattle.ns_send.proofs.Places.{places_fit}
-use Rattle.ns_send.proofs.Running.{RunsBody, found_runs, outer_private, super_runs}
-use Rattle.ns_send.proofs.RowsSuit.{value_suits, above_suits, own_suits}
+use Rattle.ns_send.specs.laws.Onward.{charged_all}
+use Rattle.ns_send.specs.laws.BlocksOnward.{evaluated_onward}
+use Rattle.ns_send.specs.laws.LawfulBlocks.{self_live, evaluated_lawful}
+use Rattle.ns_send.specs.laws.LawfulSends.{super_fits, body_declared}
+use Rattle.ns_send.specs.lemmas.Suiting.{found_suits, private_suits}
+use Rattle.ns_send.specs.lemmas.Places.{places_fit}
+use Rattle.ns_send.specs.lemmas.Running.{RunsBody, found_runs}
+use Rattle.ns_send.proofs.Running.{outer_private, super_runs}
+use Rattle.ns_send.specs.lemmas.RowsSuit.{value_suits, above_suits, own_suits}
 use Rattle.ns_send.proofs.WaitsFit.{method_hands_on}
-use Rattle.ns_send.proofs.Opening.{Around, block_around}
+use Rattle.ns_send.specs.lemmas.Opening.{Around}
+use Rattle.ns_send.proofs.Opening.{block_around}
 use Rattle.ns_send.proofs.PartsFit.{super_part_fits}
-use Rattle.ns_send.proofs.Fitting.{Later, opened_fits, entered_here, body_lasts, fits_now, stepped_fits}
+use Rattle.ns_send.specs.lemmas.Fitting.{Later, opened_fits, entered_here, body_lasts, fits_now, stepped_fits}
 
 -- ---- sends
 

@@ -10,11 +10,11 @@ use Rattle.ns_world.specs.Heap.{Heap, find_cell, is_class, is_superclass, superc
 use Rattle.ns_world.specs.World.{World, made}
 use Rattle.ns_world.specs.Layout.{declaration_of, entries_of, entry_word}
 use Rattle.ns_world.specs.Lawful.{IsLawful}
-use Rattle.ns_world.proofs.Chains.{linked}
+use Rattle.ns_world.specs.laws.Chains.{linked}
 use Rattle.ns_classes.specs.Nested.{has_nested, nested_entry}
-use Rattle.ns_classes.proofs.Entries.{nested_entry_within}
+use Rattle.ns_classes.specs.laws.Entries.{nested_entry_within}
 use Rattle.ns_send.specs.Lawful.{HasClass}
-use Rattle.ns_send.proofs.Later.{later_made}
+use Rattle.ns_send.specs.lemmas.Later.{later_made}
 use Rattle.ns_send.proofs.FoundThere.{entry_open}
 
 some_nested : (nested : List NestedCode) (place class : ℕ) (one : NestedCode) → slice_get nested place ≡ Some one → one.class ≡ class → list_any (λ (n : NestedCode). eqb n.class class) nested ≡ true

@@ -11,8 +11,8 @@ use Rattle.ns_world.specs.Heap.{Heap, heap_size, find_cell}
 use Rattle.ns_world.specs.World.{World}
 use Rattle.ns_world.specs.Later.{RunsOn}
 use Rattle.ns_world.specs.Lawful.{IsLawful, IsEnvironmentOrNil, is_environment}
-use Rattle.ns_world.proofs.Staying.{environment_stays}
-use Rattle.ns_world.proofs.Lasting.{keeps_of, shape_lasts}
+use Rattle.ns_world.specs.laws.Staying.{environment_stays}
+use Rattle.ns_world.specs.laws.Lasting.{keeps_of, shape_lasts}
 use Rattle.ns_mirror.specs.Mirror.{cell_number}
 use Rattle.ns_send.specs.Control.{Activation}
 use Rattle.ns_send.specs.Bodies.{has_environment, environment_out, parent_in}

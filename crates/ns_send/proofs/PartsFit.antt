@@ -19,10 +19,10 @@ use Rattle.ns_world.specs.World.{World, made, entered}
 use Rattle.ns_world.specs.Layout.{declaration_of}
 use Rattle.ns_world.specs.Lawful.{IsLawful, IsLiveValue, HasHolder, class_of_object}
 use Rattle.ns_world.specs.Later.{IsLater, RunsOn}
-use Rattle.ns_world.proofs.Above.{goes_on}
-use Rattle.ns_world.proofs.Chains.{linked}
-use Rattle.ns_world.proofs.Classes.{lawful_order, lawful_small}
-use Rattle.ns_find.proofs.SoundBodies.{initialiser_there, named_factory}
+use Rattle.ns_world.specs.laws.Above.{goes_on}
+use Rattle.ns_world.specs.laws.Chains.{linked}
+use Rattle.ns_world.specs.laws.Classes.{lawful_order, lawful_small}
+use Rattle.ns_find.specs.laws.SoundBodies.{initialiser_there, named_factory}
 use Rattle.ns_send.specs.Site.{error}
 use Rattle.ns_send.specs.Control.{Progress, in_world, Activation, FromBody, Part, Skip, Stop, EnterPart, charged}
 use Rattle.ns_send.specs.Bodies.{has_environment, first_locals, parameters_of, initialiser_of, no_home, opened}
@@ -30,15 +30,16 @@ use Rattle.ns_send.specs.Classes.{super_selector, factory_selector, declared_par
 use Rattle.ns_send.specs.Lawful.{LawfulRun, LawfulPart, FitsActivation}
 use Rattle.ns_send.specs.Onward.{part_reached}
 use Rattle.ns_send.specs.Fitting.{kind_of, StandsWell, FitsEntered, FitsNextPart, EntersPart, FitsMessage}
-use Rattle.ns_send.proofs.Onward.{charged_all}
-use Rattle.ns_send.proofs.ClassesOnward.{super_onward}
-use Rattle.ns_send.proofs.LawfulParts.{super_lawful}
-use Rattle.ns_send.proofs.Lasting.{holder_lasts}
-use Rattle.ns_send.proofs.Suiting.{object_holders, above_too}
-use Rattle.ns_send.proofs.Places.{holder_live}
-use Rattle.ns_send.proofs.Running.{RunsBody, own_params, body_runs, instance_fits}
-use Rattle.ns_send.proofs.Opening.{Around, nothing_around, opened_bare, opened_over}
-use Rattle.ns_send.proofs.Fitting.{entered_here, body_lasts, class_there}
+use Rattle.ns_send.specs.laws.Onward.{charged_all}
+use Rattle.ns_send.specs.laws.ClassesOnward.{super_onward}
+use Rattle.ns_send.specs.laws.LawfulParts.{super_lawful}
+use Rattle.ns_send.specs.lemmas.Lasting.{holder_lasts}
+use Rattle.ns_send.specs.lemmas.Suiting.{object_holders, above_too}
+use Rattle.ns_send.specs.lemmas.Places.{holder_live}
+use Rattle.ns_send.specs.lemmas.Running.{RunsBody, body_runs, instance_fits}
+use Rattle.ns_send.proofs.Running.{own_params}
+use Rattle.ns_send.specs.lemmas.Opening.{Around, nothing_around, opened_bare, opened_over}
+use Rattle.ns_send.specs.lemmas.Fitting.{entered_here, body_lasts, class_there}
 
 -- What is to be shown of a part, where the run goes on lawfully and its arguments are counted.
 abbrev PartLater : World → CodeProgram → Type 0 → Part → Type 0

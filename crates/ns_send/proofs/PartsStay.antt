@@ -22,7 +22,7 @@ use Rattle.ns_send.specs.Bodies.{has_environment, first_locals, parameters_of, i
 use Rattle.ns_send.specs.Classes.{super_selector, factory_selector, declared_part, object_part, part_of, super_part}
 use Rattle.ns_send.specs.Blocks.{block_body_in, block_entered, evaluated}
 use Rattle.ns_send.specs.Fitting.{PartGoesOnAt, EntersBlock}
-use Rattle.ns_send.proofs.Onward.{charged_all}
+use Rattle.ns_send.specs.laws.Onward.{charged_all}
 
 -- ---- superclass parts
 

@@ -7,7 +7,7 @@ use Rattle.ns_world.specs.declared.value.Value.TheVariants.{Nil, True, False, In
 use Rattle.ns_world.specs.declared.ending.LimitKind.TheVariants.{Steps}
 use Rattle.ns_world.specs.Heap.{Heap}
 use Rattle.ns_world.specs.World.{stepped}
-use Rattle.ns_world.proofs.Chains.{both_of}
+use Rattle.ns_world.specs.laws.Chains.{both_of}
 use Rattle.ns_kdata.specs.Arguments.{items_of}
 use Rattle.ns_kcode.specs.declared.state.KMethod.{KMethod}
 use Rattle.ns_kcode.specs.declared.state.KMethod.TheVariants as method
@@ -19,9 +19,9 @@ use Rattle.ns_send.specs.declared.site.Site.{Site}
 use Rattle.ns_send.specs.Control.{Progress, in_world, Halts, Waiting, Waits, Finishes}
 use Rattle.ns_send.specs.Blocks.{is_block, is_integer, listed, waiting, turned, item_at, acted, method_next}
 use Rattle.ns_send.specs.Fitting.{counts_fit, FitsMethod, FitsNextWaiting}
-use Rattle.ns_send.proofs.Counts.{next_within}
-use Rattle.ns_send.proofs.Growing.{step_cells}
-use Rattle.ns_send.proofs.Onward.{charged_all}
+use Rattle.ns_send.specs.lemmas.Counts.{next_within}
+use Rattle.ns_send.specs.laws.Growing.{step_cells}
+use Rattle.ns_send.specs.laws.Onward.{charged_all}
 
 -- What an action evaluates is a block.
 abbrev EvaluatesBlock : Heap → KAction → Type 0

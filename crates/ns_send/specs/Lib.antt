@@ -23,3 +23,5 @@ pub mod Stated
 pub mod StatedSends
 pub mod StatedActions
 pub mod StatedFinding
+pub mod lemmas
+pub mod laws

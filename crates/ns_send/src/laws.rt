@@ -68,7 +68,7 @@ pub fn actions_lead_on()
 
 /// No action makes a facet, and none but the making of a block a block, which has the home of the
 /// activation that makes it; the cells that were there keep their kinds, sizes and fixed parts.
-#[tactic(auto, using(crate::proofs::AddingOn::action_adds))]
+#[tactic(auto, using(crate::specs::laws::AddingOn::action_adds))]
 pub fn actions_add_cells()
     ensures { (code : CodeProgram) (action : Action) (progress : Progress) → AddsOnly code action progress }
 {}
@@ -190,7 +190,7 @@ pub fn what_code_names_is_there()
 
 /// The selectors that the machine sends by itself are selectors, whether code names them or not, and
 /// take the arguments of their texts.
-#[tactic(auto, using(crate::proofs::OwnSelectors::own_is, crate::proofs::OwnSelectors::own_arity))]
+#[tactic(auto, using(crate::specs::laws::OwnSelectors::own_is, crate::specs::laws::OwnSelectors::own_arity))]
 pub fn own_selectors_are_selectors()
     ensures selectors { (code : CodeProgram) (own : Own) → IsTrue (is_selector_number code (own_number code own)) }
     ensures arities { (code : CodeProgram) (own : Own) → selector_arity code (own_number code own) ≡ text_arity (own_text own) }
@@ -198,7 +198,7 @@ pub fn own_selectors_are_selectors()
 
 /// In a lawful run no action ends it with a value, and an error names the place and the class of the
 /// action's site, with its selector or that of a Message: a file, a class and a selector of the code.
-#[tactic(auto, using(crate::proofs::Ending::action_ends))]
+#[tactic(auto, using(crate::specs::laws::Ending::action_ends))]
 pub fn endings_fit()
     ensures { (code : CodeProgram) (action : Action) (progress : Progress) → LawfulRun code progress → HasSite code action → EndsFitly code action progress }
 {}

@@ -19,7 +19,7 @@ use Rattle.ns_engine.specs.Shown.{phase_shown, progress_in}
 use Rattle.ns_engine.specs.Standing.{ArgumentsWait}
 use Rattle.ns_engine.specs.Arriving.{CanBegin, Arrives}
 use Rattle.ns_engine.specs.Doing.{IsSettled}
-use Rattle.ns_engine.proofs.Pushed.{waiting_stays}
+use Rattle.ns_engine.specs.laws.Pushed.{waiting_stays}
 use Rattle.ns_sends.specs.declared.sent.Sent.{Sent}
 use Rattle.ns_sends.specs.Going.{control_at, IsLeft}
 

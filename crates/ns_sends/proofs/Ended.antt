@@ -14,7 +14,7 @@ use Rattle.ns_frames.specs.View.{site_shown}
 use Rattle.ns_engine.specs.declared.state.Core.{Core}
 use Rattle.ns_engine.specs.declared.state.Next.TheVariants as next
 use Rattle.ns_engine.specs.Arriving.{Arrives}
-use Rattle.ns_engine.proofs.Pushed.{ended_stays}
+use Rattle.ns_engine.specs.laws.Pushed.{ended_stays}
 use Rattle.ns_sends.specs.declared.sent.Sent.{Sent}
 use Rattle.ns_sends.specs.Going.{control_at}
 

@@ -1,5 +1,5 @@
 -- What waits goes on: the evaluation of a block.
-use Rattle.std.proofs.Common.{◌≡◌, ◌+◌, ◌-◌, ◌<◌, ◌≤◌, ℕ, suc, List, [], ◌∷◌, length, take, drop, ap, sym, ◌∙◌, refl, subst, arith, Option, Some, None, Bool, true, false, cond, length-take-le}
+use Rattle.std.proofs.Common.{◌≡◌, ◌+◌, ◌-◌, ◌≤◌, ℕ, List, [], length, take, ap, sym, ◌∙◌, refl, subst, arith, Option, Some, None, Bool, true, false, cond, length-take-le}
 use Rattle.std.specs.Prelude.{IsTrue, IsSome, ◌==◌, All}
 use Rattle.std.specs.Option.{option_map_or}
 use Rattle.std.proofs.lemmas.List.{take-take, length-drop}
@@ -13,7 +13,7 @@ use Rattle.ns_world.specs.declared.ending.LimitKind.{LimitKind}
 use Rattle.ns_world.specs.declared.ending.LimitKind.TheVariants.{Steps, Depth, Cells}
 use Rattle.ns_world.specs.declared.ending.Kind.TheVariants.{WrongArity}
 use Rattle.ns_world.specs.declared.value.Value.TheVariants.{Nil, True, False, Int, Sym, Kernel, Ref}
-use Rattle.ns_world.specs.Lawful.{IsLawful, IsLiveValue}
+use Rattle.ns_world.specs.Lawful.{IsLiveValue}
 use Rattle.ns_world.specs.Cell.{Cell, EnvironmentCell, shape_of}
 use Rattle.ns_world.specs.Heap.{Heap, heap_size, find_cell}
 use Rattle.ns_world.specs.World.{World, WorldView, stepped, entered, made}
@@ -45,25 +45,24 @@ use Rattle.ns_engine.specs.declared.state.Next.TheVariants as next
 use Rattle.ns_engine.specs.Shown.{phase_shown, progress_in}
 use Rattle.ns_engine.specs.Arriving.{Arrives}
 use Rattle.ns_engine.specs.Ready.{Moves}
-use Rattle.ns_engine.proofs.Kept.{rooms_stay}
-use Rattle.ns_engine.proofs.Made.{in_other}
+use Rattle.ns_engine.specs.laws.Kept.{rooms_stay}
+use Rattle.ns_engine.specs.laws.Worlds.{in_other}
 use Rattle.ns_sends.proofs.Goes.{room_above}
-use Rattle.ns_base.specs.declared.place.Place.{Place as SourcePlace}
 use Rattle.ns_frames.specs.declared.registers.Registers.{Registers}
 use Rattle.ns_frames.specs.declared.stack.Stack.{Stack}
 use Rattle.ns_frames.specs.Row.{FrameRow}
 use Rattle.ns_frames.specs.Room.{AreWithin, bound}
-use Rattle.ns_frames.specs.Standing.{Stood, standing, at_next, AreLaid}
+use Rattle.ns_frames.specs.Standing.{standing, at_next, AreLaid}
 use Rattle.ns_frames.specs.Stack.{in_use, stood, with_top, IsLaid, KeepsRoom}
 use Rattle.ns_frames.specs.View.{frames_shown, state_shown}
 use Rattle.ns_engine.specs.declared.state.Core.{Core}
 use Rattle.ns_engine.specs.Standing.{height_in, greatest_of, AreStanding, ArgumentsWait, Wait}
-use Rattle.ns_engine.proofs.Pushed.{stack_stays}
+use Rattle.ns_engine.specs.laws.Pushed.{stack_stays}
 use Rattle.ns_sends.specs.declared.sent.Sent.{Sent}
 use Rattle.ns_sends.specs.Going.{arguments_in, control_at, ComesToBody, GoesOn, IsLeft, Leads}
 use Rattle.ns_sends.specs.Waiting.{BlockWaits, HasMadePlace, IsWaiting, evaluated_at}
-use Rattle.ns_sends.proofs.Placed.{reach_all, within_more}
-use Rattle.ns_sends.proofs.Operands.{many_stand, many_next}
+use Rattle.ns_frames.specs.laws.Room.{reach_all, within_more}
+use Rattle.ns_frames.specs.laws.Counts.{many_stand, many_next, many_shown}
 
 -- ---- an evaluation gives no value by itself
 
@@ -121,12 +120,6 @@ comes_none code site values (reached.Enters exit entered) progress frames none =
 comes_none code site values (reached.Evaluates block given) progress frames none = tt
 comes_none code site values (reached.Begins method state) progress frames none = tt
 comes_none code site values (reached.Performs receiver sel array) progress frames none = tt
-
--- ---- the machine that waits
-
-pub many_shown : (code : CodeProgram) (places : List SourcePlace) (stood : List Stood) → length (frames_shown code places stood) ≡ length stood
-many_shown code places [] = refl
-many_shown code places (one ∷ stood) = ap suc (many_shown code places stood)
 
 -- what the machine shows, and where its arguments stand
 valid_there : (code : CodeProgram) (grants : Grants) (core : Core) (at : Registers) (sent : Sent) (block : Value) → BlockWaits code grants core at sent block

@@ -12,7 +12,7 @@ use Rattle.ns_send.specs.Control.{Activation}
 use Rattle.ns_send.specs.Lawful.{FitsActivation, declaration_at}
 use Rattle.ns_send.specs.Sends.{ToPrivate, found_at}
 use Rattle.ns_plan.specs.declared.step.Member.{Member}
-use Rattle.ns_plan.specs.Laws.{MembersAreFound, MembersAreEntries}
+use Rattle.ns_plan.specs.Stated.{MembersAreFound, MembersAreEntries}
 use Rattle.ns_plan.specs.Privates.{IsAmong, found_in}
 use Rattle.ns_sends.specs.Opening.{IsMemberAt}
 

@@ -1,6 +1,6 @@
 -- What a send finds on the operands of the body that runs.
-use Rattle.std.proofs.Common.{◌≡◌, ◌+◌, ◌-◌, ◌<◌, ◌≤◌, ℕ, suc, List, [], ◌∷◌, ◌++◌, length, take, drop, reverse, get_or, ap, sym, ◌∙◌, refl, subst, arith, true, All, length-take-le}
-use Rattle.std.proofs.lemmas.List.{take_at, drop_at, length-reverse, reverse-reverse, get_or-reverse, length-append, length-drop}
+use Rattle.std.proofs.Common.{◌≡◌, ◌+◌, ◌-◌, ◌≤◌, ℕ, List, [], ◌∷◌, ◌++◌, length, take, reverse, get_or, ap, sym, ◌∙◌, refl, subst, arith, true, All}
+use Rattle.std.proofs.lemmas.List.{take_at, drop_at, length-reverse, reverse-reverse, get_or-reverse, length-append}
 use Rattle.std.proofs.lemmas.List.Elements.{All-take, All-drop}
 use Rattle.ns_code.specs.declared.program.CodeProgram.{CodeProgram}
 use Rattle.ns_code.specs.declared.instruction.Instr.{Instr}
@@ -14,15 +14,16 @@ use Rattle.ns_frames.specs.declared.registers.Registers.{Registers}
 use Rattle.ns_frames.specs.Room.{AreWithin, bound}
 use Rattle.ns_frames.specs.Standing.{Stood, Runs, Loops, standing, at_next, AreLaid, pushed, pushed_all, operands_in}
 use Rattle.ns_frames.specs.Stack.{in_use, stood, with_top, IsLaid}
-use Rattle.ns_frames.proofs.Taking.{taken_laid}
+use Rattle.ns_frames.specs.laws.Taking.{taken_laid}
 use Rattle.ns_engine.specs.declared.state.Core.{Core}
 use Rattle.ns_engine.specs.Shown.{progress_in}
 use Rattle.ns_engine.specs.Standing.{height_in, greatest_of}
 use Rattle.ns_engine.specs.Doing.{Finds, CanDo}
-use Rattle.ns_engine.proofs.Pushed.{one_more, operands_count}
-use Rattle.ns_engine.proofs.Taken.{some_operand}
+use Rattle.ns_engine.specs.laws.Pushed.{one_more, operands_count}
+use Rattle.ns_engine.specs.laws.Taken.{some_operand}
 use Rattle.ns_sends.specs.declared.sent.Sent.{Sent}
 use Rattle.ns_sends.specs.Going.{IsLeft}
+use Rattle.ns_frames.specs.laws.Counts.{many_stand, many_next}
 
 -- ---- lists
 
@@ -52,15 +53,6 @@ known code core at instr can = by_stood (stood core.stack at) can.finds
     by_stood [] finds = absurd finds
     by_stood (Loops frame ∷ s) finds = absurd finds
     by_stood (Runs frame locals stack ∷ s) finds = record { sound = finds.sound; lawful = finds.lawful; begun = finds.begun }
-
-pub many_stand : (frames : List Frame) (values : List Value) → length (standing frames values) ≡ length frames
-many_stand [] values = refl
-many_stand (Running frame ∷ frames) values = ap suc (many_stand frames (take frame.floor values))
-many_stand (Looping frame ∷ frames) values = ap suc (many_stand frames (take frame.floor values))
-
-pub many_next : (next : ℕ) (frames : List Frame) → length (at_next next frames) ≡ length frames
-many_next next [] = refl
-many_next next (frame ∷ frames) = refl
 
 pub depth_is : (code : CodeProgram) (core : Core) (at : Registers) (instr : Instr) → CanDo code core at instr
     → core.run.world.world.depth ≡ length core.stack.frames.items

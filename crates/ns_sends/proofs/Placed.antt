@@ -1,49 +1,33 @@
 -- Values in place of arguments.
-use Rattle.std.proofs.Common.{◌≡◌, ◌+◌, ◌*◌, ◌≤◌, ℕ, List, [], ◌∷◌, ◌++◌, length, take, drop, ap, sym, ◌∙◌, refl, subst, arith, length-take-le}
+use Rattle.std.proofs.Common.{◌≡◌, ◌+◌, ◌≤◌, ℕ, List, ◌++◌, length, take, drop, ap, sym, ◌∙◌, refl, subst, arith, length-take-le}
 use Rattle.std.proofs.lemmas.List.{take-take, take_at, drop_at}
-use Rattle.std.proofs.lemmas.Nat.{mul-le}
 use Rattle.ns_code.specs.declared.program.CodeProgram.{CodeProgram}
 use Rattle.ns_world.specs.declared.value.Value.{Value}
-use Rattle.ns_world.specs.declared.value.Value.TheVariants.{Ref, Nil}
+use Rattle.ns_world.specs.declared.value.Value.TheVariants.{Ref}
 use Rattle.ns_kdata.specs.Arguments.{items_of}
-use Rattle.ns_kcode.specs.declared.state.KState.{KState}
 use Rattle.ns_send.specs.declared.control.Given.TheVariants as given
 use Rattle.ns_send.specs.declared.control.Reached.TheVariants as reached
 use Rattle.ns_send.specs.Control.{Evaluate}
 use Rattle.ns_moves.specs.Arrivals.{arrived}
-use Rattle.ns_moves.specs.State as state
-use Rattle.ns_frames.specs.declared.frame.Frame.{Frame}
 use Rattle.ns_frames.specs.declared.registers.Registers.{Registers}
 use Rattle.ns_frames.specs.declared.stack.Stack.{Stack}
 use Rattle.ns_frames.specs.Row.{FrameRow}
 use Rattle.ns_frames.specs.Room.{AreWithin, bound}
-use Rattle.ns_frames.specs.Standing.{Stood, standing, at_next, AreLaid}
-use Rattle.ns_frames.specs.Stack.{in_use, stood, with_top, IsLaid, HasBase, KeepsRoom}
+use Rattle.ns_frames.specs.Standing.{standing, at_next, AreLaid}
+use Rattle.ns_frames.specs.Stack.{in_use, stood, with_top, IsLaid, KeepsRoom}
 use Rattle.ns_frames.specs.View.{site_shown, frames_shown}
 use Rattle.ns_engine.specs.declared.state.Core.{Core}
 use Rattle.ns_engine.specs.declared.state.Next.{Next}
 use Rattle.ns_engine.specs.Shown.{phase_shown, progress_in}
-use Rattle.ns_engine.specs.Standing.{height_in, greatest_of, AreStanding, ArgumentsWait, Stays}
+use Rattle.ns_engine.specs.Standing.{height_in, greatest_of}
 use Rattle.ns_engine.specs.Arriving.{Arrives, reached_at}
-use Rattle.ns_engine.proofs.Pushed.{stack_stays}
+use Rattle.ns_engine.specs.laws.Pushed.{stack_stays}
 use Rattle.ns_sends.specs.declared.sent.Sent.{Sent}
 use Rattle.ns_sends.specs.Going.{control_at, GoesOn, IsLeft, ArePlaced}
+use Rattle.ns_frames.specs.laws.Room.{reach_all, within_more}
 
 pub floor_laid : (code : CodeProgram) (core : Core) (at : Registers) (sent : Sent) → IsLeft code core at sent → IsLaid core.stack (with_top sent.floor at)
 floor_laid code core at sent left = left.waits.stands.laid
-
--- ---- room
-
-bound_is : (greatest : ℕ) (frames : List Frame) → bound greatest frames ≡ length frames * greatest
-bound_is greatest [] = grind arith
-bound_is greatest (frame ∷ frames) = grind (arith, bound_is greatest frames)
-
--- frames within the limit on depth reach no further than all of them may
-pub reach_all : (greatest depth : ℕ) (frames : List Frame) → length frames ≤ depth → bound greatest frames ≤ depth * greatest
-reach_all greatest depth frames few =
-    let more : length frames * greatest ≤ depth * greatest = mul-le (length frames) greatest depth greatest few (omega arith) in
-    let same = bound_is greatest frames in
-    omega (arith, more, same)
 
 pub few_fit : (code : CodeProgram) (core : Core) (at : Registers) (sent : Sent) (count : ℕ) → IsLeft code core at sent → count ≤ 256
     → sent.floor + count ≤ core.stack.values.room
@@ -61,12 +45,6 @@ items_fit code core at sent block array left goes =
     few_fit code core at sent (length (items_of core.run.world.world.cells (Ref array))) left (let few = goes.room in omega (arith, few))
 
 -- ---- values that were placed
-
-pub within_more : (height : ℕ → ℕ) (greatest filled more : ℕ) (frames : List Frame) → filled ≤ more → AreWithin height greatest filled frames
-    → AreWithin height greatest more frames
-within_more height greatest filled more [] le within = tt
-within_more height greatest filled more (frame ∷ frames) le within =
-    (omega (arith, le, within.0), within.1, within_more height greatest filled more frames le within.2)
 
 pub items_placed : (code : CodeProgram) (core : Core) (at to : Registers) (sent : Sent) (stack : Stack) (values : List Value) → IsLeft code core at sent
     → in_use stack to ≡ in_use core.stack (with_top sent.floor at) ++ values → IsLaid stack to → stack.frames ≡ core.stack.frames → KeepsRoom core.stack stack

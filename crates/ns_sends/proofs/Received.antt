@@ -17,19 +17,19 @@ use Rattle.ns_send.specs.Sends.{To, sent}
 use Rattle.ns_moves.specs.Arrivals.{arrived}
 use Rattle.ns_moves.specs.State.{State, Stuck}
 use Rattle.ns_moves.specs.WorldAsks.{TakesArguments}
-use Rattle.ns_frames.specs.Laws.{AreTaken}
+use Rattle.ns_frames.specs.Stated.{AreTaken}
 use Rattle.ns_frames.specs.declared.frame.RunningFrame.{RunningFrame}
 use Rattle.ns_frames.specs.declared.registers.Registers.{Registers}
 use Rattle.ns_frames.specs.Standing.{Stood, Runs, Loops, pushed, pushed_all, operands_in}
 use Rattle.ns_frames.specs.Stack.{in_use, stood, with_top, IsLaid}
 use Rattle.ns_frames.specs.View.{activation_shown, frames_shown}
-use Rattle.ns_frames.proofs.Taking.{taken_stood, taken_length}
+use Rattle.ns_frames.specs.laws.Taking.{taken_stood, taken_length}
 use Rattle.ns_engine.specs.declared.state.Core.{Core}
 use Rattle.ns_engine.specs.declared.state.Next.{Next}
 use Rattle.ns_engine.specs.Shown.{phase_shown, progress_in, shown}
 use Rattle.ns_engine.specs.Doing.{done, Finds, CanDo, Does}
-use Rattle.ns_engine.proofs.Pushed.{runs, one_more}
-use Rattle.ns_engine.proofs.Taken.{some_operand}
+use Rattle.ns_engine.specs.laws.Pushed.{runs, one_more}
+use Rattle.ns_engine.specs.laws.Taken.{some_operand}
 use Rattle.ns_sends.specs.declared.sent.Sent.{Sent}
 use Rattle.ns_sends.specs.Going.{arguments_in}
 use Rattle.ns_sends.specs.Sending.{CanSend, sent_at, Sends}

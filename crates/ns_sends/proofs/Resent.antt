@@ -41,8 +41,8 @@ use Rattle.ns_engine.specs.declared.state.Core.{Core}
 use Rattle.ns_engine.specs.declared.state.Next.{Next}
 use Rattle.ns_engine.specs.declared.state.Next.TheVariants as next
 use Rattle.ns_engine.specs.Shown.{phase_shown, progress_in}
-use Rattle.ns_engine.proofs.Pushed.{stack_stays, ended_stays}
-use Rattle.ns_engine.proofs.Made.{in_other}
+use Rattle.ns_engine.specs.laws.Pushed.{stack_stays, ended_stays}
+use Rattle.ns_engine.specs.laws.Worlds.{in_other}
 use Rattle.ns_sends.specs.declared.led.Led.{Led}
 use Rattle.ns_sends.specs.declared.led.Led.TheVariants as led
 use Rattle.ns_sends.specs.declared.sent.Sent.{Sent}

@@ -23,18 +23,18 @@ use Rattle.ns_act.specs.Running.{code_of}
 use Rattle.ns_frames.specs.declared.frame.Frame.TheVariants.{Running}
 use Rattle.ns_frames.specs.declared.frame.RunningFrame.{RunningFrame}
 use Rattle.ns_frames.specs.declared.registers.Registers.{Registers}
-use Rattle.ns_frames.specs.Laws.{AreTaken}
+use Rattle.ns_frames.specs.Stated.{AreTaken}
 use Rattle.ns_frames.specs.Standing.{Stood, Runs, Loops, pushed_all, operands_in, below}
 use Rattle.ns_frames.specs.Stack.{stood, with_top}
 use Rattle.ns_frames.specs.View.{activation_shown, frames_shown}
-use Rattle.ns_frames.proofs.Taking.{taken_stood, taken_length}
+use Rattle.ns_frames.specs.laws.Taking.{taken_stood, taken_length}
 use Rattle.ns_engine.specs.declared.state.Core.{Core}
 use Rattle.ns_engine.specs.declared.state.Next.{Next}
 use Rattle.ns_engine.specs.Shown.{phase_shown, progress_in, shown}
 use Rattle.ns_engine.specs.Doing.{done, Finds, CanDo, running_of, Does}
-use Rattle.ns_engine.proofs.Pushed.{runs, one_more, top_stands}
-use Rattle.ns_engine.proofs.Taken.{some_operand}
-use Rattle.ns_engine.proofs.Stored.{finds_in, fits_anywhere}
+use Rattle.ns_engine.specs.laws.Pushed.{runs, one_more, top_stands}
+use Rattle.ns_engine.specs.laws.Taken.{some_operand}
+use Rattle.ns_engine.specs.laws.Finds.{finds_in, fits_anywhere}
 use Rattle.ns_sends.specs.declared.sent.Sent.{Sent}
 use Rattle.ns_sends.specs.Sending.{CanSend, sent_at, Sends}
 use Rattle.ns_sends.specs.Operands.{topmost, SendsOperands}

@@ -39,8 +39,8 @@ use Rattle.ns_engine.specs.declared.state.Next.{Next}
 use Rattle.ns_engine.specs.declared.state.Next.TheVariants as next
 use Rattle.ns_engine.specs.Shown.{phase_shown, progress_in}
 use Rattle.ns_engine.specs.Standing.{HasRooms}
-use Rattle.ns_engine.proofs.Pushed.{ended_stays}
-use Rattle.ns_engine.proofs.Made.{in_other}
+use Rattle.ns_engine.specs.laws.Pushed.{ended_stays}
+use Rattle.ns_engine.specs.laws.Worlds.{in_other}
 use Rattle.ns_sends.specs.declared.sent.Sent.{Sent}
 use Rattle.ns_sends.specs.Going.{arguments_in, GoesOn, IsLeft, answered_at, CanAsk, CanAnswer, Leads}
 use Rattle.ns_sends.specs.Sending.{CanSend, looked_up, sent_at, Sends}

@@ -1,42 +1,20 @@
 -- The steps that moves charge are the steps that the run has used, and one where none was left.
-use Rattle.std.proofs.Common.{◌≡◌, ℕ, zero, suc, ◌+◌, ◌-◌, ◌≤◌, refl, ap, sym, ◌∙◌, subst, inl, inr, arith, Bool, true, false, if◌then◌else◌}
+use Rattle.std.proofs.Common.{◌≡◌, ℕ, zero, suc, ◌+◌, ◌-◌, ◌≤◌, refl, ap, sym, subst, inl, inr, arith, Bool, true, false, if◌then◌else◌}
 use Rattle.ns_code.specs.declared.program.CodeProgram.{CodeProgram}
 use Rattle.ns_facets.specs.declared.row.Grants.{Grants}
 use Rattle.ns_send.specs.Control.{Progress}
-use Rattle.ns_moves.specs.State.{State, Sending, Performing, Evaluating, Unbegun, Going, Pends, Ended, Stuck, progress_of, world_of}
+use Rattle.ns_moves.specs.State.{State, progress_of, world_of}
 use Rattle.ns_moves.specs.Move.{move, moves}
-use Rattle.ns_moves.specs.Turn.{is_still, ends_with_steps, charges, one_if, charged_in, Turned, TurnedOut, Turns}
+use Rattle.ns_moves.specs.Turn.{is_still, ends_with_steps, charges, one_if, charged_in, Turns}
 use Rattle.ns_moves.specs.Charging.{will_charge}
-use Rattle.ns_moves.specs.Charges.{is_stuck, WaitsForBlock, CanMove, Took, TakesAsTold, ChargesAsTold}
-use Rattle.ns_moves.specs.Laws.{StaysStill}
+use Rattle.ns_moves.specs.Charges.{Took, TakesAsTold, ChargesAsTold}
+use Rattle.ns_moves.specs.Stated.{StaysStill}
 use Rattle.ns_moves.specs.Standing.{MovesKeepValid}
 use Rattle.ns_moves.specs.Valid.{Valid}
+use Rattle.ns_moves.specs.laws.Still.{limited_still, moves_on, none_charged, can_move}
 use Rattle.ns_session.specs.Member.{taken}
 
 -- ---- states
-
-pub ends_still : (s : State) → ends_with_steps s ≡ true → is_still s ≡ true
-ends_still (Unbegun arguments p) e = refl
-ends_still (Ended ending phase p) e = refl
-ends_still (Stuck p) e = refl
-ends_still (Going phase frames p) e = absurd (cc)
-ends_still (Pends phase pending frames p) e = absurd (cc)
-
-pub moves_on : (s : State) → is_still s ≡ false → ends_with_steps s ≡ false
-moves_on (Unbegun arguments p) e = absurd (cc)
-moves_on (Ended ending phase p) e = absurd (cc)
-moves_on (Stuck p) e = absurd (cc)
-moves_on (Going phase frames p) e = refl
-moves_on (Pends phase pending frames p) e = refl
-
--- a run that moves no more charges nothing
-none_charged : (code : CodeProgram) (count : ℕ) (s : State) → is_still s ≡ true → charged_in code count s ≡ 0
-none_charged code zero s still = refl
-none_charged code (suc count) (Unbegun arguments p) still = none_charged code count (Unbegun arguments p) still
-none_charged code (suc count) (Ended ending phase p) still = none_charged code count (Ended ending phase p) still
-none_charged code (suc count) (Stuck p) still = none_charged code count (Stuck p) still
-none_charged code (suc count) (Going phase frames p) still = absurd (cc)
-none_charged code (suc count) (Pends phase pending frames p) still = absurd (cc)
 
 goes_before : (still charged : Bool) → (if still then false else charged) ≡ true → still ≡ false
 goes_before true charged e = absurd (cc)
@@ -45,27 +23,6 @@ goes_before false charged e = refl
 -- a run whose next move charges goes on
 pub charges_going : (code : CodeProgram) (s : State) → charges code s ≡ true → is_still s ≡ false
 charges_going code s e = goes_before (is_still s) _ e
-
-not_stuck : (code : CodeProgram) (grants : Grants) (s : State) → Valid code grants s → is_stuck s ≡ false
-not_stuck code grants (Unbegun arguments p) valid = refl
-not_stuck code grants (Ended ending phase p) valid = refl
-not_stuck code grants (Stuck p) valid = absurd valid
-not_stuck code grants (Going phase frames p) valid = refl
-not_stuck code grants (Pends phase pending frames p) valid = refl
-
-waits_for_block : (code : CodeProgram) (grants : Grants) (s : State) → Valid code grants s → WaitsForBlock s
-waits_for_block code grants (Unbegun arguments p) valid = tt
-waits_for_block code grants (Ended ending phase p) valid = tt
-waits_for_block code grants (Stuck p) valid = tt
-waits_for_block code grants (Going phase frames p) valid = tt
-waits_for_block code grants (Pends phase (Sending receiver sel arguments site) frames p) valid = tt
-waits_for_block code grants (Pends phase (Performing receiver sel array site) frames p) valid = tt
-waits_for_block code grants (Pends phase (Evaluating block arguments site) frames p) valid = valid.1.0
-
--- a valid state finds what its next move takes
-pub can_move : (code : CodeProgram) (grants : Grants) → MovesKeepValid code grants → (s : State) → Valid code grants s → CanMove code s
-can_move code grants keeps s valid =
-    record { finds = not_stuck code grants (move code s) (keeps 1 s valid); block = waits_for_block code grants s valid }
 
 -- ---- counting
 
@@ -109,7 +66,7 @@ module _ (code : CodeProgram) (grants : Grants) (known : Known code grants) wher
   none_left : (count : ℕ) (s : State) → charges code s ≡ true → ends_with_steps (move code s) ≡ true → used (move code s) ≡ used s
       → Counted code (suc count) s (moves code count (move code s))
   none_left count s e ends same =
-      let still = ends_still (move code s) ends in
+      let still = limited_still (move code s) ends in
       let none = none_charged code count (move code s) still in
       let charged : charged_in code (suc count) s ≡ suc (charged_in code count (move code s)) = ap (λ b. one_if b (charged_in code count (move code s))) e in
       let one : taken (move code s) ≡ used (move code s) + 1 = ap (λ b. used (move code s) + one_if b 0) ends in

@@ -9,7 +9,7 @@ use Rattle.ns_code.specs.declared.program.CodeProgram.{CodeProgram}
 use Rattle.ns_facets.specs.declared.board.Board.{Board}
 use Rattle.ns_moves.specs.State.{State}
 use Rattle.ns_moves.specs.Turn.{is_still, charges, Turns}
-use Rattle.ns_moves.specs.Laws.{TurnsAdd, TurnsLeaveOne}
+use Rattle.ns_moves.specs.Stated.{TurnsAdd, TurnsLeaveOne}
 use Rattle.ns_session.specs.Member.{Application, MemberView, start_of, starting, taken, IsAlone, TurnOf, OwnTurn}
 use Rattle.ns_session.specs.Session.{SessionView, Pair, HasTurn, PlaysAt, Plays, added}
 use Rattle.ns_session.specs.Play.{opened, Played, steps_for, given}

@@ -1,5 +1,5 @@
 -- The states that an application of a session reaches, and how its turns use up its steps.
-use Rattle.std.proofs.Common.{◌≡◌, ℕ, zero, suc, ◌+◌, ◌-◌, ◌≤◌, ◌<◌, List, [], ◌∷◌, refl, ap, sym, ◌∙◌, subst, inl, inr, arith, Bool, true, false, Option, Some, None}
+use Rattle.std.proofs.Common.{◌≡◌, ℕ, zero, suc, ◌+◌, ◌≤◌, ◌<◌, List, [], ◌∷◌, refl, ap, sym, ◌∙◌, subst, inl, inr, arith, Bool, true, false, Option, Some, None}
 use Rattle.std.specs.Prelude.{slice_get, slice_set}
 use Rattle.std.proofs.lemmas.Option.{same_Some}
 use Rattle.ns_base.specs.declared.limits.Limits.{Limits}
@@ -9,18 +9,18 @@ use Rattle.ns_facets.specs.declared.board.Board.{Board}
 use Rattle.ns_world.specs.declared.ending.Ending.{Ending}
 use Rattle.ns_moves.specs.State.{State, Unbegun, Going, Pends, Ended, Stuck, world_of, ending_of, swapped}
 use Rattle.ns_moves.specs.Move.{moves}
-use Rattle.ns_moves.specs.Turn.{is_still, charges, charged_in, one_if, Turns}
+use Rattle.ns_moves.specs.Turn.{is_still, charged_in, one_if, Turns}
 use Rattle.ns_moves.specs.Onward.{MovesGoOnward}
-use Rattle.ns_moves.specs.Starts.{unbegun, started}
 use Rattle.ns_moves.specs.Standing.{MovesKeepValid}
 use Rattle.ns_moves.specs.WorldStays.{SwapsKeepValid}
 use Rattle.ns_moves.specs.Valid.{Valid}
+use Rattle.ns_moves.specs.laws.Still.{moves_on}
 use Rattle.ns_send.specs.Start.{start_made}
 use Rattle.ns_session.specs.Member.{Application, MemberView, start_of, taken, board_of, TurnOf}
 use Rattle.ns_session.specs.Reached.{HasBegun, IsReached, left_by, left_for, left_of}
 use Rattle.ns_session.specs.Laws.{TurnsReach, TurnsLower}
 use Rattle.ns_session.proofs.Begun.{moves_begun, started_begun}
-use Rattle.ns_session.proofs.Counting.{Known, used, counted, moves_on, charges_going}
+use Rattle.ns_session.proofs.Counting.{Known, used, counted}
 use Rattle.ns_session.proofs.Starting.{start_unused}
 
 -- ---- what a turn keeps

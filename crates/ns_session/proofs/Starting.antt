@@ -1,9 +1,8 @@
 -- Where the run of an application starts.
-use Rattle.std.proofs.Common.{◌≡◌, ℕ, ◌+◌, List, [], ◌∷◌, refl, ap, ◌∙◌, inl, inr, arith, Bool, true, false, cond, Some, None}
+use Rattle.std.proofs.Common.{◌≡◌, ◌+◌, List, [], ◌∷◌, refl, ap, ◌∙◌, inl, inr, arith, Bool, true, false, cond, Some, None}
 use Rattle.std.specs.Prelude.{nat_le}
 use Rattle.ns_base.specs.declared.limits.Limits.{Limits}
 use Rattle.ns_code.specs.declared.program.CodeProgram.{CodeProgram}
-use Rattle.ns_facets.specs.declared.row.Grants.{Grants}
 use Rattle.ns_world.specs.declared.value.Value.{Value}
 use Rattle.ns_world.specs.declared.value.Value.TheVariants.{Ref, Nil}
 use Rattle.ns_world.specs.declared.ending.LimitKind.TheVariants.{Cells}
@@ -15,11 +14,12 @@ use Rattle.ns_send.specs.Start.{start_cells, nothing_done, all_made, start_made}
 use Rattle.ns_moves.specs.State.{State, world_of}
 use Rattle.ns_moves.specs.Starts.{new_machine, unbegun, started}
 use Rattle.ns_moves.specs.Beginning.{NewIsValid, StartKeepsValid}
-use Rattle.ns_moves.specs.Turn.{is_still, charges, one_if, ends_with_steps}
+use Rattle.ns_moves.specs.Turn.{is_still, one_if}
 use Rattle.ns_moves.specs.Charging.{will_charge}
 use Rattle.ns_moves.specs.Valid.{Valid}
+use Rattle.ns_moves.specs.laws.Still.{can_move, moves_on}
 use Rattle.ns_session.specs.Member.{Application, MayStart, start_of, taken, IsAlone}
-use Rattle.ns_session.proofs.Counting.{Known, used, can_move, moves_on}
+use Rattle.ns_session.proofs.Counting.{Known, used}
 
 -- ---- no step was used
 

@@ -10,7 +10,7 @@ use Rattle.ns_tree.specs.Grammar as g
 use Rattle.ns_tree.specs.Lists.{key_list, oper_list, message_list, expr_list}
 use Rattle.ns_tree.specs.Plain as p
 use Rattle.ns_tree.specs.Rule.{Rule, ◌&◌, many, placed, listed, ◌◂◌, Listed, either, GoodFrom, flat_from}
-use Rattle.ns_tree.proofs.FileFlats.{primary_same}
+use Rattle.ns_tree.specs.laws.FileFlats.{primary_same}
 use Rattle.ns_scope.specs.Bodies as b
 use Rattle.ns_scope.specs.Resolve.{resolve}
 use Rattle.ns_meant.specs.Expressions.{Standing, Said, nothing, said, message_with, as_receiver, names_said, name_sent, keys_sent, sent_at, joined}

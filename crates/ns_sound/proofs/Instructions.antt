@@ -14,7 +14,7 @@ use Rattle.ns_meant.specs.Program as m
 use Rattle.ns_meant.specs.Tables.{names_of, texts_of, kind_of, side_number}
 use Rattle.ns_meant.specs.There.{IsThere, StandsAs, IsRightBody}
 use Rattle.ns_gen.specs.Code.{Line, does, symbol, sends, starts, plain, inner, private_at, super, instr_of, places_from, body_lines, body_code, code_of}
-use Rattle.ns_gen.specs.Laws.{first_text}
+use Rattle.ns_gen.specs.Stated.{first_text}
 use Rattle.ns_gen.specs.Uses.{InstrHas, LinesHave}
 use Rattle.ns_sound.specs.Numbers.{PlaceStands, NumbersFit}
 use Rattle.ns_sound.proofs.PlacesStand.{Belongs, places_belong, places_ordered}

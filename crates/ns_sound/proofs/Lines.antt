@@ -11,7 +11,7 @@ use Rattle.ns_meant.specs.There.{IsThere}
 use Rattle.ns_meant.specs.Uses.{how_many}
 use Rattle.ns_gen.specs.Code.{Line, does, symbol, sends, starts, plain, inner, private_at, super, set_lines, node_lines, nodes_lines, places_from}
 use Rattle.ns_gen.specs.Code.{messages_lines, locals_lines, slots_lines, method_lines, block_lines, expressions_lines, body_lines}
-use Rattle.ns_gen.specs.Laws.{line_names}
+use Rattle.ns_gen.specs.Stated.{line_names}
 use Rattle.ns_gen.specs.Uses.{LinesHave}
 use Rattle.ns_sound.proofs.Says.{SentSays, NodeSays, NodesSay, MessagesSay, FirstsSay, StepsSay, ExpressionsSay, DoesSay}
 use Rattle.ns_sound.proofs.Words.{spoken_short}

@@ -12,7 +12,7 @@ use Rattle.ns_tree.specs.Grammar as g
 use Rattle.ns_tree.specs.Plain as p
 use Rattle.ns_tree.specs.Rule.{◌&◌, maybe, flag}
 use Rattle.ns_tree.specs.Tree.{AllHaveText}
-use Rattle.ns_tree.proofs.FileFlats.{file_same}
+use Rattle.ns_tree.specs.laws.FileFlats.{file_same}
 use Rattle.ns_scope.specs.Whole.{most_bytes, AllWithin, ArePlacesOf, IsPlaceOf, IsWholeUnit, AreWholeUnits}
 use Rattle.ns_code.specs.Fits.{IsName}
 use Rattle.ns_meant.specs.Expressions.{place_at}

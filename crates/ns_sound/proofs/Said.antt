@@ -13,7 +13,7 @@ use Rattle.ns_meant.specs.Tables.{names_of, texts_of, class_names, body_names, b
 use Rattle.ns_meant.specs.There.{IsThere}
 use Rattle.ns_meant.specs.Uses.{DoesHave}
 use Rattle.ns_gen.specs.Code.{body_lines, body_code, code_of}
-use Rattle.ns_gen.specs.Laws.{line_names, first_text}
+use Rattle.ns_gen.specs.Stated.{line_names, first_text}
 use Rattle.ns_sound.specs.Spoken.{IsIn, NamesFit}
 use Rattle.ns_sound.proofs.Lines.{body_says, places_fine, names_named, texts_short}
 use Rattle.ns_sound.proofs.Program.{all_named, flat_all, got}

@@ -8,7 +8,7 @@ use Rattle.ns_meant.specs.Program as m
 use Rattle.ns_meant.specs.Tables.{node_texts, nodes_texts, gathered, value_of, step_node, body_texts}
 use Rattle.ns_gen.specs.Code.{Line, does, symbol, sends, starts, how_many, instr_of, node_lines, nodes_lines, locals_lines, slots_lines}
 use Rattle.ns_gen.specs.Code.{method_lines, block_lines, expressions_lines, body_lines}
-use Rattle.ns_gen.specs.Laws.{line_texts, instr_texts, numbers_from, TextsInOrder, Ends}
+use Rattle.ns_gen.specs.Stated.{line_texts, instr_texts, numbers_from, TextsInOrder, Ends}
 
 -- ---- lines of which the last goes on to no other
 

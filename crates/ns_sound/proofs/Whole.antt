@@ -11,7 +11,7 @@ use Rattle.ns_meant.specs.Right.{IsRight}
 use Rattle.ns_meant.specs.Tables.{names_of, texts_of, body_texts, class_code, kind_of}
 use Rattle.ns_meant.specs.There.{IsThere, IsRightBody}
 use Rattle.ns_gen.specs.Code.{instr_of, body_lines, body_code, code_of}
-use Rattle.ns_gen.specs.Laws.{TextsInOrder, Ends, first_text}
+use Rattle.ns_gen.specs.Stated.{TextsInOrder, Ends, first_text}
 use Rattle.ns_gen.specs.Sizes.{size_fault}
 use Rattle.ns_gen.specs.Uses.{LinesHave}
 use Rattle.ns_right.specs.Differ.{HasFewMembers}

@@ -11,8 +11,8 @@ use Rattle.ns_tree.specs.Tree.{IsKey, HasText}
 use Rattle.ns_code.specs.Fits.{IsName, IsLocalName, IsShort}
 use Rattle.ns_code.specs.Selector.{text_arity}
 use Rattle.ns_code.specs.Spelling.{begins_name, goes_on_name, is_identifier, are_keys, is_keyword, is_operator, is_selector, is_reserved}
-use Rattle.ns_right.proofs.Texts.{name_is, colons, colons_both, key_colons, key_starts, starts_left, starts_arity}
-use Rattle.ns_right.proofs.Arities.{setter_arity}
+use Rattle.ns_right.specs.laws.Texts.{name_is, colons, colons_both, key_colons, key_starts, starts_left, starts_arity}
+use Rattle.ns_right.specs.laws.Setters.{setter_arity}
 
 -- A selector, each of whose keys is no longer than a source.
 pub record Spoken (text : List ℕ) : Type 0 where

@@ -3,7 +3,7 @@ use Rattle.std.proofs.Common.{◌≡◌, refl, List, ◌∷◌, ◌++◌, option
 use Rattle.ns_tree.specs.declared.tree.What.TheViews as w
 use Rattle.ns_tree.specs.declared.tree.Class.{Class}
 use Rattle.ns_tree.specs.PlainOf.{class_of, clause_of, pattern_of, bars_of, statements_of, side_of, class_side_of}
-use Rattle.ns_tree.proofs.Nodes.{class_out}
+use Rattle.ns_tree.specs.laws.Nodes.{class_out}
 use Rattle.ns_scope.specs.declared.scope.ClassScope.{ClassScope}
 use Rattle.ns_scope.specs.declared.scope.CodeSide.TheVariants as side
 use Rattle.ns_scope.specs.Scopes.{class_scope}

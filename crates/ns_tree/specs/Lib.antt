@@ -10,3 +10,5 @@ pub mod PlainOf
 pub mod Rule
 pub mod Tokens
 pub mod Tree
+pub mod lemmas
+pub mod laws

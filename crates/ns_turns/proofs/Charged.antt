@@ -10,7 +10,7 @@ use Rattle.ns_moves.specs.State.{Going}
 use Rattle.ns_moves.specs.Steps as moves
 use Rattle.ns_moves.specs.Steps.{steps_of, steps_from}
 use Rattle.ns_moves.specs.Jumps.{goes_back, takes_jump}
-use Rattle.ns_moves.specs.Laws.{GoesBackTo}
+use Rattle.ns_moves.specs.Stated.{GoesBackTo}
 use Rattle.ns_moves.specs.Charging.{jump_charges, instr_charges, will_charge}
 use Rattle.ns_frames.specs.declared.frame.Frame.TheVariants.{Running}
 use Rattle.ns_frames.specs.declared.frame.RunningFrame.{RunningFrame}
@@ -21,7 +21,7 @@ use Rattle.ns_frames.specs.View.{leaving_shown, activation_shown, frames_shown}
 use Rattle.ns_plan.specs.declared.step.Step.{Step}
 use Rattle.ns_plan.specs.declared.step.Step.TheVariants as step
 use Rattle.ns_plan.specs.Steps.{instr_of}
-use Rattle.ns_plan.specs.Laws.{JumpsLand}
+use Rattle.ns_plan.specs.Stated.{JumpsLand}
 use Rattle.ns_engine.specs.declared.state.Core.{Core}
 use Rattle.ns_engine.specs.declared.state.Next.TheVariants.{On}
 use Rattle.ns_engine.specs.Shown.{phase_shown, progress_in, shown}

@@ -20,7 +20,7 @@ use Rattle.ns_plan.specs.declared.plan.Plan.{Plan}
 use Rattle.ns_plan.specs.declared.step.Step.{Step}
 use Rattle.ns_plan.specs.Plan.{IsStep, IsStepAt}
 use Rattle.ns_plan.specs.Steps.{places_of, instr_of, place_of, step_shown}
-use Rattle.ns_plan.specs.Laws.{RunningHasStep}
+use Rattle.ns_plan.specs.Stated.{RunningHasStep}
 use Rattle.ns_engine.specs.declared.state.Core.{Core}
 use Rattle.ns_engine.specs.declared.state.Next.TheVariants.{On}
 use Rattle.ns_engine.specs.Shown.{phase_shown, progress_in, shown}

@@ -41,15 +41,14 @@ use Rattle.ns_engine.specs.Own.{AreOwn}
 use Rattle.ns_engine.specs.Ready.{IsReady, Moves}
 use Rattle.ns_engine.specs.Framed.{HasRoomOnTop, WaitingHasRoom, ArgumentsAreFew}
 use Rattle.ns_engine.specs.Standing.{greatest_of, AreStanding, ArgumentsWait, SendWaits, Wait}
-use Rattle.ns_engine.proofs.Kept.{rooms_stay}
+use Rattle.ns_engine.specs.laws.Kept.{rooms_stay}
 use Rattle.ns_returns.specs.Handing.{CanTake, IsHanded}
 use Rattle.ns_sends.specs.declared.sent.Sent.{Sent}
 use Rattle.ns_sends.specs.Going.{arguments_in, IsLeft, ArePlaced}
 use Rattle.ns_sends.specs.Sending.{Sends}
 use Rattle.ns_sends.specs.Waiting.{CanSendOn, HasMadePlace, IsGivenOn, sent_on_at}
-use Rattle.ns_sends.proofs.Evaluated.{many_shown}
-use Rattle.ns_sends.proofs.Operands.{many_stand, many_next}
-use Rattle.ns_sends.proofs.Placed.{reach_all}
+use Rattle.ns_frames.specs.laws.Counts.{many_stand, many_next, many_shown}
+use Rattle.ns_frames.specs.laws.Room.{reach_all}
 use Rattle.ns_turns.specs.Resending.{sent_from_floor, WaitsToSend, CanPlace, IsSet}
 
 -- ---- a value that is given

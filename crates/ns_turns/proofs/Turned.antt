@@ -10,7 +10,7 @@ use Rattle.ns_moves.specs.Charges.{CanMove, Took, TakesAsTold, ChargesAsTold}
 use Rattle.ns_moves.specs.Onward.{MovesGoOnward}
 use Rattle.ns_moves.specs.Standing.{MovesKeepValid}
 use Rattle.ns_moves.specs.Valid.{Valid}
-use Rattle.ns_falling.proofs.Ending.{can_move, limited_still}
+use Rattle.ns_moves.specs.laws.Still.{can_move, limited_still}
 use Rattle.ns_send.specs.Control.{Progress}
 use Rattle.ns_plan.specs.declared.plan.Plan.{Plan}
 use Rattle.ns_engine.specs.declared.own.OwnSends.{OwnSends}
@@ -18,10 +18,9 @@ use Rattle.ns_engine.specs.declared.state.Core.{Core}
 use Rattle.ns_engine.specs.declared.state.Next.{Next}
 use Rattle.ns_engine.specs.Own.{AreOwn}
 use Rattle.ns_engine.specs.Shown.{shown}
-use Rattle.ns_engine.specs.Standing.{Stays}
 use Rattle.ns_engine.specs.Ready.{Moves, MovesKeepReady}
 use Rattle.ns_engine.specs.Turning.{IsWithin, TurnsBegin, FreeMovesGoOn, ChargedMovesGoOn, TurnsEnd, TurnsRest}
-use Rattle.ns_engine.proofs.Kept.{shown_progress}
+use Rattle.ns_engine.specs.laws.Kept.{shown_progress, stays_on}
 use Rattle.ns_turns.specs.Prepared.{IsPrepared, CanRun}
 use Rattle.ns_turns.specs.Turning.{steps_left, GoesOn, IsUnderWay, RunsBy, IsTurning}
 
@@ -98,17 +97,6 @@ module _ (code : CodeProgram) (known : Known code) (steps : ℕ) where
   rests_here first now still (inr on) = known.rest steps (steps_left steps first now) first now on.within still
 
 -- ---- the machine
-
-stays_on : (first old new : Core) → Stays first old → Stays old new → Stays first new
-stays_on first old new a b = record {
-  world = record {
-    limits = b.world.limits ∙ a.world.limits;
-    room = (b.world.room.0 ∙ a.world.room.0, b.world.room.1 ∙ a.world.room.1);
-  };
-  values = b.values ∙ a.values;
-  frames = b.frames ∙ a.frames;
-  places = b.places ∙ a.places;
-}
 
 pub runs_on : (code : CodeProgram) (plan : Plan) (sends : OwnSends) (old new : Core) (from next : Next) → ((grants : Grants) → MovesKeepReady code grants)
     → RunsBy code plan sends old from → Moves code old from new next → RunsBy code plan sends new next

@@ -4,7 +4,7 @@ use Rattle.std.proofs.Common.{refl}
 use Rattle.ns_tree.specs.declared.tree.Block.{Block, out-Block}
 use Rattle.ns_tree.specs.declared.tree.Class.{Class, out-Class}
 use Rattle.ns_tree.specs.PlainOf.{block_of, bars_of, class_of, side_of, clause_of}
-use Rattle.ns_tree.proofs.Nodes.{block_out, class_out}
+use Rattle.ns_tree.specs.laws.Nodes.{block_out, class_out}
 use Rattle.ns_scope.specs.declared.scope.ClassScope.{ClassScope}
 use Rattle.ns_scope.specs.declared.scope.Scope.{Scope}
 use Rattle.ns_scope.specs.Scopes.{block_scope, class_scope}

@@ -8,8 +8,9 @@ use Rattle.ns_world.specs.Cell.{Cell, ObjectCell, ClassCell, BlockCell, Environm
 use Rattle.ns_world.specs.Heap.{Heap, find_cell, set_cell, words_at, word_at, open_words_at, write_word}
 use Rattle.ns_world.specs.Words.{word_of, value_in, words_of, laid_out}
 use Rattle.ns_world.proofs.LaidOut.{value_in-word_of, value_in-word_beside, length-laid_out}
-use Rattle.ns_world.proofs.Standing.{stands-within, word_of_cell, set_word_of_cell}
-use Rattle.ns_world.proofs.Replacing.{Replaces, Stays, set_cell_stays}
+use Rattle.ns_world.specs.laws.Standing.{stands-within}
+use Rattle.ns_world.proofs.Standing.{word_of_cell, set_word_of_cell}
+use Rattle.ns_world.specs.lemmas.Replacing.{Replaces, Stays, set_cell_stays}
 
 -- a value among many that were laid out
 mapped : (values : List Value) (k : ℕ) (d : Word) → k < length values → value_in (get_or (map word_of values) k d) ≡ get_or values k Nil

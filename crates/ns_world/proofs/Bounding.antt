@@ -11,8 +11,8 @@ use Rattle.ns_world.specs.Cell.{Cell, ClassCell, fresh, cell_size}
 use Rattle.ns_world.specs.Heap.{Heap, heap_size}
 use Rattle.ns_world.specs.Seek.{is_nil, is_facet, is_top, is_sought, earlier_or, first_such, may_be_first}
 use Rattle.ns_world.specs.View.{AreFirstsBelow}
-use Rattle.ns_world.proofs.Chains.{both_of, size_above}
-use Rattle.ns_world.proofs.Firsts.{first_without, first_behind, first_within}
+use Rattle.ns_world.specs.laws.Chains.{both_of, size_above}
+use Rattle.ns_world.specs.laws.Firsts.{first_without, first_behind, first_within}
 
 class_no_first : (heap : Heap) (decl : ℕ) (encl holder over : Value) (s : Sought) → (is_nil encl && is_none (first_such (is_top decl) heap)) ≡ false → first_such (is_sought s) (ClassCell decl encl holder over ∷ heap) ≡ first_such (is_sought s) heap
 class_no_first heap decl encl holder over (sought.Facet kind) e = first_without (is_sought (sought.Facet kind)) heap (ClassCell decl encl holder over) refl

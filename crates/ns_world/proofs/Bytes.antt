@@ -8,8 +8,9 @@ use Rattle.ns_world.specs.Cell.{Cell, ObjectCell, ClassCell, BlockCell, Environm
 use Rattle.ns_world.specs.Heap.{Heap, find_cell, set_cell, bytes_at, byte_at, row_at, write_byte}
 use Rattle.ns_world.specs.Words.{eight, packed, words_of, laid_out}
 use Rattle.ns_world.proofs.LaidOut.{length-laid_out}
-use Rattle.ns_world.proofs.Standing.{stands-within, word_of_cell, set_word_of_cell}
-use Rattle.ns_world.proofs.Replacing.{Replaces, Stays, set_cell_stays}
+use Rattle.ns_world.specs.laws.Standing.{stands-within}
+use Rattle.ns_world.proofs.Standing.{word_of_cell, set_word_of_cell}
+use Rattle.ns_world.specs.lemmas.Replacing.{Replaces, Stays, set_cell_stays}
 
 -- the bytes of the word of that place
 abbrev pub word_bytes : ℕ → List ℕ → List ℕ

@@ -13,7 +13,7 @@ use Rattle.ns_world.specs.Heap.{Heap, find_cell, is_class, shape_at}
 use Rattle.ns_world.specs.Layout.{declaration_of}
 use Rattle.ns_world.specs.Starts.{start_of_cell, declaration_in}
 use Rattle.ns_world.specs.Words.{laid_out, shape_in, head_in}
-use Rattle.ns_world.proofs.Chains.{found_below}
+use Rattle.ns_world.specs.laws.Chains.{found_below}
 use Rattle.ns_world.proofs.LaidOut.{length-laid_out}
 use Rattle.ns_world.proofs.Shapes.{shape_told}
 

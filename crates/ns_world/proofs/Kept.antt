@@ -1,8 +1,8 @@
 -- The words of a heap stay laid out.
-use Rattle.std.proofs.Common.{◌≡◌, ℕ, ◌≤◌, List, ◌∷◌, ◌++◌, length, ap, sym, ◌∙◌, arith, ◌&&◌, true}
+use Rattle.std.proofs.Common.{◌≡◌, ℕ, ◌≤◌, List, ◌∷◌, ◌++◌, length, ap, sym, ◌∙◌, arith, true}
 use Rattle.ns_world.specs.declared.word.Word.{Word}
 use Rattle.ns_world.specs.Cell.{Cell}
-use Rattle.ns_world.specs.Heap.{Heap, heap_size, has_superclass, is_ordered, no_class}
+use Rattle.ns_world.specs.Heap.{Heap, heap_size, is_ordered, no_class}
 use Rattle.ns_world.specs.Words.{words_of, laid_out, cells_in}
 use Rattle.ns_world.specs.Seek.{first_such, is_sought}
 use Rattle.ns_world.specs.View.{HeapView, AreFirstsBelow, IsLaidOut}
@@ -45,9 +45,6 @@ shows seen before heap words room e laid =
     let first : HeapView → HeapView = λ v. record { cells = heap; room = v.room } in
     let f : Heap → HeapView = λ cells. record { cells = cells; room = room } in
     ap f (cells_in_words heap words laid) ∙ ap first e
-
-pub ordered_more : (heap : Heap) (cell : Cell) → has_superclass heap cell ≡ true → is_ordered heap ≡ true → is_ordered (cell ∷ heap) ≡ true
-ordered_more heap cell s o = ap (λ b. b && is_ordered heap) s ∙ o
 
 -- the number of no class is past the cells used
 pub seen_small : (seen : HeapView) (words : List Word) (capacity room kept bound : ℕ) → (let shown : HeapView = record { cells = cells_in words; room = room } in shown) ≡ seen → IsLaidOut words capacity kept bound → heap_size seen.cells ≤ no_class

@@ -1,48 +1,24 @@
 -- What holds of a lawful world of a run holds of each later one.
-use Rattle.std.proofs.Common.{◌≡◌, ℕ, ◌<◌, [], refl, ap, sym, ◌∙◌, arith, Option, Some, None, IsSome, is_some, Bool, true, false, cond, eqb, ◌||◌}
+use Rattle.std.proofs.Common.{◌≡◌, ℕ, [], refl, ap, sym, ◌∙◌, Option, Some, None, IsSome, is_some, Bool, true, false, cond, eqb, ◌||◌}
 use Rattle.std.specs.Option.{option_map_or}
 use Rattle.ns_code.specs.declared.program.CodeProgram.{CodeProgram}
 use Rattle.ns_world.specs.declared.value.Value.{Value}
 use Rattle.ns_world.specs.declared.value.Value.TheVariants.{Nil, True, False, Int, Sym, Kernel, Ref}
-use Rattle.ns_world.specs.declared.cell.NewCell.{NewCell}
 use Rattle.ns_world.specs.declared.cell.NewCell.TheVariants.{Mirror}
 use Rattle.ns_world.specs.declared.kernel.Start.{Start}
 use Rattle.ns_world.specs.declared.kernel.Start.TheVariants as start
 use Rattle.ns_world.specs.declared.kernel.KernelRow.TheVariants as row
 use Rattle.ns_world.specs.declared.kernel.ClassName.TheVariants as name
 use Rattle.ns_world.specs.Cell.{Cell, shape_of, cell_bytes}
-use Rattle.ns_world.specs.Heap.{Heap, heap_size, find_cell, is_class, is_chain_start, chain_of, shape_at, bytes_at, no_class}
-use Rattle.ns_world.specs.Layout.{declaration_of, layout_of, entry_word}
+use Rattle.ns_world.specs.Heap.{find_cell, is_class, is_chain_start, chain_of, bytes_at, no_class}
+use Rattle.ns_world.specs.Layout.{layout_of}
 use Rattle.ns_world.specs.Starts.{start_of, start_of_cell, has_class, class_name_at, declaration_in}
 use Rattle.ns_world.specs.World.{World}
 use Rattle.ns_world.specs.Lawful.{IsLiveValue}
-use Rattle.ns_world.specs.Later.{AreLater, RunsOn}
-use Rattle.ns_world.proofs.Above.{chain_none}
-use Rattle.ns_world.proofs.Classes.{IsInOrder, SameClasses, lawful_order, lawful_small, declaration_stays, start_stays, layout_stays, word_stays}
-use Rattle.ns_world.proofs.Firsts.{found_past}
-use Rattle.ns_world.proofs.Twins.{KeepsCells, twins_of_shape}
-use Rattle.ns_world.proofs.Leading.{class_same}
-
--- two heaps that are small enough for chains to end
-same_classes : (old new : Heap) → AreLater old new → IsInOrder old → heap_size new < no_class → SameClasses old new
-same_classes old new later order small = record {
-  classes = λ class is. class_same old new class later is;
-  chains = λ class s. chains class (is_class (find_cell old class)) refl s;
-  none = found_past new no_class (omega (arith, small)) ∙ sym (found_past old no_class (omega (arith, order.small)));
-}
-  where
-    chains : (class : ℕ) (b : Bool) → is_class (find_cell old class) ≡ b → (b || eqb class no_class) ≡ true → chain_of new class ≡ chain_of old class
-    chains class true e s = later.chains class e
-    chains class false e s = chain_none new class (omega (arith, small)) s ∙ sym (chain_none old class (omega (arith, order.small)) s)
-
-pub keeps_of : (code : CodeProgram) (old new : World) → RunsOn code old new → KeepsCells old.cells new.cells
-keeps_of code old new run = record {
-  order = lawful_order old code run.before;
-  same = same_classes old.cells new.cells run.later.cells (lawful_order old code run.before) (lawful_small new code run.after);
-  cells = λ number cell e.
-      let s = run.later.cells.cells number cell e in
-      record { twin = s.now; is = s.there; twins = twins_of_shape cell s.now s.shape };
-}
+use Rattle.ns_world.specs.Later.{RunsOn}
+use Rattle.ns_world.specs.laws.Classes.{start_stays, layout_stays}
+use Rattle.ns_world.specs.laws.Leading.{class_same}
+use Rattle.ns_world.specs.laws.Lasting.{keeps_of, shape_lasts}
 
 -- ---- cells
 
@@ -52,16 +28,6 @@ there_lasts number code old new run h = found (find_cell old.cells number) refl 
     found : (o : Option Cell) → find_cell old.cells number ≡ o → IsSome o → IsSome (find_cell new.cells number)
     found None e h = absurd (cc)
     found (Some cell) e h = ap is_some (run.later.cells.cells number cell e).there
-
-pub shape_lasts : (number : ℕ) (code : CodeProgram) (old new : World) → RunsOn code old new → IsSome (find_cell old.cells number) → shape_at new.cells number ≡ shape_at old.cells number
-shape_lasts number code old new run h = found (find_cell old.cells number) refl h
-  where
-    found : (o : Option Cell) → find_cell old.cells number ≡ o → IsSome o → shape_at new.cells number ≡ shape_at old.cells number
-    found None e h = absurd (cc)
-    found (Some cell) e h =
-        let s = run.later.cells.cells number cell e in
-        let told : Option Cell → NewCell = λ o. option_map_or shape_of o (Mirror Nil) in
-        ap told s.there ∙ (s.shape ∙ ap told (sym e))
 
 pub bytes_last : (number : ℕ) (code : CodeProgram) (old new : World) → RunsOn code old new → IsSome (find_cell old.cells number) → bytes_at new.cells number ≡ bytes_at old.cells number
 bytes_last number code old new run h = found (find_cell old.cells number) refl h
@@ -93,22 +59,11 @@ name_lasts (start.ClassSide class factory) code old new run s =
     ap (λ o. name.ClassOf (declaration_in (option_map_or shape_of o (Mirror Nil)))) (class_same old.cells new.cells class run.later.cells s)
 name_lasts (start.Kernel named) code old new run s = refl
 
--- ---- classes
-
-pub class_lasts : (class : ℕ) (code : CodeProgram) (old new : World) → RunsOn code old new → is_class (find_cell old.cells class) ≡ true → find_cell new.cells class ≡ find_cell old.cells class
-class_lasts class code old new run is = class_same old.cells new.cells class run.later.cells is
-
 pub chain_start_lasts : (class : ℕ) (code : CodeProgram) (old new : World) → RunsOn code old new → is_chain_start old.cells class ≡ true → is_chain_start new.cells class ≡ true
 chain_start_lasts class code old new run s = start_stays old.cells new.cells class (keeps_of code old new run).same s
 
 pub chain_lasts : (class : ℕ) (code : CodeProgram) (old new : World) → RunsOn code old new → is_chain_start old.cells class ≡ true → chain_of new.cells class ≡ chain_of old.cells class
 chain_lasts class code old new run s = (keeps_of code old new run).same.chains class s
 
-pub declaration_lasts : (class : ℕ) (code : CodeProgram) (old new : World) → RunsOn code old new → is_class (find_cell old.cells class) ≡ true → declaration_of new.cells class ≡ declaration_of old.cells class
-declaration_lasts class code old new run is = declaration_stays old.cells new.cells class (class_lasts class code old new run is)
-
 pub layout_lasts : (class : ℕ) (code : CodeProgram) (old new : World) → RunsOn code old new → is_chain_start old.cells class ≡ true → layout_of new.cells code class ≡ layout_of old.cells code class
 layout_lasts class code old new run s = let k = keeps_of code old new run in layout_stays old.cells new.cells code class k.order k.same s
-
-pub word_lasts : (holder entry : ℕ) (code : CodeProgram) (old new : World) → RunsOn code old new → is_class (find_cell old.cells holder) ≡ true → entry_word new.cells code holder entry ≡ entry_word old.cells code holder entry
-word_lasts holder entry code old new run is = let k = keeps_of code old new run in word_stays old.cells new.cells code holder entry k.order k.same is

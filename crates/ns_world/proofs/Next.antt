@@ -5,10 +5,11 @@ use Rattle.ns_world.specs.declared.word.Word.{Word}
 use Rattle.ns_world.specs.Cell.{Cell, cell_size}
 use Rattle.ns_world.specs.Heap.{Heap, heap_size, find_cell, next_number}
 use Rattle.ns_world.specs.Words.{head_of, words_of, laid_out, words_behind}
-use Rattle.ns_world.proofs.Chains.{size_above}
+use Rattle.ns_world.specs.laws.Chains.{size_above}
 use Rattle.ns_world.proofs.LaidOut.{words_behind-head, length-words, length-laid_out}
-use Rattle.ns_world.proofs.Firsts.{found_past}
-use Rattle.ns_world.proofs.Standing.{stands-within, word_of_cell}
+use Rattle.ns_world.specs.laws.Firsts.{found_past}
+use Rattle.ns_world.specs.laws.Standing.{stands-within}
+use Rattle.ns_world.proofs.Standing.{word_of_cell}
 
 -- What the first word of a live cell tells of the next: where it stands.
 pub record ReadsNext (heap : Heap) (words : List Word) (n : ℕ) : Type 0 where

@@ -12,10 +12,11 @@ use Rattle.ns_world.specs.Seek.{is_facet, is_top}
 use Rattle.ns_world.specs.View.{HeapView, IsLaidOut}
 use Rattle.ns_world.specs.Words.{word_of, word_beside, words_of, cells_in}
 use Rattle.ns_world.proofs.Bounding.{no_first_cell}
-use Rattle.ns_world.proofs.Chains.{size_above}
+use Rattle.ns_world.specs.laws.Chains.{size_above}
 use Rattle.ns_world.proofs.Freshly.{nil_words}
 use Rattle.ns_world.proofs.LaidOut.{length-words}
-use Rattle.ns_world.proofs.Kept.{seen_laid_out, seen_ordered, seen_size, seen_firsts, seen_within, keeps, laid_out-more, ordered_more}
+use Rattle.ns_world.specs.laws.Ordered.{ordered_more}
+use Rattle.ns_world.proofs.Kept.{seen_laid_out, seen_ordered, seen_size, seen_firsts, seen_within, keeps, laid_out-more}
 
 -- one cell more that is no facet and no class
 pub laid_out_with : (seen : HeapView) (words after : List Word) (capacity more shown_room room bound : ℕ) (cell : Cell) → (let shown : HeapView = record { cells = cells_in words; room = shown_room } in shown) ≡ seen → IsLaidOut words capacity room bound → after ≡ words ++ words_of cell → capacity ≤ more → has_superclass seen.cells cell ≡ true → ((kind : FacetKind) → is_facet kind cell ≡ false) → ((decl : ℕ) → is_top decl cell ≡ false) → heap_size seen.cells + cell_size cell ≤ 64000000 → IsLaidOut after more room bound

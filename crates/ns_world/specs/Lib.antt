@@ -13,3 +13,5 @@ pub mod Later
 pub mod Reach
 pub mod Alike
 pub mod Stated
+pub mod lemmas
+pub mod laws

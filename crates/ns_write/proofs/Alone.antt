@@ -6,7 +6,7 @@ use Rattle.ns_tree.specs.declared.tree.Expr.{Expr, out-Expr}
 use Rattle.ns_tree.specs.declared.tree.KeyExpr.{KeyExpr, out-KeyExpr}
 use Rattle.ns_tree.specs.PlainOf.{un_of, bin_of, opers_of, keys_of, key_expr_of, cascade_of, expr_of}
 use Rattle.ns_tree.specs.Plain as p
-use Rattle.ns_tree.proofs.Nodes.{bin_out, key_expr_some, expr_out}
+use Rattle.ns_tree.specs.laws.Nodes.{bin_out, key_expr_some, expr_out}
 use Rattle.ns_scope.specs.declared.scope.Scope.{Scope}
 use Rattle.ns_scope.specs.Bodies as b
 use Rattle.ns_meant.specs.Expressions as e

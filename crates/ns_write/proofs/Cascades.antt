@@ -17,8 +17,8 @@ use Rattle.ns_write.specs.Sending.{with_node, with_message}
 use Rattle.ns_write.specs.Cascading.{with_messages, with_pop, with_copy, with_copies, left_of, with_rest, with_first, said_kept, is_said, is_repeated, unset_node}
 use Rattle.ns_write.specs.declared.receiver.Receiver.{Receiver}
 use Rattle.ns_write.specs.declared.receiver.Receiver.TheVariants as v
-use Rattle.ns_gen.proofs.GoesOn.{nodes_go_on}
-use Rattle.ns_write.proofs.Composing.{written_is, put_more, behind_node}
+use Rattle.ns_gen.specs.laws.GoesOn.{nodes_go_on}
+use Rattle.ns_write.specs.laws.Composing.{written_is, put_more, behind_node}
 use Rattle.ns_write.proofs.Firsts.{left_counted}
 
 pub copies_some : (left : ℕ) (receiver : Receiver) (before : Written) → 0 < left → with_copies left receiver before ≡ with_copy receiver before

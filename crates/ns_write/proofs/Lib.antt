@@ -1,9 +1,7 @@
 pub mod Stand
 pub mod Numbers
-pub mod Composing
 pub mod Saying
 pub mod Counted
-pub mod BlockCounts
 pub mod Setting
 pub mod Walking
 pub mod Cascades

@@ -15,7 +15,8 @@ use Rattle.ns_write.specs.Sending.{with_lines, with_node, with_nodes, begin_line
 use Rattle.ns_write.specs.Sending.{with_names, left, with_opers, opers_left, with_keywords, keys_count, keys_left}
 use Rattle.ns_write.specs.declared.receiver.Receiver.{Receiver}
 use Rattle.ns_write.specs.declared.receiver.Receiver.TheVariants as v
-use Rattle.ns_write.proofs.Composing.{written_is, behind_nodes, message_put, object_sent, message_is}
+use Rattle.ns_write.specs.laws.Composing.{written_is, behind_nodes, message_put, object_sent, message_is}
+use Rattle.ns_write.specs.laws.Keywords.{keys_many}
 
 -- ---- unary messages
 
@@ -78,12 +79,6 @@ opers_kept here next last p.no_opers = refl
 opers_kept here next last (p.more_opers name argument rest) =
     sym (said_opers here (next + length (b.un_blocks here.scope argument)) (e.as_receiver here last)
     (e.message_with (e.name_sent here name) (e.one (e.un_node here next argument))) rest)
-
--- ---- keyword messages
-
-pub keys_many : (here : e.Standing) (next : ℕ) (keys : p.Keys) → how_many (e.keys_nodes here next keys) ≡ keys_count keys
-keys_many here next p.no_keys = refl
-keys_many here next (p.more_keys name argument rest) = ap (λ n. n + 1) (keys_many here (next + length (b.bin_blocks here.scope argument)) rest)
 
 pub keywords_are : (here : e.Standing) (next : ℕ) (last : e.Said) (keys : p.Keys) (before : Written) →
     with_keywords here next (kept (e.as_receiver here last)) keys (with_receiver (e.as_receiver here last) before)

@@ -15,7 +15,7 @@ use Rattle.ns_write.specs.Sending.{meant_reach, with_lines, with_node}
 use Rattle.ns_write.specs.Setting.{with_setter, with_set, with_sets, setter_reach, setter_sent, below}
 use Rattle.ns_write.specs.declared.reach.Reach.{Reach}
 use Rattle.ns_write.specs.declared.reach.Reach.TheVariants as r
-use Rattle.ns_write.proofs.Composing.{written_is, put_more, behind_node}
+use Rattle.ns_write.specs.laws.Composing.{written_is, put_more, behind_node}
 
 -- ---- one name
 

@@ -9,7 +9,7 @@ use Rattle.std.proofs.lemmas.Slice.Eq.{bytes_eq-Decides}
 use Rattle.ns_base.specs.declared.selector.Sel.{Sel}
 use Rattle.ns_base.specs.Names.{has, put_in, place_of, NoRepeats}
 use Rattle.ns_code.specs.declared.instruction.Instr.TheVariants as i
-use Rattle.ns_meant.proofs.Places.{has_put, name_at_place, place_below}
+use Rattle.ns_meant.specs.laws.Places.{has_put, name_at_place, place_below}
 use Rattle.ns_gen.specs.Code.{does, symbol, sends}
 use Rattle.ns_write.specs.declared.draft.Draft.{Draft}
 use Rattle.ns_write.specs.declared.draft.Draft.TheVariants as d

@@ -1,5 +1,5 @@
 -- What the walks over expressions write, step by step, is the whole.
-use Rattle.std.proofs.Common.{◌≡◌, ◌<◌, ℕ, ◌+◌, List, [], ◌∷◌, ◌++◌, length, drop, get_or, refl, ap, sym, ◌∙◌, length-append, arith}
+use Rattle.std.proofs.Common.{◌≡◌, ◌<◌, ℕ, ◌+◌, List, [], ◌∷◌, length, drop, get_or, refl, ap, sym, ◌∙◌, length-append, arith}
 use Rattle.std.proofs.lemmas.List.{drop_more}
 use Rattle.ns_base.specs.declared.place.Place.{Place}
 use Rattle.ns_tree.specs.declared.tree.Named.{Named}
@@ -7,7 +7,6 @@ use Rattle.ns_tree.specs.declared.tree.Expr.{Expr}
 use Rattle.ns_tree.specs.declared.tree.BinExpr.{BinExpr}
 use Rattle.ns_tree.specs.PlainOf.{expr_of, exprs_of, bin_of, keys_of}
 use Rattle.ns_tree.specs.Plain as p
-use Rattle.ns_scope.specs.declared.scope.Scope.{Scope}
 use Rattle.ns_scope.specs.Resolve.{resolve}
 use Rattle.ns_scope.specs.Bodies as b
 use Rattle.ns_meant.specs.Program as m
@@ -21,13 +20,9 @@ use Rattle.ns_write.specs.declared.draft.SendWay.{SendWay}
 use Rattle.ns_write.specs.declared.reach.Reach.{Reach}
 use Rattle.ns_write.specs.declared.receiver.Receiver.{Receiver}
 use Rattle.ns_write.specs.declared.receiver.Receiver.TheVariants as v
-use Rattle.ns_write.proofs.Composing.{with_more, binary_put, value_is}
+use Rattle.ns_write.specs.laws.Composing.{with_more, binary_put, value_is}
 use Rattle.ns_write.proofs.Saying.{opers_are, opers_kept, keywords_are, keywords_kept, keywords_put, implicit_put}
 use Rattle.ns_write.proofs.Setting.{sets_are}
-
--- the number behind two parts
-pub behind_both : (x y : List Scope) (next middle last : ℕ) → middle ≡ next + length x → last ≡ middle + length y → last ≡ next + length (x ++ y)
-behind_both x y next middle last e f = omega (e, f, length-append x y, arith)
 
 -- ---- binary messages
 

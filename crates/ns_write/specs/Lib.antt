@@ -4,3 +4,4 @@ pub mod Counting
 pub mod Setting
 pub mod Cascading
 pub mod Standing
+pub mod laws

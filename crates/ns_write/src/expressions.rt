@@ -42,7 +42,7 @@ fn put_un(
 
 /// A primary with its unary messages, as a value.
 #[cycle(expressions)]
-#[tactic(auto, using(crate::proofs::Composing::value_is))]
+#[tactic(auto, using(crate::specs::laws::Composing::value_is))]
 pub fn put_un_value(
     writer: &mut Writer,
     here: &Here<'_>,
@@ -118,7 +118,7 @@ fn put_bin(
 
 /// A receiver with its binary messages, as a value.
 #[cycle(expressions)]
-#[tactic(auto, using(crate::proofs::Composing::value_is))]
+#[tactic(auto, using(crate::specs::laws::Composing::value_is))]
 fn put_bin_value(
     writer: &mut Writer,
     here: &Here<'_>,

@@ -18,7 +18,7 @@ use ns_code::instruction::Instr;
 use ns_tree::tree::{Block, Primary};
 
 /// A block, of which the number alone is written; those in it are passed over.
-#[tactic(auto, using(crate::proofs::BlockCounts::block_counted))]
+#[tactic(auto, using(crate::specs::laws::BlockCounts::block_counted))]
 pub fn put_block(
     writer: &mut Writer,
     here: &Here<'_>,

@@ -8,7 +8,7 @@ use Rattle.ns_tree.specs.Grammar as g
 use Rattle.ns_tree.specs.Lists.{key_list, oper_list, message_list, expr_list, slot_list, list_keys, list_opers, list_messages, list_slots}
 use Rattle.ns_tree.specs.Plain as p
 use Rattle.ns_tree.specs.Rule.{Rule, ◌&◌, many, either, mapped, flat_from, GoodFrom, Listed, listed, ◌▸◌, ◌◂◌}
-use Rattle.ns_tree.proofs.Made.{keys_back, opers_back, messages_back, exprs_back, slots_back, statements_back}
+use Rattle.ns_tree.specs.laws.Made.{keys_back, opers_back, messages_back, exprs_back, slots_back, statements_back}
 use Rattle.ns_phrase.specs.declared.expressions.Holder.{Holder}
 use Rattle.ns_phrase.specs.declared.expressions.Holder.TheVariants as h
 use Rattle.ns_terminal.specs.declared.mark.Mark.TheVariants as m

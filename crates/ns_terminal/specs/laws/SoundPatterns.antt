@@ -12,7 +12,7 @@ use Rattle.ns_tree.specs.Flat.{bar}
 use Rattle.ns_tree.specs.Forms as f
 use Rattle.ns_tree.specs.Grammar as g
 use Rattle.ns_tree.specs.Rule.{Rule, ◌&◌, maybe, either, mapped, flat_from, GoodFrom, ◌▸◌, ◌◂◌, once_or_more}
-use Rattle.ns_tree.proofs.Made as back
+use Rattle.ns_tree.specs.laws.Made as back
 use Rattle.ns_terminal.specs.declared.mark.Mark.TheVariants as m
 use Rattle.ns_terminal.specs.declared.name.Sort.TheVariants as s
 use Rattle.ns_terminal.specs.declared.name.Operators.TheVariants as o

@@ -1,4 +1,4 @@
-use Rattle.ns_tree.proofs.Nodes.{statements_out}
+use Rattle.ns_tree.specs.laws.Nodes.{statements_out}
 use Rattle.ns_bodies.proofs.initialisers.put_expressions.Goals as goal
 
 pub returns-clause-put : goal.returns-clause-put

@@ -1,4 +1,4 @@
-use Rattle.ns_classes.proofs.Apart.{meet}
+use Rattle.ns_classes.specs.lemmas.Apart.{meet}
 use Rattle.ns_classes.proofs.laws.entries_never_meet.Goals as goal
 
 pub returns : goal.returns

@@ -1,4 +1,4 @@
-use Rattle.ns_classes.proofs.Lawfully.{slot_filled, class_kept}
+use Rattle.ns_classes.specs.laws.Lawfully.{slot_filled, class_kept}
 use Rattle.ns_classes.proofs.laws.filling_entries_keeps_lawful.Goals as goal
 
 pub returns-clause-slots : goal.returns-clause-slots

@@ -1,5 +1,5 @@
 use Rattle.std.proofs.Common.{arith}
-use Rattle.ns_classes.proofs.Bounds.{layout_few, entries_few}
+use Rattle.ns_classes.specs.laws.Bounds.{layout_few, entries_few}
 use Rattle.ns_classes.proofs.layout.layout.Goals as goal
 
 pub overflow_add-count : goal.overflow_add-count

@@ -1,5 +1,5 @@
 use Rattle.ns_world.specs.Layout.{declaration_of}
-use Rattle.ns_classes.proofs.Entries.{nested_entry_within}
+use Rattle.ns_classes.specs.laws.Entries.{nested_entry_within}
 use Rattle.ns_classes.proofs.nested.kept_word.Goals as goal
 
 pub word-requires-clause-entry : goal.word-requires-clause-entry

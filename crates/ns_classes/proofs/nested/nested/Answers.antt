@@ -1,5 +1,5 @@
 use Rattle.ns_world.specs.Layout.{declaration_of}
-use Rattle.ns_classes.proofs.Entries.{nested_entry_within, entry_inside}
+use Rattle.ns_classes.specs.laws.Entries.{nested_entry_within, entry_inside}
 use Rattle.ns_classes.proofs.nested.nested.Goals as goal
 
 pub read-requires : goal.read-requires

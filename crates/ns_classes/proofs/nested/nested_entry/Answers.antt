@@ -1,5 +1,5 @@
 use Rattle.std.proofs.Common.{arith, ap, length}
-use Rattle.ns_classes.proofs.Entries.{nested_entry_past}
+use Rattle.ns_classes.specs.laws.Entries.{nested_entry_past}
 use Rattle.ns_classes.proofs.nested.nested_entry.Goals as goal
 
 pub returns-in-None : goal.returns-in-None

@@ -1,4 +1,4 @@
-use Rattle.ns_facets.proofs.Leading.{rows_lead_on}
+use Rattle.ns_facets.specs.laws.Leading.{rows_lead_on}
 use Rattle.ns_facets.proofs.laws.rows_lead_on.Goals as goal
 
 pub returns : goal.returns

@@ -1,7 +1,7 @@
 use Rattle.std.proofs.Common.{refl}
 use Rattle.ns_world.specs.Heap.{chain_of, superclass_of}
-use Rattle.ns_world.proofs.Above.{goes_on}
-use Rattle.ns_classes.proofs.Bounds.{lawful_small}
+use Rattle.ns_world.specs.laws.Above.{goes_on}
+use Rattle.ns_classes.specs.laws.Bounds.{lawful_small}
 use Rattle.ns_find.proofs.Parts.{along_here, along_past}
 use Rattle.ns_find.proofs.find.along.Goals as goal
 

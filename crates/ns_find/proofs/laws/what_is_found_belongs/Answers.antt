@@ -1,4 +1,4 @@
-use Rattle.ns_find.proofs.Belonging.{instance_belongs, class_belongs, kernel_belongs, private_belongs}
+use Rattle.ns_find.specs.laws.Belonging.{instance_belongs, class_belongs, kernel_belongs, private_belongs}
 use Rattle.ns_find.proofs.laws.what_is_found_belongs.Goals as goal
 
 pub returns-clause-instance : goal.returns-clause-instance

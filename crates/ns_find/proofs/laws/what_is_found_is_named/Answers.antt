@@ -1,4 +1,4 @@
-use Rattle.ns_find.proofs.SoundBodies.{found_by, private_by}
+use Rattle.ns_find.specs.laws.SoundBodies.{found_by, private_by}
 use Rattle.ns_find.proofs.laws.what_is_found_is_named.Goals as goal
 
 pub returns-clause-found : goal.returns-clause-found

@@ -1,4 +1,4 @@
-use Rattle.ns_tree.proofs.Nodes.{side_out}
+use Rattle.ns_tree.specs.laws.Nodes.{side_out}
 use Rattle.ns_generate.proofs.bodies.put_side.Goals as goal
 
 pub returns-clause-put : goal.returns-clause-put

@@ -1,6 +1,6 @@
 use Rattle.std.proofs.Common.{pos}
 use Rattle.ns_world.specs.declared.value.Value.TheVariants.{Nil}
-use Rattle.ns_kcode.proofs.OneAfterAnother.{to_do_is, times_is, no_times, do_is}
+use Rattle.ns_kcode.specs.laws.OneAfterAnother.{to_do_is, times_is, no_times, do_is}
 use Rattle.ns_kcode.proofs.laws.counted_loops_are_their_rows.Goals as goal
 
 pub returns-clause-to_do : goal.returns-clause-to_do

@@ -1,6 +1,6 @@
 use Rattle.std.proofs.Common.{subst, sym}
 use Rattle.ns_kdata.specs.Arguments.{IsThere}
-use Rattle.ns_kdata.proofs.Outcomes.{argument_there}
+use Rattle.ns_kdata.specs.laws.Outcomes.{argument_there}
 use Rattle.ns_kdata.proofs.datum.datum.Goals as goal
 
 pub row_outcome-requires-clause-first : goal.row_outcome-requires-clause-first

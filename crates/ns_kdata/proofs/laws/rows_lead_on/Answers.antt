@@ -1,4 +1,4 @@
-use Rattle.ns_kdata.proofs.Leading.{rows_lead_on}
+use Rattle.ns_kdata.specs.laws.Leading.{rows_lead_on}
 use Rattle.ns_kdata.proofs.laws.rows_lead_on.Goals as goal
 
 pub returns : goal.returns

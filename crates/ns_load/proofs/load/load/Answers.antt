@@ -19,7 +19,7 @@ returns-in-Ok-clause-texts g c =
 
 pub returns-in-Ok-clause-whole : goal.returns-in-Ok-clause-whole
 returns-in-Ok-clause-whole g c =
-    result_whole c.args.names.now c.args.lib _ c.with_library.result c.requires.some c.requires.few c.requires.named c.in-Ok.ensures.files
+    result_whole c.what_is_loaded_is_whole.ensures c.args.names.now c.args.lib _ c.with_library.result c.requires.some c.requires.few c.requires.named c.in-Ok.ensures.files
     c.with_library.ensures.files (c.with_library.ensures.count (c.in-Ok.ensures.count ∙ ap length (sym c.in-Ok.ensures.files))) (c.with_library.ensures.read c.in-Ok.ensures.read)
 
 pub returns-in-Err-clause-texts : goal.returns-in-Err-clause-texts

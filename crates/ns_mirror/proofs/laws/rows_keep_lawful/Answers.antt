@@ -1,4 +1,4 @@
-use Rattle.ns_mirror.proofs.Lawful.{rows_lawful}
+use Rattle.ns_mirror.specs.laws.Lawful.{rows_lawful}
 use Rattle.ns_mirror.proofs.laws.rows_keep_lawful.Goals as goal
 
 pub returns : goal.returns

@@ -1,4 +1,4 @@
-use Rattle.ns_mirror.proofs.Leading.{rows_lead_on}
+use Rattle.ns_mirror.specs.laws.Leading.{rows_lead_on}
 use Rattle.ns_mirror.proofs.laws.rows_lead_on.Goals as goal
 
 pub returns : goal.returns

@@ -1,5 +1,6 @@
 use Rattle.ns_mirror.proofs.Found.{class_there}
-use Rattle.ns_mirror.proofs.Reflecting.{class_named, class_cell_there}
+use Rattle.ns_world.specs.laws.Starts.{class_named}
+use Rattle.ns_mirror.proofs.Reflecting.{class_cell_there}
 use Rattle.ns_mirror.proofs.mirror.row_outcome.Goals as goal
 
 pub class_name-requires-clause-class : goal.class_name-requires-clause-class

@@ -1,7 +1,7 @@
 use Rattle.std.proofs.Common.{refl}
 use Rattle.ns_world.specs.Heap.{chain_of, superclass_of}
-use Rattle.ns_world.proofs.Above.{goes_on}
-use Rattle.ns_classes.proofs.Bounds.{lawful_small}
+use Rattle.ns_world.specs.laws.Above.{goes_on}
+use Rattle.ns_classes.specs.laws.Bounds.{lawful_small}
 use Rattle.ns_mirror.proofs.Found.{along_here}
 use Rattle.ns_mirror.proofs.slots.slot_along.Goals as goal
 

@@ -7,7 +7,7 @@ use Rattle.ns_terminal.specs.Leaf.{strings}
 use Rattle.ns_parse.specs.Views.{member_view}
 use Rattle.ns_parse.proofs.Labels.{labels_on, labels_end, member_pair, side_same}
 use Rattle.ns_terminal.specs.laws.Takes.{fewer, left_by}
-use Rattle.ns_parse.proofs.TakesClasses.{takes_member}
+use Rattle.ns_parse.specs.laws.TakesClasses.{takes_member}
 use Rattle.ns_terminal.specs.laws.TakesTokens.{takes_strings}
 use Rattle.ns_parse.proofs.classes.+classes.Goals as goal
 

@@ -1,4 +1,4 @@
-use Rattle.ns_tree.proofs.Nodes.{keywords_out}
+use Rattle.ns_tree.specs.laws.Nodes.{keywords_out}
 use Rattle.ns_records.proofs.declared.message_selector.Goals as goal
 
 pub returns-in-Keys : goal.returns-in-Keys

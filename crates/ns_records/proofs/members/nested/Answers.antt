@@ -1,7 +1,7 @@
 use Rattle.std.proofs.Common.{◌∙◌, ap}
 use Rattle.ns_tree.specs.declared.tree.Side.{out-Side}
 use Rattle.ns_tree.specs.PlainOf.{members_of}
-use Rattle.ns_tree.proofs.Nodes.{side_out}
+use Rattle.ns_tree.specs.laws.Nodes.{side_out}
 use Rattle.ns_meant.specs.Classes as m
 use Rattle.ns_records.proofs.members.nested.Goals as goal
 

@@ -1,7 +1,7 @@
 use Rattle.std.proofs.Common.{◌≡◌, ◌+◌}
 use Rattle.ns_send.specs.Control.{Progress, in_world}
 use Rattle.ns_act.specs.Room.{SameRest}
-use Rattle.ns_frames.specs.Laws.{parts_ended}
+use Rattle.ns_frames.specs.Stated.{parts_ended}
 use Rattle.ns_returns.proofs.homes.give_back.Given as goal
 
 abbrev pub invariant-frames : goal.invariant-frames

@@ -15,7 +15,7 @@ use Rattle.ns_frames.specs.View.{site_shown}
 use Rattle.ns_engine.specs.declared.state.Next.TheVariants as next
 use Rattle.ns_engine.specs.Shown.{progress_in}
 use Rattle.ns_engine.specs.Doing.{Does}
-use Rattle.ns_engine.proofs.Made.{in_other}
+use Rattle.ns_engine.specs.laws.Worlds.{in_other}
 use Rattle.ns_returns.proofs.PartFound.{part_finds}
 use Rattle.ns_returns.proofs.PartEntered.{holder_is_class, enters}
 use Rattle.ns_returns.proofs.PartDone.{part_skipped, part_failed, part_entered}

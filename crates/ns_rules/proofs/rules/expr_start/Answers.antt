@@ -1,6 +1,6 @@
 use Rattle.std.proofs.Common.{arith}
 use Rattle.std.proofs.lemmas.Grind.{common_steps}
-use Rattle.ns_tree.proofs.Nodes.{expr_out}
+use Rattle.ns_tree.specs.laws.Nodes.{expr_out}
 use Rattle.ns_rules.proofs.rules.expr_start.Goals as goal
 
 pub returns-in-empty : goal.returns-in-empty

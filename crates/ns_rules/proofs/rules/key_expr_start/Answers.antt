@@ -1,6 +1,6 @@
 use Rattle.std.proofs.Common.{arith}
 use Rattle.std.proofs.lemmas.Grind.{common_steps}
-use Rattle.ns_tree.proofs.Nodes.{key_expr_none, key_expr_some}
+use Rattle.ns_tree.specs.laws.Nodes.{key_expr_none, key_expr_some}
 use Rattle.ns_rules.proofs.rules.key_expr_start.Goals as goal
 
 pub returns-in-None : goal.returns-in-None

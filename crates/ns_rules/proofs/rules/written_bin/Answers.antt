@@ -1,6 +1,6 @@
 use Rattle.std.proofs.Common.{arith}
 use Rattle.std.proofs.lemmas.Grind.{common_steps}
-use Rattle.ns_tree.proofs.Nodes.{bin_out}
+use Rattle.ns_tree.specs.laws.Nodes.{bin_out}
 use Rattle.ns_rules.proofs.rules.written_bin.Goals as goal
 
 pub returns : goal.returns

@@ -1,6 +1,6 @@
 use Rattle.std.proofs.Common.{arith}
 use Rattle.std.proofs.lemmas.Grind.{common_steps}
-use Rattle.ns_tree.proofs.Nodes.{side_out}
+use Rattle.ns_tree.specs.laws.Nodes.{side_out}
 use Rattle.ns_scope.proofs.names.put_side_members.Goals as goal
 
 pub returns : goal.returns

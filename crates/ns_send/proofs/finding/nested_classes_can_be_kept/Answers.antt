@@ -1,4 +1,4 @@
-use Rattle.ns_send.proofs.LawfulClasses.{enclosed}
+use Rattle.ns_send.specs.lemmas.LawfulClasses.{enclosed}
 use Rattle.ns_send.proofs.Keeping.{class_nested, class_entry, class_inside, class_stays}
 use Rattle.ns_send.proofs.finding.nested_classes_can_be_kept.Goals as goal
 

@@ -1,4 +1,4 @@
-use Rattle.ns_send.proofs.Suiting.{found_suits}
+use Rattle.ns_send.specs.lemmas.Suiting.{found_suits}
 use Rattle.ns_send.proofs.FoundThere.{private_found, super_found}
 use Rattle.ns_send.proofs.finding.what_is_found_suits.Goals as goal
 

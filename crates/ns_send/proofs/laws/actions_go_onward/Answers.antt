@@ -4,10 +4,10 @@ use Rattle.ns_send.specs.Bodies.{environment_at, local_stored}
 use Rattle.ns_send.specs.Blocks.{evaluated, method_next}
 use Rattle.ns_send.specs.Classes.{super_part, body_ended, slot_filled, kept_by}
 use Rattle.ns_send.specs.Onward.{after_reached, reached, part_reached, waiting_reached}
-use Rattle.ns_send.proofs.Onward.{onward_of}
-use Rattle.ns_send.proofs.ClassesOnward.{super_onward, ended_onward, filled_onward}
-use Rattle.ns_send.proofs.BlocksOnward.{evaluated_onward, next_onward, any_cell_onward}
-use Rattle.ns_send.proofs.LawfulValues.{local_onward}
+use Rattle.ns_send.specs.laws.Onward.{onward_of}
+use Rattle.ns_send.specs.laws.ClassesOnward.{super_onward, ended_onward, filled_onward}
+use Rattle.ns_send.specs.laws.BlocksOnward.{evaluated_onward, next_onward, any_cell_onward}
+use Rattle.ns_send.specs.laws.LawfulValues.{local_onward}
 use Rattle.ns_send.proofs.laws.actions_go_onward.Goals as goal
 
 pub returns-clause-evaluated : goal.returns-clause-evaluated

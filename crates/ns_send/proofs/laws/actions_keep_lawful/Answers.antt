@@ -1,4 +1,4 @@
-use Rattle.ns_send.proofs.LawfulParts.{super_lawful, ended_lawful, next_lawful}
+use Rattle.ns_send.specs.laws.LawfulParts.{super_lawful, ended_lawful, next_lawful}
 use Rattle.ns_send.proofs.laws.actions_keep_lawful.Goals as goal
 
 pub returns-clause-super_part : goal.returns-clause-super_part

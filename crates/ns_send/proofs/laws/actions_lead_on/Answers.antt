@@ -1,4 +1,4 @@
-use Rattle.ns_send.proofs.LeadingOn.{action_leads}
+use Rattle.ns_send.specs.laws.LeadingOn.{action_leads}
 use Rattle.ns_send.proofs.laws.actions_lead_on.Goals as goal
 
 pub returns : goal.returns

@@ -1,4 +1,5 @@
-use Rattle.ns_send.proofs.Lasting.{activation_lasts, locals_last, exit_lasts, target_lasts, slot_lasts}
+use Rattle.ns_send.specs.lemmas.Lasting.{activation_lasts, exit_lasts}
+use Rattle.ns_send.proofs.Lasting.{locals_last, target_lasts, slot_lasts}
 use Rattle.ns_send.proofs.LocalsLast.{local_lasts}
 use Rattle.ns_send.proofs.laws.frames_last.Goals as goal
 

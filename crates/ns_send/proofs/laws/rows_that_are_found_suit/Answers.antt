@@ -1,4 +1,4 @@
-use Rattle.ns_send.proofs.RowsSuit.{value_suits, above_suits, own_suits}
+use Rattle.ns_send.specs.lemmas.RowsSuit.{value_suits, above_suits, own_suits}
 use Rattle.ns_send.proofs.laws.rows_that_are_found_suit.Goals as goal
 
 pub returns-clause-value : goal.returns-clause-value

@@ -1,7 +1,7 @@
 use Rattle.ns_send.specs.Onward.{touched, reached}
 use Rattle.ns_send.specs.Sends.{receiver_of, sent, sent_plain, performed}
-use Rattle.ns_send.proofs.Onward.{onward_of}
-use Rattle.ns_send.proofs.SendsOnward.{sent_onward, plain_sent_onward, performed_onward}
+use Rattle.ns_send.specs.laws.Onward.{onward_of}
+use Rattle.ns_send.specs.laws.SendsOnward.{sent_onward, plain_sent_onward, performed_onward}
 use Rattle.ns_send.proofs.laws.sends_go_onward.Goals as goal
 
 pub returns-clause-sent : goal.returns-clause-sent

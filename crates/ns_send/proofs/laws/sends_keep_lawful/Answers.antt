@@ -1,5 +1,5 @@
-use Rattle.ns_send.proofs.LawfulBlocks.{evaluated_lawful}
-use Rattle.ns_send.proofs.LawfulSends.{sent_lawful, plain_lawful, performed_lawful}
+use Rattle.ns_send.specs.laws.LawfulBlocks.{evaluated_lawful}
+use Rattle.ns_send.specs.laws.LawfulSends.{sent_lawful, plain_lawful, performed_lawful}
 use Rattle.ns_send.proofs.laws.sends_keep_lawful.Goals as goal
 
 pub returns-clause-sent : goal.returns-clause-sent

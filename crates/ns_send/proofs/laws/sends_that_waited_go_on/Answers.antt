@@ -1,4 +1,4 @@
-use Rattle.ns_send.proofs.SentFrom.{from_lawful, from_fits, from_at, from_later, from_spends}
+use Rattle.ns_send.specs.laws.SentFrom.{from_lawful, from_fits, from_at, from_later, from_spends}
 use Rattle.ns_send.proofs.laws.sends_that_waited_go_on.Goals as goal
 
 pub returns-clause-lawful : goal.returns-clause-lawful

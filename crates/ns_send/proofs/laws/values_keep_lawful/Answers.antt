@@ -1,4 +1,4 @@
-use Rattle.ns_send.proofs.LawfulValues.{text_lawful, array_lawful, block_lawful, slot_lawful, local_lawful}
+use Rattle.ns_send.specs.laws.LawfulValues.{text_lawful, array_lawful, block_lawful, slot_lawful, local_lawful}
 use Rattle.ns_send.proofs.laws.values_keep_lawful.Goals as goal
 
 pub returns-clause-text : goal.returns-clause-text

@@ -1,4 +1,5 @@
-use Rattle.ns_send.proofs.Lasting.{selector_lasts, state_lasts, method_lasts, block_lasts, array_lasts, size_lasts}
+use Rattle.ns_send.specs.lemmas.Lasting.{block_lasts, array_lasts}
+use Rattle.ns_send.proofs.Lasting.{selector_lasts, state_lasts, method_lasts, size_lasts}
 use Rattle.ns_send.proofs.laws.what_waits_lasts.Goals as goal
 
 pub returns-clause-selectors : goal.returns-clause-selectors

@@ -1,6 +1,6 @@
 use Rattle.std.proofs.Common.{arith}
 use Rattle.std.proofs.lemmas.Grind.{common_steps}
-use Rattle.ns_tree.proofs.Nodes.{class_out}
+use Rattle.ns_tree.specs.laws.Nodes.{class_out}
 use Rattle.ns_static.proofs.classes.class_scope.Goals as goal
 
 pub returns-clause-found : goal.returns-clause-found

@@ -1,6 +1,6 @@
 use Rattle.std.proofs.Common.{arith, refl}
 use Rattle.std.proofs.lemmas.Grind.{common_steps}
-use Rattle.ns_tree.proofs.Nodes.{side_out}
+use Rattle.ns_tree.specs.laws.Nodes.{side_out}
 use Rattle.ns_static.proofs.counting.+names.Goals as goal
 
 pub side_names-returns : goal.side_names-returns

@@ -1,6 +1,6 @@
 use Rattle.std.proofs.Common.{rules}
 use Rattle.ns_tree.specs.declared.tree.Message.TheViews.{the_lemmas}
-use Rattle.ns_tree.proofs.Rows.{opers_items}
+use Rattle.ns_tree.specs.lemmas.Rows.{opers_items}
 use Rattle.ns_tree.proofs.make.bin.Goals as goal
 
 pub returns : goal.returns

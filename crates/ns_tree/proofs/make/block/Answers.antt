@@ -1,4 +1,4 @@
-use Rattle.ns_tree.proofs.Nodes.{block_made}
+use Rattle.ns_tree.specs.laws.Nodes.{block_made}
 use Rattle.ns_tree.proofs.make.block.Goals as goal
 
 pub returns : goal.returns

@@ -1,6 +1,6 @@
 use Rattle.std.proofs.Common.{rules}
 use Rattle.ns_tree.specs.declared.tree.Message.TheViews.{the_lemmas}
-use Rattle.ns_tree.proofs.Rows.{keys_items}
+use Rattle.ns_tree.specs.lemmas.Rows.{keys_items}
 use Rattle.ns_tree.proofs.make.sent.Goals as goal
 
 pub returns : goal.returns

@@ -1,6 +1,6 @@
 use Rattle.std.proofs.Common.{arith, refl}
 use Rattle.std.proofs.lemmas.Grind.{common_steps}
-use Rattle.ns_tree.proofs.Nodes.{side_out}
+use Rattle.ns_tree.specs.laws.Nodes.{side_out}
 use Rattle.ns_visible.proofs.Inside.{class_and_inside, own_and_nested}
 use Rattle.ns_visible.proofs.bodies.+bodies.Goals as goal
 

@@ -1,4 +1,4 @@
-use Rattle.ns_world.proofs.Leading.{later_made, later_written, later_stepped, later_entered, later_left, later_printed, later_counted, later_byte_written}
+use Rattle.ns_world.specs.laws.Leading.{later_made, later_written, later_stepped, later_entered, later_left, later_printed, later_counted, later_byte_written}
 use Rattle.ns_world.proofs.later.calls_lead_on.Goals as goal
 
 pub returns-clause-made : goal.returns-clause-made

@@ -1,4 +1,5 @@
-use Rattle.ns_world.proofs.Lasting.{there_lasts, shape_lasts, bytes_last, start_lasts, name_lasts}
+use Rattle.ns_world.specs.laws.Lasting.{shape_lasts}
+use Rattle.ns_world.proofs.Lasting.{there_lasts, bytes_last, start_lasts, name_lasts}
 use Rattle.ns_world.proofs.later.cells_stay.Goals as goal
 
 pub returns-clause-there : goal.returns-clause-there

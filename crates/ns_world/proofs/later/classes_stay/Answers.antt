@@ -1,4 +1,5 @@
-use Rattle.ns_world.proofs.Lasting.{class_lasts, chain_start_lasts, chain_lasts, declaration_lasts, layout_lasts, word_lasts}
+use Rattle.ns_world.specs.laws.Lasting.{class_lasts, declaration_lasts, word_lasts}
+use Rattle.ns_world.proofs.Lasting.{chain_start_lasts, chain_lasts, layout_lasts}
 use Rattle.ns_world.proofs.later.classes_stay.Goals as goal
 
 pub returns-clause-classes : goal.returns-clause-classes

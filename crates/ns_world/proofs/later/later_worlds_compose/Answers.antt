@@ -1,4 +1,4 @@
-use Rattle.ns_world.proofs.Leading.{later_same, later_on, run_on}
+use Rattle.ns_world.specs.laws.Leading.{later_same, later_on, run_on}
 use Rattle.ns_world.proofs.later.later_worlds_compose.Goals as goal
 
 pub returns-clause-same : goal.returns-clause-same

@@ -1,6 +1,6 @@
-use Rattle.ns_world.proofs.Staying.{value_stays, environment_stays, holder_stays}
-use Rattle.ns_world.proofs.Lawfully.{body_stays, fits_stays, block_lawful, message_lawful}
-use Rattle.ns_world.proofs.Lasting.{keeps_of}
+use Rattle.ns_world.specs.laws.Staying.{value_stays, environment_stays, holder_stays}
+use Rattle.ns_world.specs.laws.Lawfully.{body_stays, fits_stays, block_lawful, message_lawful}
+use Rattle.ns_world.specs.laws.Lasting.{keeps_of}
 use Rattle.ns_world.proofs.later.what_lives_stays.Goals as goal
 
 pub returns-clause-values : goal.returns-clause-values

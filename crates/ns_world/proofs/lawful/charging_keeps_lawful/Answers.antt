@@ -1,4 +1,4 @@
-use Rattle.ns_world.proofs.Charging.{step_keeps, enter_keeps, leave_keeps, print_keeps}
+use Rattle.ns_world.specs.laws.Charging.{step_keeps, enter_keeps, leave_keeps, print_keeps}
 use Rattle.ns_world.proofs.lawful.charging_keeps_lawful.Goals as goal
 
 pub returns-clause-steps : goal.returns-clause-steps

@@ -1,4 +1,4 @@
-use Rattle.ns_world.proofs.Charging.{empty_is_lawful, resume_keeps}
+use Rattle.ns_world.specs.laws.Charging.{empty_is_lawful, resume_keeps}
 use Rattle.ns_world.proofs.lawful.emptying_and_counting_keep_lawful.Goals as goal
 
 pub returns-clause-empty : goal.returns-clause-empty

@@ -1,10 +1,10 @@
 use Rattle.std.proofs.Common.{◌∷◌}
 use Rattle.ns_world.specs.Heap.{write_word, write_byte}
 use Rattle.ns_world.specs.Cell.{with_word, with_byte}
-use Rattle.ns_world.proofs.Changing.{word_plainly, byte_plainly}
-use Rattle.ns_world.proofs.Classes.{lawful_order}
-use Rattle.ns_world.proofs.Twins.{making_keeps_cells, changing_keeps_cells, word_twins, byte_twins}
-use Rattle.ns_world.proofs.Staying.{value_stays}
+use Rattle.ns_world.specs.laws.Changing.{word_plainly, byte_plainly}
+use Rattle.ns_world.specs.laws.Classes.{lawful_order}
+use Rattle.ns_world.specs.laws.Twins.{making_keeps_cells, changing_keeps_cells, word_twins, byte_twins}
+use Rattle.ns_world.specs.laws.Staying.{value_stays}
 use Rattle.ns_world.proofs.lawful.live_values_stay_live.Goals as goal
 
 pub returns-clause-made : goal.returns-clause-made

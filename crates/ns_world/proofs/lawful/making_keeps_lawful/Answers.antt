@@ -1,4 +1,4 @@
-use Rattle.ns_world.proofs.Making.{making_keeps}
+use Rattle.ns_world.specs.laws.Making.{making_keeps}
 use Rattle.ns_world.proofs.lawful.making_keeps_lawful.Goals as goal
 
 pub returns : goal.returns

@@ -1,4 +1,4 @@
-use Rattle.ns_world.proofs.Writing.{writing_keeps, byte_keeps}
+use Rattle.ns_world.specs.laws.Writing.{writing_keeps, byte_keeps}
 use Rattle.ns_world.proofs.lawful.writing_keeps_lawful.Goals as goal
 
 pub returns-clause-words : goal.returns-clause-words

@@ -1,4 +1,4 @@
-use Rattle.ns_world.proofs.Changing.{found_new, found_old, chain_old}
+use Rattle.ns_world.specs.laws.Changing.{found_new, found_old, chain_old}
 use Rattle.ns_world.proofs.laws.making_changes_no_other.Goals as goal
 
 pub returns-clause-here : goal.returns-clause-here

@@ -1,4 +1,4 @@
-use Rattle.ns_world.proofs.Changing.{byte_leaves}
+use Rattle.ns_world.specs.laws.Changing.{byte_leaves}
 use Rattle.ns_world.proofs.laws.writing_a_byte_changes_no_class.Goals as goal
 
 pub returns-clause-others : goal.returns-clause-others

@@ -1,4 +1,4 @@
-use Rattle.ns_world.proofs.Changing.{writing_leaves}
+use Rattle.ns_world.specs.laws.Changing.{writing_leaves}
 use Rattle.ns_world.proofs.laws.writing_changes_no_class.Goals as goal
 
 pub returns-clause-others : goal.returns-clause-others

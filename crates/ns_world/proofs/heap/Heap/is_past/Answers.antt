@@ -1,4 +1,4 @@
-use Rattle.ns_world.proofs.Above.{chain_first, chain_none}
+use Rattle.ns_world.specs.laws.Above.{chain_first, chain_none}
 use Rattle.ns_world.proofs.Kept.{seen_ordered, seen_small}
 use Rattle.ns_world.proofs.heap.Heap.is_past.Goals as goal
 

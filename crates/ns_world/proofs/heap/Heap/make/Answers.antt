@@ -1,7 +1,8 @@
 use Rattle.std.proofs.Common.{◌+◌, ◌∷◌, cond, ap, ◌∙◌, sym, arith, length, length-append}
 use Rattle.ns_world.proofs.LaidOut.{length-words}
 use Rattle.ns_world.proofs.Bounding.{firsts_with, bound_within}
-use Rattle.ns_world.proofs.Kept.{seen_laid_out, seen_ordered, seen_size, seen_firsts, seen_within, keeps, shows, laid_out-more, ordered_more}
+use Rattle.ns_world.specs.laws.Ordered.{ordered_more}
+use Rattle.ns_world.proofs.Kept.{seen_laid_out, seen_ordered, seen_size, seen_firsts, seen_within, keeps, shows, laid_out-more}
 use Rattle.ns_world.specs.View.{HeapView}
 use Rattle.ns_world.specs.Heap.{heap_size}
 use Rattle.ns_world.specs.Cell.{fresh}

@@ -1,6 +1,6 @@
 use Rattle.std.proofs.Common.{◌≡◌, ◌∷◌, ap, ◌∙◌, sym}
 use Rattle.ns_world.specs.Heap.{chain_of, is_chain_start, declared_class, superclass_of}
-use Rattle.ns_world.proofs.Above.{goes_on}
+use Rattle.ns_world.specs.laws.Above.{goes_on}
 use Rattle.ns_world.proofs.Kept.{seen_ordered, seen_small}
 use Rattle.ns_world.proofs.heap.Heap.superclass.Goals as goal
 

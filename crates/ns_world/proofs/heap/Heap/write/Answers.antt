@@ -1,7 +1,7 @@
 use Rattle.std.proofs.Common.{◌+◌, ap, ◌∙◌, sym, arith, length-set, set}
 use Rattle.ns_world.proofs.Access.{writes_word}
 use Rattle.ns_world.proofs.Kept.{seen_laid_out, seen_ordered, seen_firsts, seen_within, keeps, shows}
-use Rattle.ns_world.proofs.Firsts.{sought_after_word}
+use Rattle.ns_world.specs.laws.Firsts.{sought_after_word}
 use Rattle.ns_world.specs.View.{HeapView}
 use Rattle.ns_world.specs.Heap.{heap_size, write_word}
 use Rattle.ns_world.proofs.heap.Heap.write.Goals as goal

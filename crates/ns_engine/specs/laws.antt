@@ -1,0 +1,7 @@
+-- Laws of these definitions, for the crates above.
+pub mod Finds
+pub mod Kept
+pub mod Pushed
+pub mod Sizes
+pub mod Taken
+pub mod Worlds

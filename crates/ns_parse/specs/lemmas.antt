@@ -1,0 +1,2 @@
+-- Lemmas on which the laws rest. No other crate cites them.
+pub mod SoundClasses

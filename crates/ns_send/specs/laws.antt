@@ -1,0 +1,19 @@
+-- Laws of these definitions, for the crates above.
+pub mod Adding
+pub mod AddingOn
+pub mod BlocksOnward
+pub mod ClassesOnward
+pub mod Counting
+pub mod Ending
+pub mod Growing
+pub mod LawfulBlocks
+pub mod LawfulParts
+pub mod LawfulSends
+pub mod LawfulValues
+pub mod LeadingOn
+pub mod Onward
+pub mod OwnSelectors
+pub mod SendsOnward
+pub mod SentFrom
+pub mod Sites
+pub mod Spending

@@ -1,0 +1,5 @@
+-- Laws of these definitions, for the crates above.
+pub mod BlockCounts
+pub mod Composing
+pub mod Keywords
+pub mod Numbers
