@@ -25,7 +25,7 @@ pub struct Surrounding {
 
 /// Self and the holder of running code, and so many declarations further out the enclosing object
 /// and its holder.
-#[inline]
+#[inline(always)]
 pub fn enclosing(world: &World, code: &CodeProgram, running: Running, level: u8) -> Surrounding
     requires lawful { IsLawful world.now.world code.now }
     requires running { FitsActivation world.now.world.cells code.now (code_of running) }
@@ -44,7 +44,7 @@ pub fn enclosing(world: &World, code: &CodeProgram, running: Running, level: u8)
 }
 
 /// The object and the holder that enclose a class.
-#[inline]
+#[inline(always)]
 fn around(world: &World, class: u32) -> Surrounding
     requires { IsTrue (is_class (find_cell world.now.world.cells class)) }
     ensures { place_of result ≡ bodies.enclosing_place (shape_at world.now.world.cells class) }

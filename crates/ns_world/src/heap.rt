@@ -79,6 +79,7 @@ impl Heap {
     }
 
     /// Makes a cell and gives its number, which is the number of cells used before.
+    #[inline(always)]
     pub fn make(&mut self, cell: NewCell) -> u32
         requires room { heap_size self.old.cells + cell_size (fresh cell) ≤ self.old.room }
         requires small { heap_size self.old.cells + cell_size (fresh cell) ≤ 64000000 }
@@ -131,6 +132,7 @@ impl Heap {
     }
 
     /// Whether a cell to be made can be the first of what is sought.
+    #[inline(always)]
     fn may_be_first(&self, cell: NewCell) -> bool
         ensures { result ≡ may_be_first self.now.cells cell }
     {
@@ -293,6 +295,7 @@ impl Heap {
 }
 
 /// The end of the first cells with a new cell at a number, which may be one of them.
+#[inline(always)]
 fn bound_with(first: bool, number: usize, bound: usize) -> usize
     requires { number < 2 ^ 32 }
     ensures { result ≡ (if first then number + 1 else bound) }

@@ -12,6 +12,7 @@ use crate::value::Value;
 use crate::word::{Word, word_beside, word_of};
 
 /// How many words a cell takes.
+#[inline(always)]
 pub fn size_of_cell(cell: NewCell) -> u64
     ensures { result ≡ cell_size (fresh cell) }
 {
@@ -36,6 +37,7 @@ pub fn text_words(bytes: u32) -> u64
 }
 
 /// Puts the words of a new cell behind the others. There is room for them.
+#[inline(always)]
 pub fn lay(words: &mut Vec<Word>, cell: NewCell)
     requires { vec_len words.old + cell_size (fresh cell) ≤ vec_capacity words.old }
     ensures items { words.new.items ≡ words.old.items ++ words_of (fresh cell) }
@@ -99,13 +101,15 @@ fn lay_class(words: &mut Vec<Word>, decl: u32, encl: Value, holder: Value, over:
     );
 }
 
+#[inline(always)]
 fn lay_block(words: &mut Vec<Word>, body: u32, env: Value, home: u64, receiver: Value, holder: u32)
     requires { vec_len words.old + 3 ≤ vec_capacity words.old }
     ensures items { words.new.items ≡ words.old.items ++ words_of (BlockCell body env home receiver holder) }
     ensures capacity { vec_capacity words.old ≤ vec_capacity words.new }
 {
-    let head = Word::Block { body, home };
-    put(words, &[head, word_of(receiver), word_beside(env, holder)]);
+    words.push_reserved(Word::Block { body, home });
+    words.push_reserved(word_of(receiver));
+    words.push_reserved(word_beside(env, holder));
 }
 
 /// The parent of an environment stands in its head, with the number of locals beside it.

@@ -92,6 +92,7 @@ impl World {
 
     /// Charges a cell's size, makes it and gives its number; or answers the limit on cells, exactly
     /// where the size would pass it, and changes nothing. Takes no memory.
+    #[inline(always)]
     pub fn make(&mut self, cell: NewCell) -> Result<u32, CellLimit>
         requires room { self.old.world.limits.cells ≤ self.old.cell_room }
         requires superclass { IsTrue (has_superclass self.old.world.cells (fresh cell)) }
