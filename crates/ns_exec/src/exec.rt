@@ -71,7 +71,8 @@ fn exec_code(
     requires range { InRange limits }
     requires fits { Fits code }
     ensures ran { IfOk result (λ ran. of_code limits arguments.now code (fault_of code) ≡ has_run ran) }
-    ensures unsound { (cause : VerifyCause) (at : Where) → IsErrOf result (Unsound cause at) → of_code limits arguments.now code (fault_of code) ≡ refused_code cause at }
+    ensures unsound { (cause : VerifyCause) (at : Where) → IsErrOf result (Unsound cause at) →
+        of_code limits arguments.now code (fault_of code) ≡ refused_code cause at }
     ensures no_image { (fault : ImageFault) → IsErrOf result (Image fault) → ⊥ }
 {
     match verify(alloc, code) {

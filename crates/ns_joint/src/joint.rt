@@ -50,13 +50,15 @@ pub fn run_jointly<S: Shelf>(
     requires asked { AreApplications (map string_bytes words.now) }
     requires few { length words.now ≤ 16 }
     ensures told { (files : Files) → S.holds shelf.old ≡ Some files → Tells (spec.joint_over files lib limits quantum (map string_bytes words.now)) result }
-    ensures texts { OfSomeTexts (files_named (map string_bytes words.now)) (λ texts. Tells (spec.joint_of lib limits quantum (map string_bytes words.now) texts) result) }
+    ensures texts { OfSomeTexts (files_named (map string_bytes words.now)) (λ texts.
+        Tells (spec.joint_of lib limits quantum (map string_bytes words.now) texts) result) }
     ensures status { IfOk result (λ told. IsRunStatus told.status) }
     ensures refused { IfErr result HasRefusedFile }
     ensures only_read { OnlyRead S.holds S.misses S.faults S.store_faults shelf.old shelf.new }
     ensures missing { IfErr result (λ why. IsMissingFile why → Rose (S.misses shelf.old) (S.misses shelf.new)) }
     ensures read_fault { IsErrOf result Unread → Rose (S.faults shelf.old) (S.faults shelf.new) }
-    ensures read_fault_there { (files : Files) → S.holds shelf.old ≡ Some files → IsErrOf result Unread → SomeIsThere files (files_named (map string_bytes words.now)) }
+    ensures read_fault_there { (files : Files) → S.holds shelf.old ≡ Some files → IsErrOf result Unread →
+        SomeIsThere files (files_named (map string_bytes words.now)) }
 {
     let mut session = Session::new(alloc);
     match make_all(alloc, words, lib, limits, shelf, &mut session) {
@@ -68,7 +70,9 @@ pub fn run_jointly<S: Shelf>(
 /// The turns of all applications of a session, and what is told of them.
 fn run_all(alloc: Global, quantum: u64, session: Session) -> Result<Told, JointFault>
     requires { 1 ≤ quantum }
-    ensures told { (limits : AnyLimits) (sources : List Source) → InRange limits → session ≡ opened (map (application_of limits) sources) → AreAdmitted sources → IfOk result (λ told. told ≡ spec.told_of (spec.runs limits quantum sources)) }
+    ensures told { (limits : AnyLimits) (sources : List Source) → InRange limits →
+        session ≡ opened (map (application_of limits) sources) → AreAdmitted sources →
+        IfOk result (λ told. told ≡ spec.told_of (spec.runs limits quantum sources)) }
     ensures status { IfOk result (λ told. IsRunStatus told.status) }
     ensures memory { IfErr result (λ why. why ≡ Memory) }
 {

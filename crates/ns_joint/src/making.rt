@@ -36,13 +36,16 @@ pub fn make_all<S: Shelf>(
     requires range { InRange limits }
     requires asked { AreApplications (map string_bytes words.now) }
     requires room { length session.old.members + length words.now ≤ 16 }
-    ensures told { (files : Files) → S.holds shelf.old ≡ Some files → Makes limits (spec.made_over files lib (map string_bytes words.now)) session.old session.new result }
-    ensures texts { OfSomeTexts (spec.files_named (map string_bytes words.now)) (λ texts. Makes limits (spec.made_by lib (map string_bytes words.now) texts) session.old session.new result) }
+    ensures told { (files : Files) → S.holds shelf.old ≡ Some files →
+        Makes limits (spec.made_over files lib (map string_bytes words.now)) session.old session.new result }
+    ensures texts { OfSomeTexts (spec.files_named (map string_bytes words.now)) (λ texts.
+        Makes limits (spec.made_by lib (map string_bytes words.now) texts) session.old session.new result) }
     ensures refused { IfErr result HasRefusedFile }
     ensures only_read { OnlyRead S.holds S.misses S.faults S.store_faults shelf.old shelf.new }
     ensures missing { IfErr result (λ why. IsMissingFile why → Rose (S.misses shelf.old) (S.misses shelf.new)) }
     ensures read_fault { IsErrOf result Unread → Rose (S.faults shelf.old) (S.faults shelf.new) }
-    ensures read_fault_there { (files : Files) → S.holds shelf.old ≡ Some files → IsErrOf result Unread → SomeIsThere files (spec.files_named (map string_bytes words.now)) }
+    ensures read_fault_there { (files : Files) → S.holds shelf.old ≡ Some files → IsErrOf result Unread →
+        SomeIsThere files (spec.files_named (map string_bytes words.now)) }
 {
     match words {
         [] => Ok(()),
@@ -65,7 +68,8 @@ fn make_one<S: Shelf>(
     requires range { InRange limits }
     requires asked { is_application word.now ≡ true }
     requires room { length session.old.members < 16 }
-    ensures told { (files : Files) → S.holds shelf.old ≡ Some files → Makes limits (spec.made_from files lib (asked_of word.now)) session.old session.new result }
+    ensures told { (files : Files) → S.holds shelf.old ≡ Some files →
+        Makes limits (spec.made_from files lib (asked_of word.now)) session.old session.new result }
     ensures texts { OfSomeTexts (asked_of word.now).names (λ texts. Makes limits (spec.made_of lib (asked_of word.now) texts) session.old session.new result) }
     ensures count { IfOk result (λ _. length session.new.members ≡ length session.old.members + 1) }
     ensures refused { IfErr result HasRefusedFile }
@@ -92,8 +96,10 @@ fn add_asked<S: Shelf>(
     requires range { InRange limits }
     requires few { are_few 16 (asked_seen asked).names ≡ true }
     requires room { length session.old.members < 16 }
-    ensures told { (files : Files) → S.holds shelf.old ≡ Some files → Makes limits (spec.made_from files lib (asked_seen asked.entry)) session.old session.new result }
-    ensures texts { OfSomeTexts (asked_seen asked.entry).names (λ texts. Makes limits (spec.made_of lib (asked_seen asked.entry) texts) session.old session.new result) }
+    ensures told { (files : Files) → S.holds shelf.old ≡ Some files →
+        Makes limits (spec.made_from files lib (asked_seen asked.entry)) session.old session.new result }
+    ensures texts { OfSomeTexts (asked_seen asked.entry).names (λ texts.
+        Makes limits (spec.made_of lib (asked_seen asked.entry) texts) session.old session.new result) }
     ensures count { IfOk result (λ _. length session.new.members ≡ length session.old.members + 1) }
     ensures refused { IfErr result HasRefusedFile }
     ensures only_read { OnlyRead S.holds S.misses S.faults S.store_faults shelf.old shelf.new }

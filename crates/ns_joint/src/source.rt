@@ -41,8 +41,10 @@ pub fn code_of<S: Shelf>(
     shelf: &mut S,
 ) -> Result<Verified, JointFault>
     requires few { are_few 16 (asked_seen asked).names ≡ true }
-    ensures told { (files : Files) → S.holds shelf.old ≡ Some files → IsMadeAs (spec.granted (asked_seen asked.entry)) (spec.made_from files lib (asked_seen asked.entry)) result }
-    ensures texts { OfSomeTexts (asked_seen asked.entry).names (λ texts. IsMadeAs (spec.granted (asked_seen asked.entry)) (spec.made_of lib (asked_seen asked.entry) texts) result) }
+    ensures told { (files : Files) → S.holds shelf.old ≡ Some files →
+        IsMadeAs (spec.granted (asked_seen asked.entry)) (spec.made_from files lib (asked_seen asked.entry)) result }
+    ensures texts { OfSomeTexts (asked_seen asked.entry).names (λ texts.
+        IsMadeAs (spec.granted (asked_seen asked.entry)) (spec.made_of lib (asked_seen asked.entry) texts) result) }
     ensures refused { IfErr result HasRefusedFile }
     ensures only_read { OnlyRead S.holds S.misses S.faults S.store_faults shelf.old shelf.new }
     ensures missing { IfErr result (λ why. IsMissingFile why → Rose (S.misses shelf.old) (S.misses shelf.new)) }
@@ -66,8 +68,10 @@ fn of_files<S: Shelf>(
     requires few { length texts.now ≤ 16 }
     requires named { All IsFileName texts.now }
     requires same { texts.now ≡ map string_bytes names.items }
-    ensures told { (grants : AnyGrants) (files : Files) → S.holds shelf.old ≡ Some files → IsMadeAs grants (spec.of_loading texts.now grants lib (loaded texts.now lib files)) result }
-    ensures texts { (grants : AnyGrants) → OfSomeTexts texts.now (λ read. IsMadeAs grants (spec.of_loading texts.now grants lib (loaded_texts read lib)) result) }
+    ensures told { (grants : AnyGrants) (files : Files) → S.holds shelf.old ≡ Some files →
+        IsMadeAs grants (spec.of_loading texts.now grants lib (loaded texts.now lib files)) result }
+    ensures texts { (grants : AnyGrants) → OfSomeTexts texts.now (λ read.
+        IsMadeAs grants (spec.of_loading texts.now grants lib (loaded_texts read lib)) result) }
     ensures refused { IfErr result HasRefusedFile }
     ensures only_read { OnlyRead S.holds S.misses S.faults S.store_faults shelf.old shelf.new }
     ensures missing { IfErr result (λ why. IsMissingFile why → Rose (S.misses shelf.old) (S.misses shelf.new)) }
@@ -98,7 +102,8 @@ fn unloaded(names: Vec<String>, fault: LoadFault) -> JointFault
 /// The code of the application of a program, whose files have these names.
 fn of_program(alloc: Global, names: Vec<String>, program: Program) -> Result<Verified, JointFault>
     requires { IsWhole program }
-    ensures made { (grants : AnyGrants) → IsMadeAs grants (spec.of_least (map string_bytes names.items) grants program.files (map unit_of program.units) program.marks (fault_of program)) result }
+    ensures made { (grants : AnyGrants) → IsMadeAs grants
+        (spec.of_least (map string_bytes names.items) grants program.files (map unit_of program.units) program.marks (fault_of program)) result }
     ensures loaded { IfErr result IsOfLoaded }
 {
     match check(alloc, program) {

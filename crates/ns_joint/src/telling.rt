@@ -40,7 +40,8 @@ fn tell_one(alloc: Global, session: &Session, number: u32, told: Told) -> Result
     requires ended { HaveEnded session.now }
     requires there { number < length session.now.members }
     requires run { IsRunStatus told.status }
-    ensures told { (member : MemberView) → slice_get session.now.members number ≡ Some member → IfOk result (λ all. all ≡ with_run number (told_at member.application.code member.state) told) }
+    ensures told { (member : MemberView) → slice_get session.now.members number ≡ Some member →
+        IfOk result (λ all. all ≡ with_run number (told_at member.application.code member.state) told) }
     ensures alone { IsAloneAt number session.now }
     ensures run { IfOk result (λ all. IsRunStatus all.status) }
 {
@@ -62,7 +63,8 @@ fn tell_one(alloc: Global, session: &Session, number: u32, told: Told) -> Result
 fn status_of(session: &Session, number: u32) -> Status
     requires ended { HaveEnded session.now }
     requires there { number < length session.now.members }
-    ensures status { (member : MemberView) → slice_get session.now.members number ≡ Some member → result ≡ (told_at member.application.code member.state).status }
+    ensures status { (member : MemberView) → slice_get session.now.members number ≡ Some member →
+        result ≡ (told_at member.application.code member.state).status }
     ensures alone { IsAloneAt number session.now }
     ensures run { IsRunStatus result }
 {
