@@ -22,11 +22,37 @@ method_of number access body = record { sel = sel number; access = access; body 
 
 -- a class whose factory and whose superclass message are `new`
 abbrev pub class_of : ℕ → Option ℕ → ℕ → List SlotCode → List NestedCode → List MethodCode → List MethodCode → ClassCode
-class_of name outer init slots nested methods side_methods = record { name = sel name; outer = outer; factory = sel 1; params = 0; clause = None; init = init; super_sel = sel 1; slots = slots; nested = nested; methods = methods; side_methods = side_methods }
+class_of name outer init slots nested methods side_methods =
+    record {
+      name = sel name;
+      outer = outer;
+      factory = sel 1;
+      params = 0;
+      clause = None;
+      init = init;
+      super_sel = sel 1;
+      slots = slots;
+      nested = nested;
+      methods = methods;
+      side_methods = side_methods;
+    }
 
 -- a body without instructions
 abbrev pub body_of : ℕ → ℕ → ℕ → BodyCode
-body_of kind side class = record { kind = kind; side = side; class = class; parent = None; params = 0; locals = 0; environment = false; height = 0; instrs = []; places = []; local_names = [] }
+body_of kind side class =
+    record {
+      kind = kind;
+      side = side;
+      class = class;
+      parent = None;
+      params = 0;
+      locals = 0;
+      environment = false;
+      height = 0;
+      instrs = [];
+      places = [];
+      local_names = [];
+    }
 
 -- Base has the slots `x =` and `y ::=`, the nested class Part, the public methods `bar` and `foo`, the
 -- protected `hid` and the private `sec` between them, and on its class side the public `make` and the

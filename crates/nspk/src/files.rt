@@ -84,7 +84,8 @@ fn load(rt: &HostRuntime, alloc: Global, name: &str, most: u64) -> Result<Vec<u8
 /// A file that can't be opened isn't there where its path leads to nothing.
 fn opening_fault(kind: ErrorKind) -> ShelfFault
     ensures missing { result ≡ ShelfFault.Missing → (kind ≡ ErrorKind.NotFound) ⊎ ((kind ≡ ErrorKind.NotADirectory) ⊎ (kind ≡ ErrorKind.InvalidFilename)) }
-    ensures failed { result ≢ ShelfFault.Missing → (result ≡ ShelfFault.Failed) × (kind ≢ ErrorKind.NotFound) × (kind ≢ ErrorKind.NotADirectory) × (kind ≢ ErrorKind.InvalidFilename) }
+    ensures failed { result ≢ ShelfFault.Missing →
+        (result ≡ ShelfFault.Failed) × (kind ≢ ErrorKind.NotFound) × (kind ≢ ErrorKind.NotADirectory) × (kind ≢ ErrorKind.InvalidFilename) }
 {
     match kind {
         ErrorKind::NotFound | ErrorKind::NotADirectory | ErrorKind::InvalidFilename => {
