@@ -23,7 +23,7 @@ use ns_world::world::World;
 /// Evaluates a block with these arguments: WrongKind where the value is none, WrongArity where it
 /// takes more or fewer; then the limit on steps, depth or cells exactly where its step, its frame or
 /// its environment doesn't fit.
-#[inline]
+#[inline(always)]
 pub fn evaluate(world: &mut World, code: &CodeProgram, block: Value, arguments: &[Value]) -> Reached
     requires room { HasRoom world.old }
     requires block { IsThere world.old.world.cells block }
@@ -35,7 +35,7 @@ pub fn evaluate(world: &mut World, code: &CodeProgram, block: Value, arguments: 
 }
 
 /// The same, by the block's cell.
-#[inline]
+#[inline(always)]
 fn enter_block(world: &mut World, code: &CodeProgram, cell: NewCell, arguments: &[Value]) -> Reached
     requires room { HasRoom world.old }
     ensures reached { (site : Site) (rest : Progress) → reached_shown code.now site arguments.now result (in_world rest world.new.world) ≡ spec.block_entered code.now cell arguments.now site (in_world rest world.old.world) }
@@ -66,7 +66,7 @@ fn enter_block(world: &mut World, code: &CodeProgram, cell: NewCell, arguments: 
 }
 
 /// The same, by what the block runs in.
-#[inline]
+#[inline(always)]
 fn step_in(world: &mut World, code: &CodeProgram, running: Running, arguments: &[Value]) -> Reached
     requires room { HasRoom world.old }
     ensures reached { (site : Site) (rest : Progress) → reached_shown code.now site arguments.now result (in_world rest world.new.world) ≡ spec.block_entered code.now (new.Block running.body running.env running.home running.me running.holder) arguments.now site (in_world rest world.old.world) }
