@@ -20,7 +20,7 @@ use ns_world::world::World;
 /// Evaluates a block with these arguments: WrongKind where the value is none, WrongArity where it
 /// takes more or fewer; then the limit on steps, depth or cells exactly where its step, its frame or
 /// its environment doesn't fit.
-#[inline]
+#[inline(always)]
 pub fn evaluate(world: &mut World, code: &CodeProgram, block: Value, arguments: &[Value]) -> Reached
     requires room { HasRoom world.old }
     requires block { IsThere world.old.world.cells block }
@@ -32,7 +32,7 @@ pub fn evaluate(world: &mut World, code: &CodeProgram, block: Value, arguments: 
 }
 
 /// The same, by the block's cell.
-#[inline]
+#[inline(always)]
 fn enter_block(world: &mut World, code: &CodeProgram, cell: NewCell, arguments: &[Value]) -> Reached
     requires room { HasRoom world.old }
     ensures reached { ReachesAs code.now arguments.now result world.old world.new (spec.block_entered code.now cell arguments.now) }
@@ -63,7 +63,7 @@ fn enter_block(world: &mut World, code: &CodeProgram, cell: NewCell, arguments: 
 }
 
 /// The same, by what the block runs in.
-#[inline]
+#[inline(always)]
 fn step_in(world: &mut World, code: &CodeProgram, running: Running, arguments: &[Value]) -> Reached
     requires room { HasRoom world.old }
     ensures reached { ReachesAs code.now arguments.now result world.old world.new

@@ -29,7 +29,7 @@ pub enum Waited {
 
 /// The next action of a method of the kernel: a turn charges its step, the limit on steps exactly
 /// where that doesn't fit; an answer gives the frame back.
-#[inline]
+#[inline(always)]
 pub fn method_next(world: &mut World, method: KMethod, state: KState) -> Waited
     requires depth { 0 < world.old.world.depth }
     requires receiver { IsThere world.old.world.cells state.receiver }
@@ -40,7 +40,7 @@ pub fn method_next(world: &mut World, method: KMethod, state: KState) -> Waited
 }
 
 /// An action of a method of the kernel.
-#[inline]
+#[inline(always)]
 pub fn act(world: &mut World, action: KAction, state: KState) -> Waited
     requires depth { 0 < world.old.world.depth }
     requires receiver { IsThere world.old.world.cells state.receiver }
@@ -67,7 +67,7 @@ pub fn act(world: &mut World, action: KAction, state: KState) -> Waited
 }
 
 /// Begins the evaluation of a block, with the step of a turn where one begins.
-#[inline]
+#[inline(always)]
 fn evaluate(
     world: &mut World,
     block: Value,
@@ -96,7 +96,7 @@ fn evaluate(
 }
 
 /// The state of a method while a block is evaluated.
-#[inline]
+#[inline(always)]
 fn waiting(state: KState, count: i64) -> KState
     ensures { result ≡ spec.waiting state count }
 {
@@ -108,7 +108,7 @@ fn waiting(state: KState, count: i64) -> KState
 }
 
 /// The element of an array as it is now, nil where there is none.
-#[inline]
+#[inline(always)]
 fn item_at(world: &World, array: Value, item: i64) -> Value
     requires { IsThere world.now.world.cells array }
     ensures { result ≡ spec.item_at world.now.world.cells array item }

@@ -9,8 +9,7 @@ use Rattle.ns_code.specs.declared.program.CodeProgram.{CodeProgram}
 use Rattle.ns_code.specs.declared.instruction.Instr.{Instr}
 use Rattle.ns_code.specs.declared.instruction.Instr.TheVariants as i
 use Rattle.ns_meant.specs.Program as m
-use Rattle.ns_meant.specs.Expressions.{sent}
-use Rattle.ns_meant.proofs.Examples.{expected, at_column}
+use Rattle.ns_meant.proofs.Examples.{expected, at_column, sent}
 use Rattle.ns_gen.specs.Code.{does, sends, starts, plain, inner, private_at, super, code_of, body_lines}
 
 -- ---- the code of a class in a class

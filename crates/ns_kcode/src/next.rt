@@ -8,6 +8,7 @@ use ns_world::ending::Kind;
 use ns_world::value::Value;
 
 /// What a method does next in a state. It answers for every state, whatever numbers it has.
+#[inline(always)]
 pub fn next(method: KMethod, state: KState) -> KAction
     ensures { result ≡ next method state }
 {
@@ -35,6 +36,7 @@ pub fn next(method: KMethod, state: KState) -> KAction
 }
 
 /// Evaluates a block without an argument, which begins no turn.
+#[inline(always)]
 fn evaluate(block: Value) -> KAction
     ensures { result ≡ evaluate block }
 {
@@ -47,6 +49,7 @@ fn evaluate(block: Value) -> KAction
 }
 
 /// Evaluates the chosen block, and answers its value then.
+#[inline(always)]
 fn value_of(block: Value, last: Option<Value>) -> KAction
     ensures { result ≡ value_of block last }
 {
@@ -57,6 +60,7 @@ fn value_of(block: Value, last: Option<Value>) -> KAction
 }
 
 /// `and:`: the block decides where the receiver is true.
+#[inline(always)]
 fn and_next(receiver: Value, block: Value, last: Option<Value>) -> KAction
     ensures { result ≡ and_next receiver block last }
 {
@@ -67,6 +71,7 @@ fn and_next(receiver: Value, block: Value, last: Option<Value>) -> KAction
 }
 
 /// `or:`: the block decides where the receiver is false.
+#[inline(always)]
 fn or_next(receiver: Value, block: Value, last: Option<Value>) -> KAction
     ensures { result ≡ or_next receiver block last }
 {
@@ -77,6 +82,7 @@ fn or_next(receiver: Value, block: Value, last: Option<Value>) -> KAction
 }
 
 /// `ifTrue:`: nil where the block isn't evaluated.
+#[inline(always)]
 fn if_true_next(receiver: Value, block: Value, last: Option<Value>) -> KAction
     ensures { result ≡ if_true_next receiver block last }
 {
@@ -87,6 +93,7 @@ fn if_true_next(receiver: Value, block: Value, last: Option<Value>) -> KAction
 }
 
 /// `ifFalse:`: nil where the block isn't evaluated.
+#[inline(always)]
 fn if_false_next(receiver: Value, block: Value, last: Option<Value>) -> KAction
     ensures { result ≡ if_false_next receiver block last }
 {
@@ -97,6 +104,7 @@ fn if_false_next(receiver: Value, block: Value, last: Option<Value>) -> KAction
 }
 
 /// `ifTrue:ifFalse:`, and with its blocks exchanged `ifFalse:ifTrue:`.
+#[inline(always)]
 fn choice_next(receiver: Value, chosen: Value, otherwise: Value, last: Option<Value>) -> KAction
     ensures { result ≡ choice_next receiver chosen otherwise last }
 {
@@ -107,6 +115,7 @@ fn choice_next(receiver: Value, chosen: Value, otherwise: Value, last: Option<Va
 }
 
 /// What a loop's receiver answered, where that was evaluated last.
+#[inline(always)]
 fn tested(count: i64, last: Option<Value>) -> Option<Value>
     ensures { result ≡ tested count last }
 {
@@ -114,6 +123,7 @@ fn tested(count: i64, last: Option<Value>) -> Option<Value>
 }
 
 /// Begins a turn of a while loop.
+#[inline(always)]
 fn while_turn(block: Value) -> KAction
     ensures { result ≡ while_turn block }
 {
@@ -126,6 +136,7 @@ fn while_turn(block: Value) -> KAction
 }
 
 /// `whileTrue:`: a turn after each true of the receiver, nil after false.
+#[inline(always)]
 fn while_true_next(receiver: Value, block: Value, tested: Option<Value>) -> KAction
     ensures { result ≡ while_true_next receiver block tested }
 {
@@ -138,6 +149,7 @@ fn while_true_next(receiver: Value, block: Value, tested: Option<Value>) -> KAct
 }
 
 /// `whileFalse:`: a turn after each false of the receiver, nil after true.
+#[inline(always)]
 fn while_false_next(receiver: Value, block: Value, tested: Option<Value>) -> KAction
     ensures { result ≡ while_false_next receiver block tested }
 {
@@ -150,6 +162,7 @@ fn while_false_next(receiver: Value, block: Value, tested: Option<Value>) -> KAc
 }
 
 /// `to:do:`: a turn with each number from the receiver to the end. No sum passes the end.
+#[inline(always)]
 fn to_do_next(receiver: Value, end: Value, block: Value, count: i64) -> KAction
     ensures { result ≡ to_do_next receiver end block count }
 {
@@ -168,6 +181,7 @@ fn to_do_next(receiver: Value, end: Value, block: Value, count: i64) -> KAction
 }
 
 /// `timesRepeat:`: so many turns as the receiver says, none below 1.
+#[inline(always)]
 fn times_next(receiver: Value, block: Value, count: i64) -> KAction
     ensures { result ≡ times_next receiver block count }
 {
@@ -183,6 +197,7 @@ fn times_next(receiver: Value, block: Value, count: i64) -> KAction
 }
 
 /// `do:`: a turn for each element.
+#[inline(always)]
 fn do_next(receiver: Value, block: Value, size: i64, count: i64) -> KAction
     ensures { result ≡ do_next receiver block size count }
 {

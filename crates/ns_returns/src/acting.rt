@@ -24,7 +24,8 @@ use ns_kcode::state::KState;
 use ns_send::laws::actions_keep_lawful;
 use ns_world::value::Value;
 
-/// Does the next action of the method of the kernel that is topmost: it lets the evaluation of a block wait, or ends.
+/// Does the next action of the method of the kernel that is topmost: it lets the evaluation of a block wait, or ends. It stands
+/// in code of its own, in which all that it calls for an evaluation is united.
 #[inline(never)]
 #[tactic(auto, using(crate::proofs::Topmost::acting_loops))]
 pub fn act(code: &CodeProgram, core: &mut Core, at: Registers, own: OwnSends) -> Next
@@ -61,6 +62,7 @@ pub fn looping(stack: &Stack) -> LoopingFrame
 }
 
 /// Lets the evaluation of a block wait, and the method of the kernel wait for its value in a state.
+#[inline(always)]
 fn evaluate(
     code: &CodeProgram,
     core: &mut Core,
