@@ -1,7 +1,12 @@
 -- The last of a list, which is the first of it reversed.
 use Rattle.std.proofs.Common.{◌≡◌, ℕ, ◌+◌, ◌-◌, ◌<◌, List, [], ◌∷◌, length, get_or, set, reverse, ap, sym, ◌∙◌, refl, arith}
 use Rattle.std.proofs.lemmas.List.{get_or-reverse, set_at, reverse-append, reverse-reverse, length-reverse}
-use Rattle.ns_frames.specs.Standing.{below}
+use Rattle.ns_kcode.specs.declared.state.KState.{KState}
+use Rattle.ns_frames.specs.declared.frame.Frame.{Frame}
+use Rattle.ns_frames.specs.declared.frame.Frame.TheVariants.{Running, Looping}
+use Rattle.ns_frames.specs.declared.frame.RunningFrame.{RunningFrame}
+use Rattle.ns_frames.specs.declared.frame.LoopingFrame.{LoopingFrame}
+use Rattle.ns_frames.specs.Standing.{below, with_next, with_state, at_next, in_state}
 
 -- in a list that is written backwards
 behind_set : {A : Type 0} (items : List A) (last : ℕ) (item : A) → last + 1 ≡ length items → reverse (set (reverse items) last item) ≡ item ∷ below items
@@ -29,3 +34,31 @@ topmost_is items other some =
     let place : length items - 1 - 0 ≡ length items - 1 = omega arith in
     first_is (reverse items) other (omega (arith, some, length-reverse items))
     ∙ ap (λ item. item ∷ below (reverse items)) (get_or-reverse items 0 other some ∙ ap (λ last. get_or items last other) place)
+
+-- ---- a part of the last frame that is written
+
+-- what stands in the frames where the last one is known
+module _ (items : List Frame) (other : Frame) (some : 0 < length items) where
+  pub next_written : (next : ℕ) (running : RunningFrame) → get_or items (length items - 1) other ≡ Running running
+      → reverse (set items (length items - 1) (Running (record running { next = next }))) ≡ at_next next (reverse items)
+  next_written next running is =
+      topmost_set items (Running (record running { next = next })) some
+      ∙ sym (ap (at_next next) (topmost_is items other some) ∙ ap (λ frame. with_next next frame ∷ below (reverse items)) is)
+
+  pub next_spared : (next : ℕ) (looping : LoopingFrame) → get_or items (length items - 1) other ≡ Looping looping
+      → reverse (set items (length items - 1) (get_or items (length items - 1) other)) ≡ at_next next (reverse items)
+  next_spared next looping is =
+      topmost_set items (get_or items (length items - 1) other) some
+      ∙ (ap (λ frame. frame ∷ below (reverse items)) is ∙ sym (ap (at_next next) (topmost_is items other some) ∙ ap (λ frame. with_next next frame ∷ below (reverse items)) is))
+
+  pub state_written : (state : KState) (looping : LoopingFrame) → get_or items (length items - 1) other ≡ Looping looping
+      → reverse (set items (length items - 1) (Looping (record looping { state = state }))) ≡ in_state state (reverse items)
+  state_written state looping is =
+      topmost_set items (Looping (record looping { state = state })) some
+      ∙ sym (ap (in_state state) (topmost_is items other some) ∙ ap (λ frame. with_state state frame ∷ below (reverse items)) is)
+
+  pub state_spared : (state : KState) (running : RunningFrame) → get_or items (length items - 1) other ≡ Running running
+      → reverse (set items (length items - 1) (get_or items (length items - 1) other)) ≡ in_state state (reverse items)
+  state_spared state running is =
+      topmost_set items (get_or items (length items - 1) other) some
+      ∙ (ap (λ frame. frame ∷ below (reverse items)) is ∙ sym (ap (in_state state) (topmost_is items other some) ∙ ap (λ frame. with_state state frame ∷ below (reverse items)) is))

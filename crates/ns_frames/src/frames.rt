@@ -98,23 +98,13 @@ impl Frames {
         let _ended = self.items.pop();
     }
 
-    /// Puts a frame in place of the topmost.
-    #[inline(always)]
-    fn replace(&mut self, frame: Frame)
-        requires { 0 < length self.old.items }
-        ensures { self.new ≡ record self.old { items = frame ∷ below self.old.items } }
-    {
-        set_last(&mut self.items, frame);
-    }
-
     /// Keeps the number of the next instruction in the topmost, where that is a body's.
     #[inline(always)]
     pub fn set_next(&mut self, next: u32)
         requires { 0 < length self.old.items }
         ensures { self.new ≡ record self.old { items = at_next next self.old.items } }
     {
-        let frame = with_next(*self.top(), next);
-        self.replace(frame);
+        set_last_next(&mut self.items, next);
     }
 
     /// Keeps the state in the topmost, where that is a method's of the kernel.
@@ -123,8 +113,7 @@ impl Frames {
         requires { 0 < length self.old.items }
         ensures { self.new ≡ record self.old { items = in_state state self.old.items } }
     {
-        let frame = with_state(*self.top(), state);
-        self.replace(frame);
+        set_last_state(&mut self.items, state);
     }
 
     /// How many frames there are down to the method of that home, with it, where it is there.
@@ -142,28 +131,6 @@ impl Frames {
     }
 }
 
-/// A frame with the number of its next instruction.
-#[inline(always)]
-fn with_next(frame: Frame, next: u32) -> Frame
-    ensures { result ≡ with_next next frame }
-{
-    match frame {
-        Frame::Running(running) => Frame::Running(RunningFrame { next, ..running }),
-        Frame::Looping(_) => frame,
-    }
-}
-
-/// A frame with the state of its method of the kernel.
-#[inline(always)]
-fn with_state(frame: Frame, state: KState) -> Frame
-    ensures { result ≡ with_state state frame }
-{
-    match frame {
-        Frame::Running(_) => frame,
-        Frame::Looping(looping) => Frame::Looping(LoopingFrame { state, ..looping }),
-    }
-}
-
 /// The last frame.
 #[inline(always)]
 #[tactic(auto, using(crate::proofs::Topmost::topmost_is))]
@@ -174,15 +141,32 @@ fn last(items: &[Frame]) -> &Frame
     &items[items.len() - 1]
 }
 
-/// Puts a frame in place of the last.
+/// Keeps the number of the next instruction in the last frame, where that is a body's.
 #[inline(always)]
-#[tactic(auto, using(crate::proofs::Topmost::topmost_set))]
-fn set_last(items: &mut [Frame], frame: Frame)
+#[tactic(auto, using(crate::proofs::Topmost::next_written, crate::proofs::Topmost::next_spared))]
+fn set_last_next(items: &mut [Frame], next: u32)
     requires { 0 < length items.old }
-    ensures { reverse items.new ≡ frame ∷ below (reverse items.old) }
+    ensures { reverse items.new ≡ at_next next (reverse items.old) }
 {
     let last = items.len() - 1;
-    items[last] = frame;
+    match &mut items[last] {
+        Frame::Running(running) => running.next = next,
+        Frame::Looping(_) => {}
+    }
+}
+
+/// Keeps the state in the last frame, where that is a method's of the kernel.
+#[inline(always)]
+#[tactic(auto, using(crate::proofs::Topmost::state_written, crate::proofs::Topmost::state_spared))]
+fn set_last_state(items: &mut [Frame], state: KState)
+    requires { 0 < length items.old }
+    ensures { reverse items.new ≡ in_state state (reverse items.old) }
+{
+    let last = items.len() - 1;
+    match &mut items[last] {
+        Frame::Running(_) => {}
+        Frame::Looping(looping) => looping.state = state,
+    }
 }
 
 /// How many frames there are from the last back to the method of that home, with it, where it is there.

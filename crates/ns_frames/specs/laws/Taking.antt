@@ -1,5 +1,5 @@
 -- Fewer values: what is taken off the operands.
-use Rattle.std.proofs.Common.{◌≡◌, ℕ, ◌+◌, ◌-◌, ◌≤◌, List, [], ◌∷◌, ◌++◌, length, take, drop, ap, sym, subst, ◌∙◌, arith, length-take-le, length-drop}
+use Rattle.std.proofs.Common.{◌≡◌, ℕ, ◌-◌, ◌≤◌, List, [], ◌∷◌, ◌++◌, length, take, drop, ap, sym, subst, ◌∙◌, arith, length-take-le, length-drop}
 use Rattle.std.proofs.lemmas.List.{take-take, take-append-drop, length-reverse}
 use Rattle.ns_world.specs.declared.value.Value.{Value}
 use Rattle.ns_frames.specs.declared.frame.Frame.{Frame}
