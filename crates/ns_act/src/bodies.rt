@@ -5,8 +5,7 @@ ghost use Rattle.ns_world.specs.declared.value.Value.{Value};
 ghost use Rattle.ns_world.specs.Cell.{EnvironmentCell};
 ghost use Rattle.ns_world.specs.World.{MakesCell, entered};
 ghost use Rattle.ns_send.specs.Bodies.{first_locals};
-ghost use Rattle.ns_send.specs.Classes as classes;
-ghost use Rattle.ns_send.specs.Control.{Progress, in_world};
+ghost use Rattle.ns_send.specs.Control.{Progress, in_world, frame_left};
 ghost use Rattle.ns_send.specs.Shown.{given_values, passed};
 ghost use Rattle.ns_act.specs.Plain.{IsOwnGiven, IsPlain};
 ghost use Rattle.ns_act.specs.Room.{HasRoom, SameRest};
@@ -152,7 +151,7 @@ pub fn enter_part(
 #[inline]
 pub fn part_ended(world: &mut World)
     requires { 0 < world.old.world.depth }
-    ensures ended { (rest : Progress) → in_world rest world.new.world ≡ classes.part_ended (in_world rest world.old.world) }
+    ensures ended { (rest : Progress) → in_world rest world.new.world ≡ frame_left (in_world rest world.old.world) }
     ensures rest { SameRest world.old world.new }
 {
     world.leave();

@@ -12,7 +12,6 @@ ghost use Rattle.ns_send.specs.Classes as spec;
 ghost use Rattle.ns_send.specs.Control.{Progress, Now};
 ghost use Rattle.ns_send.specs.Lawful.{HasClass, FitsExit};
 ghost use Rattle.ns_send.specs.Shown.{reached_shown, part_shown, answer_shown, exit_shown, given_values};
-ghost use Rattle.ns_send.specs.Site.{make_fault};
 ghost use Rattle.ns_act.specs.Plain.{IsOwnGiven, IsPlain};
 ghost use Rattle.ns_act.specs.Room.{HasRoom, SameRest};
 ghost use Rattle.ns_act.specs.Running.{activation_at};
@@ -20,14 +19,16 @@ ghost use Rattle.ns_act.specs.Stated.{ReachesAnyhow, ReachesGiven, PartReachesAs
 ghost use Rattle.ns_act.specs.declared.running.Running.{Running};
 
 use crate::bodies::{enter_body, enter_part, open_body};
-use crate::running::{NO_HOME, Running, cell_number, clause, initialiser};
+use crate::running::{NO_HOME, Running, clause, initialiser};
 use ns_base::selector::Sel;
-use ns_classes::apply::{MakeFault, apply};
+use ns_classes::apply::apply;
 use ns_classes::layout::{layout, word};
 use ns_classes::nested::{nested, nested_entry};
 use ns_code::program::CodeProgram;
+use ns_mirror::mirror::cell_number;
 use ns_send::control::{Answer, Exit, Given, PartReached, Reached};
 use ns_send::finding::{nested_classes_can_be_kept, superclasses_are_there};
+use ns_send::site::make_fault;
 use ns_world::cell::NewCell;
 use ns_world::ending::{Fault, Kind, LimitKind};
 use ns_world::lawful::charging_keeps_lawful;
@@ -230,18 +231,6 @@ fn keep(world: &mut World, code: &CodeProgram, object: u32, holder: u32, class: 
     let entry = nested_entry(code, world.declaration(holder), class);
     let at = word(world, code, holder, entry);
     world.write(object, at, Value::Ref(number));
-}
-
-/// The fault of a class that can't be made.
-fn make_fault(fault: MakeFault) -> Fault
-    ensures { result ≡ make_fault fault }
-{
-    match fault {
-        MakeFault::NotAClass => Fault::Kind(Kind::NotAClass),
-        MakeFault::KernelSuper => Fault::Kind(Kind::KernelSuper),
-        MakeFault::ChainLimit => Fault::Kind(Kind::ChainLimit),
-        MakeFault::CellLimit => Fault::Limit(LimitKind::Cells),
-    }
 }
 
 /// The superclass part of the class whose initialiser runs, with the arguments of its superclass

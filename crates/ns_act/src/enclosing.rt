@@ -9,8 +9,9 @@ ghost use Rattle.ns_send.specs.Lawful.{FitsActivation, declaration_at};
 ghost use Rattle.ns_act.specs.Enclosing.{place_of};
 ghost use Rattle.ns_act.specs.Running.{activation_at, code_of};
 
-use crate::running::{Running, cell_number};
+use crate::running::Running;
 use ns_code::program::CodeProgram;
+use ns_mirror::mirror::cell_number;
 use ns_send::finding::enclosing_objects_are_there;
 use ns_world::cell::NewCell;
 use ns_world::value::Value;

@@ -12,8 +12,9 @@ ghost use Rattle.ns_act.specs.Room.{SameRest};
 ghost use Rattle.ns_act.specs.Running.{activation_at, code_of};
 ghost use Rattle.ns_act.specs.Locals.{HasEnvironments, HasLocal, environments_out};
 
-use crate::running::{Running, cell_number, has_environment};
+use crate::running::{Running, has_environment};
 use ns_code::program::CodeProgram;
+use ns_mirror::mirror::cell_number;
 use ns_world::cell::NewCell;
 use ns_world::value::Value;
 use ns_world::world::World;

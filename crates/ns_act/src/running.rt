@@ -2,7 +2,6 @@
 
 ghost use Rattle.std.specs.Prelude.{◌≡◌, ◌-◌};
 ghost use Rattle.ns_find.specs.Find.{side_of};
-ghost use Rattle.ns_mirror.specs.Mirror.{cell_number};
 ghost use Rattle.ns_send.specs.Bodies as bodies;
 
 use ns_code::program::CodeProgram;
@@ -86,16 +85,5 @@ pub fn clause(code: &CodeProgram, decl: u32) -> Option<u32>
     match code.classes.as_slice().get(decl as usize) {
         Some(class) => class.clause,
         None => None,
-    }
-}
-
-/// The number of the cell that a value refers to, 0 where it refers to none.
-#[inline(always)]
-pub fn cell_number(value: Value) -> u32
-    ensures { result ≡ cell_number value }
-{
-    match value {
-        Value::Ref(at) => at,
-        _ => 0,
     }
 }

@@ -1,11 +1,8 @@
-//! Slots of objects.
+//! Slots that initialisers fill.
 
-ghost use Rattle.std.specs.Prelude.{◌≡◌, ℕ, ◌<◌, length, IsTrue};
-ghost use Rattle.ns_world.specs.declared.value.Value.TheVariants.{Ref};
-ghost use Rattle.ns_world.specs.Heap.{find_cell, is_class, words_at, open_words_at};
+ghost use Rattle.std.specs.Prelude.{◌≡◌, IsTrue};
+ghost use Rattle.ns_world.specs.Heap.{find_cell, is_class};
 ghost use Rattle.ns_world.specs.Lawful.{IsLawful};
-ghost use Rattle.ns_kdata.specs.Rows.{stored};
-ghost use Rattle.ns_mirror.specs.Slots as slots;
 ghost use Rattle.ns_send.specs.declared.site.Site.{Site};
 ghost use Rattle.ns_send.specs.Control.{Progress, in_world};
 ghost use Rattle.ns_send.specs.Classes as spec;
@@ -16,33 +13,10 @@ ghost use Rattle.ns_act.specs.Running.{activation_at, code_of};
 use crate::running::Running;
 use ns_classes::layout::word;
 use ns_code::program::CodeProgram;
+use ns_mirror::slots::store;
 use ns_send::finding::entries_are_inside;
 use ns_world::value::Value;
 use ns_world::world::World;
-
-/// A word of an object, nil of any other value.
-#[inline]
-pub fn word_of_object(world: &World, object: Value, word: u32) -> Value
-    requires { (at : ℕ) → object ≡ Ref at → word < length (words_at world.now.world.cells at) }
-    ensures { result ≡ slots.word_of_object world.now.world.cells object word }
-{
-    match object {
-        Value::Ref(at) => world.read(at, word),
-        _ => Value::Nil,
-    }
-}
-
-/// Stores a word of an object; of any other value nothing.
-#[inline]
-pub fn store(world: &mut World, object: Value, word: u32, value: Value)
-    requires { (at : ℕ) → object ≡ Ref at → word < length (open_words_at world.old.world.cells at) }
-    ensures { world.new ≡ record world.old { world = stored world.old.world object word value } }
-{
-    match object {
-        Value::Ref(at) => world.write(at, word, value),
-        _ => {}
-    }
-}
 
 /// Fills a slot of the holder of running code in its self.
 #[inline]

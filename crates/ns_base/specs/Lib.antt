@@ -4,8 +4,11 @@ pub mod Limits
 pub mod MemShelf
 pub mod MemSink
 pub mod Names
+pub mod Quoted
 pub mod Stored
 pub mod Shelf
 pub mod Sink
+pub mod Spelling
 pub mod Status
 pub mod TextIndex
+pub mod laws

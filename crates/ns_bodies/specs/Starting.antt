@@ -7,8 +7,9 @@ use Rattle.ns_scope.specs.Bodies as b
 use Rattle.ns_code.specs.declared.instruction.Instr.TheVariants as i
 use Rattle.ns_meant.specs.Program as m
 use Rattle.ns_meant.specs.Expressions as e
-use Rattle.ns_meant.specs.Statements.{bars_values, statements_steps, expression_of}
+use Rattle.ns_meant.specs.Statements.{bars_values, statements_steps}
 use Rattle.ns_meant.specs.Classes.{super_arguments}
+use Rattle.ns_meant.specs.Tables.{step_node}
 use Rattle.ns_gen.specs.Code.{does, starts, how_many}
 use Rattle.ns_write.specs.Drafts.{Written, with_line}
 use Rattle.ns_write.specs.Sending.{with_nodes}
@@ -30,7 +31,7 @@ with_expressions (node ∷ nodes) before = with_expressions nodes (with_ended no
 
 -- the expressions of statements
 abbrev pub expressions_of : e.Standing → ℕ → p.Statements → List m.Node
-expressions_of here next body = map expression_of (statements_steps here next body)
+expressions_of here next body = map step_node (statements_steps here next body)
 
 -- The start of an object of a class with this name, clause, slots and statements; its first block has that number.
 abbrev pub start_of : e.Standing → ℕ → Named → Option p.SuperClause → p.Bars → p.Statements → m.Initialiser

@@ -6,8 +6,9 @@ ghost use Rattle.ns_scope.specs.Bodies.{expr_blocks, message_blocks, super_block
 ghost use Rattle.ns_code.specs.declared.instruction.Instr.TheVariants.{Pop};
 ghost use Rattle.ns_meant.specs.Program.{as_initialiser};
 ghost use Rattle.ns_meant.specs.Expressions.{place_at, expr_node, message_said};
-ghost use Rattle.ns_meant.specs.Statements.{first_values, slots_values, bars_values, step_of, list_steps, expression_of};
+ghost use Rattle.ns_meant.specs.Statements.{first_values, slots_values, bars_values, step_of, list_steps};
 ghost use Rattle.ns_meant.specs.Classes.{super_arguments};
+ghost use Rattle.ns_meant.specs.Tables.{step_node};
 ghost use Rattle.ns_gen.specs.Code.{how_many};
 ghost use Rattle.ns_write.specs.Sending.{standing, with_nodes};
 ghost use Rattle.ns_bodies.specs.Stepping.{with_ended, with_body};
@@ -201,7 +202,7 @@ fn put_list(
     list: &[Statement],
 ) -> Result<(), NoMemory>
     ensures put { OnOk result (writer.new ≡ with_expressions
-        (map expression_of (list_steps (standing here.now) next.old (statement_list_of list.now))) writer.old) }
+        (map step_node (list_steps (standing here.now) next.old (statement_list_of list.now))) writer.old) }
     ensures next { OnOk result (next.new ≡ next.old + length (list_blocks here.now.scope.now (statement_list_of list.now))) }
 {
     for statement in list {
@@ -218,7 +219,7 @@ fn put_statement(
     next: &mut u32,
     statement: &Statement,
 ) -> Result<(), NoMemory>
-    ensures put { OnOk result (writer.new ≡ with_ended (expression_of (step_of (standing here.now) next.old (statement_of statement.now))) Pop writer.old) }
+    ensures put { OnOk result (writer.new ≡ with_ended (step_node (step_of (standing here.now) next.old (statement_of statement.now))) Pop writer.old) }
     ensures next { OnOk result (next.new ≡ next.old + length (statement_blocks here.now.scope.now (statement_of statement.now))) }
 {
     put_ended(writer, here, next, &statement.expr, Instr::Pop)

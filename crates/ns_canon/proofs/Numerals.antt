@@ -3,7 +3,7 @@ use Rattle.std.proofs.Common.{rules, ◌≤◌, ℕ, fold, arith}
 use Rattle.std.proofs.lemmas.Fmt.{decimal_nonempty, digits_decimal, digits_value-decimal}
 use Rattle.std.proofs.lemmas.Str.Parse.{IsNumeralModel, numerals_by_fold}
 use Rattle.std.specs.Prelude.{decimal}
-use Rattle.ns_lex.specs.Bytes.{is_digit}
+use Rattle.ns_base.specs.Spelling.{is_digit}
 use Rattle.ns_lex.specs.Number.{with_digit, greatest}
 use Rattle.ns_lex.specs.Piece.{Text}
 use Rattle.ns_lex.specs.Spells.{AllOf, Spells}

@@ -1,22 +1,20 @@
 -- The canonical text of a token that some text spells spells it.
-use Rattle.std.proofs.Common.{◌≡◌, ◌≢◌, ℕ, ◌⊎◌, inl, inr, Bool, true, false, ◌==◌, ◌||◌, ◌&&◌, cond, if◌then◌else◌, IsTrue, List, [], ◌∷◌, ◌++◌, Some, None, refl, sym, ap, subst, ◌∙◌, arith, codes}
+use Rattle.std.proofs.Common.{◌≡◌, ◌≢◌, ℕ, ◌⊎◌, inl, inr, Bool, true, false, ◌||◌, ◌&&◌, if◌then◌else◌, IsTrue, List, [], ◌∷◌, ◌++◌, Some, None, refl, sym, subst, arith, codes}
 use Rattle.std.specs.Prelude.{flat_map}
 use Rattle.std.specs.List.{list_all}
 use Rattle.std.specs.Str.{bytes_eq}
 use Rattle.std.proofs.lemmas.List.{append-nil}
 use Rattle.std.proofs.lemmas.Slice.Eq.{bytes_eq-Decides}
-use Rattle.ns_tree.specs.Bytes as bytes
+use Rattle.ns_base.specs.Spelling.{goes_on_name, is_identifier, is_operator_byte, is_operator, is_reserved}
 use Rattle.ns_tree.specs.Tree as tree
 use Rattle.ns_tree.specs.declared.token.Kind.{Kind}
 use Rattle.ns_tree.specs.declared.token.Kind.TheVariants as k
 use Rattle.ns_tree.specs.declared.token.Reserved.{Reserved}
 use Rattle.ns_tree.specs.declared.token.Reserved.TheVariants as words
-use Rattle.ns_lex.specs.Bytes as lexed
 use Rattle.ns_lex.specs.Piece.{Text}
 use Rattle.ns_lex.specs.Spells.{AllOf, IsName, IsKey, IsKeys, IsOperator, Spells}
-use Rattle.ns_lex.specs.Spells as texts
 use Rattle.ns_lex.specs.Word.{reserved}
-use Rattle.ns_print.specs.Printed.{doubled, spell, word}
+use Rattle.ns_print.specs.Printed.{spell, word}
 use Rattle.ns_canon.proofs.Numerals.{number_spelled}
 
 -- ---- names
@@ -25,11 +23,11 @@ parts : (x y : Bool) → (x && y) ≡ true → (x ≡ true) × (y ≡ true)
 parts true y h = (refl, h)
 parts false y h = absurd cc
 
-in_name : (t : Text) → list_all (λ c. bytes.begins_name c || bytes.is_digit c) t ≡ true → AllOf lexed.is_in_name t
+in_name : (t : Text) → list_all goes_on_name t ≡ true → AllOf goes_on_name t
 in_name [] h = tt
 in_name (b ∷ t) h = let x = parts _ _ h in (x.0, in_name t x.1)
 
-name_of : (t : Text) → IsTrue (bytes.is_name t) → IsName t
+name_of : (t : Text) → IsTrue (is_identifier t) → IsName t
 name_of [] h = absurd cc
 name_of (b ∷ t) h = let x = parts _ _ h in (x.0, in_name t x.1)
 
@@ -48,7 +46,7 @@ none_of false false false false false false false false true j x = absurd cc
 none_of false false false false false false false false false true x = absurd cc
 none_of false false false false false false false false false false x = refl
 
-not_reserved : (t : Text) → bytes.is_reserved t ≡ false → reserved t ≡ None
+not_reserved : (t : Text) → is_reserved t ≡ false → reserved t ≡ None
 not_reserved t x =
     none_of (bytes_eq t (codes "class")) (bytes_eq t (codes "public")) (bytes_eq t (codes "protected")) (bytes_eq t (codes "private")) (bytes_eq t (codes "self")) (bytes_eq t (codes "super")) (bytes_eq t (codes "outer")) (bytes_eq t (codes "true")) (bytes_eq t (codes "false")) (bytes_eq t (codes "nil")) x
 
@@ -77,7 +75,7 @@ keys_more n t u key cut (m ∷ ks, x) = (n ∷ m ∷ ks, (key, (u, cut, x)))
 abbrev with_colons : List Text → Text
 with_colons = flat_map (λ name. name ++ 58 ∷ [])
 
-keys_of : (names : List Text) → IsTrue (list_all bytes.is_name names) → names ≢ [] → (ks : List Text) × IsKeys (with_colons names) ks
+keys_of : (names : List Text) → IsTrue (list_all is_identifier names) → names ≢ [] → (ks : List Text) × IsKeys (with_colons names) ks
 keys_of [] all some = absurd (some refl)
 keys_of (n ∷ []) all some = ((n ++ 58 ∷ []) ∷ [], ((n, name_of n (parts _ _ all).0, refl), append-nil (n ++ 58 ∷ [])))
 keys_of (n ∷ m ∷ ns) all some =
@@ -85,28 +83,17 @@ keys_of (n ∷ m ∷ ns) all some =
 
 -- ---- operators
 
-all_operators : (t : Text) → list_all bytes.is_operator_byte t ≡ true → AllOf lexed.is_operator t
+all_operators : (t : Text) → list_all is_operator_byte t ≡ true → AllOf is_operator_byte t
 all_operators [] h = tt
 all_operators (b ∷ t) h = let x = parts _ _ h in (x.0, all_operators t x.1)
 
-operator_by : (b : ℕ) (t : Text) (run : Bool) → list_all bytes.is_operator_byte (b ∷ t) ≡ run → (run || bytes_eq (b ∷ t) (codes "<:")) ≡ true → IsOperator (b ∷ t)
+operator_by : (b : ℕ) (t : Text) (run : Bool) → list_all is_operator_byte (b ∷ t) ≡ run → (run || bytes_eq (b ∷ t) (codes "<:")) ≡ true → IsOperator (b ∷ t)
 operator_by b t true e h = inl (omega arith, all_operators (b ∷ t) e)
 operator_by b t false e h = inr ((bytes_eq-Decides (b ∷ t) (codes "<:")).0 h)
 
-operator_of : (t : Text) → IsTrue (bytes.is_operator t) → IsOperator t
+operator_of : (t : Text) → IsTrue (is_operator t) → IsOperator t
 operator_of [] h = absurd cc
-operator_of (b ∷ t) h = operator_by b t (list_all bytes.is_operator_byte (b ∷ t)) refl h
-
--- ---- strings
-
-double_by : (b : ℕ) (rest : Text) (quote : Bool) → ((if quote then codes "''" else b ∷ []) ++ rest) ≡ cond quote (39 ∷ 39 ∷ rest) (b ∷ rest)
-double_by b rest true = refl
-double_by b rest false = refl
-
--- both ways to double quotes
-doubled_same : (s : Text) → doubled s ≡ texts.doubled s
-doubled_same [] = refl
-doubled_same (b ∷ s) = double_by b (doubled s) (b == 39) ∙ ap (λ r. cond (b == 39) (39 ∷ 39 ∷ r) (b ∷ r)) (doubled_same s)
+operator_of (b ∷ t) h = operator_by b t (list_all is_operator_byte (b ∷ t)) refl h
 
 -- ---- each kind
 
@@ -126,7 +113,7 @@ spelled (k.Key s) h = (key_of s h, refl)
 spelled (k.SetKey s) h = (name_of s h, refl)
 spelled (k.Oper s) h = (operator_of s h, refl)
 spelled (k.Number v) h = number_spelled v h
-spelled (k.Str s) h = ap (λ t. 39 ∷ (t ++ 39 ∷ [])) (doubled_same s)
+spelled (k.Str s) h = refl
 spelled (k.Symbol s) h = (symbol_of s h, refl)
 spelled k.Open h = refl
 spelled k.Close h = refl

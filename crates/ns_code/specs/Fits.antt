@@ -5,6 +5,7 @@ use Rattle.std.specs.List.{AllPairs, slice_index_or}
 use Rattle.std.specs.Str.{IsUtf8}
 use Rattle.std.specs.Int.{w64}
 use Rattle.ns_base.specs.declared.place.Place.{Place}
+use Rattle.ns_base.specs.Spelling.{is_identifier, is_selector, is_reserved}
 use Rattle.ns_code.specs.declared.program.CodeProgram.{CodeProgram}
 use Rattle.ns_code.specs.declared.class.ClassCode.{ClassCode}
 use Rattle.ns_code.specs.declared.class.SlotCode.{SlotCode}
@@ -13,7 +14,6 @@ use Rattle.ns_code.specs.declared.class.MethodCode.{MethodCode}
 use Rattle.ns_code.specs.declared.body.BodyCode.{BodyCode}
 use Rattle.ns_code.specs.declared.instruction.Instr.{Instr}
 use Rattle.ns_code.specs.declared.instruction.Instr.TheVariants.{PushInt, PushSym, PushText, PushOuter, PushLocal, StoreLocal, PushBlock, MakeArray, Pick, Send, SendInner, SendPrivate, SendSuper, InitSuper, StoreSlot, Jump, JumpFalse, JumpTrue}
-use Rattle.ns_code.specs.Spelling.{is_selector, is_identifier, is_reserved}
 
 -- a number of one, two or four bytes
 abbrev pub IsByte : ℕ → Type 0

@@ -1,6 +1,7 @@
+pub mod Access
+pub mod Heads
 pub mod Table
 pub mod Own
-pub mod Spelling
 pub mod Selector
 pub mod Fits
 pub mod Soundness

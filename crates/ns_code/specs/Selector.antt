@@ -2,10 +2,10 @@
 use Rattle.std.specs.Prelude.{ℕ, ◌-◌, List, [], ◌∷◌, ◌==◌, nat_lt, length, count_by, if◌then◌else◌, Bool, ◌&&◌, ◌||◌, not, ◌+◌}
 use Rattle.std.specs.List.{slice_index_or, list_any}
 use Rattle.std.specs.Str.{bytes_eq}
+use Rattle.ns_base.specs.Spelling.{begins_name}
 use Rattle.ns_code.specs.declared.program.CodeProgram.{CodeProgram}
 use Rattle.ns_code.specs.declared.own.Own.{Own}
 use Rattle.ns_code.specs.Own.{own_text, own_place, own_texts}
-use Rattle.ns_code.specs.Spelling.{begins_name}
 
 -- the text of the own selector of that place, empty past the last
 abbrev pub own_text_at : ℕ → List ℕ

@@ -4,13 +4,13 @@ use Rattle.std.specs.Option.{option_map_or}
 use Rattle.std.specs.List.{list_any, list_all}
 use Rattle.std.specs.Str.{bytes_eq}
 use Rattle.ns_base.specs.declared.selector.Sel.{Sel}
+use Rattle.ns_base.specs.Spelling.{is_identifier}
 use Rattle.ns_code.specs.declared.program.CodeProgram.{CodeProgram}
 use Rattle.ns_code.specs.declared.class.ClassCode.{ClassCode}
 use Rattle.ns_code.specs.declared.class.SlotCode.{SlotCode}
 use Rattle.ns_code.specs.declared.class.NestedCode.{NestedCode}
 use Rattle.ns_code.specs.declared.class.MethodCode.{MethodCode}
 use Rattle.ns_code.specs.declared.body.BodyCode.{BodyCode}
-use Rattle.ns_code.specs.Spelling.{is_identifier}
 use Rattle.ns_code.specs.Selector.{selector_arity}
 
 -- the kinds of bodies and the sides

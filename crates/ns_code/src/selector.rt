@@ -2,11 +2,11 @@
 
 ghost use Rattle.std.specs.Prelude.{◌≡◌, ◌==◌, count_by};
 ghost use Rattle.ns_code.specs.Selector.{selector_text, selector_arity, text_arity, own_text_at};
-ghost use Rattle.ns_code.specs.Spelling.{begins_name};
 
 use crate::own::Own;
 use crate::program::CodeProgram;
 use ns_base::selector::Sel;
+use ns_base::spelling::begins_name;
 
 impl CodeProgram {
     /// The text of a selector: a name of the code, or one of the machine's own, whose numbers
@@ -57,11 +57,4 @@ fn colons(text: &[u8]) -> usize
     ensures { result ≡ count_by (λ b. b == 58) text.now }
 {
     text.iter().filter(|byte| **byte == b':').count()
-}
-
-/// Whether an identifier can begin with this byte: a letter or an underscore.
-pub fn begins_name(byte: u8) -> bool
-    ensures { result ≡ begins_name byte }
-{
-    (byte >= b'A' && byte <= b'Z') || (byte >= b'a' && byte <= b'z') || byte == b'_'
 }

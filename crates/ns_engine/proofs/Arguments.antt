@@ -1,10 +1,10 @@
 -- How many arguments a selector takes at most.
-use Rattle.std.proofs.Common.{◌≡◌, ◌-◌, ◌≤◌, ℕ, zero, suc, List, [], ◌∷◌, length, max, refl, arith, Bool, true, false, if◌then◌else◌}
+use Rattle.std.proofs.Common.{◌-◌, ◌≤◌, ℕ, zero, suc, List, [], ◌∷◌, length, arith, Bool, true, false, if◌then◌else◌}
 use Rattle.std.specs.Prelude.{nat_lt}
 use Rattle.std.specs.List.{slice_index_or}
 use Rattle.std.proofs.Math.Nat.{le-max_left, le-max_right}
 use Rattle.ns_code.specs.declared.program.CodeProgram.{CodeProgram}
-use Rattle.ns_code.specs.Selector.{own_text_at, selector_text, selector_arity, text_arity}
+use Rattle.ns_code.specs.Selector.{own_text_at, selector_arity, text_arity}
 use Rattle.ns_engine.specs.Standing.{most_arguments}
 
 -- those that the machine sends by itself take at most two

@@ -16,7 +16,7 @@ use Rattle.ns_send.specs.declared.control.Entered.{Entered}
 use Rattle.ns_send.specs.declared.control.Given.{Given}
 use Rattle.ns_send.specs.declared.control.Given.TheVariants as given
 use Rattle.ns_send.specs.declared.control.Reached.TheVariants as reached
-use Rattle.ns_send.specs.Bodies.{parameters_of, locals_of, has_environment}
+use Rattle.ns_send.specs.Bodies.{parameters_of, locals_of, has_environment, height_in, greatest_of}
 use Rattle.ns_send.specs.Shown.{given_values, passed, reached_shown}
 use Rattle.ns_send.specs.Fitting.{StandsWell, FitsNext}
 use Rattle.ns_frames.specs.declared.calls.Call.{Call}
@@ -27,7 +27,6 @@ use Rattle.ns_frames.specs.Room.{DepthGivesRoom}
 use Rattle.ns_frames.specs.Stack.{IsLaid}
 use Rattle.ns_engine.specs.declared.state.Core.{Core}
 use Rattle.ns_engine.specs.Shown.{progress_in}
-use Rattle.ns_engine.specs.Standing.{height_in, greatest_of}
 use Rattle.ns_engine.specs.Arriving.{CanEnter}
 use Rattle.ns_engine.specs.Entering.{MayEnter}
 use Rattle.ns_engine.specs.laws.Sizes.{size_fits}

@@ -16,7 +16,7 @@ use Rattle.ns_verify.specs.Chains.{body_around, body_at}
 use Rattle.ns_verify.specs.Uses.{HasLocal as NamesLocal}
 use Rattle.ns_send.specs.Control.{Activation}
 use Rattle.ns_send.specs.Bodies.{has_environment, locals_of, environment_out, parent_in, is_beside}
-use Rattle.ns_moves.specs.ValidFrames.{environment_body, locals_beside}
+use Rattle.ns_send.specs.Fitting.{environment_body, locals_beside}
 use Rattle.ns_moves.specs.laws.Levels.{around_is}
 use Rattle.ns_act.specs.Locals.{HasEnvironments, HasLocal}
 

@@ -36,7 +36,7 @@ use Rattle.ns_frames.specs.View.{leaving_shown, activation_shown, frames_shown}
 use Rattle.ns_engine.specs.declared.state.Core.{Core}
 use Rattle.ns_engine.specs.declared.state.Next.TheVariants.{On}
 use Rattle.ns_engine.specs.Shown.{phase_shown, progress_in, shown}
-use Rattle.ns_engine.specs.Standing.{height_in}
+use Rattle.ns_send.specs.Bodies.{height_in}
 use Rattle.ns_engine.specs.Doing.{done, FindsIn, Finds}
 use Rattle.ns_engine.specs.Moving.{HasNextStep}
 

@@ -19,7 +19,8 @@ use Rattle.ns_send.specs.Control.{Progress}
 use Rattle.ns_moves.specs.State as state
 use Rattle.ns_moves.specs.State.{Phase, Going, Pending, Pends}
 use Rattle.ns_moves.specs.Steps.{Step, steps_from}
-use Rattle.ns_moves.specs.ValidFrames.{Awaited, Nothing, SendValue, BlockValue, PartEnd, kind_of, is_send, WaitsBehind, FrameIsValid, FramesAreValid, awaited_below, awaited_for, next_number}
+use Rattle.ns_moves.specs.ValidFrames.{Awaited, Nothing, SendValue, BlockValue, PartEnd, is_send, WaitsBehind, FrameIsValid, FramesAreValid, awaited_below, awaited_for, next_number}
+use Rattle.ns_send.specs.Fitting.{kind_of}
 use Rattle.ns_moves.specs.Valid.{Valid}
 use Rattle.ns_frames.specs.declared.frame.Activation.{Activation}
 use Rattle.ns_frames.specs.declared.frame.Leaving.{Leaving}
@@ -30,7 +31,7 @@ use Rattle.ns_frames.specs.declared.frame.RunningFrame.{RunningFrame}
 use Rattle.ns_frames.specs.Standing.{Stood, Runs, Loops, standing, at_next}
 use Rattle.ns_frames.specs.View.{leaving_shown, activation_shown, frame_shown, frames_shown}
 use Rattle.ns_frames.specs.laws.Counts.{many_shown}
-use Rattle.ns_engine.specs.Standing.{height_in}
+use Rattle.ns_send.specs.Bodies.{height_in}
 use Rattle.ns_engine.specs.Framed.{HasRoomOnTop, answers, AnswersHaveRoom, AreFramed}
 
 -- ---- sends that wait

@@ -1,6 +1,6 @@
 -- Locals that are read and stored.
 use Rattle.std.proofs.Common.{◌≡◌, ℕ, List, [], ◌∷◌, ap, sym, ◌∙◌, refl, arith, Option, Some, None, false, slice_get}
-use Rattle.std.specs.Prelude.{IsSome}
+use Rattle.std.specs.Prelude.{IsSome, Bool, if◌then◌else◌}
 use Rattle.std.specs.List.{slice_index_or}
 use Rattle.ns_base.specs.declared.place.Place.{Place as SourcePlace}
 use Rattle.ns_code.specs.declared.program.CodeProgram.{CodeProgram}
@@ -13,21 +13,25 @@ use Rattle.ns_world.specs.World.{WorldView}
 use Rattle.ns_verify.specs.Uses.{IsUsable, HasLocal as NamesLocal}
 use Rattle.ns_send.specs.declared.site.Site.{Site}
 use Rattle.ns_send.specs.Control.{Progress, Activation, in_world}
-use Rattle.ns_send.specs.Bodies.{is_beside, locals_with, local_stored}
+use Rattle.ns_send.specs.Bodies.{has_environment, is_beside, locals_with, local_stored}
 use Rattle.ns_moves.specs.State.{Going}
 use Rattle.ns_act.specs.Room.{SameRest}
 use Rattle.ns_act.specs.Running.{activation_at, code_of}
+use Rattle.ns_frames.specs.declared.frame.Frame.{Frame}
 use Rattle.ns_frames.specs.declared.frame.Frame.TheVariants.{Running}
 use Rattle.ns_frames.specs.declared.frame.RunningFrame.{RunningFrame}
 use Rattle.ns_frames.specs.declared.registers.Registers.{Registers}
 use Rattle.ns_frames.specs.Standing.{Stood, Runs, Loops, below, locals_in, operands_in}
 use Rattle.ns_frames.specs.Stack.{stood}
 use Rattle.ns_frames.specs.View.{frames_shown, site_shown, activation_shown}
+use Rattle.ns_engine.specs.declared.on_top.OnTop.{OnTop}
 use Rattle.ns_engine.specs.declared.state.Core.{Core}
 use Rattle.ns_engine.specs.declared.state.Next.TheVariants as next
 use Rattle.ns_engine.specs.Shown.{phase_shown, progress_in}
 use Rattle.ns_engine.specs.Doing.{done, FindsIn, Finds, CanDo, running_of, Does}
 use Rattle.ns_engine.specs.Locals.{LocalIsThere}
+use Rattle.ns_engine.specs.Straight.{IsOnTop}
+use Rattle.ns_engine.specs.laws.Straight.{top_is}
 use Rattle.ns_engine.specs.laws.Pushed.{top_stands}
 use Rattle.ns_engine.specs.laws.Worlds.{in_other}
 use Rattle.ns_engine.specs.laws.Finds.{finds_in}
@@ -66,6 +70,20 @@ pub stored_there : (code : CodeProgram) (core : Core) (at : Registers) (hops ind
     → LocalIsThere code core.stack at core.run.world.world.cells (running_of running.activation) hops index
 stored_there code core at hops index running can top =
     there_in code core at (instr.StoreLocal hops index) hops index running can top (λ body number named. named)
+
+-- ---- the body that runs on top
+
+-- what is known of it is so of its frame
+pub known_there : (code : CodeProgram) (top : OnTop) (frames : List Frame) (running : RunningFrame) → IsOnTop code top frames
+    → frames ≡ Running running ∷ below frames → top.environment ≡ has_environment code running.activation.body
+known_there code top frames running known e =
+    known.environment ∙ ap (λ (body : ℕ). has_environment code body) (sym (top_is top.body frames (below frames) running known.runs e))
+
+-- ---- reading
+
+-- of two values the other, where a test is false
+pub not_taken : {A : Type 0} (b : Bool) (x y : A) → b ≡ false → (if b then x else y) ≡ y
+not_taken b x y e = rw e refl
 
 -- ---- storing
 

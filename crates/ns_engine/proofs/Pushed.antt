@@ -1,5 +1,5 @@
 -- A value that is pushed on the operands of the body that runs.
-use Rattle.std.proofs.Common.{◌≡◌, ℕ, ℤ, ◌-◌, List, [], ◌∷◌, length, ap, sym, subst, ◌∙◌, refl, Option, length-set}
+use Rattle.std.proofs.Common.{◌≡◌, ℕ, ℤ, List, [], ◌∷◌, length, ap, sym, subst, ◌∙◌, refl, Option, length-set}
 use Rattle.ns_base.specs.declared.place.Place.{Place as SourcePlace}
 use Rattle.ns_base.specs.declared.selector.Sel.{Sel}
 use Rattle.ns_code.specs.declared.program.CodeProgram.{CodeProgram}
@@ -19,7 +19,8 @@ use Rattle.ns_frames.specs.View.{frames_shown}
 use Rattle.ns_engine.specs.declared.state.Core.{Core}
 use Rattle.ns_engine.specs.declared.state.Next.TheVariants as next
 use Rattle.ns_engine.specs.Shown.{phase_shown, progress_in, shown}
-use Rattle.ns_engine.specs.Standing.{height_in, greatest_of, AreStanding}
+use Rattle.ns_engine.specs.Standing.{AreStanding}
+use Rattle.ns_send.specs.Bodies.{height_in, greatest_of}
 use Rattle.ns_engine.specs.Doing.{done, Finds, CanDo, Pushed, Does}
 use Rattle.ns_engine.specs.laws.Pushed.{stack_stays, top_stands}
 

@@ -20,7 +20,8 @@ use Rattle.ns_frames.specs.View.{site_shown, frames_shown}
 use Rattle.ns_engine.specs.declared.state.Core.{Core}
 use Rattle.ns_engine.specs.declared.state.Next.{Next}
 use Rattle.ns_engine.specs.Shown.{progress_in, phase_shown, shown}
-use Rattle.ns_engine.specs.Standing.{height_in, greatest_of, StandAt, Stays}
+use Rattle.ns_engine.specs.Standing.{StandAt, Stays}
+use Rattle.ns_send.specs.Bodies.{height_in, greatest_of}
 
 -- what code says of a body
 abbrev pub shape_of : CodeProgram → ℕ → BodyShape

@@ -4,8 +4,7 @@ use Rattle.std.specs.Option.{ForSome}
 use Rattle.ns_code.specs.declared.body.BodyCode.{BodyCode}
 use Rattle.ns_verify.specs.Verify.{IsSound}
 use Rattle.ns_verify.specs.Uses.{IsUsable}
-use Rattle.ns_send.specs.Fitting.{FitsObject}
-use Rattle.ns_moves.specs.ValidFrames.{FitsSite, environment_body, locals_beside}
+use Rattle.ns_send.specs.Fitting.{FitsObject, FitsSite, environment_body, locals_beside}
 use Rattle.ns_base.specs.declared.place.Place.{Place as SourcePlace}
 use Rattle.ns_code.specs.declared.program.CodeProgram.{CodeProgram}
 use Rattle.ns_code.specs.declared.instruction.Instr.{Instr}
@@ -35,7 +34,8 @@ use Rattle.ns_engine.specs.declared.state.Core.{Core}
 use Rattle.ns_engine.specs.declared.state.Next.{Next}
 use Rattle.ns_engine.specs.Shown.{phase_shown, progress_in, shown}
 use Rattle.ns_engine.specs.Framed.{AreFramed}
-use Rattle.ns_engine.specs.Standing.{height_in, AreStanding, Stands, StandAt, Stays, KeepsRightIn}
+use Rattle.ns_engine.specs.Standing.{AreStanding, Stands, StandAt, Stays, KeepsRightIn}
+use Rattle.ns_send.specs.Bodies.{height_in}
 
 -- what an instruction does in a run whose topmost frame stands behind it
 abbrev pub done : CodeProgram → List SourcePlace → Phase → Instr → Option SourcePlace → List Stood → Progress → State

@@ -12,7 +12,8 @@ use Rattle.ns_frames.specs.declared.frame.Leaving.{Leaving}
 use Rattle.ns_frames.specs.declared.frame.Leaving.TheVariants.{Method, Body, Clause, Part}
 use Rattle.ns_frames.specs.Standing.{Stood, Runs, Loops}
 use Rattle.ns_frames.specs.View.{frames_shown}
-use Rattle.ns_engine.specs.Standing.{height_in, most_arguments}
+use Rattle.ns_engine.specs.Standing.{most_arguments}
+use Rattle.ns_send.specs.Bodies.{height_in}
 
 -- A body on top has room for one operand more.
 abbrev pub HasRoomOnTop : CodeProgram → List Stood → Type 0

@@ -1,5 +1,6 @@
 pub mod Shown
 pub mod Doing
+pub mod Straight
 pub mod Tried
 pub mod Standing
 pub mod Moving

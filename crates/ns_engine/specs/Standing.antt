@@ -1,8 +1,6 @@
 -- What stays true of a machine's memory while a run goes on.
-use Rattle.std.specs.Prelude.{◌≡◌, ℕ, ◌+◌, ◌*◌, ◌≤◌, List, [], ◌∷◌, length, max, All, slice_get}
-use Rattle.std.specs.Option.{option_map_or}
+use Rattle.std.specs.Prelude.{◌≡◌, ℕ, ◌+◌, ◌*◌, ◌≤◌, List, [], ◌∷◌, length, max, All}
 use Rattle.ns_code.specs.declared.program.CodeProgram.{CodeProgram}
-use Rattle.ns_code.specs.declared.body.BodyCode.{BodyCode}
 use Rattle.ns_code.specs.Selector.{text_arity}
 use Rattle.ns_find.specs.Memo.{IsRight}
 use Rattle.ns_act.specs.Room.{HasRoom, SameRest}
@@ -17,15 +15,7 @@ use Rattle.ns_frames.specs.Room.{AreWithin, bound}
 use Rattle.ns_engine.specs.declared.state.Core.{Core}
 use Rattle.ns_engine.specs.declared.state.Next.{Next}
 use Rattle.ns_engine.specs.declared.state.Next.TheVariants as next
-
--- how many operands a body has at most
-abbrev pub height_in : CodeProgram → ℕ → ℕ
-height_in code body = option_map_or (λ (b : BodyCode). b.height) (slice_get code.bodies body) 0
-
--- the most values that a frame of these bodies has
-abbrev pub greatest_of : List BodyCode → ℕ
-greatest_of [] = 0
-greatest_of (body ∷ bodies) = max (body.locals + body.height) (greatest_of bodies)
+use Rattle.ns_send.specs.Bodies.{height_in, greatest_of}
 
 -- the most arguments that a selector of these names takes, or one that the machine sends by itself
 abbrev pub most_arguments : List (List ℕ) → ℕ

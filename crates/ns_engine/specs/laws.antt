@@ -3,5 +3,6 @@ pub mod Finds
 pub mod Kept
 pub mod Pushed
 pub mod Sizes
+pub mod Straight
 pub mod Taken
 pub mod Worlds

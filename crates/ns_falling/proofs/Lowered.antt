@@ -25,10 +25,10 @@ use Rattle.ns_kcode.specs.Next.{next}
 use Rattle.ns_kdata.specs.Arguments.{shape_of_value}
 use Rattle.ns_send.specs.declared.site.Site.{Site}
 use Rattle.ns_send.specs.Site.{error}
-use Rattle.ns_send.specs.Control.{Progress, in_world, Activation, FromBody, After, Gives, Halts, Control, Enter, Part, Skip, Stop, EnterPart, charged, halts, fails}
+use Rattle.ns_send.specs.Control.{Progress, in_world, Activation, FromBody, After, Gives, Halts, Control, Enter, Part, Skip, Stop, EnterPart, charged, halts, fails, frame_left}
 use Rattle.ns_send.specs.Bodies.{parameters_of, opened}
 use Rattle.ns_send.specs.Blocks.{block_body_in, block_entered, acted, new_text, new_block, new_array}
-use Rattle.ns_send.specs.Classes.{super_part, body_ended, part_ended}
+use Rattle.ns_send.specs.Classes.{super_part, body_ended}
 use Rattle.ns_moves.specs.State.{Leaving, Loud, Silent, Frame, Running, Looping, Sending, Performing, Evaluating, Phase, Start, First, Second, Hosted}
 use Rattle.ns_moves.specs.State.{State, Unbegun, Going, Pends, Ended, Stuck}
 use Rattle.ns_moves.specs.Steps.{Step, steps_of, steps_from, literal}
@@ -73,11 +73,11 @@ unwound_left : (most : ℕ) (code : CodeProgram) (phase : Phase) (home : ℕ) (v
     → left_of most (unwound code phase home v frames p) ≤ 2 + frames_left most frames
 unwound_left most code phase home v [] p = omega arith
 unwound_left most code phase home v (frame ∷ frames) p = tested (is_home home frame)
-    (delivered_left most code phase v frames (part_ended p)) (unwound_left most code phase home v frames (part_ended p))
+    (delivered_left most code phase v frames (frame_left p)) (unwound_left most code phase home v frames (frame_left p))
   where
-    tested : (b : Bool) → left_of most (delivered code phase v frames (part_ended p)) ≤ 2 + frames_left most frames
-        → left_of most (unwound code phase home v frames (part_ended p)) ≤ 2 + frames_left most frames
-        → left_of most (cond b (delivered code phase v frames (part_ended p)) (unwound code phase home v frames (part_ended p)))
+    tested : (b : Bool) → left_of most (delivered code phase v frames (frame_left p)) ≤ 2 + frames_left most frames
+        → left_of most (unwound code phase home v frames (frame_left p)) ≤ 2 + frames_left most frames
+        → left_of most (cond b (delivered code phase v frames (frame_left p)) (unwound code phase home v frames (frame_left p)))
         ≤ 2 + frames_left most (frame ∷ frames)
     tested true here below = omega (arith, here)
     tested false here below = omega (arith, below)

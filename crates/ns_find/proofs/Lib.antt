@@ -4,3 +4,4 @@ pub mod Parts
 pub mod Keeping
 pub mod Staying
 pub mod Later
+mod Spelled

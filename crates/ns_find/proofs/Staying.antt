@@ -24,7 +24,8 @@ use Rattle.ns_find.specs.declared.members.Wanted.{Wanted}
 use Rattle.ns_find.specs.declared.members.Wanted.TheVariants.{Visible, Private}
 use Rattle.ns_find.specs.declared.members.Side.{Side}
 use Rattle.ns_find.specs.declared.members.Side.TheVariants.{Instance, Class}
-use Rattle.ns_find.specs.Members.{Member, Numbered, SetterOf, search, is_wanted, slots_members, nested_members, method_members, side_members, holder_members, members_along, factory_member, public_access}
+use Rattle.ns_find.specs.Members.{Member, Numbered, SetterOf, search, is_wanted, slots_members, nested_members, method_members, side_members, holder_members, members_along, factory_member}
+use Rattle.ns_code.specs.Access.{public_access}
 use Rattle.ns_find.specs.Rows.{kernel_rows, top_rows, manifest_row}
 use Rattle.ns_find.specs.Find.{members_from, found_from, found_private, is_start}
 

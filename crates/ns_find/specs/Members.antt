@@ -8,6 +8,7 @@ use Rattle.ns_code.specs.declared.class.SlotCode.{SlotCode}
 use Rattle.ns_code.specs.declared.class.NestedCode.{NestedCode}
 use Rattle.ns_code.specs.declared.class.MethodCode.{MethodCode}
 use Rattle.ns_code.specs.Selector.{selector_text}
+use Rattle.ns_code.specs.Access.{public_access, private_access}
 use Rattle.ns_world.specs.Heap.{Heap}
 use Rattle.ns_world.specs.Layout.{declaration_of, entry_word}
 use Rattle.ns_find.specs.declared.found.Found.{Found}
@@ -18,16 +19,6 @@ use Rattle.ns_find.specs.declared.members.Side.{Side}
 use Rattle.ns_find.specs.declared.members.Side.TheVariants.{Instance as InstanceSide, Class as ClassSide}
 use Rattle.ns_find.specs.declared.found.Sending.{Sending}
 use Rattle.ns_find.specs.declared.found.Sending.TheVariants.{Plain, Inner}
-
--- access by number
-abbrev pub public_access : ℕ
-public_access = 0
-
-abbrev pub protected_access : ℕ
-protected_access = 1
-
-abbrev pub private_access : ℕ
-private_access = 2
 
 -- how a member is named: by the number of a name of the code, with a colon behind such a name, by the
 -- name of a class, or by a text

@@ -12,7 +12,8 @@ use Rattle.ns_world.specs.Heap.{Heap}
 use Rattle.ns_world.specs.Seek.{first_such, is_facet, is_top}
 use Rattle.ns_find.specs.declared.found.Found.{Found}
 use Rattle.ns_find.specs.declared.found.Found.TheVariants.{Kernel}
-use Rattle.ns_find.specs.Members.{Member, Numbered, Spelled, public_access, protected_access}
+use Rattle.ns_find.specs.Members.{Member, Numbered, Spelled}
+use Rattle.ns_code.specs.Access.{public_access, protected_access}
 
 -- a public row, and one that only sends from within reach
 abbrev pub open_row : ℕ → List ℕ → Member

@@ -1,17 +1,22 @@
 -- What the laws say of lookups that are kept, and of the members that are found.
-use Rattle.std.specs.Prelude.{ℕ, ◌∷◌, List, Option}
+use Rattle.std.specs.Prelude.{◌≡◌, ℕ, ◌∷◌, List, Option, Some}
 use Rattle.ns_code.specs.declared.program.CodeProgram.{CodeProgram}
+use Rattle.ns_code.specs.Selector.{selector_text}
+use Rattle.ns_world.specs.declared.kernel.KernelRow.TheVariants.{Integer}
 use Rattle.ns_world.specs.declared.kernel.Start.{Start}
+use Rattle.ns_world.specs.declared.kernel.Start.TheVariants as start
 use Rattle.ns_world.specs.Cell.{Cell}
 use Rattle.ns_world.specs.Heap.{Heap}
 use Rattle.ns_world.specs.World.{World}
 use Rattle.ns_world.specs.Lawful.{IsLawful}
 use Rattle.ns_find.specs.declared.memo.Kept.{Kept}
+use Rattle.ns_find.specs.declared.found.Found.TheVariants.{Kernel}
 use Rattle.ns_find.specs.declared.found.Sending.{Sending}
 use Rattle.ns_find.specs.declared.members.Side.{Side}
 use Rattle.ns_find.specs.Find.{found_from}
 use Rattle.ns_find.specs.Belonging.{Belongs}
 use Rattle.ns_find.specs.Memo.{IsRight, AddsNoRow}
+use Rattle.ns_find.specs.Rows.{spelled_row, integer_texts}
 
 -- A lookup that is kept in a lawful world is right in the cells that a change leaves.
 abbrev pub StaysRight : (Heap → Heap) → Type 0
@@ -29,3 +34,9 @@ MakingKeepsRight =
 abbrev pub FromBelongs : Heap → CodeProgram → Start → Side → List ℕ → List ℕ → Type 0
 FromBelongs heap code start side chain factories =
     (sel : ℕ) (kind : Sending) → Belongs heap code side chain factories (found_from heap code start sel kind)
+
+-- An Integer finds the row of Integer that a selector spells.
+abbrev pub IntegersFind : Heap → CodeProgram → ℕ → Sending → Type 0
+IntegersFind heap code sel kind =
+    (number : ℕ) → spelled_row (selector_text code sel) 20 integer_texts ≡ Some (Kernel number)
+    → found_from heap code (start.Kernel Integer) sel kind ≡ Kernel number

@@ -16,7 +16,7 @@ ghost use Rattle.ns_find.specs.Find.{found_from, found_private, CanStart};
 ghost use Rattle.ns_find.specs.Belonging.{Belongs, factories_at};
 ghost use Rattle.ns_find.specs.Named.{FoundBy, FindsBy};
 ghost use Rattle.ns_find.specs.Memo.{IsRight};
-ghost use Rattle.ns_find.specs.Stated.{StaysRight, MakingKeepsRight, FromBelongs};
+ghost use Rattle.ns_find.specs.Stated.{StaysRight, MakingKeepsRight, FromBelongs, IntegersFind};
 
 /// A kept lookup stays right whatever is made and written, as long as no facet and no first class
 /// of a top-level declaration is made.
@@ -52,4 +52,9 @@ pub fn what_is_found_belongs()
 pub fn what_is_found_is_named()
     ensures found { (heap : Heap) (code : CodeProgram) (from : Start) (sel : ℕ) (kind : Sending) → FindsBy heap code from sel kind }
     ensures private { (heap : Heap) (code : CodeProgram) (holder sel : ℕ) (side : Side) → FoundBy heap code side sel (found_private heap code holder side sel) }
+{}
+
+/// An Integer finds the row of Integer that its selector spells, however it is sent.
+pub fn integers_find_their_rows()
+    ensures { (heap : Heap) (code : CodeProgram) (sel : ℕ) (kind : Sending) → IntegersFind heap code sel kind }
 {}

@@ -7,4 +7,4 @@ mod kernel;
 pub mod laws;
 pub mod members;
 pub mod memo;
-mod rows;
+pub mod rows;

@@ -1,17 +1,16 @@
 -- What stands when a frame has ended, and what a value comes to.
-use Rattle.std.proofs.Common.{◌≡◌, ℕ, zero, suc, ◌+◌, ◌<◌, ◌≤◌, List, [], ◌∷◌, length, take, drop, ap, sym, subst, ◌∙◌, refl, arith}
+use Rattle.std.proofs.Common.{◌≡◌, ℕ, ℤ, zero, suc, ◌+◌, ◌<◌, ◌≤◌, List, [], ◌∷◌, length, take, drop, ap, sym, subst, ◌∙◌, refl, arith}
 use Rattle.std.proofs.lemmas.List.{take-take}
 use Rattle.ns_world.specs.declared.value.Value.{Value}
-use Rattle.ns_kcode.specs.declared.state.KState.{KState}
 use Rattle.ns_frames.specs.declared.frame.Frame.{Frame}
 use Rattle.ns_frames.specs.declared.frame.Frame.TheVariants.{Running, Looping}
 use Rattle.ns_frames.specs.declared.frame.LoopingFrame.{LoopingFrame}
 use Rattle.ns_frames.specs.declared.frame.RunningFrame.{RunningFrame}
 use Rattle.ns_frames.specs.declared.registers.Registers.{Registers}
 use Rattle.ns_frames.specs.declared.stack.Stack.{Stack}
-use Rattle.ns_frames.specs.Standing.{standing, AreLaid, at_next, in_state, below, pushed}
+use Rattle.ns_frames.specs.Standing.{standing, AreLaid, at_next, below, pushed}
 use Rattle.ns_frames.specs.Stack.{in_use, stood, with_top, IsLaid, HasBase}
-use Rattle.ns_frames.specs.Leaving.{top_floor, resumed, answered, delivered, turned}
+use Rattle.ns_frames.specs.Leaving.{top_floor, resumed, delivered, with_answer, with_count, counted}
 
 -- the frame that goes on is at the instruction that it kept
 resumed_next : (frames : List Frame) (at : Registers) → at_next (resumed frames at).next frames ≡ frames
@@ -86,37 +85,57 @@ pub pushed_delivered : (frame : RunningFrame) (next : ℕ) (frames : List Frame)
 pushed_delivered frame next frames values value = refl
 
 pub answered_delivered : (frame : LoopingFrame) (next : ℕ) (frames : List Frame) (values : List Value) (value : Value)
-    → standing (at_next next (in_state (answered value frame.state) (Looping frame ∷ frames))) values
+    → standing (at_next next (with_answer value (Looping frame ∷ frames))) values
     ≡ delivered value (standing (at_next next (Looping frame ∷ frames)) values)
 answered_delivered frame next frames values value = refl
 
+answered_frames : (value : Value) (frames : List Frame) (top : ℕ) → AreLaid frames top → AreLaid (with_answer value frames) top
+answered_frames value [] top laid = laid
+answered_frames value (Running frame ∷ frames) top laid = laid
+answered_frames value (Looping frame ∷ frames) top laid = laid
+
+answered_base : (value : Value) (frames : List Frame) (base : ℕ) → HasBase frames base → HasBase (with_answer value frames) base
+answered_base value [] base is = is
+answered_base value (Running frame ∷ frames) base is = is
+answered_base value (Looping frame ∷ frames) base is = is
+
+pub answered_laid : (stack : Stack) (at : Registers) (value : Value) → IsLaid stack at
+    → IsLaid (record stack { frames = record stack.frames { items = with_answer value stack.frames.items } }) at
+answered_laid stack at value laid = record {
+  frames = answered_frames value stack.frames.items at.top laid.frames;
+  base = answered_base value stack.frames.items at.base laid.base;
+  filled = laid.filled;
+  within = laid.within;
+  small = laid.small;
+}
+
 -- ---- methods of the kernel
 
-turned_standing : (next : ℕ) (state : KState) (frames : List Frame) (values : List Value)
-    → standing (at_next next (in_state state frames)) values ≡ turned state (standing (at_next next frames) values)
-turned_standing next state [] values = refl
-turned_standing next state (Running frame ∷ frames) values = refl
-turned_standing next state (Looping frame ∷ frames) values = refl
+counted_standing : (next : ℕ) (count : ℤ) (frames : List Frame) (values : List Value)
+    → standing (at_next next (with_count count frames)) values ≡ counted count (standing (at_next next frames) values)
+counted_standing next count [] values = refl
+counted_standing next count (Running frame ∷ frames) values = refl
+counted_standing next count (Looping frame ∷ frames) values = refl
 
-turned_frames : (state : KState) (frames : List Frame) (top : ℕ) → AreLaid frames top → AreLaid (in_state state frames) top
-turned_frames state [] top laid = laid
-turned_frames state (Running frame ∷ frames) top laid = laid
-turned_frames state (Looping frame ∷ frames) top laid = laid
+counted_frames : (count : ℤ) (frames : List Frame) (top : ℕ) → AreLaid frames top → AreLaid (with_count count frames) top
+counted_frames count [] top laid = laid
+counted_frames count (Running frame ∷ frames) top laid = laid
+counted_frames count (Looping frame ∷ frames) top laid = laid
 
-turned_base : (state : KState) (frames : List Frame) (base : ℕ) → HasBase frames base → HasBase (in_state state frames) base
-turned_base state [] base is = is
-turned_base state (Running frame ∷ frames) base is = is
-turned_base state (Looping frame ∷ frames) base is = is
+counted_base : (count : ℤ) (frames : List Frame) (base : ℕ) → HasBase frames base → HasBase (with_count count frames) base
+counted_base count [] base is = is
+counted_base count (Running frame ∷ frames) base is = is
+counted_base count (Looping frame ∷ frames) base is = is
 
-pub turned_stood : (stack : Stack) (at : Registers) (state : KState)
-    → stood (record stack { frames = record stack.frames { items = in_state state stack.frames.items } }) at ≡ turned state (stood stack at)
-turned_stood stack at state = turned_standing at.next state stack.frames.items (in_use stack at)
+pub counted_stood : (stack : Stack) (at : Registers) (count : ℤ)
+    → stood (record stack { frames = record stack.frames { items = with_count count stack.frames.items } }) at ≡ counted count (stood stack at)
+counted_stood stack at count = counted_standing at.next count stack.frames.items (in_use stack at)
 
-pub turned_laid : (stack : Stack) (at : Registers) (state : KState) → IsLaid stack at
-    → IsLaid (record stack { frames = record stack.frames { items = in_state state stack.frames.items } }) at
-turned_laid stack at state laid = record {
-  frames = turned_frames state stack.frames.items at.top laid.frames;
-  base = turned_base state stack.frames.items at.base laid.base;
+pub counted_laid : (stack : Stack) (at : Registers) (count : ℤ) → IsLaid stack at
+    → IsLaid (record stack { frames = record stack.frames { items = with_count count stack.frames.items } }) at
+counted_laid stack at count laid = record {
+  frames = counted_frames count stack.frames.items at.top laid.frames;
+  base = counted_base count stack.frames.items at.base laid.base;
   filled = laid.filled;
   within = laid.within;
   small = laid.small;

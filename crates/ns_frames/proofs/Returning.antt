@@ -4,8 +4,7 @@ use Rattle.std.proofs.lemmas.Option.{same_Some}
 use Rattle.ns_base.specs.declared.place.Place.{Place as SourcePlace}
 use Rattle.ns_code.specs.declared.program.CodeProgram.{CodeProgram}
 use Rattle.ns_world.specs.declared.value.Value.{Value}
-use Rattle.ns_send.specs.Control.{Progress}
-use Rattle.ns_send.specs.Classes.{part_ended}
+use Rattle.ns_send.specs.Control.{Progress, frame_left}
 use Rattle.ns_moves.specs.State.{Phase, Going}
 use Rattle.ns_moves.specs.Returns as returns
 use Rattle.ns_frames.specs.declared.frame.Frame.{Frame}
@@ -65,10 +64,10 @@ home_is code places home next frames values = home_in code places home (at_next 
 landed : (code : CodeProgram) (places : List SourcePlace) (phase : Phase) (home : ℕ) (value : Value) (one : Stood) (rest : List Stood) (progress : Progress)
     (test : Bool) (found : Option ℕ) (count : ℕ) → (if test then Some 1 else one_more found) ≡ Some count
     → ((number : ℕ) → found ≡ Some number
-    → returns.unwound code phase home value (frames_shown code places rest) (part_ended progress)
-    ≡ returns.delivered code phase value (frames_shown code places (drop number rest)) (parts_ended number (part_ended progress)))
-    → (if test then returns.delivered code phase value (frames_shown code places rest) (part_ended progress)
-    else returns.unwound code phase home value (frames_shown code places rest) (part_ended progress))
+    → returns.unwound code phase home value (frames_shown code places rest) (frame_left progress)
+    ≡ returns.delivered code phase value (frames_shown code places (drop number rest)) (parts_ended number (frame_left progress)))
+    → (if test then returns.delivered code phase value (frames_shown code places rest) (frame_left progress)
+    else returns.unwound code phase home value (frames_shown code places rest) (frame_left progress))
     ≡ returns.delivered code phase value (frames_shown code places (drop count (one ∷ rest))) (parts_ended count progress)
 landed code places phase home value one rest progress true found count e further =
     ap (λ number. returns.delivered code phase value (frames_shown code places (drop number (one ∷ rest))) (parts_ended number progress)) (same_Some _ _ e)
@@ -87,15 +86,15 @@ unwound_in code places phase home count value [] values progress e = absurd (cc)
 unwound_in code places phase home count value (Running frame ∷ frames) values progress e =
     let rest = standing frames (take frame.floor values) in
     let one = Runs frame (take (frame.operands - frame.base) (drop frame.base values)) (reverse (drop frame.operands values)) in
-    ap (λ (test : Bool). if test then returns.delivered code phase value (frames_shown code places rest) (part_ended progress)
-    else returns.unwound code phase home value (frames_shown code places rest) (part_ended progress))
+    ap (λ (test : Bool). if test then returns.delivered code phase value (frames_shown code places rest) (frame_left progress)
+    else returns.unwound code phase home value (frames_shown code places rest) (frame_left progress))
     (ends_at frame.leaving frame.activation home)
     ∙ landed code places phase home value one rest progress (is_home home (Running frame)) (frames_to home frames) count e
-    (λ number is. unwound_in code places phase home number value frames (take frame.floor values) (part_ended progress) is)
+    (λ number is. unwound_in code places phase home number value frames (take frame.floor values) (frame_left progress) is)
 unwound_in code places phase home count value (Looping frame ∷ frames) values progress e =
     let rest = standing frames (take frame.floor values) in
     landed code places phase home value (Loops frame) rest progress false (frames_to home frames) count e
-    (λ number is. unwound_in code places phase home number value frames (take frame.floor values) (part_ended progress) is)
+    (λ number is. unwound_in code places phase home number value frames (take frame.floor values) (frame_left progress) is)
 
 pub unwound_is : (code : CodeProgram) (places : List SourcePlace) (phase : Phase) (home next count : ℕ) (value : Value) (frames : List Frame)
     (values : List Value) (progress : Progress) → frames_to home frames ≡ Some count

@@ -1,12 +1,14 @@
 -- The last of a list, which is the first of it reversed.
-use Rattle.std.proofs.Common.{◌≡◌, ℕ, ◌+◌, ◌-◌, ◌<◌, List, [], ◌∷◌, length, get_or, set, reverse, ap, sym, ◌∙◌, refl, arith}
+use Rattle.std.proofs.Common.{◌≡◌, ℕ, ℤ, ◌+◌, ◌-◌, ◌<◌, List, [], ◌∷◌, length, get_or, set, reverse, ap, sym, ◌∙◌, refl, arith}
 use Rattle.std.proofs.lemmas.List.{get_or-reverse, set_at, reverse-append, reverse-reverse, length-reverse}
-use Rattle.ns_kcode.specs.declared.state.KState.{KState}
+use Rattle.ns_world.specs.declared.value.Value.{Value}
+use Rattle.ns_send.specs.Blocks.{waiting}
 use Rattle.ns_frames.specs.declared.frame.Frame.{Frame}
 use Rattle.ns_frames.specs.declared.frame.Frame.TheVariants.{Running, Looping}
 use Rattle.ns_frames.specs.declared.frame.RunningFrame.{RunningFrame}
 use Rattle.ns_frames.specs.declared.frame.LoopingFrame.{LoopingFrame}
-use Rattle.ns_frames.specs.Standing.{below, with_next, with_state, at_next, in_state}
+use Rattle.ns_frames.specs.Standing.{below, with_next, at_next}
+use Rattle.ns_frames.specs.Leaving.{answered, with_answer, with_count}
 
 -- in a list that is written backwards
 behind_set : {A : Type 0} (items : List A) (last : ℕ) (item : A) → last + 1 ≡ length items → reverse (set (reverse items) last item) ≡ item ∷ below items
@@ -51,14 +53,28 @@ module _ (items : List Frame) (other : Frame) (some : 0 < length items) where
       topmost_set items (get_or items (length items - 1) other) some
       ∙ (ap (λ frame. frame ∷ below (reverse items)) is ∙ sym (ap (at_next next) (topmost_is items other some) ∙ ap (λ frame. with_next next frame ∷ below (reverse items)) is))
 
-  pub state_written : (state : KState) (looping : LoopingFrame) → get_or items (length items - 1) other ≡ Looping looping
-      → reverse (set items (length items - 1) (Looping (record looping { state = state }))) ≡ in_state state (reverse items)
-  state_written state looping is =
-      topmost_set items (Looping (record looping { state = state })) some
-      ∙ sym (ap (in_state state) (topmost_is items other some) ∙ ap (λ frame. with_state state frame ∷ below (reverse items)) is)
+  pub answer_written : (value : Value) (looping : LoopingFrame) → get_or items (length items - 1) other ≡ Looping looping
+      → reverse (set items (length items - 1) (Looping (record looping { state = answered value looping.state }))) ≡ with_answer value (reverse items)
+  answer_written value looping is =
+      topmost_set items (Looping (record looping { state = answered value looping.state })) some
+      ∙ sym (ap (with_answer value) (topmost_is items other some) ∙ ap (λ frame. with_answer value (frame ∷ below (reverse items))) is)
 
-  pub state_spared : (state : KState) (running : RunningFrame) → get_or items (length items - 1) other ≡ Running running
-      → reverse (set items (length items - 1) (get_or items (length items - 1) other)) ≡ in_state state (reverse items)
-  state_spared state running is =
+  pub answer_spared : (value : Value) (running : RunningFrame) → get_or items (length items - 1) other ≡ Running running
+      → reverse (set items (length items - 1) (get_or items (length items - 1) other)) ≡ with_answer value (reverse items)
+  answer_spared value running is =
       topmost_set items (get_or items (length items - 1) other) some
-      ∙ (ap (λ frame. frame ∷ below (reverse items)) is ∙ sym (ap (in_state state) (topmost_is items other some) ∙ ap (λ frame. with_state state frame ∷ below (reverse items)) is))
+      ∙ (ap (λ frame. frame ∷ below (reverse items)) is
+      ∙ sym (ap (with_answer value) (topmost_is items other some) ∙ ap (λ frame. with_answer value (frame ∷ below (reverse items))) is))
+
+  pub count_written : (count : ℤ) (looping : LoopingFrame) → get_or items (length items - 1) other ≡ Looping looping
+      → reverse (set items (length items - 1) (Looping (record looping { state = waiting looping.state count }))) ≡ with_count count (reverse items)
+  count_written count looping is =
+      topmost_set items (Looping (record looping { state = waiting looping.state count })) some
+      ∙ sym (ap (with_count count) (topmost_is items other some) ∙ ap (λ frame. with_count count (frame ∷ below (reverse items))) is)
+
+  pub count_spared : (count : ℤ) (running : RunningFrame) → get_or items (length items - 1) other ≡ Running running
+      → reverse (set items (length items - 1) (get_or items (length items - 1) other)) ≡ with_count count (reverse items)
+  count_spared count running is =
+      topmost_set items (get_or items (length items - 1) other) some
+      ∙ (ap (λ frame. frame ∷ below (reverse items)) is
+      ∙ sym (ap (with_count count) (topmost_is items other some) ∙ ap (λ frame. with_count count (frame ∷ below (reverse items))) is))

@@ -1,7 +1,8 @@
 -- How frames end: what they leave below them, where a value goes, and how far down a home stands.
-use Rattle.std.specs.Prelude.{ℕ, ◌+◌, ◌<◌, List, [], ◌∷◌, Option, Some, None, Bool, true, false, ◌==◌, if◌then◌else◌}
+use Rattle.std.specs.Prelude.{ℕ, ℤ, ◌+◌, ◌<◌, List, [], ◌∷◌, Option, Some, None, Bool, true, false, ◌==◌, if◌then◌else◌}
 use Rattle.ns_world.specs.declared.value.Value.{Value}
 use Rattle.ns_kcode.specs.declared.state.KState.{KState}
+use Rattle.ns_send.specs.Blocks.{waiting}
 use Rattle.ns_frames.specs.declared.frame.Frame.{Frame}
 use Rattle.ns_frames.specs.declared.frame.Frame.TheVariants.{Running, Looping}
 use Rattle.ns_frames.specs.declared.frame.Leaving.{Leaving}
@@ -47,6 +48,18 @@ abbrev pub HasPlace : List Frame → ℕ → ℕ → Type 0
 HasPlace [] top filled = Unit {0}
 HasPlace (Running frame ∷ frames) top filled = top < filled
 HasPlace (Looping frame ∷ frames) top filled = Unit {0}
+
+-- the frames of which the topmost, a method of the kernel, waits for a block with a count
+abbrev pub with_count : ℤ → List Frame → List Frame
+with_count count [] = []
+with_count count (Running frame ∷ frames) = Running frame ∷ frames
+with_count count (Looping frame ∷ frames) = Looping (record frame { state = waiting frame.state count }) ∷ frames
+
+-- so it stands
+abbrev pub counted : ℤ → List Stood → List Stood
+counted count [] = []
+counted count (Runs frame locals stack ∷ stood) = Runs frame locals stack ∷ stood
+counted count (Loops frame ∷ stood) = Loops (record frame { state = waiting frame.state count }) ∷ stood
 
 -- a method of the kernel, on top, goes on in another state
 abbrev pub turned : KState → List Stood → List Stood

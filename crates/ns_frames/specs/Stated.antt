@@ -5,8 +5,7 @@ use Rattle.ns_base.specs.declared.place.Place.{Place as SourcePlace}
 use Rattle.ns_code.specs.declared.program.CodeProgram.{CodeProgram}
 use Rattle.ns_world.specs.declared.value.Value.{Value}
 use Rattle.ns_world.specs.declared.value.Value.TheVariants.{Nil}
-use Rattle.ns_send.specs.Control.{Progress}
-use Rattle.ns_send.specs.Classes.{part_ended}
+use Rattle.ns_send.specs.Control.{Progress, frame_left}
 use Rattle.ns_moves.specs.State.{Phase, State, Going}
 use Rattle.ns_moves.specs.Operands.{taken_off, picked}
 use Rattle.ns_moves.specs.Returns as returns
@@ -41,7 +40,7 @@ IsDelivered code places phase =
 -- so many frames have given back their depth
 abbrev pub parts_ended : ℕ → Progress → Progress
 parts_ended zero progress = progress
-parts_ended (suc count) progress = parts_ended count (part_ended progress)
+parts_ended (suc count) progress = parts_ended count (frame_left progress)
 
 -- whether there is a number
 abbrev pub is_there : Option ℕ → Bool

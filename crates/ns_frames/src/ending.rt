@@ -1,14 +1,13 @@
 //! How frames end: a value goes to the frame below, or down to a home.
 
 ghost use Rattle.std.specs.Prelude.{◌≡◌, ◌<◌, ◌≤◌, [], ◌∷◌, length, drop};
-ghost use Rattle.ns_frames.specs.Standing.{below, in_state};
+ghost use Rattle.ns_frames.specs.Standing.{below};
 ghost use Rattle.ns_frames.specs.Stack.{stood, with_top, IsLaid, KeepsRoom};
-ghost use Rattle.ns_frames.specs.Leaving.{floor_of, top_floor, resumed, answered, delivered, HasPlace, with_answer, turned, frames_to};
+ghost use Rattle.ns_frames.specs.Leaving.{floor_of, top_floor, resumed, delivered, HasPlace, with_answer, with_count, counted, frames_to};
 
 use crate::frame::Frame;
 use crate::registers::Registers;
 use crate::stack::Stack;
-use ns_kcode::state::KState;
 use ns_world::value::Value;
 
 impl Stack {
@@ -66,7 +65,7 @@ impl Stack {
 
     /// Brings a value to the topmost frame: on its operands, or as what the block of a method of the kernel answered.
     #[inline(always)]
-    #[tactic(auto, using(crate::proofs::Ended::pushed_delivered, crate::proofs::Ended::answered_delivered, crate::proofs::Ended::turned_laid))]
+    #[tactic(auto, using(crate::proofs::Ended::pushed_delivered, crate::proofs::Ended::answered_delivered, crate::proofs::Ended::answered_laid))]
     pub fn deliver(&mut self, at: Registers, value: Value) -> Registers
         requires laid { IsLaid self.old at }
         requires some { 0 < length self.old.frames.items }
@@ -78,25 +77,25 @@ impl Stack {
     {
         match *self.frames.top() {
             Frame::Running(_) => self.push(at, value),
-            Frame::Looping(looping) => {
-                self.frames.set_state(answered(looping.state, value));
+            Frame::Looping(_) => {
+                self.frames.set_answer(value);
                 at
             }
         }
     }
 
-    /// Lets a method of the kernel, which is topmost, go on in another state.
+    /// Lets a method of the kernel, which is topmost, wait for a block with a count.
     #[inline(always)]
-    #[tactic(auto, using(crate::proofs::Ended::turned_stood, crate::proofs::Ended::turned_laid))]
-    pub fn set_state(&mut self, at: Registers, state: KState)
+    #[tactic(auto, using(crate::proofs::Ended::counted_stood, crate::proofs::Ended::counted_laid))]
+    pub fn set_count(&mut self, at: Registers, count: i64)
         requires laid { IsLaid self.old at }
         requires some { 0 < length self.old.frames.items }
-        ensures stood { stood self.new at ≡ turned state (stood self.old at) }
+        ensures stood { stood self.new at ≡ counted count (stood self.old at) }
         ensures laid { IsLaid self.new at }
         ensures values { self.new.values ≡ self.old.values }
-        ensures frames { self.new.frames ≡ record self.old.frames { items = in_state state self.old.frames.items } }
+        ensures frames { self.new.frames ≡ record self.old.frames { items = with_count count self.old.frames.items } }
     {
-        self.frames.set_state(state);
+        self.frames.set_count(count);
     }
 
     /// How many frames there are down to the method of that home, with it, where it is there.
@@ -161,16 +160,5 @@ fn floor_of(frame: &Frame) -> u32
     match *frame {
         Frame::Running(running) => running.floor,
         Frame::Looping(looping) => looping.floor,
-    }
-}
-
-/// The state of a method of the kernel whose block has answered.
-#[inline(always)]
-fn answered(state: KState, value: Value) -> KState
-    ensures { result ≡ answered value state }
-{
-    KState {
-        last: Some(value),
-        ..state
     }
 }

@@ -1,12 +1,12 @@
 //! The frames, of which only the topmost is changed.
 
 ghost use Rattle.std.specs.Prelude.{◌≡◌, ◌<◌, ◌≤◌, [], ◌∷◌, length, reverse, OnOk, OnErr};
-ghost use Rattle.ns_frames.specs.Standing.{at_next, in_state, with_next, with_state, below};
-ghost use Rattle.ns_frames.specs.Leaving.{is_home, frames_to};
+ghost use Rattle.ns_frames.specs.Standing.{at_next, with_next, below};
+ghost use Rattle.ns_frames.specs.Leaving.{is_home, frames_to, with_answer, with_count};
 
 use crate::frame::{Frame, Leaving, LoopingFrame, RunningFrame};
 use ns_base::no_memory::NoMemory;
-use ns_kcode::state::KState;
+use ns_world::value::Value;
 use std::alloc::Global;
 use std::marker::Model;
 
@@ -107,13 +107,22 @@ impl Frames {
         set_last_next(&mut self.items, next);
     }
 
-    /// Keeps the state in the topmost, where that is a method's of the kernel.
+    /// Keeps what its block has answered in the topmost, where that is a method's of the kernel.
     #[inline(always)]
-    pub fn set_state(&mut self, state: KState)
+    pub fn set_answer(&mut self, value: Value)
         requires { 0 < length self.old.items }
-        ensures { self.new ≡ record self.old { items = in_state state self.old.items } }
+        ensures { self.new ≡ record self.old { items = with_answer value self.old.items } }
     {
-        set_last_state(&mut self.items, state);
+        set_last_answer(&mut self.items, value);
+    }
+
+    /// Lets the topmost wait for a block with that count, where it is a method's of the kernel.
+    #[inline(always)]
+    pub fn set_count(&mut self, count: i64)
+        requires { 0 < length self.old.items }
+        ensures { self.new ≡ record self.old { items = with_count count self.old.items } }
+    {
+        set_last_count(&mut self.items, count);
     }
 
     /// How many frames there are down to the method of that home, with it, where it is there.
@@ -155,17 +164,34 @@ fn set_last_next(items: &mut [Frame], next: u32)
     }
 }
 
-/// Keeps the state in the last frame, where that is a method's of the kernel.
+/// Keeps what its block has answered in the last frame, where that is a method's of the kernel. Nothing else of it is written.
 #[inline(always)]
-#[tactic(auto, using(crate::proofs::Topmost::state_written, crate::proofs::Topmost::state_spared))]
-fn set_last_state(items: &mut [Frame], state: KState)
+#[tactic(auto, using(crate::proofs::Topmost::answer_written, crate::proofs::Topmost::answer_spared))]
+fn set_last_answer(items: &mut [Frame], value: Value)
     requires { 0 < length items.old }
-    ensures { reverse items.new ≡ in_state state (reverse items.old) }
+    ensures { reverse items.new ≡ with_answer value (reverse items.old) }
 {
     let last = items.len() - 1;
     match &mut items[last] {
         Frame::Running(_) => {}
-        Frame::Looping(looping) => looping.state = state,
+        Frame::Looping(looping) => looping.state.last = Some(value),
+    }
+}
+
+/// Lets the last frame wait for a block with that count, where it is a method's of the kernel. Nothing else of it is written.
+#[inline(always)]
+#[tactic(auto, using(crate::proofs::Topmost::count_written, crate::proofs::Topmost::count_spared))]
+fn set_last_count(items: &mut [Frame], count: i64)
+    requires { 0 < length items.old }
+    ensures { reverse items.new ≡ with_count count (reverse items.old) }
+{
+    let last = items.len() - 1;
+    match &mut items[last] {
+        Frame::Running(_) => {}
+        Frame::Looping(looping) => {
+            looping.state.count = count;
+            looping.state.last = None;
+        }
     }
 }
 

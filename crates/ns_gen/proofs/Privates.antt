@@ -14,7 +14,8 @@ use Rattle.ns_code.specs.declared.class.SlotCode.{SlotCode}
 use Rattle.ns_code.specs.declared.class.NestedCode.{NestedCode}
 use Rattle.ns_code.specs.declared.class.MethodCode.{MethodCode}
 use Rattle.ns_code.specs.Soundness as s
-use Rattle.ns_members.specs.Members.{private_access, private_selectors}
+use Rattle.ns_members.specs.Members.{private_selectors}
+use Rattle.ns_code.specs.Access.{private_access}
 use Rattle.ns_meant.specs.Program as m
 use Rattle.ns_meant.specs.Tables.{class_names, class_code, slot_code, nested_code, method_code, access_number, side_number, names_of}
 use Rattle.ns_meant.specs.There as t

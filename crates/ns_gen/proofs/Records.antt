@@ -4,6 +4,7 @@ use Rattle.std.specs.Prelude.{Bool, true, false, ◌&&◌, ◌||◌, not, Option
 use Rattle.std.specs.Option.{option_map_or}
 use Rattle.std.specs.List.{list_any, list_all}
 use Rattle.ns_base.specs.Names.{has}
+use Rattle.ns_base.specs.Spelling.{is_identifier}
 use Rattle.ns_scope.specs.declared.scope.CodeSide.{CodeSide}
 use Rattle.ns_code.specs.declared.class.ClassCode.{ClassCode}
 use Rattle.ns_code.specs.declared.class.SlotCode.{SlotCode}
@@ -11,7 +12,6 @@ use Rattle.ns_code.specs.declared.class.NestedCode.{NestedCode}
 use Rattle.ns_code.specs.declared.class.MethodCode.{MethodCode}
 use Rattle.ns_code.specs.declared.body.BodyCode.{BodyCode}
 use Rattle.ns_code.specs.Selector.{text_arity, selector_arity}
-use Rattle.ns_code.specs.Spelling.{is_identifier}
 use Rattle.ns_code.specs.Soundness as s
 use Rattle.ns_meant.specs.Program as m
 use Rattle.ns_meant.specs.Tables.{slot_code, nested_code, method_code, side_number, names_of, sel_of, kind_of}

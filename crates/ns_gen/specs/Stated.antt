@@ -8,6 +8,7 @@ use Rattle.ns_code.specs.declared.body.BodyCode.{BodyCode}
 use Rattle.ns_code.specs.declared.instruction.Instr.{Instr}
 use Rattle.ns_code.specs.declared.instruction.Instr.TheVariants as i
 use Rattle.ns_code.specs.Table.{takes, ends_wrongly, goes_on, target}
+use Rattle.ns_code.specs.Heads.{head_of}
 use Rattle.ns_verify.specs.Heights.{Pass, next}
 use Rattle.ns_verify.specs.Causes.{has_bad_height}
 use Rattle.ns_meant.specs.Program as m
@@ -83,12 +84,9 @@ first_text bodies number = length (flat_map body_texts (take number bodies))
 
 -- ---- tables and code are of one program
 
-abbrev pub bare : BodyCode → BodyCode
-bare body = record body { height = 0; instrs = []; places = [] }
-
 -- the code without instructions
 abbrev pub without_code : CodeProgram → CodeProgram
-without_code code = record code { bodies = map bare code.bodies }
+without_code code = record code { bodies = map head_of code.bodies }
 
 abbrev pub OneProgram : m.Meant → Type 0
 OneProgram meant = without_code (code_of meant) ≡ tables meant

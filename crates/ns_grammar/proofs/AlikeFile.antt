@@ -3,6 +3,8 @@ use Rattle.std.proofs.Common.{ℕ, zero, suc, ◌+◌, ◌≤◌, List, [], ◌�
 use Rattle.ns_tree.specs.declared.token.Kind.{Kind}
 use Rattle.ns_tree.specs.Lists.{list_keys, list_opers, list_messages, list_slots}
 use Rattle.ns_tree.specs.Plain as p
+use Rattle.ns_tree.specs.Made.{made_un, made_slot, made_statement, made_clause, made_unit, made_method}
+use Rattle.ns_tree.specs.Grammar.{make_number}
 use Rattle.ns_terminal.specs.declared.mark.Mark.{Mark}
 use Rattle.ns_terminal.specs.declared.mark.Mark.TheVariants as m
 use Rattle.ns_terminal.specs.declared.name.Sort.{Sort}
@@ -79,7 +81,7 @@ same_leaf : {d e : ℕ} → Same d e leaves.leaf leaves.leaf
 unfolding leaves.leaf
 same_leaf =
     same_or leaves.is_simple (same_one leaves.make_simple)
-    (same_or (is_mark m.Minus) (same_mapped (p.number true) (same_after (same_skip m.Minus) (same_one leaves.make_number)))
+    (same_or (is_mark m.Minus) (same_mapped (p.number true) (same_after (same_skip m.Minus) (same_one make_number)))
     (same_mapped p.outer_name (same_after (same_skip m.OuterWord) (same_name s.Ident))))
 
 same_key_params : {d e : ℕ} → Same d e patterns.key_params patterns.key_params
@@ -114,7 +116,7 @@ same_params = same_or (is_mark m.Colon) (same_until (same_many (is_mark m.Colon)
 module _ (d e i j : ℕ) (P : Same i j (x.primary d) (x.primary e)) where
   same_un : Same i j (x.un (x.primary d)) (x.un (x.primary e))
   unfolding x.un
-  same_un = same_mapped x.un_from (same_both (same_placed P) (same_names s.Ident))
+  same_un = same_mapped made_un (same_both (same_placed P) (same_names s.Ident))
 
   module _ (operators : Operators) where
     same_oper : Same i j (x.oper (x.primary d) operators) (x.oper (x.primary e) operators)
@@ -158,7 +160,7 @@ module _ (d e i j : ℕ) (P : Same i j (x.primary d) (x.primary e)) where
 
   same_slot : (holder : Holder) → Same i j (x.slot (x.primary d) holder) (x.slot (x.primary e) holder)
   unfolding x.slot
-  same_slot holder = same_mapped x.slot_from (same_both (same_slot_access holder) (same_both (same_name s.Ident) same_init))
+  same_slot holder = same_mapped made_slot (same_both (same_slot_access holder) (same_both (same_name s.Ident) same_init))
 
   same_bars : (holder : Holder) → Same i j (x.bars (x.primary d) holder) (x.bars (x.primary e) holder)
   unfolding x.bars
@@ -167,7 +169,7 @@ module _ (d e i j : ℕ) (P : Same i j (x.primary d) (x.primary e)) where
 
   same_statement : Same i j (x.statement (x.primary d)) (x.statement (x.primary e))
   unfolding x.statement
-  same_statement = same_mapped x.statement_from (same_both (same_maybe (is_mark m.Caret) (same_place m.Caret)) (same_expr o.All))
+  same_statement = same_mapped made_statement (same_both (same_maybe (is_mark m.Caret) (same_place m.Caret)) (same_expr o.All))
 
   same_statements : Same i j (x.statements (x.primary d)) (x.statements (x.primary e))
   same_statements = same_mapped x.statements_from (same_listed x.starts_statement (is_mark m.Stop) (takes_statement d) same_statement)
@@ -212,7 +214,7 @@ module _ (d e : ℕ) where
 
     same_clause : Same i j (c.clause one) (c.clause other)
     unfolding c.clause
-    same_clause = same_mapped c.clause_from (same_both same_base (same_both (same_maybe (is_mark m.Over) (same_after (same_skip m.Over) same_base)) same_super_message))
+    same_clause = same_mapped made_clause (same_both same_base (same_both (same_maybe (is_mark m.Over) (same_after (same_skip m.Over) same_base)) same_super_message))
 
     same_body : (holder : Holder) → Same i j (c.body one holder) (c.body other holder)
     unfolding c.body
@@ -220,7 +222,7 @@ module _ (d e : ℕ) where
 
     same_method : Same i j (c.method one) (c.method other)
     unfolding c.method
-    same_method = same_mapped c.method_from (same_both same_pattern (same_after (same_skip m.Equals) (same_body h.Code)))
+    same_method = same_mapped made_method (same_both same_pattern (same_after (same_skip m.Equals) (same_body h.Code)))
 
     same_method_member : Same i j (c.method_member one) (c.method_member other)
     same_method_member = same_mapped p.method_member same_method
@@ -259,5 +261,5 @@ module _ (d e : ℕ) where
 
 pub same_file : (d e : ℕ) → Same d e (c.file d) (c.file e)
 unfolding c.file
-same_file d e = same_mapped c.unit_from (same_both (same_flag m.Newspeak3) (same_both (same_maybe leaves.is_string (same_one leaves.make_string))
+same_file d e = same_mapped made_unit (same_both (same_flag m.Newspeak3) (same_both (same_maybe leaves.is_string (same_one leaves.make_string))
     (same_class d e d e d e (omega arith) (omega arith) (same_what d e d e (omega arith) (omega arith)) d e (omega arith) (omega arith) (omega arith) (omega arith))))

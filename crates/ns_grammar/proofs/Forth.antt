@@ -1,11 +1,11 @@
 -- A node is what is made of the parts of its form.
 use Rattle.std.proofs.Common.{◌≡◌, refl, sym, ap, ◌∙◌, ℕ, ◌⊎◌, inl, inr, Bool, true, false, List, [], ◌∷◌, Option, Some, None, option_map, if◌then◌else◌}
+use Rattle.ns_base.specs.Spelling.{starts_name}
 use Rattle.ns_tree.specs.declared.tree.Named.{Named}
 use Rattle.ns_tree.specs.declared.tree.Access.{Access}
 use Rattle.ns_tree.specs.declared.tree.Base.{Base}
 use Rattle.ns_tree.specs.declared.tree.Origin.{Origin}
 use Rattle.ns_tree.specs.declared.tree.Origin.TheVariants as from
-use Rattle.ns_tree.specs.Bytes.{starts_name}
 use Rattle.ns_tree.specs.Forms as f
 use Rattle.ns_tree.specs.Lists.{key_list, oper_list, message_list, expr_list, slot_list, statement_list, member_list}
 use Rattle.ns_tree.specs.Lists.{list_keys, list_opers, list_messages, list_exprs, list_slots, list_statements, list_members}

@@ -127,7 +127,7 @@ module _ (most : ℕ) (primary : Reader p.Primary) (rule : Rule p.Primary) (P : 
 
   full_clause : Full most bases clause_goes false (x.clause primary) (g.clause rule) (λ a. a)
   unfolding x.clause
-  full_clause = full_form f.clause_form (λ a. a) forth.clause_forth (full_within bases clause_goes refl refl (full_mapped x.clause_from (full_both (full_base most) (full_both (full_over most) full_super_message refl) refl)))
+  full_clause = full_form f.clause_form (λ a. a) forth.clause_forth (full_within bases clause_goes refl refl (full_mapped Made.made_clause (full_both (full_base most) (full_both (full_over most) full_super_message refl) refl)))
 
   -- slots and statements between parentheses
   abbrev body_rule : Holder → Rule (p.Bars × p.Statements)
@@ -140,7 +140,7 @@ module _ (most : ℕ) (primary : Reader p.Primary) (rule : Rule p.Primary) (P : 
 
   full_method : Full most patterns [] false (x.method primary) (g.method rule) (λ a. a)
   unfolding x.method
-  full_method = full_form f.method_form (λ a. a) forth.method_forth (full_within patterns [] refl refl (full_mapped x.method_from (full_both (full_pattern most) (full_after (full_skip (suc most) m.Equals) (full_body h.Code)) refl)))
+  full_method = full_form f.method_form (λ a. a) forth.method_forth (full_within patterns [] refl refl (full_mapped Made.made_method (full_both (full_pattern most) (full_after (full_skip (suc most) m.Equals) (full_body h.Code)) refl)))
 
   full_method_member : Full most patterns [] false (x.method_member primary) (g.method_member rule) (λ a. a)
   full_method_member = full_form f.method_member_form (λ a. a) forth.method_member_forth (full_mapped p.method_member full_method)
@@ -259,5 +259,5 @@ pub full_file : (depth most : ℕ) → Full most (v.marker ∷ v.string ∷ v.cl
 unfolding x.file
 full_file depth most =
     let P : Full most un_begin [] false (exprs.primary most) (g.primary depth) (λ a. a) = full_primary depth most in
-    full_form f.unit_form (λ a. a) forth.unit_forth (full_within (v.marker ∷ v.string ∷ v.class_word ∷ []) (v.colon ∷ []) refl refl (full_mapped x.unit_from (full_both (full_flag most m.Newspeak3) (full_both (full_category most)
+    full_form f.unit_form (λ a. a) forth.unit_forth (full_within (v.marker ∷ v.string ∷ v.class_word ∷ []) (v.colon ∷ []) refl refl (full_mapped Made.made_unit (full_both (full_flag most m.Newspeak3) (full_both (full_category most)
     (full_class most (exprs.primary most) (g.primary depth) P most (omega arith) (omega arith) (x.what (exprs.primary most) most) (g.what (g.primary depth) depth) (full_what most (exprs.primary most) (g.primary depth) P depth most (omega arith))) refl) refl)))

@@ -17,7 +17,7 @@ use Rattle.ns_terminal.specs.declared.mark.Mark.TheVariants as m
 use Rattle.ns_terminal.specs.declared.name.Sort.TheVariants as s
 use Rattle.ns_terminal.specs.declared.name.Operators.{Operators}
 use Rattle.ns_terminal.specs.declared.name.Operators.TheVariants as o
-use Rattle.ns_terminal.specs.Read.{Reader, read_none, read_never, read_both, items, ends_separated}
+use Rattle.ns_terminal.specs.Read.{Reader, read_none, read_never, read_both, ends_separated}
 use Rattle.ns_terminal.specs.Mark as marks
 use Rattle.ns_terminal.specs.Name as names
 use Rattle.ns_terminal.specs.Leaf as leaves
@@ -102,11 +102,6 @@ module _ {A B C D : Type 0} {most : ℕ} {first more : List Seen} {null : Bool} 
 
 -- ---- lists with separators
 
-items_same : {A : Type 0} (l : Listed A) → items l ≡ Made.listed_items l
-items_same none = refl
-items_same (last a) = refl
-items_same (next a l) = ap (λ xs. a ∷ xs) (items_same l)
-
 ends_same : {A : Type 0} (l : Listed A) → ends_separated l ≡ Made.listed_stop l
 ends_same none = refl
 ends_same (last a) = refl
@@ -119,7 +114,7 @@ ends_same (next a (next b l)) = ends_same (next b l)
 module _ (most : ℕ) (primary : Reader p.Primary) (rule : Rule p.Primary) (P : Full most un_begin [] false primary rule (λ a. a)) where
   full_un : Full most un_begin idents false (x.un primary) (g.un rule) (λ a. a)
   unfolding x.un
-  full_un = full_form f.un_form (λ a. a) forth.un_forth (full_within un_begin idents refl refl (full_mapped x.un_from (full_both (full_placed P) (full_idents most) refl)))
+  full_un = full_form f.un_form (λ a. a) forth.un_forth (full_within un_begin idents refl refl (full_mapped Made.made_un (full_both (full_placed P) (full_idents most) refl)))
 
   module _ (which : Operators) (operator : Rule Named) (O : Full most (messages which) [] false (names.name (s.Operator which)) operator (λ a. a)) where
     oper_un : Full most (messages which) idents false (x.oper primary which) (operator & g.un rule) (λ a. a)
@@ -193,8 +188,8 @@ module _ (most : ℕ) (primary : Reader p.Primary) (rule : Rule p.Primary) (P : 
 
   full_slot : (holder : Holder) → Full most (slots_begin holder) init_begin false (x.slot primary holder) (slot_rule holder) (λ a. a)
   unfolding x.slot
-  full_slot h.Object = full_form f.slot_form (λ a. a) forth.slot_forth (full_within slot_begin init_begin refl refl (full_mapped x.slot_from (full_both (full_access most) (full_both (full_ident most) full_init refl) refl)))
-  full_slot h.Code = full_form f.local_form (λ a. a) forth.local_forth (full_mapped x.slot_from no_access)
+  full_slot h.Object = full_form f.slot_form (λ a. a) forth.slot_forth (full_within slot_begin init_begin refl refl (full_mapped Made.made_slot (full_both (full_access most) (full_both (full_ident most) full_init refl) refl)))
+  full_slot h.Code = full_form f.local_form (λ a. a) forth.local_forth (full_mapped Made.made_slot no_access)
 
   for_holders : (P : List Seen → Bool) → P slot_begin ≡ true → P idents ≡ true → (holder : Holder) → P (slots_begin holder) ≡ true
   for_holders P object code h.Object = object
@@ -211,13 +206,13 @@ module _ (most : ℕ) (primary : Reader p.Primary) (rule : Rule p.Primary) (P : 
 
   full_statement : Full most statement_begin expr_goes false (x.statement primary) (g.stmt rule) (λ a. a)
   unfolding x.statement
-  full_statement = full_form f.statement_form (λ a. a) forth.statement_forth (full_within statement_begin expr_goes refl refl (full_mapped x.statement_from (full_both (full_caret most) any_expr refl)))
+  full_statement = full_form f.statement_form (λ a. a) forth.statement_forth (full_within statement_begin expr_goes refl refl (full_mapped Made.made_statement (full_both (full_caret most) any_expr refl)))
 
   abbrev pub statements_go : List Seen
   statements_go = statement_begin ++ (v.stop ∷ expr_goes)
 
   made_same : (l : Listed p.Statement) → x.statements_from l ≡ Made.made_statements l
-  made_same l = ap (λ xs. p.statements_with (list_statements xs) (ends_separated l)) (items_same l) ∙ ap (p.statements_with (list_statements (Made.listed_items l))) (ends_same l)
+  made_same l = ap (p.statements_with (list_statements (Made.listed_items l))) (ends_same l)
 
   pub full_statements : Full most statement_begin statements_go true (x.statements primary) (g.stmts rule) (λ a. a)
   full_statements = full_form f.statements_form (λ a. a) forth.stmts_forth (full_as Made.made_statements made_same
@@ -226,7 +221,7 @@ module _ (most : ℕ) (primary : Reader p.Primary) (rule : Rule p.Primary) (P : 
   -- ---- brackets
 
   tuple_same : (l : Listed p.Expr) → x.tuple_from l ≡ Made.made_primary (inr (inr (inr l)))
-  tuple_same l = ap (λ xs. p.tuple (list_exprs xs) (ends_separated l)) (items_same l) ∙ ap (p.tuple (list_exprs (Made.listed_items l))) (ends_same l)
+  tuple_same l = ap (p.tuple (list_exprs (Made.listed_items l))) (ends_same l)
 
   full_paren : Full (suc most) (v.open_paren ∷ []) [] false (x.paren primary) (k.Open ▸ g.expr rule g.oper ◂ k.Close) p.paren
   full_paren = full_mapped p.paren (full_inside (full_skip (suc most) m.Open) (full_until any_expr (full_skip most m.Close) refl))

@@ -2,7 +2,7 @@
 use Rattle.std.proofs.Common.{◌≡◌, ℕ, suc, ◌+◌, ◌⊎◌, inl, inr, List, [], ◌∷◌, ◌++◌, length, Option, Some, None, Bool, true, false, not, cond, if◌then◌else◌, refl, sym, ap, ◌∙◌}
 use Rattle.std.specs.Prelude.{codes}
 use Rattle.std.specs.Str.{bytes_eq}
-use Rattle.ns_tree.specs.Bytes.{starts_name}
+use Rattle.ns_base.specs.Spelling.{starts_name}
 use Rattle.ns_tree.specs.declared.token.Kind.{Kind}
 use Rattle.ns_tree.specs.declared.token.Kind.TheVariants as k
 use Rattle.ns_tree.specs.declared.token.Reserved.{Reserved}
@@ -112,7 +112,7 @@ slot_makes false name a h = h
 
 pub full_slot_oper : (most : ℕ) → Full most but_bar [] false (names.name (s.Operator o.ButBar)) g.slot_oper (λ a. a)
 full_slot_oper most = full_one g.make_slot_oper (λ name. k.Oper name.text) (names.make_name (s.Operator o.ButBar)) most but_bar
-    (λ n a h. slot_makes (bytes_eq a.text (codes "|")) (names.named n a.text) a h) (λ n a h. sym (sees_but_bar (k.Oper a.text)) ∙ (not_bar (bytes_eq a.text (codes "|")) (g.named n a.text) a h).0)
+    (λ n a h. slot_makes (bytes_eq a.text (codes "|")) (g.named n a.text) a h) (λ n a h. sym (sees_but_bar (k.Oper a.text)) ∙ (not_bar (bytes_eq a.text (codes "|")) (g.named n a.text) a h).0)
 
 if_made : (b : Bool) (name a : Named) → (if b then Some name else None) ≡ Some a → Some name ≡ Some a
 if_made true name a h = h
@@ -123,11 +123,11 @@ if_not_made false name a h = h
 if_not_made true name a h = absurd cc
 
 pub full_part_key : (most : ℕ) → Full most (v.key ∷ []) [] false (names.name s.Key) g.part_key (λ a. a)
-full_part_key most = full_one g.make_part_key (λ name. k.Key name.text) (names.make_name s.Key) most (v.key ∷ []) (λ n a h. if_made (starts_name a.text) (names.named n a.text) a h) (λ n a h. refl)
+full_part_key most = full_one g.make_part_key (λ name. k.Key name.text) (names.make_name s.Key) most (v.key ∷ []) (λ n a h. if_made (starts_name a.text) (g.named n a.text) a h) (λ n a h. refl)
 
 pub full_part_oper : (most : ℕ) → Full most operators [] false (names.name (s.Operator o.All)) g.part_oper (λ a. a)
 full_part_oper most = full_one g.make_part_oper (λ name. k.Oper name.text) (names.make_name (s.Operator o.All)) most operators
-    (λ n a h. if_not_made (starts_name a.text) (names.named n a.text) a h) (λ n a h. sym (sees_operators (k.Oper a.text)))
+    (λ n a h. if_not_made (starts_name a.text) (g.named n a.text) a h) (λ n a h. sym (sees_operators (k.Oper a.text)))
 
 -- names, any number of them
 pub full_idents : (most : ℕ) → Full most idents idents true (names.names s.Ident) (many g.ident) (λ ns. ns)
@@ -139,7 +139,7 @@ full_set_keys most = full_many (names.is_name s.SetKey) (v.set_key ∷ []) sees_
 -- ---- numbers, strings and access words
 
 pub full_number : (most : ℕ) → Full most (v.number ∷ []) [] false leaves.number g.number (λ a. a)
-full_number most = full_one g.make_number k.Number leaves.make_number most (v.number ∷ []) (λ n a h. h) (λ n a h. refl)
+full_number most = full_one g.make_number k.Number g.make_number most (v.number ∷ []) (λ n a h. h) (λ n a h. refl)
 
 pub full_string : (most : ℕ) → Full most (v.string ∷ []) [] false leaves.string g.string (λ a. a)
 full_string most = full_one g.make_string k.Str leaves.make_string most (v.string ∷ []) (λ n a h. h) (λ n a h. refl)
@@ -160,7 +160,7 @@ full_access most = full_maybe leaves.is_access (v.access_word ∷ []) sees_acces
 
 -- ---- primaries without brackets
 
-word_same : (word : Reserved) → g.word_primary word ≡ leaves.word_primary word
+word_same : (word : Reserved) → g.word_primary word ≡ g.word_primary word
 word_same r.Class = refl
 word_same _ = refl
 

@@ -9,6 +9,7 @@ use Rattle.ns_tree.specs.Grammar as g
 use Rattle.ns_tree.specs.Lists.{key_list, member_list}
 use Rattle.ns_tree.specs.Plain as p
 use Rattle.ns_tree.specs.Rule.{Rule, token, ◌&◌, many, flat_all, GoodAll, maybe, flat_option, either, mapped, ◌▸◌, ◌◂◌}
+use Rattle.ns_tree.specs.Made.{made_clause, made_unit, made_method}
 use Rattle.ns_parse.specs.declared.classes.SideOf.{SideOf}
 use Rattle.ns_parse.specs.declared.classes.SideOf.TheVariants as sides
 use Rattle.ns_phrase.specs.declared.expressions.Holder.{Holder}
@@ -55,7 +56,7 @@ module _ (primary : Reader p.Primary) (rule : Rule p.Primary) (P : Halts primary
 
   halts_clause : Halts (x.clause primary) (g.clause rule)
   unfolding x.clause
-  halts_clause = halts_mapped x.clause_from (g.clause rule) (halts_both halts_base (halts_both halts_over halts_super_message)) (λ n a good. (good, refl)) (λ n f h. h)
+  halts_clause = halts_mapped made_clause (g.clause rule) (halts_both halts_base (halts_both halts_over halts_super_message)) (λ n a good. (good, refl)) (λ n f h. h)
 
   -- slots and statements between parentheses
   abbrev body_rule : Holder → Rule (p.Bars × p.Statements)
@@ -69,7 +70,7 @@ module _ (primary : Reader p.Primary) (rule : Rule p.Primary) (P : Halts primary
 
   halts_method : Halts (x.method primary) (g.method rule)
   unfolding x.method
-  halts_method = halts_mapped x.method_from (g.method rule) (halts_both halts_pattern (halts_after (halts_skip m.Equals) (halts_body h.Code))) (λ n a good. (good, refl)) (λ n f h. h)
+  halts_method = halts_mapped made_method (g.method rule) (halts_both halts_pattern (halts_after (halts_skip m.Equals) (halts_body h.Code))) (λ n a good. (good, refl)) (λ n f h. h)
 
   halts_method_member : Halts (x.method_member primary) (g.method_member rule)
   halts_method_member = halts_mapped p.method_member (g.method_member rule) halts_method (λ n a good. (good, refl)) (λ n f h. h)
@@ -241,6 +242,6 @@ module _ (primary : Reader p.Primary) (rule : Rule p.Primary) (P : Halts primary
 -- a file in which so many brackets, and so many classes, nest
 pub halts_file : (depth : ℕ) → Halts (x.file depth) (g.file depth)
 unfolding x.file
-halts_file depth = halts_mapped x.unit_from (g.file depth)
+halts_file depth = halts_mapped made_unit (g.file depth)
     (halts_both (halts_flag m.Newspeak3) (halts_both halts_category (halts_class (exprs.primary depth) (g.primary depth) (halts_primary depth) (x.what (exprs.primary depth) depth) (g.what (g.primary depth) depth) (halts_what (exprs.primary depth) (g.primary depth) (halts_primary depth) depth))))
     (λ n a good. (good, refl)) (λ n f h. h)

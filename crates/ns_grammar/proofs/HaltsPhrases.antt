@@ -10,13 +10,14 @@ use Rattle.ns_tree.specs.Lists.{key_list, oper_list, message_list, expr_list, sl
 use Rattle.ns_tree.specs.Plain as p
 use Rattle.ns_tree.specs.Rule.{Rule, token, ◌&◌, many, maybe, either, mapped, flat_from, GoodFrom, Listed, listed, ◌▸◌, ◌◂◌, once_or_more}
 use Rattle.ns_tree.specs.laws.Made.{keys_back, opers_back, messages_back, exprs_back, slots_back, statements_back}
+use Rattle.ns_tree.specs.Made.{made_un, made_slot, made_statement, listed_items}
 use Rattle.ns_phrase.specs.declared.expressions.Holder.{Holder}
 use Rattle.ns_phrase.specs.declared.expressions.Holder.TheVariants as h
 use Rattle.ns_terminal.specs.declared.mark.Mark.TheVariants as m
 use Rattle.ns_terminal.specs.declared.name.Sort.TheVariants as s
 use Rattle.ns_terminal.specs.declared.name.Operators.{Operators}
 use Rattle.ns_terminal.specs.declared.name.Operators.TheVariants as o
-use Rattle.ns_terminal.specs.Read.{Reader, items, ends_separated}
+use Rattle.ns_terminal.specs.Read.{Reader, ends_separated}
 use Rattle.ns_terminal.specs.Mark as marks
 use Rattle.ns_terminal.specs.Name as names
 use Rattle.ns_terminal.specs.Leaf as leaves
@@ -41,7 +42,7 @@ module _ {A B C D : Type 0} (to : A → B) (r : Rule A) (s : Rule B) (good : (n 
 module _ (primary : Reader p.Primary) (rule : Rule p.Primary) (P : Halts primary rule) where
   halts_un : Halts (x.un primary) (g.un rule)
   unfolding x.un
-  halts_un = halts_mapped x.un_from (g.un rule) (halts_both (halts_placed P) (halts_names s.Ident halts_ident)) (λ n a good. (good, refl)) (λ n f h. h)
+  halts_un = halts_mapped made_un (g.un rule) (halts_both (halts_placed P) (halts_names s.Ident halts_ident)) (λ n a good. (good, refl)) (λ n f h. h)
 
   module _ (operators : Operators) (operator : Rule Named) (O : Halts (names.name (s.Operator operators)) operator) where
     halts_opers : Halts (x.opers primary operators) (mapped (λ more. Some (oper_list more)) (many (operator & g.un rule)))
@@ -130,14 +131,14 @@ module _ (primary : Reader p.Primary) (rule : Rule p.Primary) (P : Halts primary
   no_access (None, init) = Some init
   no_access (Some access, init) = None
 
-  local_becomes : Becomes (mapped no_access (g.ident & g.init rule)) (g.local rule) x.slot_from
+  local_becomes : Becomes (mapped no_access (g.ident & g.init rule)) (g.local rule) made_slot
   local_becomes n (None, init) good = (good, refl)
   local_becomes n (Some access, init) good = absurd good
 
   halts_slot : (holder : Holder) → Halts (x.slot primary holder) (slot_rule holder)
   unfolding x.slot
-  halts_slot h.Object = halts_mapped x.slot_from (g.slot rule) (halts_both halts_access (halts_both halts_ident halts_init)) (λ n a good. (good, refl)) (λ n f h. h)
-  halts_slot h.Code = halts_mapped x.slot_from (g.local rule) (halts_mapped (λ init. (None, init)) (mapped no_access (g.ident & g.init rule)) (halts_both halts_ident halts_init) (λ n a good. (good, refl)) (λ n f h. h)) local_becomes (λ n f h. h)
+  halts_slot h.Object = halts_mapped made_slot (g.slot rule) (halts_both halts_access (halts_both halts_ident halts_init)) (λ n a good. (good, refl)) (λ n f h. h)
+  halts_slot h.Code = halts_mapped made_slot (g.local rule) (halts_mapped (λ init. (None, init)) (mapped no_access (g.ident & g.init rule)) (halts_both halts_ident halts_init) (λ n a good. (good, refl)) (λ n f h. h)) local_becomes (λ n f h. h)
 
   halts_slots : (holder : Holder) → Halts (x.slots primary holder) (mapped (λ slots. Some (slot_list slots)) (many (slot_rule holder)))
   halts_slots holder = halts_mapped list_slots (mapped (λ slots. Some (slot_list slots)) (many (slot_rule holder))) (halts_many (x.starts_slot holder) (halts_slot holder))
@@ -154,11 +155,11 @@ module _ (primary : Reader p.Primary) (rule : Rule p.Primary) (P : Halts primary
 
   halts_statement : Halts (x.statement primary) (g.stmt rule)
   unfolding x.statement
-  halts_statement = halts_mapped x.statement_from (g.stmt rule) (halts_both halts_caret any_expr) (λ n a good. (good, refl)) (λ n f h. h)
+  halts_statement = halts_mapped made_statement (g.stmt rule) (halts_both halts_caret any_expr) (λ n a good. (good, refl)) (λ n f h. h)
 
   pub halts_statements : Halts (x.statements primary) (g.stmts rule)
   halts_statements = halts_mapped x.statements_from (g.stmts rule) (halts_listed x.starts_statement (marks.is_mark m.Stop) k.Stop (mark_is m.Stop) halts_statement)
-      (by_form (listed (g.stmt rule) k.Stop) p.Statements f.statements_form x.statements_from (λ n l good. ap (λ list. f.listed_of list (ends_separated l)) (statements_back (items l)) ∙ listed_read l)) (λ n f h. h)
+      (by_form (listed (g.stmt rule) k.Stop) p.Statements f.statements_form x.statements_from (λ n l good. ap (λ list. f.listed_of list (ends_separated l)) (statements_back (listed_items l)) ∙ listed_read l)) (λ n f h. h)
 
   -- ---- brackets
 
@@ -169,7 +170,7 @@ module _ (primary : Reader p.Primary) (rule : Rule p.Primary) (P : Halts primary
 
   halts_tuple : Halts (x.tuple_items primary) (mapped tuple_form (listed (g.expr rule g.oper) k.Stop))
   halts_tuple = halts_mapped x.tuple_from (mapped tuple_form (listed (g.expr rule g.oper) k.Stop)) (halts_listed x.starts_expr (marks.is_mark m.Stop) k.Stop (mark_is m.Stop) any_expr)
-      (by_form (listed (g.expr rule g.oper) k.Stop) p.Primary tuple_form x.tuple_from (λ n l good. ap (λ list. f.listed_of list (ends_separated l)) (exprs_back (items l)) ∙ listed_read l)) (λ n f h. h)
+      (by_form (listed (g.expr rule g.oper) k.Stop) p.Primary tuple_form x.tuple_from (λ n l good. ap (λ list. f.listed_of list (ends_separated l)) (exprs_back (listed_items l)) ∙ listed_read l)) (λ n f h. h)
 
   abbrev block_parts : p.Block → List Named × (p.Bars × p.Statements)
   block_parts (p.block_with names bars body) = (names, (bars, body))

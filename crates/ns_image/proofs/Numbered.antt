@@ -1,19 +1,16 @@
 -- Names that are numbers are names of locals.
 use Rattle.std.proofs.Common.{◌≡◌, ℕ, zero, suc, ◌+◌, ◌^◌, ◌<◌, ◌≤◌, ◌∷◌, [], List, length, map, All, Bool, true, false, eqb, refl, sym, ap, subst, ◌∙◌, arith}
-use Rattle.std.specs.Prelude.{◌&&◌, ◌||◌, nat_le, not, decimal}
+use Rattle.std.specs.Prelude.{◌||◌, nat_le, not, decimal}
 use Rattle.std.specs.List.{list_all}
 use Rattle.std.specs.Int.Digits.{digits_of, AllBelowBase}
 use Rattle.std.proofs.lemmas.Bool.{le-leb, leb-true, eqb-true}
 use Rattle.std.proofs.lemmas.Fmt.{decimal_digit, decimal-digits_of, length-decimal-le}
 use Rattle.std.proofs.lemmas.Int.Digits.{all_below_base_digits_of}
 use Rattle.std.proofs.lemmas.List.FromFn.{get_or-map-range_with_len, length-map-range_with_len}
-use Rattle.ns_code.specs.Spelling.{begins_name, goes_on_name, is_identifier, is_reserved}
+use Rattle.ns_base.specs.Spelling.{is_digit, begins_name, goes_on_name, is_identifier, is_reserved}
 use Rattle.ns_code.specs.Fits.{IsByte, IsLocalName}
 use Rattle.ns_code.specs.LocalNames.{numbered_name, numbered_names}
 use Rattle.ns_image.proofs.Texts.{both, together}
-
-abbrev is_digit : ℕ → Bool
-is_digit byte = nat_le 48 byte && nat_le byte 57
 
 digit_is : (d : ℕ) → d < 10 → is_digit (48 + d) ≡ true
 digit_is d lt = together (nat_le 48 (48 + d)) (nat_le (48 + d) 57) (le-leb 48 (48 + d) (omega arith)) (le-leb (48 + d) 57 (omega arith))

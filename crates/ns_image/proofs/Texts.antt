@@ -10,7 +10,7 @@ use Rattle.std.proofs.lemmas.Map.Made.{AllPairs-from_IsDistinct, IsDistinct-from
 use Rattle.std.proofs.lemmas.List.Folds.{list_any-append}
 use Rattle.std.proofs.lemmas.Str.{is_utf8-from_IsUtf8, IsUtf8-from_is_utf8}
 use Rattle.ns_base.specs.Names.{has}
-use Rattle.ns_code.specs.Spelling.{is_selector}
+use Rattle.ns_base.specs.Spelling.{is_selector}
 use Rattle.ns_code.specs.Fits.{IsWord, IsShort, IsFileName, IsName, IsLocalName}
 use Rattle.ns_image.specs.Bytes as b
 use Rattle.ns_image.specs.Reading as r

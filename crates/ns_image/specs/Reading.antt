@@ -6,6 +6,7 @@ use Rattle.std.specs.List.{starts_with}
 use Rattle.ns_base.specs.Names.{has}
 use Rattle.ns_base.specs.declared.place.Place.{Place}
 use Rattle.ns_base.specs.declared.selector.Sel.{Sel}
+use Rattle.ns_base.specs.Spelling.{is_identifier, is_selector, is_reserved}
 use Rattle.ns_code.specs.declared.program.CodeProgram.{CodeProgram}
 use Rattle.ns_code.specs.declared.class.ClassCode.{ClassCode}
 use Rattle.ns_code.specs.declared.class.SlotCode.{SlotCode}
@@ -14,7 +15,6 @@ use Rattle.ns_code.specs.declared.class.MethodCode.{MethodCode}
 use Rattle.ns_code.specs.declared.body.BodyCode.{BodyCode}
 use Rattle.ns_code.specs.declared.instruction.Instr.{Instr}
 use Rattle.ns_code.specs.declared.instruction.Instr.TheVariants as i
-use Rattle.ns_code.specs.Spelling.{is_selector, is_identifier, is_reserved}
 use Rattle.ns_image.specs.declared.fault.ImageFault.{ImageFault}
 use Rattle.ns_image.specs.declared.fault.ImageFault.TheVariants as f
 use Rattle.ns_code.specs.LocalNames.{numbered_names}

@@ -1,7 +1,5 @@
 -- How applications stand at the end, and what is told of them so.
 use Rattle.std.specs.Prelude.{ℕ, List, [], ◌∷◌, ◌++◌, map}
-use Rattle.ns_base.specs.declared.status.Status.{Status}
-use Rattle.ns_base.specs.declared.status.Status.TheVariants.{Done, ProgramError, Refused, Limit, ReadFault, WriteFault, Memory}
 use Rattle.ns_launch.specs.Machine.{told_at}
 use Rattle.ns_launch.specs.declared.run.Ran.{Ran}
 use Rattle.ns_session.specs.Member.{MemberView, StandsAlone}
@@ -25,13 +23,3 @@ with_run number ran told = record { out = told.out ++ run_text number ran; statu
 abbrev pub AllStandAlone : List MemberView → Type 0
 AllStandAlone [] = Unit {0}
 AllStandAlone (member ∷ members) = StandsAlone member × AllStandAlone members
-
--- A status with which a run ends.
-abbrev pub IsRunStatus : Status → Type 0
-IsRunStatus Done = Unit {0}
-IsRunStatus ProgramError = Unit {0}
-IsRunStatus Refused = ⊥
-IsRunStatus Limit = Unit {0}
-IsRunStatus ReadFault = ⊥
-IsRunStatus WriteFault = ⊥
-IsRunStatus Memory = ⊥

@@ -6,12 +6,12 @@ ghost use Rattle.ns_base.specs.Files.{Files};
 ghost use Rattle.ns_base.specs.Limits.{InRange};
 ghost use Rattle.ns_base.specs.declared.limits.Limits.{Limits as AnyLimits};
 ghost use Rattle.ns_base.specs.Shelf.{OnlyRead};
+ghost use Rattle.ns_launch.specs.Running.{IsRunStatus};
 ghost use Rattle.ns_session.specs.Play.{opened};
 ghost use Rattle.ns_words.specs.Application.{AreApplications};
 ghost use Rattle.ns_joint.specs.Answer.{AreAdmitted, HasRefusedFile, IsMissingFile, OfSomeTexts, SomeIsThere, Tells};
 ghost use Rattle.ns_joint.specs.Joint as spec;
 ghost use Rattle.ns_joint.specs.Making.{Source, application_of, files_named};
-ghost use Rattle.ns_joint.specs.Stood.{IsRunStatus};
 ghost use Rattle.ns_joint.specs.declared.fault.JointFault.TheVariants.{Memory, Unread};
 
 use crate::fault::JointFault;

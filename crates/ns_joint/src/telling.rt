@@ -2,9 +2,9 @@
 
 ghost use Rattle.std.specs.Prelude.{◌≡◌, ◌≤◌, ◌<◌, ◌++◌, drop, IfOk, Some, OnOk, length, slice_get};
 ghost use Rattle.ns_launch.specs.Machine.{told_at};
+ghost use Rattle.ns_launch.specs.Running.{IsRunStatus};
 ghost use Rattle.ns_joint.specs.Joint.{status_of_all, status_then as status_then_lem, text_from, text_of};
-ghost use Rattle.ns_joint.specs.Stood.{AllStandAlone, IsRunStatus, runs_at, with_run};
-ghost use Rattle.ns_model.specs.Whole as whole;
+ghost use Rattle.ns_joint.specs.Stood.{AllStandAlone, runs_at, with_run};
 ghost use Rattle.ns_session.specs.Rounds.{HaveEnded};
 ghost use Rattle.ns_session.specs.Session.{IsAloneAt};
 ghost use Rattle.ns_session.specs.Member.{MemberView};
@@ -13,8 +13,8 @@ use crate::joint::Told;
 use ns_base::no_memory::NoMemory;
 use ns_base::status::Status;
 use ns_base::text::Text;
+use ns_launch::code::status_of;
 use ns_session::session::Session;
-use ns_world::ending::Ending;
 use std::alloc::Global;
 
 /// What is told of the applications from that number on, behind what was told of those before it.
@@ -45,7 +45,7 @@ fn tell_one(alloc: Global, session: &Session, number: u32, told: Told) -> Result
     ensures alone { IsAloneAt number session.now }
     ensures run { IfOk result (λ all. IsRunStatus all.status) }
 {
-    let status = status_of(session, number);
+    let status = status_at(session, number);
     match (session.transcript(number), session.line(alloc, number)) {
         (Some(transcript), Ok(Some(line))) => {
             let out = with_text(alloc, told.out, number, transcript, line.as_slice())?;
@@ -60,7 +60,7 @@ fn tell_one(alloc: Global, session: &Session, number: u32, told: Told) -> Result
 }
 
 /// The status of the application of that number.
-fn status_of(session: &Session, number: u32) -> Status
+fn status_at(session: &Session, number: u32) -> Status
     requires ended { HaveEnded session.now }
     requires there { number < length session.now.members }
     ensures status { (member : MemberView) → slice_get session.now.members number ≡ Some member →
@@ -69,20 +69,8 @@ fn status_of(session: &Session, number: u32) -> Status
     ensures run { IsRunStatus result }
 {
     match session.ending(number) {
-        Some(ending) => status_at(*ending),
+        Some(ending) => status_of(*ending),
         None => unreachable!(),
-    }
-}
-
-/// The status of an ending.
-fn status_at(ending: Ending) -> Status
-    ensures is { result ≡ whole.status_of ending }
-    ensures run { IsRunStatus result }
-{
-    match ending {
-        Ending::Done(_) => Status::Done,
-        Ending::Error(_) => Status::ProgramError,
-        Ending::Limit(_) => Status::Limit,
     }
 }
 

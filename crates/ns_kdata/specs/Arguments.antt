@@ -4,7 +4,7 @@ use Rattle.std.specs.List.{slice_index_or}
 use Rattle.ns_code.specs.declared.program.CodeProgram.{CodeProgram}
 use Rattle.ns_code.specs.Selector.{selector_text}
 use Rattle.ns_world.specs.declared.value.Value.{Value}
-use Rattle.ns_world.specs.declared.value.Value.TheVariants.{Nil, True, False, Int, Sym, Ref}
+use Rattle.ns_world.specs.declared.value.Value.TheVariants.{Nil, Int, Sym, Ref}
 use Rattle.ns_world.specs.declared.ending.Fault.{Fault}
 use Rattle.ns_world.specs.declared.cell.NewCell.{NewCell}
 use Rattle.ns_world.specs.declared.cell.NewCell.TheVariants as new
@@ -23,11 +23,6 @@ IsThere heap value = Unit {0}
 -- the argument of that place from 0, nil where there is none
 abbrev pub argument : List Value → ℕ → Value
 argument args place = slice_index_or args place Nil
-
--- a test as a boolean of the language
-abbrev pub truth : Bool → Value
-truth true = True
-truth false = False
 
 -- the kind and the sizes of the cell that a value refers to; those of a mirror of nil where it refers to none
 abbrev pub shape_of_value : Heap → Value → NewCell

@@ -17,7 +17,8 @@ use Rattle.ns_world.specs.Cell.{ObjectCell, ArrayCell, TextCell}
 use Rattle.ns_world.specs.Heap.{Heap, no_class}
 use Rattle.ns_world.specs.World.{World, written}
 use Rattle.ns_kdata.specs.Outcome.{Outcome, Answers, Fails, making, wrong_kind, out_of_range}
-use Rattle.ns_kdata.specs.Arguments.{truth, shape_of_value, items_of, is_message, symbol_text, number_of, place_in}
+use Rattle.ns_kdata.specs.Arguments.{shape_of_value, items_of, is_message, symbol_text, number_of, place_in}
+use Rattle.ns_world.specs.Booleans.{truth}
 use Rattle.ns_kdata.specs.Texts.{is_before}
 
 -- whether two kernel classes are the same

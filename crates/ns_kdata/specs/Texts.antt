@@ -12,7 +12,9 @@ use Rattle.ns_world.specs.Heap.{Heap, heap_size}
 use Rattle.ns_world.specs.World.{World, WorldView, SameRoom, made, byte_written}
 use Rattle.ns_kdata.specs.declared.arguments.Part.{Part}
 use Rattle.ns_kdata.specs.Outcome.{Outcome, Fails, making, wrong_kind}
-use Rattle.ns_kdata.specs.Arguments.{truth, is_text, bytes_of, place_in, part_in}
+use Rattle.ns_kdata.specs.Arguments.{is_text, bytes_of, place_in, part_in}
+use Rattle.ns_world.specs.Booleans.{truth}
+use Rattle.ns_base.specs.Quoted.{quoted}
 
 -- the world with bytes written into a text, from a place on
 abbrev pub filled : WorldView → ℕ → ℕ → List ℕ → WorldView
@@ -28,15 +30,6 @@ MakesText old bytes (Err fault) new = (made old.world (TextCell (replicate bytes
 -- some of the bytes
 abbrev pub bytes_in : List ℕ → Part → List ℕ
 bytes_in bytes part = take part.count (drop part.start bytes)
-
--- the bytes with each quote doubled
-abbrev pub doubled : List ℕ → List ℕ
-doubled [] = []
-doubled (byte ∷ bytes) = if byte == 39 then 39 ∷ 39 ∷ doubled bytes else byte ∷ doubled bytes
-
--- the bytes in quotes, with inner quotes doubled
-abbrev pub quoted : List ℕ → List ℕ
-quoted bytes = 39 ∷ (doubled bytes ++ 39 ∷ [])
 
 -- whether bytes come before others: at the first place at which they differ, or where they end first
 abbrev pub is_before : List ℕ → List ℕ → Bool

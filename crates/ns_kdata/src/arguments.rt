@@ -33,14 +33,6 @@ pub fn argument(args: &[Value], place: usize) -> Value
     }
 }
 
-/// A test as a boolean of the language.
-#[inline(always)]
-pub fn truth(test: bool) -> Value
-    ensures { result ≡ spec.truth test }
-{
-    if test { Value::True } else { Value::False }
-}
-
 /// The fault of an argument that isn't of the kind that the row names.
 #[inline(always)]
 pub fn wrong_kind() -> Fault

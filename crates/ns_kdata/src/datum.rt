@@ -7,7 +7,7 @@ ghost use Rattle.ns_kdata.specs.Arguments.{IsThere};
 ghost use Rattle.ns_kdata.specs.Outcome.{Gives};
 ghost use Rattle.ns_kdata.specs.Datum as spec;
 
-use crate::arguments::{argument, truth};
+use crate::arguments::argument;
 use crate::arrays::{array_at, array_put, array_size};
 use crate::booleans::{
     boolean_print, conjunction, disjunction, integer_print, negation, nil_print,
@@ -20,7 +20,7 @@ use crate::symbols::{symbol_less, symbol_print, symbol_size, symbol_string};
 use crate::texts::{text_at, text_copy, text_equal, text_join, text_less, text_size};
 use ns_code::program::CodeProgram;
 use ns_world::ending::Fault;
-use ns_world::value::{KClass, Value};
+use ns_world::value::{KClass, Value, truth};
 use ns_world::world::World;
 
 /// The answer of a row with its change of the world, or its first fault, after which nothing has

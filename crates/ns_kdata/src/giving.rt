@@ -4,7 +4,6 @@ ghost use Rattle.std.specs.Prelude.{◌≡◌, IfSome, Ok};
 ghost use Rattle.ns_kdata.specs.Arguments.{IsThere};
 ghost use Rattle.ns_kdata.specs.Giving.{GivesAtOnce};
 
-use crate::arguments::truth;
 use crate::arrays::{array_at, array_size};
 use crate::booleans::{conjunction, disjunction, negation};
 use crate::messages::{message_arguments, message_selector};
@@ -14,7 +13,7 @@ use crate::symbols::{symbol_less, symbol_size};
 use crate::texts::{text_at, text_equal, text_less, text_size};
 use ns_code::program::CodeProgram;
 use ns_world::ending::Fault;
-use ns_world::value::Value;
+use ns_world::value::{Value, truth};
 use ns_world::world::World;
 
 /// The value of a row that only reads, by its first argument; none where it has a fault, and of any other row.

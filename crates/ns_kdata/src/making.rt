@@ -7,7 +7,8 @@ ghost use Rattle.ns_world.specs.Heap.{has_superclass, bytes_at};
 ghost use Rattle.ns_world.specs.World.{IsWithin};
 ghost use Rattle.ns_kdata.specs.Arguments.{IsThere, bytes_of};
 ghost use Rattle.ns_kdata.specs.Outcome.{Gives, making};
-ghost use Rattle.ns_kdata.specs.Texts.{MakesText, filled, bytes_in, quoted, doubled};
+ghost use Rattle.ns_kdata.specs.Texts.{MakesText, filled, bytes_in};
+ghost use Rattle.ns_base.specs.Quoted.{doubled, quoted};
 
 use crate::arguments::{Part, text_byte, text_size};
 use ns_world::cell::NewCell;

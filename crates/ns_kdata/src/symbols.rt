@@ -7,11 +7,11 @@ ghost use Rattle.ns_kdata.specs.Rows as spec;
 ghost use Rattle.ns_world.specs.World.{IsWithin};
 ghost use Rattle.ns_kdata.specs.Texts as texts;
 
-use crate::arguments::{symbol_text, truth, wrong_kind};
+use crate::arguments::{symbol_text, wrong_kind};
 use crate::making::make_text;
 use ns_code::program::CodeProgram;
 use ns_world::ending::Fault;
-use ns_world::value::Value;
+use ns_world::value::{Value, truth};
 use ns_world::world::World;
 
 /// `size`.

@@ -8,11 +8,11 @@ ghost use Rattle.ns_kdata.specs.Outcome.{Gives};
 ghost use Rattle.ns_kdata.specs.Texts as spec;
 
 use crate::arguments::{
-    is_text, part_in, place_in, text_byte, text_row, text_size as bytes_in, truth, wrong_kind,
+    is_text, part_in, place_in, text_byte, text_row, text_size as bytes_in, wrong_kind,
 };
 use crate::making::{copy_text, join_texts};
 use ns_world::ending::Fault;
-use ns_world::value::Value;
+use ns_world::value::{Value, truth};
 use ns_world::world::World;
 
 /// `size`.

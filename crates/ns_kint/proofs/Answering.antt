@@ -9,7 +9,8 @@ use Rattle.ns_world.specs.declared.ending.Fault.TheVariants.{Kind}
 use Rattle.ns_kint.specs.declared.row.IntRow.{IntRow}
 use Rattle.ns_kint.specs.declared.row.IntRow.TheVariants.{Add, Subtract, Multiply, Quotient, Remainder, Less, LessEqual, Greater, GreaterEqual, Equal, BitAnd, BitOr, BitXor, Negated}
 use Rattle.ns_kint.specs.Division.{floored_quotient}
-use Rattle.ns_kint.specs.Integer.{integer, integer_of, divisor_of, given, fitting, truth, is_integer, is_integer_or_boolean}
+use Rattle.ns_kint.specs.Integer.{integer, integer_of, divisor_of, given, fitting, is_integer, is_integer_or_boolean}
+use Rattle.ns_world.specs.Booleans.{truth}
 
 abbrev Simple : Result Value Fault → Type 0
 Simple r = IfOk r (λ v. IsTrue (is_integer_or_boolean v))

@@ -7,6 +7,7 @@ use Rattle.ns_world.specs.declared.value.Value.TheVariants.{True, False, Int}
 use Rattle.ns_world.specs.declared.ending.Kind.TheVariants.{Overflow, ZeroDivide, WrongKind}
 use Rattle.ns_world.specs.declared.ending.Fault.{Fault}
 use Rattle.ns_world.specs.declared.ending.Fault.TheVariants.{Kind}
+use Rattle.ns_world.specs.Booleans.{truth}
 use Rattle.ns_kint.specs.declared.row.IntRow.{IntRow}
 use Rattle.ns_kint.specs.declared.row.IntRow.TheVariants.{Add, Subtract, Multiply, Quotient, Remainder, Less, LessEqual, Greater, GreaterEqual, Equal, BitAnd, BitOr, BitXor, Negated}
 use Rattle.ns_kint.specs.Division.{floored_quotient, floored_remainder}
@@ -18,11 +19,6 @@ is_integer number = int_le (neg_ℤ (pos (2 ^ 63))) number && int_lt number (pos
 -- the number as an answer, or Overflow where it is no Integer
 abbrev pub fitting : ℤ → Result Value Fault
 fitting number = if is_integer number then Ok (Int number) else Err (Kind Overflow)
-
--- a test as a boolean of the language
-abbrev pub truth : Bool → Value
-truth true = True
-truth false = False
 
 -- the Integer that an argument is; WrongKind where it is none
 abbrev pub integer_of : Value → Result ℤ Fault

@@ -2,12 +2,12 @@
 
 ghost use Rattle.std.specs.Prelude.{◌≡◌, ◌≢◌, ℤ, pos, SomeIff, FitsSigned, Ok};
 ghost use Rattle.std.specs.Int.{w64};
-ghost use Rattle.ns_kint.specs.Integer.{integer, integer_of, divisor_of, fitting, truth, same_integer};
+ghost use Rattle.ns_kint.specs.Integer.{integer, integer_of, divisor_of, fitting, same_integer};
 
 use crate::division::{floored_quotient, floored_remainder};
 use crate::row::IntRow;
 use ns_world::ending::{Fault, Kind};
-use ns_world::value::Value;
+use ns_world::value::{Value, truth};
 
 /// The answer of a row of Integer, or its first fault. `negated` doesn't look at `right`, and `=`
 /// has no fault.
@@ -65,14 +65,6 @@ fn fitting(number: Option<i64>) -> Result<Value, Fault>
         Some(number) => Ok(Value::Int(number)),
         None => Err(Fault::Kind(Kind::Overflow)),
     }
-}
-
-/// A test as a boolean of the language.
-#[inline(always)]
-fn truth(test: bool) -> Value
-    ensures { result ≡ truth test }
-{
-    if test { Value::True } else { Value::False }
 }
 
 /// Whether the argument is the same Integer.

@@ -9,7 +9,7 @@ use Rattle.ns_kcode.specs.declared.state.KMethod.{KMethod}
 use Rattle.ns_kdata.specs.Arguments.{items_of}
 use Rattle.ns_moves.specs.Arrivals.{arrived, part_arrived, acted_on}
 use Rattle.ns_moves.specs.Instructions.{executed}
-use Rattle.ns_moves.specs.Jumps.{goes_back, takes_jump, is_boolean, jumped, jumped_on}
+use Rattle.ns_moves.specs.Jumps.{goes_back, takes_jump, jumped, jumped_on}
 use Rattle.ns_moves.specs.Move.{sent_on, move, moves}
 use Rattle.ns_moves.specs.Operands.{on_top, taken_off, picked}
 use Rattle.ns_moves.specs.Returns.{is_home, has_home, delivered, settled, returned, unwound, returned_home}
@@ -18,8 +18,9 @@ use Rattle.ns_moves.specs.State.{Leaving, Loud, Silent, Frame, Running, Looping,
 use Rattle.ns_moves.specs.State.{Phase, Start, First, Second, Hosted, State, Unbegun, Going, Pends, Ended, Stuck}
 use Rattle.ns_moves.specs.Steps.{Step, steps_from, literal}
 use Rattle.ns_send.specs.Blocks.{evaluated, method_next, new_block, new_text, new_array}
-use Rattle.ns_send.specs.Classes.{body_ended, part_ended, super_part}
-use Rattle.ns_send.specs.Control.{Progress, Activation, After, Gives, Halts, Control, Now, Enter, Evaluate, Begin, Perform, charged}
+use Rattle.ns_world.specs.Booleans.{is_boolean}
+use Rattle.ns_send.specs.Classes.{body_ended, super_part}
+use Rattle.ns_send.specs.Control.{Progress, Activation, After, Gives, Halts, Control, Now, Enter, Evaluate, Begin, Perform, charged, frame_left}
 use Rattle.ns_send.specs.Control.{Part, Skip, Stop, EnterPart, Waiting, Waits, Finishes}
 use Rattle.ns_send.specs.Sends.{To, ToPrivate, ToSuper, to_value, sent}
 use Rattle.ns_send.specs.declared.site.Site.{Site}
@@ -104,7 +105,7 @@ returned_begun code phase Silent a v frames p = refl
 unwound_begun : (code : CodeProgram) (phase : Phase) (home : ℕ) (v : Value) (frames : List Frame) (p : Progress) → Begun (unwound code phase home v frames p)
 unwound_begun code phase home v [] p = refl
 unwound_begun code phase home v (frame ∷ frames) p =
-    either_begun (is_home home frame) _ _ (delivered_begun code phase v frames (part_ended p)) (unwound_begun code phase home v frames (part_ended p))
+    either_begun (is_home home frame) _ _ (delivered_begun code phase v frames (frame_left p)) (unwound_begun code phase home v frames (frame_left p))
 
 home_begun : (code : CodeProgram) (phase : Phase) (a : Activation) (v : Value) (frames : List Frame) (p : Progress)
     → Begun (returned_home code phase a v frames p)

@@ -1,5 +1,7 @@
 -- What is told of a run that has ended.
 use Rattle.std.specs.Prelude.{◌≡◌, Some}
+use Rattle.ns_base.specs.declared.status.Status.{Status}
+use Rattle.ns_base.specs.declared.status.Status.TheVariants.{Done, ProgramError, Refused, Limit, ReadFault, WriteFault, Memory}
 use Rattle.ns_code.specs.declared.program.CodeProgram.{CodeProgram}
 use Rattle.ns_world.specs.declared.ending.Ending.{Ending}
 use Rattle.ns_world.specs.World.{counters_of}
@@ -11,6 +13,16 @@ use Rattle.ns_launch.specs.declared.run.Ran.{Ran}
 -- The run has ended.
 abbrev pub HasAnEnd : State → Type 0
 HasAnEnd state = (ending : Ending) × (ending_of state ≡ Some ending)
+
+-- A status with which a run ends.
+abbrev pub IsRunStatus : Status → Type 0
+IsRunStatus Done = Unit {0}
+IsRunStatus ProgramError = Unit {0}
+IsRunStatus Refused = ⊥
+IsRunStatus Limit = Unit {0}
+IsRunStatus ReadFault = ⊥
+IsRunStatus WriteFault = ⊥
+IsRunStatus Memory = ⊥
 
 -- what is told of a run that has ended so
 abbrev pub told_of : CodeProgram → State → Ending → Ran

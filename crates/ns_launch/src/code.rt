@@ -3,7 +3,7 @@
 ghost use Rattle.std.specs.Prelude.{◌≡◌, Some, IfOk};
 ghost use Rattle.ns_base.specs.Limits.{InRange};
 ghost use Rattle.ns_launch.specs.Machine.{machine_run};
-ghost use Rattle.ns_launch.specs.Running.{HasAnEnd, told_of};
+ghost use Rattle.ns_launch.specs.Running.{HasAnEnd, IsRunStatus, told_of};
 ghost use Rattle.ns_model.specs.Whole as whole;
 ghost use Rattle.ns_moves.specs.State.{ending_of, world_of};
 ghost use Rattle.ns_report.specs.Ending.{IsLiveEnding};
@@ -78,8 +78,9 @@ fn told(alloc: Global, machine: &Machine, ending: Ending) -> Result<Ran, NoMemor
 }
 
 /// The status of an ending.
-fn status_of(ending: Ending) -> Status
-    ensures { result ≡ whole.status_of ending }
+pub fn status_of(ending: Ending) -> Status
+    ensures is { result ≡ whole.status_of ending }
+    ensures run { IsRunStatus result }
 {
     match ending {
         Ending::Done(_) => Status::Done,

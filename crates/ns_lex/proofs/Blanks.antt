@@ -1,7 +1,8 @@
 -- What ends at a blank, and tests that go one way.
 use Rattle.std.proofs.Common.{◌≡◌, ℕ, ◌+◌, Bool, true, false, ◌==◌, ◌||◌, ◌&&◌, if◌then◌else◌, ◌∷◌, ◌++◌, length, get_or, refl, sym, ap, subst, ◌∙◌, arith}
 use Rattle.std.proofs.lemmas.Bool.{eqb-true}
-use Rattle.ns_lex.specs.Bytes.{is_blank, starts_name, is_in_name, is_digit, is_operator}
+use Rattle.ns_base.specs.Spelling.{is_digit, begins_name, goes_on_name, is_operator_byte}
+use Rattle.ns_lex.specs.Bytes.{is_blank}
 use Rattle.ns_lex.specs.Piece.{Text}
 use Rattle.ns_lex.specs.Next.{next_piece}
 use Rattle.ns_lex.specs.declared.piece.Piece.TheVariants.{Gap}
@@ -10,10 +11,10 @@ use Rattle.ns_lex.proofs.Words.{at_end}
 -- a byte that ends each token but a string
 pub record Ends (b : ℕ) : Type 0 where
   pub blank : is_blank b ≡ true
-  pub name : is_in_name b ≡ false
-  pub starts : starts_name b ≡ false
+  pub name : goes_on_name b ≡ false
+  pub starts : begins_name b ≡ false
   pub digit : is_digit b ≡ false
-  pub oper : is_operator b ≡ false
+  pub oper : is_operator_byte b ≡ false
   pub colon : (b == 58) ≡ false
   pub equals : (b == 61) ≡ false
   pub stop : (b == 46) ≡ false

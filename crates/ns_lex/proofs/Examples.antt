@@ -12,7 +12,7 @@ use Rattle.ns_lex.specs.Comment.{comment, remark}
 use Rattle.ns_lex.specs.Operator.{operator, operator_len}
 use Rattle.ns_lex.specs.Symbol.{symbol, selector_len}
 use Rattle.ns_lex.specs.Single.{single}
-use Rattle.ns_lex.specs.Spells.{doubled}
+use Rattle.ns_base.specs.Quoted.{doubled}
 use Rattle.ns_lex.specs.Gap.{closes, byte, nested, inside}
 
 -- An identifier stands before `::=`.

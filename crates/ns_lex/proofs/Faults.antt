@@ -4,9 +4,10 @@ use Rattle.std.proofs.Math.Seq.{take-append_seam}
 use Rattle.std.proofs.lemmas.Bool.{eq-eqb}
 use Rattle.std.proofs.lemmas.Bool.Decides.{nat_tests}
 use Rattle.std.specs.List.{prefix_len}
+use Rattle.ns_base.specs.Spelling.{is_digit, begins_name}
 use Rattle.ns_tree.specs.declared.token.Kind.{Kind}
 use Rattle.ns_tree.specs.declared.token.Kind.TheVariants as k
-use Rattle.ns_lex.specs.Bytes.{is_blank, starts_name, is_digit}
+use Rattle.ns_lex.specs.Bytes.{is_blank}
 use Rattle.ns_lex.specs.Piece.{Text}
 use Rattle.ns_lex.specs.Number.{number, value, greatest}
 use Rattle.ns_lex.specs.declared.piece.Cause.TheVariants as cause
@@ -74,7 +75,7 @@ pub no_digits : (b : ℕ) (y : Text) → is_digit b ≡ false → NoBadDigits (b
 no_digits b y h [] q cut (some, all) = absurd (omega (arith, some))
 no_digits b y h (c ∷ d) q cut (some, all) = absurd (clash (is_digit b) h (ap is_digit (same_first b c y (d ++ q) cut) ∙ all.0))
 
-name_no_digit : (b : ℕ) → starts_name b ≡ true → is_digit b ≡ false
+name_no_digit : (b : ℕ) → begins_name b ≡ true → is_digit b ≡ false
 name_no_digit b h = grind (arith, nat_tests)
 
 stop_no_digit : (b : ℕ) → b ≡ 46 → is_digit b ≡ false
@@ -99,7 +100,7 @@ no_bad_end : (b : ℕ) (y d q : Text) (t : Kind) (m : ℕ) → number (b ∷ y) 
 no_bad_end b y d q t m f cut size (inl h) =
     let says = number_says b y t m f in
     let zero_more : run (b ∷ y) ≡ run (b ∷ y) + 0 = omega arith in
-    clash (starts_name (get_or (b ∷ y) (run (b ∷ y)) 0)) says.0 (ap (λ i. starts_name (get_or (b ∷ y) i 0)) zero_more ∙ ap starts_name (byte_behind b y d q (run (b ∷ y)) 0 cut size) ∙ h)
+    clash (begins_name (get_or (b ∷ y) (run (b ∷ y)) 0)) says.0 (ap (λ i. begins_name (get_or (b ∷ y) i 0)) zero_more ∙ ap begins_name (byte_behind b y d q (run (b ∷ y)) 0 cut size) ∙ h)
 no_bad_end b y d q t m f cut size (inr h) =
     let says = number_says b y t m f in
     let zero_more : run (b ∷ y) ≡ run (b ∷ y) + 0 = omega arith in

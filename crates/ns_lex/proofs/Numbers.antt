@@ -5,9 +5,10 @@ use Rattle.std.proofs.lemmas.Bool.Decides.{nat_tests}
 use Rattle.std.specs.List.{prefix_len}
 use Rattle.std.proofs.lemmas.List.{append-nil}
 use Rattle.std.proofs.lemmas.List.Sums.{prefix_len-le-length}
+use Rattle.ns_base.specs.Spelling.{is_digit, begins_name, is_operator_byte}
 use Rattle.ns_tree.specs.declared.token.Kind.{Kind}
 use Rattle.ns_tree.specs.declared.token.Kind.TheVariants as k
-use Rattle.ns_lex.specs.Bytes.{starts_name, is_digit, is_operator, is_in}
+use Rattle.ns_lex.specs.Bytes.{is_in}
 use Rattle.ns_lex.specs.declared.bytes.ByteClass.TheVariants as class
 use Rattle.ns_lex.specs.Piece.{Text}
 use Rattle.ns_lex.specs.Number.{number, sized, at_most_greatest, value, greatest}
@@ -16,10 +17,10 @@ use Rattle.ns_lex.specs.Spells.{Spells}
 use Rattle.ns_lex.proofs.Words.{IsToken, NoneLonger, longest_cut, run_of, run_all, moved, length_taken}
 use Rattle.ns_lex.proofs.Singles.{no_name, no_operator, first_not, same_first, no_slot_set, split}
 
-name_of : (b : ℕ) → is_digit b ≡ true → starts_name b ≡ false
+name_of : (b : ℕ) → is_digit b ≡ true → begins_name b ≡ false
 name_of b h = grind (arith, nat_tests)
 
-oper_of : (b : ℕ) → is_digit b ≡ true → is_operator b ≡ false
+oper_of : (b : ℕ) → is_digit b ≡ true → is_operator_byte b ≡ false
 oper_of b h = grind (arith, nat_tests)
 
 quote_of : (b : ℕ) → is_digit b ≡ true → (b == 39) ≡ false
@@ -83,7 +84,7 @@ sized_token b z (Some v) t m h e f = moved (b ∷ z) (k.Number v) t (run (b ∷ 
 pub number_token : (b : ℕ) (z : Text) (t : Kind) (m : ℕ) → is_digit b ≡ true → number (b ∷ z) ≡ Token t m → IsToken (b ∷ z) t m
 unfolding number
 number_token b z t m h f =
-    split (starts_name (get_or (b ∷ z) (run (b ∷ z)) 0)) _ _ _ f (λ e f. absurd cc)
+    split (begins_name (get_or (b ∷ z) (run (b ∷ z)) 0)) _ _ _ f (λ e f. absurd cc)
     (λ _ f. split (get_or (b ∷ z) (run (b ∷ z)) 0 == 46 && is_digit (get_or (b ∷ z) (run (b ∷ z) + 1) 0)) _ _ _ f (λ e f. absurd cc) (λ _ f. sized_token b z _ t m h refl f))
 
 sized_small : (n v : ℕ) (o : Option ℕ) (t : Kind) (m : ℕ) → at_most_greatest v ≡ o → sized n o ≡ Token t m → v ≤ greatest
@@ -92,8 +93,8 @@ sized_small n v (Some w) t m e f = let x = small_of v w (Some w) e refl in subst
 
 -- what the tests at a number's end say
 pub number_says : (b : ℕ) (z : Text) (t : Kind) (m : ℕ) → number (b ∷ z) ≡ Token t m
-    → (starts_name (get_or (b ∷ z) (run (b ∷ z)) 0) ≡ false) × ((get_or (b ∷ z) (run (b ∷ z)) 0 == 46 && is_digit (get_or (b ∷ z) (run (b ∷ z) + 1) 0)) ≡ false) × (value (take (run (b ∷ z)) (b ∷ z)) ≤ greatest)
+    → (begins_name (get_or (b ∷ z) (run (b ∷ z)) 0) ≡ false) × ((get_or (b ∷ z) (run (b ∷ z)) 0 == 46 && is_digit (get_or (b ∷ z) (run (b ∷ z) + 1) 0)) ≡ false) × (value (take (run (b ∷ z)) (b ∷ z)) ≤ greatest)
 unfolding number
 number_says b z t m f =
-    split (starts_name (get_or (b ∷ z) (run (b ∷ z)) 0)) _ _ _ f (λ e f. absurd cc)
+    split (begins_name (get_or (b ∷ z) (run (b ∷ z)) 0)) _ _ _ f (λ e f. absurd cc)
     (λ e f. split (get_or (b ∷ z) (run (b ∷ z)) 0 == 46 && is_digit (get_or (b ∷ z) (run (b ∷ z) + 1) 0)) _ _ _ f (λ e f. absurd cc) (λ g f. (e, g, sized_small (run (b ∷ z)) (value (take (run (b ∷ z)) (b ∷ z))) _ t m refl f)))

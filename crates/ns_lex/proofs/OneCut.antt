@@ -1,8 +1,8 @@
 -- One list of tokens at most cuts a source, and then it has no fault.
 use Rattle.std.proofs.Common.{◌≡◌, ℕ, ◌+◌, ◌<◌, inl, inr, List, [], ◌∷◌, ◌++◌, length, refl, sym, ap, subst, ◌∙◌, arith, length-append}
+use Rattle.ns_base.specs.Spelling.{goes_on_name}
 use Rattle.ns_tree.specs.declared.token.Kind.{Kind}
 use Rattle.ns_tree.specs.declared.token.Token.{Token}
-use Rattle.ns_lex.specs.Bytes.{is_in_name}
 use Rattle.ns_lex.specs.Piece.{Text}
 use Rattle.ns_lex.specs.Lexes.{Stands, IsNext, IsFault, Gapped, IsStep, Cuts, Lexes, LexStops}
 use Rattle.ns_lex.specs.Spells.{Spells}
@@ -20,7 +20,7 @@ gapped_cut z g g' y y' x x' = gap_cut g g' y y' x.gap x'.gap x.most x'.most (sym
 
 token_cut : (w q v r : Text) (t u : Kind) → IsNext w q t → IsNext v r u → w ++ q ≡ v ++ r → Same w q v r
 token_cut w q v r t u (s, inl (name, (rest, e))) (s', inl (name', (rest', e'))) cut =
-    let x = run_cut is_in_name 58 w (58 ∷ 61 ∷ rest) v (58 ∷ 61 ∷ rest') refl (all_in w name) (all_in v name') (ap (λ z. w ++ z) (sym e) ∙ cut ∙ ap (λ z. v ++ z) e') in
+    let x = run_cut goes_on_name 58 w (58 ∷ 61 ∷ rest) v (58 ∷ 61 ∷ rest') refl (all_in w name) (all_in v name') (ap (λ z. w ++ z) (sym e) ∙ cut ∙ ap (λ z. v ++ z) e') in
     record { front = x.front; back = e ∙ ap (λ z. 58 ∷ z) x.back ∙ sym e' }
 token_cut w q v r t u (s, inl b) (s', inr l) cut = absurd (l.1 w q (sym cut) b)
 token_cut w q v r t u (s, inr l) (s', inl b) cut = absurd (l.1 v r cut b)

@@ -2,10 +2,11 @@
 use Rattle.std.proofs.Common.{◌≡◌, ℕ, ◌<◌, ◌==◌, inl, inr, [], ◌∷◌, ◌++◌, length, Bool, true, false, cond, ◌||◌, if◌then◌else◌, refl, sym, ap, subst, ◌∙◌, arith}
 use Rattle.std.proofs.lemmas.Bool.{eqb-true}
 use Rattle.std.proofs.lemmas.Bool.Decides.{nat_tests}
-use Rattle.ns_lex.specs.Bytes.{starts_name, is_in_name, is_digit, is_operator}
 use Rattle.ns_lex.specs.Number.{value}
 use Rattle.ns_lex.specs.Piece.{Text}
-use Rattle.ns_lex.specs.Spells.{AllOf, IsName, IsOperator, Spells, doubled}
+use Rattle.ns_lex.specs.Spells.{AllOf, IsName, IsOperator, Spells}
+use Rattle.ns_base.specs.Quoted.{doubled}
+use Rattle.ns_base.specs.Spelling.{is_digit, begins_name, goes_on_name, is_operator_byte}
 use Rattle.ns_lex.specs.Word.{reserved, named}
 use Rattle.ns_tree.specs.declared.token.Kind.{Kind}
 use Rattle.ns_tree.specs.declared.token.Kind.TheVariants as k
@@ -15,11 +16,11 @@ use Rattle.ns_tree.specs.declared.token.Kind.TheVariants as k
 -- the name at the front, and what stands behind it
 abbrev name_part : Text → Text
 name_part [] = []
-name_part (b ∷ t) = if is_in_name b then b ∷ name_part t else []
+name_part (b ∷ t) = if goes_on_name b then b ∷ name_part t else []
 
 abbrev behind_name : Text → Text
 behind_name [] = []
-behind_name (b ∷ t) = if is_in_name b then behind_name t else b ∷ t
+behind_name (b ∷ t) = if goes_on_name b then behind_name t else b ∷ t
 
 abbrev word_by : Text → Text → Kind
 word_by [] w = named w (reserved w)
@@ -58,37 +59,37 @@ kind_by false false false b t = single b t
 
 abbrev kind_of : Text → Kind
 kind_of [] = k.Stop
-kind_of (b ∷ t) = kind_by (starts_name b) (is_operator b) (is_digit b) b t
+kind_of (b ∷ t) = kind_by (begins_name b) (is_operator_byte b) (is_digit b) b t
 
 -- ---- names
 
-starts_in : (b : ℕ) → starts_name b ≡ true → is_in_name b ≡ true
+starts_in : (b : ℕ) → begins_name b ≡ true → goes_on_name b ≡ true
 starts_in b h = ap (λ v. v || is_digit b) h
 
-pub all_in : (n : Text) → IsName n → AllOf is_in_name n
+pub all_in : (n : Text) → IsName n → AllOf goes_on_name n
 all_in [] h = absurd h
 all_in (b ∷ t) h = (starts_in b h.0, h.1)
 
-behind_all : (n z : Text) → AllOf is_in_name n → behind_name (n ++ z) ≡ behind_name z
+behind_all : (n z : Text) → AllOf goes_on_name n → behind_name (n ++ z) ≡ behind_name z
 behind_all [] z h = refl
 behind_all (b ∷ n) z h = ap (λ v. if v then behind_name (n ++ z) else b ∷ (n ++ z)) h.0 ∙ behind_all n z h.1
 
-behind_alone : (n : Text) → AllOf is_in_name n → behind_name n ≡ []
+behind_alone : (n : Text) → AllOf goes_on_name n → behind_name n ≡ []
 behind_alone [] h = refl
 behind_alone (b ∷ n) h = ap (λ v. if v then behind_name n else b ∷ n) h.0 ∙ behind_alone n h.1
 
-part_all : (n z : Text) → AllOf is_in_name n → name_part (n ++ 58 ∷ z) ≡ n
+part_all : (n z : Text) → AllOf goes_on_name n → name_part (n ++ 58 ∷ z) ≡ n
 part_all [] z h = refl
 part_all (b ∷ n) z h = ap (λ v. if v then b ∷ name_part (n ++ 58 ∷ z) else []) h.0 ∙ ap (λ w. b ∷ w) (part_all n z h.1)
 
 -- a text that begins as a name
 word_kind : (n z : Text) → IsName n → kind_of (n ++ z) ≡ word_by (behind_name (n ++ z)) (n ++ z)
 word_kind [] z h = absurd h
-word_kind (b ∷ n) z h = ap (λ v. kind_by v (is_operator b) (is_digit b) b (n ++ z)) h.0
+word_kind (b ∷ n) z h = ap (λ v. kind_by v (is_operator_byte b) (is_digit b) b (n ++ z)) h.0
 
 name_kind : (n : Text) → IsName n → kind_of n ≡ named n (reserved n)
 name_kind [] h = absurd h
-name_kind (b ∷ n) h = ap (λ v. kind_by v (is_operator b) (is_digit b) b n) h.0 ∙ ap (λ v. word_by v (b ∷ n)) (behind_alone (b ∷ n) (all_in (b ∷ n) h))
+name_kind (b ∷ n) h = ap (λ v. kind_by v (is_operator_byte b) (is_digit b) b n) h.0 ∙ ap (λ v. word_by v (b ∷ n)) (behind_alone (b ∷ n) (all_in (b ∷ n) h))
 
 key_kind : (n : Text) → IsName n → kind_of (n ++ 58 ∷ []) ≡ k.Key (n ++ 58 ∷ [])
 key_kind n h = word_kind n (58 ∷ []) h ∙ ap (λ v. word_by v (n ++ 58 ∷ [])) (behind_all n (58 ∷ []) (all_in n h))
@@ -99,25 +100,25 @@ set_key_kind n h =
 
 -- ---- operators, numbers and strings
 
-operator_starts : (b : ℕ) → is_operator b ≡ true → starts_name b ≡ false
+operator_starts : (b : ℕ) → is_operator_byte b ≡ true → begins_name b ≡ false
 operator_starts b h = grind (arith, nat_tests)
 
-digit_starts : (b : ℕ) → is_digit b ≡ true → starts_name b ≡ false
+digit_starts : (b : ℕ) → is_digit b ≡ true → begins_name b ≡ false
 digit_starts b h = grind (arith, nat_tests)
 
-digit_operator : (b : ℕ) → is_digit b ≡ true → is_operator b ≡ false
+digit_operator : (b : ℕ) → is_digit b ≡ true → is_operator_byte b ≡ false
 digit_operator b h = grind (arith, nat_tests)
 
 oper_kind : (s : Text) → IsOperator s → kind_of s ≡ k.Oper s
 oper_kind [] (inl h) = absurd (omega (arith, h.0))
 oper_kind (b ∷ t) (inl h) =
-    ap (λ v. kind_by v (is_operator b) (is_digit b) b t) (operator_starts b h.1.0) ∙ ap (λ v. kind_by false v (is_digit b) b t) h.1.0
+    ap (λ v. kind_by v (is_operator_byte b) (is_digit b) b t) (operator_starts b h.1.0) ∙ ap (λ v. kind_by false v (is_digit b) b t) h.1.0
 oper_kind s (inr e) = ap kind_of e ∙ ap k.Oper (sym e)
 
 number_kind : (s : Text) → 0 < length s → AllOf is_digit s → kind_of s ≡ k.Number (value s)
 number_kind [] some h = absurd (omega (arith, some))
 number_kind (b ∷ t) some h =
-    ap (λ v. kind_by v (is_operator b) (is_digit b) b t) (digit_starts b h.0) ∙ ap (λ v. kind_by false v (is_digit b) b t) (digit_operator b h.0) ∙ ap (λ v. kind_by false false v b t) h.0
+    ap (λ v. kind_by v (is_operator_byte b) (is_digit b) b t) (digit_starts b h.0) ∙ ap (λ v. kind_by false v (is_digit b) b t) (digit_operator b h.0) ∙ ap (λ v. kind_by false false v b t) h.0
 
 undouble_by : (b : ℕ) (s : Text) (quote : Bool) → (b == 39) ≡ quote → undoubled false (doubled s ++ 39 ∷ []) ≡ s → undoubled false (cond quote (39 ∷ 39 ∷ doubled s) (b ∷ doubled s) ++ 39 ∷ []) ≡ b ∷ s
 undouble_by b s true e after = ap (λ w. 39 ∷ w) after ∙ ap (λ c. c ∷ s) (sym (eqb-true b 39 e))

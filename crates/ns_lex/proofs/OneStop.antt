@@ -4,9 +4,9 @@ use Rattle.std.proofs.Math.Seq.{drop-append_seam}
 use Rattle.std.proofs.lemmas.Bool.{eqb-true, eq-eqb}
 use Rattle.std.proofs.lemmas.Bool.Decides.{nat_tests}
 use Rattle.std.specs.List.{prefix_len}
+use Rattle.ns_base.specs.Spelling.{is_digit, begins_name}
 use Rattle.ns_tree.specs.declared.token.Kind.TheVariants as k
 use Rattle.ns_tree.specs.declared.token.Token.{Token}
-use Rattle.ns_lex.specs.Bytes.{starts_name, is_digit}
 use Rattle.ns_lex.specs.Number.{value, greatest}
 use Rattle.ns_lex.specs.Piece.{Text}
 use Rattle.ns_lex.specs.Lexes.{IsDigits, BeginsName, BeginsFraction, BeginsNothing, IsFault, Cuts, LexStops}
@@ -20,7 +20,7 @@ use Rattle.ns_lex.proofs.OneCut.{gapped_cut, step_same, after_step}
 
 -- a letter stands first, or a full stop and a digit
 abbrev ends_badly : Text → Bool
-ends_badly q = starts_name (get_or q 0 0) || (get_or q 0 0 == 46 && is_digit (get_or q 1 0))
+ends_badly q = begins_name (get_or q 0 0) || (get_or q 0 0 == 46 && is_digit (get_or q 1 0))
 
 -- behind n digits
 abbrev at_digits : ℕ → Text → Cause × ℕ
@@ -63,15 +63,15 @@ good_by false true true h g = absurd (g refl refl)
 good_by false true false h g = refl
 good_by false false w h g = refl
 
-bad_tests : (q : Text) → BeginsName q ⊎ BeginsFraction q → (starts_name (get_or q 0 0) ≡ true) ⊎ (((get_or q 0 0 == 46) ≡ true) × (is_digit (get_or q 1 0) ≡ true))
+bad_tests : (q : Text) → BeginsName q ⊎ BeginsFraction q → (begins_name (get_or q 0 0) ≡ true) ⊎ (((get_or q 0 0 == 46) ≡ true) × (is_digit (get_or q 1 0) ≡ true))
 bad_tests q (inl h) = inl h
 bad_tests q (inr h) = inr (eq-eqb (get_or q 0 0) 46 h.0, h.1)
 
 is_bad : (q : Text) → BeginsName q ⊎ BeginsFraction q → ends_badly q ≡ true
-is_bad q h = bad_by (starts_name (get_or q 0 0)) (get_or q 0 0 == 46) (is_digit (get_or q 1 0)) (bad_tests q h)
+is_bad q h = bad_by (begins_name (get_or q 0 0)) (get_or q 0 0 == 46) (is_digit (get_or q 1 0)) (bad_tests q h)
 
 is_good : (q : Text) → (BeginsName q → ⊥) → (BeginsFraction q → ⊥) → ends_badly q ≡ false
-is_good q name fraction = good_by (starts_name (get_or q 0 0)) (get_or q 0 0 == 46) (is_digit (get_or q 1 0)) name (λ e f. fraction (eqb-true (get_or q 0 0) 46 e, f))
+is_good q name fraction = good_by (begins_name (get_or q 0 0)) (get_or q 0 0 == 46) (is_digit (get_or q 1 0)) name (λ e f. fraction (eqb-true (get_or q 0 0) 46 e, f))
 
 -- ---- a byte that begins nothing
 

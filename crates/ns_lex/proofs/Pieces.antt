@@ -3,8 +3,9 @@ use Rattle.std.proofs.Common.{◌≡◌, ℕ, zero, suc, ◌+◌, ◌<◌, Bool,
 use Rattle.std.proofs.lemmas.Bool.{eqb-true, eq-eqb}
 use Rattle.std.proofs.lemmas.Bool.Decides.{nat_tests}
 use Rattle.std.proofs.lemmas.List.{take-append-drop}
+use Rattle.ns_base.specs.Spelling.{is_digit, begins_name, is_operator_byte}
 use Rattle.ns_tree.specs.declared.token.Kind.{Kind}
-use Rattle.ns_lex.specs.Bytes.{is_blank, starts_name, is_digit, is_operator}
+use Rattle.ns_lex.specs.Bytes.{is_blank}
 use Rattle.ns_lex.specs.Piece.{Text}
 use Rattle.ns_lex.specs.Next.{next_piece}
 use Rattle.ns_lex.specs.Word.{word, word_by, name_len}
@@ -60,7 +61,7 @@ at_word z m f = word_no_gap (get_or z (name_len z) 0 == 58) (get_or z (name_len 
 at_number : (z : Text) (m : ℕ) → number z ≡ Gap m → ⊥
 unfolding number
 at_number z m f =
-    split (starts_name (get_or z (run z) 0)) _ _ _ f (λ e f. absurd cc)
+    split (begins_name (get_or z (run z) 0)) _ _ _ f (λ e f. absurd cc)
     (λ _ f. split (get_or z (run z) 0 == 46 && is_digit (get_or z (run z + 1) 0)) _ _ _ f (λ e f. absurd cc) (λ _ f. sized_no_gap (run z) (at_most_greatest (value (take (run z) z))) m f))
 
 at_string : (z : Text) (m : ℕ) → quoted z ≡ Gap m → ⊥
@@ -104,11 +105,11 @@ next_gap b y n f =
     split (is_blank b) _ _ _ f (λ e h. blank_part b y n e h)
     (λ _ f. split (b == 34) _ _ _ f (λ e h. remark_part b y n (eqb-true b 34 e) h)
     (λ _ f. split (is_comment (b ∷ y)) _ _ _ f (λ e h. comment_at b y n e h)
-    (λ _ f. split (starts_name b) _ _ _ f (λ e h. absurd (at_word (b ∷ y) n h))
+    (λ _ f. split (begins_name b) _ _ _ f (λ e h. absurd (at_word (b ∷ y) n h))
     (λ _ f. split (is_digit b) _ _ _ f (λ e h. absurd (at_number (b ∷ y) n h))
     (λ _ f. split (b == 39) _ _ _ f (λ e h. absurd (at_string (b ∷ y) n h))
     (λ _ f. split (b == 35) _ _ _ f (λ e h. absurd (at_symbol (b ∷ y) n h))
-    (λ _ f. split (is_operator b) _ _ _ f (λ e h. absurd (at_operator (b ∷ y) n h))
+    (λ _ f. split (is_operator_byte b) _ _ _ f (λ e h. absurd (at_operator (b ∷ y) n h))
     (λ _ h. absurd (at_single (b ∷ y) n h)))))))))
 
 -- ---- tokens
@@ -144,10 +145,10 @@ quote_stands b y t zero x e = absurd (omega (arith, (token_first b y t zero x).1
 quote_stands b y t (suc n) x e =
     at_quote b (take n y) (drop n y) t e x.next.0 (λ s spelled ended. (b ∷ take n y, drop n y, s, sym (take-append-drop (suc n) (b ∷ y)), (spelled, ended)))
 
-word_mark : (b : ℕ) → starts_name b ≡ true → (b == 35) ≡ false
+word_mark : (b : ℕ) → begins_name b ≡ true → (b == 35) ≡ false
 word_mark b h = grind (arith, nat_tests)
 
-word_quote : (b : ℕ) → starts_name b ≡ true → (b == 39) ≡ false
+word_quote : (b : ℕ) → begins_name b ≡ true → (b == 39) ≡ false
 word_quote b h = grind (arith, nat_tests)
 
 digit_mark : (b : ℕ) → is_digit b ≡ true → (b == 35) ≡ false
@@ -162,7 +163,7 @@ quote_digit b e = ap is_digit e
 quote_mark : (b : ℕ) → b ≡ 39 → (b == 35) ≡ false
 quote_mark b e = ap (λ c. c == 35) e
 
-word_digit : (b : ℕ) → starts_name b ≡ true → is_digit b ≡ false
+word_digit : (b : ℕ) → begins_name b ≡ true → is_digit b ≡ false
 word_digit b h = grind (arith, nat_tests)
 
 no_token : {G : Type 0} (p : Piece) (t : Kind) (n : ℕ) → (p ≡ Token t n → ⊥) → p ≡ Token t n → G
@@ -187,7 +188,7 @@ next_token b y t n f =
     split (is_blank b) _ _ _ f (λ e h. absurd cc)
     (λ blank f. split (b == 34) _ _ _ f (λ e h. absurd (at_remark (b ∷ y) t n h))
     (λ remark f. split (is_comment (b ∷ y)) _ _ _ f (λ e h. absurd (at_comment (b ∷ y) t n h))
-    (λ comment f. split (starts_name b) _ _ _ f
+    (λ comment f. split (begins_name b) _ _ _ f
     (λ e h. first_of b y t n blank remark comment (no_digits b y (word_digit b e)) (no_mark b y t n (word_mark b e)) (no_quote b y t n (word_quote b e)) (word_token b y t n e h))
     (λ _ f. split (is_digit b) _ _ _ f
     (λ e h. first_of b y t n blank remark comment (number_digits b y t n h) (no_mark b y t n (digit_mark b e)) (no_quote b y t n (digit_quote b e)) (number_token b y t n e h))
@@ -195,7 +196,7 @@ next_token b y t n f =
     (λ e h. first_of b y t n blank remark comment (no_digits b y digit) (no_mark b y t n (quote_mark b (eqb-true b 39 e))) (quote_stands b y t n) (string_token b y t n (eqb-true b 39 e) h))
     (λ quote f. split (b == 35) _ _ _ f
     (λ e h. first_of b y t n blank remark comment (no_digits b y digit) (mark_stands b y t n) (no_quote b y t n quote) (symbol_token b y t n (eqb-true b 35 e) h))
-    (λ mark f. split (is_operator b) _ _ _ f
+    (λ mark f. split (is_operator_byte b) _ _ _ f
     (λ e h. first_of b y t n blank remark comment (no_digits b y digit) (no_mark b y t n mark) (no_quote b y t n quote) (operator_token b y t n e h))
     (λ _ h. first_of b y t n blank remark comment (no_digits b y digit) (no_mark b y t n mark) (no_quote b y t n quote) (single_token b y t n h)))))))))
 
@@ -225,9 +226,9 @@ next_fault b y c n f =
     split (is_blank b) _ _ _ f (λ e h. absurd cc)
     (λ blank f. split (b == 34) _ _ _ f (λ e h. remark_stop b y c n (eqb-true b 34 e) h)
     (λ remark f. split (is_comment (b ∷ y)) _ _ _ f (λ e h. comment_stop b y c n e h)
-    (λ comment f. split (starts_name b) _ _ _ f (λ e h. absurd (word_holds (b ∷ y) c n h))
+    (λ comment f. split (begins_name b) _ _ _ f (λ e h. absurd (word_holds (b ∷ y) c n h))
     (λ name f. split (is_digit b) _ _ _ f (λ e h. stop_of b y c n blank remark comment (number_fault b y c n e h))
     (λ digit f. split (b == 39) _ _ _ f (λ e h. stop_of b y c n blank remark comment (string_fault b y c n (eqb-true b 39 e) h))
     (λ quote f. split (b == 35) _ _ _ f (λ e h. stop_of b y c n blank remark comment (symbol_fault b y c n (eqb-true b 35 e) h))
-    (λ mark f. split (is_operator b) _ _ _ f (λ e h. absurd (operator_holds (b ∷ y) c n h))
+    (λ mark f. split (is_operator_byte b) _ _ _ f (λ e h. absurd (operator_holds (b ∷ y) c n h))
     (λ oper h. stop_of b y c n blank remark comment (single_fault b y c n (record { blank = blank; remark = remark; name = name; digit = digit; quote = quote; mark = mark; oper = oper }) h)))))))))

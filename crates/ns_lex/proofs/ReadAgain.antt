@@ -9,7 +9,8 @@ use Rattle.ns_lex.specs.Word.{named}
 use Rattle.ns_lex.specs.Number.{greatest}
 use Rattle.ns_lex.specs.Single.{single}
 use Rattle.ns_lex.specs.declared.piece.Piece.TheVariants.{Token}
-use Rattle.ns_lex.specs.Spells.{Spells, doubled}
+use Rattle.ns_lex.specs.Spells.{Spells}
+use Rattle.ns_base.specs.Quoted.{doubled}
 use Rattle.ns_lex.proofs.Blanks.{Ends, blank_ends, refuse}
 use Rattle.ns_lex.proofs.ReadNames.{name_again, key_again, set_again}
 use Rattle.ns_lex.proofs.ReadRuns.{oper_again, digits_again}

@@ -2,8 +2,9 @@
 use Rattle.std.proofs.Common.{◌≡◌, ℕ, ◌+◌, true, false, ◌==◌, ◌&&◌, [], ◌∷◌, ◌++◌, length, get_or, refl, ap, ◌∙◌, arith}
 use Rattle.std.proofs.Math.Seq.{take-append_seam, take-append-add}
 use Rattle.std.proofs.lemmas.Bool.Decides.{nat_tests}
+use Rattle.ns_base.specs.Spelling.{begins_name}
 use Rattle.ns_tree.specs.declared.token.Kind.TheVariants as k
-use Rattle.ns_lex.specs.Bytes.{is_blank, starts_name}
+use Rattle.ns_lex.specs.Bytes.{is_blank}
 use Rattle.ns_lex.specs.Piece.{Text}
 use Rattle.ns_lex.specs.Next.{next_piece}
 use Rattle.ns_lex.specs.Word.{word, word_by, name_len, named, reserved}
@@ -12,13 +13,13 @@ use Rattle.ns_lex.specs.Spells.{IsName}
 use Rattle.ns_lex.proofs.Words.{name_end, at_end}
 use Rattle.ns_lex.proofs.Blanks.{Ends, refuse, accept, first_behind}
 
-name_blank : (c : ℕ) → starts_name c ≡ true → is_blank c ≡ false
+name_blank : (c : ℕ) → begins_name c ≡ true → is_blank c ≡ false
 name_blank c h = grind (arith, nat_tests)
 
-name_remark : (c : ℕ) → starts_name c ≡ true → (c == 34) ≡ false
+name_remark : (c : ℕ) → begins_name c ≡ true → (c == 34) ≡ false
 name_remark c h = grind (arith, nat_tests)
 
-name_bracket : (c : ℕ) → starts_name c ≡ true → (c == 40) ≡ false
+name_bracket : (c : ℕ) → begins_name c ≡ true → (c == 40) ≡ false
 name_bracket c h = grind (arith, nat_tests)
 
 at_name : (n u : Text) → IsName n → next_piece (n ++ u) ≡ word (n ++ u)
@@ -27,7 +28,7 @@ at_name [] u h = absurd h
 at_name (c ∷ n) u h =
     refuse (is_blank c) _ _ _ (name_blank c h.0)
     (refuse (c == 34) _ _ _ (name_remark c h.0)
-    (refuse (c == 40 && get_or (c ∷ (n ++ u)) 1 0 == 42) _ _ _ (ap (λ v. v && get_or (c ∷ (n ++ u)) 1 0 == 42) (name_bracket c h.0)) (accept (starts_name c) _ _ _ h.0 refl)))
+    (refuse (c == 40 && get_or (c ∷ (n ++ u)) 1 0 == 42) _ _ _ (ap (λ v. v && get_or (c ∷ (n ++ u)) 1 0 == 42) (name_bracket c h.0)) (accept (begins_name c) _ _ _ h.0 refl)))
 
 word_is : (z : Text) (n : ℕ) → name_len z ≡ n → word z ≡ word_by (get_or z n 0 == 58) (get_or z (n + 1) 0 == 58) (get_or z (n + 2) 0 == 61) n z
 unfolding word

@@ -4,14 +4,15 @@ use Rattle.std.proofs.Math.Seq.{take-append_seam}
 use Rattle.std.proofs.lemmas.Bool.{eq-eqb}
 use Rattle.std.proofs.lemmas.Bool.Decides.{nat_tests}
 use Rattle.ns_tree.specs.declared.token.Kind.TheVariants as k
-use Rattle.ns_lex.specs.Bytes.{starts_name, is_in_name, is_operator}
 use Rattle.ns_lex.specs.Piece.{Text}
 use Rattle.ns_lex.specs.Next.{next_piece}
 use Rattle.ns_lex.specs.Word.{name_len}
 use Rattle.ns_lex.specs.Quoted.{quoted, quoted_from, closed}
 use Rattle.ns_lex.specs.Symbol.{symbol, symbol_of, selector_len, keys_from}
 use Rattle.ns_lex.specs.declared.piece.Piece.TheVariants.{Token}
-use Rattle.ns_lex.specs.Spells.{AllOf, IsName, IsKeys, IsOperator, doubled}
+use Rattle.ns_lex.specs.Spells.{AllOf, IsName, IsKeys, IsOperator}
+use Rattle.ns_base.specs.Quoted.{doubled}
+use Rattle.ns_base.specs.Spelling.{begins_name, goes_on_name, is_operator_byte}
 use Rattle.ns_lex.proofs.Words.{name_end}
 use Rattle.ns_lex.proofs.Strings.{finds}
 use Rattle.ns_lex.proofs.Symbols.{IsSelector, no_colon, key_then, keys_start, oper_start, no_oper}
@@ -32,9 +33,9 @@ string_again s b z ends =
 -- ---- symbols
 
 -- a name without a colon is no key
-no_keys : (far at : ℕ) (n : Text) (b : ℕ) (z : Text) → AllOf is_in_name n → Ends b → keys_from far true at (n ++ b ∷ z) ≡ far
-no_keys far at [] b z all ends = refuse (b == 58) _ _ _ ends.colon (refuse (is_in_name b) _ _ _ ends.name refl)
-no_keys far at (c ∷ n) b z all ends = refuse (c == 58) _ _ _ (no_colon c all.0) (accept (is_in_name c) _ _ _ all.0 (no_keys far (at + 1) n b z all.1 ends))
+no_keys : (far at : ℕ) (n : Text) (b : ℕ) (z : Text) → AllOf goes_on_name n → Ends b → keys_from far true at (n ++ b ∷ z) ≡ far
+no_keys far at [] b z all ends = refuse (b == 58) _ _ _ ends.colon (refuse (goes_on_name b) _ _ _ ends.name refl)
+no_keys far at (c ∷ n) b z all ends = refuse (c == 58) _ _ _ (no_colon c all.0) (accept (goes_on_name c) _ _ _ all.0 (no_keys far (at + 1) n b z all.1 ends))
 
 -- keys are read up to the blank
 keys_again : (far at : ℕ) (s : Text) (ks : List Text) (b : ℕ) (z : Text) → IsKeys s ks → Ends b → keys_from far false at (s ++ b ∷ z) ≡ at + length s
@@ -42,7 +43,7 @@ keys_again far at s [] b z x ends = absurd x
 keys_again far at s (m ∷ []) b z ((n, name, e), f) ends =
     let cut : s ++ b ∷ z ≡ n ++ 58 ∷ b ∷ z = ap (λ w. w ++ b ∷ z) (f ∙ e) ∙ append_assoc n (58 ∷ []) (b ∷ z) in
     let i : ℕ = at + length n + 1 in
-    ap (keys_from far false at) cut ∙ key_then far at n (b ∷ z) name ∙ refuse (starts_name b) (keys_from i true (i + 1) z) i i ends.starts refl
+    ap (keys_from far false at) cut ∙ key_then far at n (b ∷ z) name ∙ refuse (begins_name b) (keys_from i true (i + 1) z) i i ends.starts refl
     ∙ omega (arith, ap length (f ∙ e), length-append n (58 ∷ []))
 keys_again far at s (m ∷ l ∷ ks) b z ((n, name, e), (u, f, x)) ends =
     let whole : s ≡ n ++ 58 ∷ u = f ∙ ap (λ w. w ++ u) e ∙ append_assoc n (58 ∷ []) u in
@@ -51,12 +52,12 @@ keys_again far at s (m ∷ l ∷ ks) b z ((n, name, e), (u, f, x)) ends =
     ∙ omega (arith, ap length whole, length-append n (58 ∷ u))
 
 -- how long the selector is that a name begins
-named_len : (c : ℕ) (y : Text) (n : ℕ) → starts_name c ≡ true → (if keys_from 0 false 0 (c ∷ y) == 0 then name_len (c ∷ y) else keys_from 0 false 0 (c ∷ y)) ≡ n → selector_len (c ∷ y) ≡ n
+named_len : (c : ℕ) (y : Text) (n : ℕ) → begins_name c ≡ true → (if keys_from 0 false 0 (c ∷ y) == 0 then name_len (c ∷ y) else keys_from 0 false 0 (c ∷ y)) ≡ n → selector_len (c ∷ y) ≡ n
 unfolding selector_len
-named_len c y n h e = refuse (is_operator c) _ _ _ (no_oper c h) (accept (starts_name c) _ _ _ h e)
+named_len c y n h e = refuse (is_operator_byte c) _ _ _ (no_oper c h) (accept (begins_name c) _ _ _ h e)
 
 no_key : (c : ℕ) (n : Text) (b : ℕ) (z : Text) → IsName (c ∷ n) → Ends b → keys_from 0 false 0 (c ∷ (n ++ b ∷ z)) ≡ 0
-no_key c n b z name ends = accept (starts_name c) _ _ _ name.0 (no_keys 0 1 n b z name.1 ends)
+no_key c n b z name ends = accept (begins_name c) _ _ _ name.0 (no_keys 0 1 n b z name.1 ends)
 
 not_none : (n : ℕ) → 0 < n → (n == 0) ≡ false
 not_none n h = grind (arith, nat_tests)
@@ -68,7 +69,7 @@ keys_len c s ks b z x ends =
 
 oper_len : (c : ℕ) (s : Text) (b : ℕ) (z : Text) → IsOperator (c ∷ s) → Ends b → selector_len (c ∷ (s ++ b ∷ z)) ≡ length (c ∷ s)
 unfolding selector_len
-oper_len c s b z o ends = accept (is_operator c) _ _ _ (oper_start c s o) (len_again (c ∷ s) b z o ends)
+oper_len c s b z o ends = accept (is_operator_byte c) _ _ _ (oper_start c s o) (len_again (c ∷ s) b z o ends)
 
 selector_again : (s : Text) (b : ℕ) (z : Text) → IsSelector s → Ends b → (selector_len (s ++ b ∷ z) ≡ length s) × (0 < length s)
 selector_again [] b z (inl name) ends = absurd name

@@ -8,7 +8,7 @@ use Rattle.std.specs.List.{prefix_len}
 use Rattle.std.proofs.lemmas.List.Sums.{prefix_len-le-length}
 use Rattle.ns_tree.specs.declared.token.Kind.{Kind}
 use Rattle.ns_tree.specs.declared.token.Kind.TheVariants as k
-use Rattle.ns_lex.specs.Bytes.{is_blank, starts_name, is_digit, is_operator, is_in}
+use Rattle.ns_lex.specs.Bytes.{is_blank, is_in}
 use Rattle.ns_lex.specs.declared.bytes.ByteClass.TheVariants as class
 use Rattle.ns_lex.specs.Piece.{Text}
 use Rattle.ns_lex.specs.Number.{number, sized, at_most_greatest, value, greatest}
@@ -18,7 +18,9 @@ use Rattle.ns_lex.specs.Single.{single}
 use Rattle.ns_lex.specs.declared.piece.Piece.TheVariants.{Token, Fault}
 use Rattle.ns_lex.specs.declared.piece.Cause.{Cause}
 use Rattle.ns_lex.specs.declared.piece.Cause.TheVariants as cause
-use Rattle.ns_lex.specs.Spells.{IsName, Spells, doubled}
+use Rattle.ns_lex.specs.Spells.{IsName, Spells}
+use Rattle.ns_base.specs.Quoted.{doubled}
+use Rattle.ns_base.specs.Spelling.{is_digit, begins_name, is_operator_byte}
 use Rattle.ns_lex.specs.Gap.{IsGapPart, inside}
 use Rattle.ns_lex.specs.Lexes.{Stands, IsDigits, BeginsNothing, IsFault}
 use Rattle.ns_lex.proofs.Words.{run_of, length_taken, at_end}
@@ -75,8 +77,8 @@ module _ (b : ℕ) (y : Text) (h : is_digit b ≡ true) where
   first : get_or (b ∷ y) (run (b ∷ y)) 0 ≡ get_or behind 0 0
   first = ap (λ i. get_or (b ∷ y) i 0) zero_more ∙ first_behind 0
 
-  letter_stop : starts_name (get_or (b ∷ y) (run (b ∷ y)) 0) ≡ true → IsFault (b ∷ y) cause.BadByte (run (b ∷ y))
-  letter_stop e = inl (digits, behind, cut, is_digits, inl (sym (ap starts_name first) ∙ e), sym size)
+  letter_stop : begins_name (get_or (b ∷ y) (run (b ∷ y)) 0) ≡ true → IsFault (b ∷ y) cause.BadByte (run (b ∷ y))
+  letter_stop e = inl (digits, behind, cut, is_digits, inl (sym (ap begins_name first) ∙ e), sym size)
 
   fraction_stop : (get_or (b ∷ y) (run (b ∷ y)) 0 ≡ 46) × (is_digit (get_or (b ∷ y) (run (b ∷ y) + 1) 0) ≡ true) → IsFault (b ∷ y) cause.BadByte (run (b ∷ y))
   fraction_stop e = inl (digits, behind, cut, is_digits, inr (sym first ∙ e.0, sym (ap is_digit (first_behind 1)) ∙ e.1), sym size)
@@ -84,7 +86,7 @@ module _ (b : ℕ) (y : Text) (h : is_digit b ≡ true) where
   no_more : is_digit (get_or behind 0 0) ≡ false
   no_more = sym (ap is_digit first) ∙ run_stops is_digit (b ∷ y) refl
 
-  great_stop : starts_name (get_or (b ∷ y) (run (b ∷ y)) 0) ≡ false → (get_or (b ∷ y) (run (b ∷ y)) 0 == 46 && is_digit (get_or (b ∷ y) (run (b ∷ y) + 1) 0)) ≡ false → greatest < value digits → IsFault (b ∷ y) cause.BigNumber 0
+  great_stop : begins_name (get_or (b ∷ y) (run (b ∷ y)) 0) ≡ false → (get_or (b ∷ y) (run (b ∷ y)) 0 == 46 && is_digit (get_or (b ∷ y) (run (b ∷ y) + 1) 0)) ≡ false → greatest < value digits → IsFault (b ∷ y) cause.BigNumber 0
   great_stop e f big = (
     digits,
     behind,
@@ -92,7 +94,7 @@ module _ (b : ℕ) (y : Text) (h : is_digit b ≡ true) where
     is_digits,
     (
       no_more,
-      λ g. clash (starts_name (get_or (b ∷ y) (run (b ∷ y)) 0)) e (ap starts_name first ∙ g),
+      λ g. clash (begins_name (get_or (b ∷ y) (run (b ∷ y)) 0)) e (ap begins_name first ∙ g),
       λ g. clash (get_or (b ∷ y) (run (b ∷ y)) 0 == 46 && is_digit (get_or (b ∷ y) (run (b ∷ y) + 1) 0)) f
           (ap (λ v. v && is_digit (get_or (b ∷ y) (run (b ∷ y) + 1) 0)) (eq-eqb (get_or (b ∷ y) (run (b ∷ y)) 0) 46 (first ∙ g.0)) ∙ ap is_digit (first_behind 1) ∙ g.1),
     ),
@@ -104,7 +106,7 @@ above_if : (v : ℕ) (more : Bool) → nat_lt greatest v ≡ more → (if more t
 above_if v true h e = above v h
 above_if v false h e = absurd cc
 
-sized_stop : (b : ℕ) (y : Text) (h : is_digit b ≡ true) (o : Option ℕ) (c : Cause) (n : ℕ) → at_most_greatest (value (take (run (b ∷ y)) (b ∷ y))) ≡ o → starts_name (get_or (b ∷ y) (run (b ∷ y)) 0) ≡ false
+sized_stop : (b : ℕ) (y : Text) (h : is_digit b ≡ true) (o : Option ℕ) (c : Cause) (n : ℕ) → at_most_greatest (value (take (run (b ∷ y)) (b ∷ y))) ≡ o → begins_name (get_or (b ∷ y) (run (b ∷ y)) 0) ≡ false
     → (get_or (b ∷ y) (run (b ∷ y)) 0 == 46 && is_digit (get_or (b ∷ y) (run (b ∷ y) + 1) 0)) ≡ false → sized (run (b ∷ y)) o ≡ Fault c n → IsFault (b ∷ y) c n
 sized_stop b y h None c n e f g s = moved (b ∷ y) cause.BigNumber c 0 n s (great_stop b y h f g (above_if (value (take (run (b ∷ y)) (b ∷ y))) (nat_lt greatest (value (take (run (b ∷ y)) (b ∷ y)))) refl e))
 sized_stop b y h (Some v) c n e f g s = absurd cc
@@ -117,7 +119,7 @@ both_true false v h = absurd cc
 pub number_fault : (b : ℕ) (y : Text) (c : Cause) (n : ℕ) → is_digit b ≡ true → number (b ∷ y) ≡ Fault c n → IsFault (b ∷ y) c n
 unfolding number
 number_fault b y c n h f =
-    split (starts_name (get_or (b ∷ y) (run (b ∷ y)) 0)) _ _ _ f (λ e g. moved (b ∷ y) cause.BadByte c (run (b ∷ y)) n g (letter_stop b y h e))
+    split (begins_name (get_or (b ∷ y) (run (b ∷ y)) 0)) _ _ _ f (λ e g. moved (b ∷ y) cause.BadByte c (run (b ∷ y)) n g (letter_stop b y h e))
     (λ no_letter f. split (get_or (b ∷ y) (run (b ∷ y)) 0 == 46 && is_digit (get_or (b ∷ y) (run (b ∷ y) + 1) 0)) _ _ _ f
     (λ e g. let x = both_true (get_or (b ∷ y) (run (b ∷ y)) 0 == 46) (is_digit (get_or (b ∷ y) (run (b ∷ y) + 1) 0)) e in moved (b ∷ y) cause.BadByte c (run (b ∷ y)) n g (fraction_stop b y h (eqb-true (get_or (b ∷ y) (run (b ∷ y)) 0) 46 x.0, x.1)))
     (λ no_fraction g. sized_stop b y h (at_most_greatest (value (take (run (b ∷ y)) (b ∷ y)))) c n refl no_letter no_fraction g))
@@ -186,11 +188,11 @@ symbol_fault b y c m h f = symbol_by b y (selector_len y) (selector_len y == 0) 
 pub record Strange (b : ℕ) : Type 0 where
   pub blank : is_blank b ≡ false
   pub remark : (b == 34) ≡ false
-  pub name : starts_name b ≡ false
+  pub name : begins_name b ≡ false
   pub digit : is_digit b ≡ false
   pub quote : (b == 39) ≡ false
   pub mark : (b == 35) ≡ false
-  pub oper : is_operator b ≡ false
+  pub oper : is_operator_byte b ≡ false
 
 -- and no sign either
 record Alone (b : ℕ) : Type 0 where
@@ -211,7 +213,7 @@ not_it b c u q h e = clash (b == c) h (eq-eqb b c (same_first b c u q e))
 
 spells_nothing : (b : ℕ) (u : Text) (t : Kind) → Alone b → Spells (b ∷ u) t → ⊥
 spells_nothing b u (k.Ident s) a (n, e, r) = no_name b u s [] a.strange.name n (e ∙ sym (append-nil s))
-spells_nothing b u (k.Word w) a (n, r) = clash (starts_name b) a.strange.name n.0
+spells_nothing b u (k.Word w) a (n, r) = clash (begins_name b) a.strange.name n.0
 spells_nothing b u (k.Key s) a ((n, name, cut), e) = no_name b u n (58 ∷ []) a.strange.name name (e ∙ cut)
 spells_nothing b u (k.SetKey s) a (name, e) = no_name b u s (58 ∷ 58 ∷ []) a.strange.name name e
 spells_nothing b u (k.Oper s) a (o, e) = no_operator b u s a.strange.oper o e

@@ -2,9 +2,9 @@
 use Rattle.std.proofs.Common.{◌≡◌, ℕ, ◌⊎◌, inl, inr, Bool, true, false, ◌==◌, ◌&&◌, if◌then◌else◌, [], ◌∷◌, ◌++◌, length, take, drop, get_or, refl, sym, ap, subst, ◌∙◌, arith}
 use Rattle.std.proofs.lemmas.Bool.{eqb-true}
 use Rattle.std.proofs.lemmas.List.{take-append-drop, append-nil}
+use Rattle.ns_base.specs.Spelling.{is_digit, begins_name, is_operator_byte}
 use Rattle.ns_tree.specs.declared.token.Kind.{Kind}
 use Rattle.ns_tree.specs.declared.token.Kind.TheVariants as k
-use Rattle.ns_lex.specs.Bytes.{starts_name, is_digit, is_operator}
 use Rattle.ns_lex.specs.Piece.{Text}
 use Rattle.ns_lex.specs.Single.{single}
 use Rattle.ns_lex.specs.declared.piece.Piece.{Piece}
@@ -15,9 +15,9 @@ use Rattle.ns_lex.proofs.Words.{IsToken, NoneLonger, longest_cut, moved}
 
 -- The byte begins no name, number, operator, string or symbol.
 pub record Apart (b : ℕ) : Type 0 where
-  pub name : starts_name b ≡ false
+  pub name : begins_name b ≡ false
   pub digit : is_digit b ≡ false
-  pub oper : is_operator b ≡ false
+  pub oper : is_operator_byte b ≡ false
   pub quote : (b == 39) ≡ false
   pub mark : (b == 35) ≡ false
 
@@ -33,19 +33,19 @@ pub first_not : (test : ℕ → Bool) (b c : ℕ) (p q : Text) → test b ≡ fa
 first_not test b c p q f t e = clash (test b) f (ap test (same_first b c p q e) ∙ t)
 
 -- no name begins with such a byte
-pub no_name : (b : ℕ) (p n q : Text) → starts_name b ≡ false → IsName n → b ∷ p ≡ n ++ q → ⊥
+pub no_name : (b : ℕ) (p n q : Text) → begins_name b ≡ false → IsName n → b ∷ p ≡ n ++ q → ⊥
 no_name b p [] q f h e = absurd h
-no_name b p (c ∷ n) q f h e = first_not starts_name b c p (n ++ q) f h.0 e
+no_name b p (c ∷ n) q f h e = first_not begins_name b c p (n ++ q) f h.0 e
 
-pub no_operator : (b : ℕ) (p s : Text) → is_operator b ≡ false → IsOperator s → b ∷ p ≡ s → ⊥
+pub no_operator : (b : ℕ) (p s : Text) → is_operator_byte b ≡ false → IsOperator s → b ∷ p ≡ s → ⊥
 no_operator b p [] f (inl o) e = absurd cc
-no_operator b p (c ∷ s) f (inl o) e = first_not is_operator b c p s f o.1.0 e
-no_operator b p s f (inr o) e = first_not is_operator b 60 p (58 ∷ []) f refl (e ∙ o)
+no_operator b p (c ∷ s) f (inl o) e = first_not is_operator_byte b c p s f o.1.0 e
+no_operator b p s f (inr o) e = first_not is_operator_byte b 60 p (58 ∷ []) f refl (e ∙ o)
 
 -- which tokens such a text spells
 apart_spells : (b : ℕ) (p : Text) (t : Kind) → Apart b → Spells (b ∷ p) t → (length (b ∷ p) ≡ 1) ⊎ (b ∷ p ≡ 58 ∷ 58 ∷ 61 ∷ [])
 apart_spells b p (k.Ident s) a (n, e, r) = absurd (no_name b p s [] a.name n (e ∙ sym (append-nil s)))
-apart_spells b p (k.Word w) a (n, r) = absurd (clash (starts_name b) a.name n.0)
+apart_spells b p (k.Word w) a (n, r) = absurd (clash (begins_name b) a.name n.0)
 apart_spells b p (k.Key s) a ((n, name, cut), e) = absurd (no_name b p n (58 ∷ []) a.name name (e ∙ cut))
 apart_spells b p (k.SetKey s) a (name, e) = absurd (no_name b p s (58 ∷ 58 ∷ []) a.name name e)
 apart_spells b p (k.Oper s) a (o, e) = absurd (no_operator b p s a.oper o e)
@@ -55,7 +55,7 @@ apart_spells b p (k.Symbol s) a x = absurd (first_not (λ c. c == 35) b 35 p _ a
 apart_spells b p k.SlotSet a x = inr x
 apart_spells b p _ a x = inl (ap length x)
 
-pub no_slot_set : (b : ℕ) (z : Text) (m : ℕ) → starts_name b ≡ false → (p r : Text) → take m (b ∷ z) ++ drop m (b ∷ z) ≡ p ++ r → BeforeSlotSet p r → ⊥
+pub no_slot_set : (b : ℕ) (z : Text) (m : ℕ) → begins_name b ≡ false → (p r : Text) → take m (b ∷ z) ++ drop m (b ∷ z) ≡ p ++ r → BeforeSlotSet p r → ⊥
 no_slot_set b z m f p r cut x = no_name b z p r f x.0 (sym (take-append-drop m (b ∷ z)) ∙ cut)
 
 longest_one : (b : ℕ) (z : Text) → Apart b → ((r : Text) → b ∷ z ≡ 58 ∷ 58 ∷ 61 ∷ r → ⊥) → NoneLonger 1 (b ∷ z)

@@ -8,11 +8,11 @@ use Rattle.ns_tree.specs.declared.token.Kind.TheVariants as k
 use Rattle.ns_lex.specs.Piece.{Text}
 use Rattle.ns_lex.specs.Quoted.{quoted, quoted_from, closed}
 use Rattle.ns_lex.specs.declared.piece.Piece.TheVariants.{Token}
-use Rattle.ns_lex.specs.Spells.{doubled}
+use Rattle.ns_base.specs.Quoted.{doubled}
+use Rattle.ns_base.specs.Spelling.{is_digit, begins_name, is_operator_byte}
 use Rattle.ns_lex.specs.Lexes.{Stands, Longest}
 use Rattle.ns_lex.proofs.Words.{IsToken, moved, length_taken}
 use Rattle.ns_lex.proofs.Singles.{no_name, no_operator, first_not, same_first, no_slot_set, clash}
-use Rattle.ns_lex.specs.Bytes.{starts_name, is_digit, is_operator}
 
 -- ---- what the machine says
 
@@ -136,11 +136,11 @@ is_other b = not (b == 39)
 -- what stands at a quote is a string
 pub at_quote : {G : Type 0} (b : ℕ) (p r : Text) (t : Kind) → b ≡ 39 → Stands (b ∷ p) r t → ((s : Text) → b ∷ p ≡ 39 ∷ (doubled s ++ 39 ∷ []) → get_or r 0 0 ≢ 39 → G) → G
 unfolding is_other
-at_quote b p r (k.Ident s) h (name, e, f) go = absurd (no_name b p s [] (ap starts_name h) name (e ∙ sym (append-nil s)))
-at_quote b p r (k.Word w) h (name, f) go = absurd (no_name b p (b ∷ p) [] (ap starts_name h) name (sym (append-nil (b ∷ p))))
-at_quote b p r (k.Key s) h ((m, name, cut), e) go = absurd (no_name b p m (58 ∷ []) (ap starts_name h) name (e ∙ cut))
-at_quote b p r (k.SetKey s) h (name, e) go = absurd (no_name b p s (58 ∷ 58 ∷ []) (ap starts_name h) name e)
-at_quote b p r (k.Oper s) h (o, e) go = absurd (no_operator b p s (ap is_operator h) o e)
+at_quote b p r (k.Ident s) h (name, e, f) go = absurd (no_name b p s [] (ap begins_name h) name (e ∙ sym (append-nil s)))
+at_quote b p r (k.Word w) h (name, f) go = absurd (no_name b p (b ∷ p) [] (ap begins_name h) name (sym (append-nil (b ∷ p))))
+at_quote b p r (k.Key s) h ((m, name, cut), e) go = absurd (no_name b p m (58 ∷ []) (ap begins_name h) name (e ∙ cut))
+at_quote b p r (k.SetKey s) h (name, e) go = absurd (no_name b p s (58 ∷ 58 ∷ []) (ap begins_name h) name e)
+at_quote b p r (k.Oper s) h (o, e) go = absurd (no_operator b p s (ap is_operator_byte h) o e)
 at_quote b p r (k.Number v) h x go = absurd (clash (is_digit b) (ap is_digit h) x.1.0)
 at_quote b p r (k.Str s) h x go = go s x.0 x.1
 at_quote b p r (k.Symbol s) h x go = absurd (first_not is_other b 35 p s (ap is_other h) refl x.1)
@@ -182,7 +182,7 @@ string_at b y q h e x =
       size = fits;
       next = (
         (front ∙ spelled, λ f. x.ended (ap (λ w. get_or w 0 0) (sym behind) ∙ f)),
-        inr (longest_of (b ∷ y) q.1 fits (longest_string b y q h e), no_slot_set b y q.1 (ap starts_name h)),
+        inr (longest_of (b ∷ y) q.1 fits (longest_string b y q h e), no_slot_set b y q.1 (ap begins_name h)),
       );
     }
 

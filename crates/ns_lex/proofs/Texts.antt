@@ -3,14 +3,13 @@ use Rattle.std.proofs.Common.{◌≡◌, ℕ, ◌+◌, ◌⊎◌, inl, inr, List
 use Rattle.std.proofs.lemmas.List.{append-nil}
 use Rattle.std.specs.List.{list_all}
 use Rattle.std.specs.Str.{bytes_eq}
+use Rattle.ns_base.specs.Spelling.{goes_on_name, is_identifier, is_operator_byte, is_operator, is_reserved}
 use Rattle.ns_tree.specs.declared.token.Kind.{Kind}
 use Rattle.ns_tree.specs.declared.token.Kind.TheVariants as k
 use Rattle.ns_tree.specs.declared.token.Reserved.TheVariants as words
 use Rattle.ns_tree.specs.declared.token.Token.{Token}
-use Rattle.ns_tree.specs.Bytes as bytes
 use Rattle.ns_tree.specs.Tokens.{kinds}
 use Rattle.ns_tree.specs.Tree as tree
-use Rattle.ns_lex.specs.Bytes as lexed
 use Rattle.ns_lex.specs.Lexes.{Cuts}
 use Rattle.ns_lex.specs.Piece.{Text}
 use Rattle.ns_lex.specs.Spells.{AllOf, IsName, IsKey, IsKeys, IsOperator, Spells}
@@ -23,11 +22,11 @@ both : (x y : Bool) → x ≡ true → y ≡ true → (x && y) ≡ true
 both true y e h = h
 both false y e h = absurd cc
 
-all_in_name : (t : Text) → AllOf lexed.is_in_name t → list_all (λ c. bytes.begins_name c || bytes.is_digit c) t ≡ true
+all_in_name : (t : Text) → AllOf goes_on_name t → list_all goes_on_name t ≡ true
 all_in_name [] h = refl
 all_in_name (b ∷ t) h = both _ _ h.0 (all_in_name t h.1)
 
-name_told : (t : Text) → IsName t → IsTrue (bytes.is_name t)
+name_told : (t : Text) → IsName t → IsTrue (is_identifier t)
 name_told [] h = absurd h
 name_told (b ∷ t) h = both _ _ h.0 (all_in_name t h.1)
 
@@ -45,7 +44,7 @@ none_of false false false false false false false false true j x = absurd cc
 none_of false false false false false false false false false true x = absurd cc
 none_of false false false false false false false false false false x = refl
 
-not_reserved : (t : Text) → reserved t ≡ None → bytes.is_reserved t ≡ false
+not_reserved : (t : Text) → reserved t ≡ None → is_reserved t ≡ false
 not_reserved t x =
     none_of (bytes_eq t (codes "class")) (bytes_eq t (codes "public")) (bytes_eq t (codes "protected")) (bytes_eq t (codes "private")) (bytes_eq t (codes "self")) (bytes_eq t (codes "super")) (bytes_eq t (codes "outer")) (bytes_eq t (codes "true")) (bytes_eq t (codes "false")) (bytes_eq t (codes "nil")) x
 
@@ -67,7 +66,7 @@ keys_told t (n ∷ m ∷ ns) (key, (u, cut, more)) = keys_more n t u key cut (ke
 
 -- ---- operators
 
-all_operators : (t : Text) → AllOf lexed.is_operator t → list_all bytes.is_operator_byte t ≡ true
+all_operators : (t : Text) → AllOf is_operator_byte t → list_all is_operator_byte t ≡ true
 all_operators [] h = refl
 all_operators (b ∷ t) h = both _ _ h.0 (all_operators t h.1)
 
@@ -75,11 +74,11 @@ or_first : (x y : Bool) → x ≡ true → (x || y) ≡ true
 or_first true y e = refl
 or_first false y e = absurd cc
 
-operator_told : (t : Text) → IsOperator t → IsTrue (bytes.is_operator t)
+operator_told : (t : Text) → IsOperator t → IsTrue (is_operator t)
 operator_told [] (inl h) = absurd (omega (arith, h.0))
 operator_told [] (inr e) = absurd cc
 operator_told (b ∷ t) (inl h) = or_first _ _ (all_operators (b ∷ t) h.1)
-operator_told (b ∷ t) (inr e) = ap bytes.is_operator e
+operator_told (b ∷ t) (inr e) = ap is_operator e
 
 -- ---- tokens
 

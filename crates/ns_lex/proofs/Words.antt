@@ -5,10 +5,11 @@ use Rattle.std.specs.List.{prefix_len}
 use Rattle.std.proofs.lemmas.List.{get_or_past, take_more, take-append-drop, length-take}
 use Rattle.std.proofs.lemmas.Bool.{eqb-true, eq-eqb}
 use Rattle.std.proofs.lemmas.List.Sums.{prefix_len-le-length}
+use Rattle.ns_base.specs.Spelling.{is_digit, begins_name, goes_on_name, is_operator_byte}
 use Rattle.ns_tree.specs.declared.token.Reserved.{Reserved}
 use Rattle.ns_tree.specs.declared.token.Kind.{Kind}
 use Rattle.ns_tree.specs.declared.token.Kind.TheVariants as k
-use Rattle.ns_lex.specs.Bytes.{starts_name, is_in_name, is_digit, is_operator, is_in}
+use Rattle.ns_lex.specs.Bytes.{is_in}
 use Rattle.ns_lex.specs.declared.bytes.ByteClass.TheVariants as class
 use Rattle.ns_lex.specs.Piece.{Text}
 use Rattle.ns_lex.specs.Word.{reserved, name_len, word, word_by, named}
@@ -18,25 +19,25 @@ use Rattle.ns_lex.specs.Lexes.{Stands, Longest, BeforeSlotSet, IsNext}
 use Rattle.ns_lex.specs.laws.Stands.{stands_spells}
 
 -- a byte that begins a name begins no other token
-not_operator : (b : ℕ) → starts_name b ≡ true → is_operator b ≡ true → ⊥
+not_operator : (b : ℕ) → begins_name b ≡ true → is_operator_byte b ≡ true → ⊥
 not_operator b h o = grind (arith, nat_tests)
 
-not_digit : (b : ℕ) → starts_name b ≡ true → is_digit b ≡ true → ⊥
+not_digit : (b : ℕ) → begins_name b ≡ true → is_digit b ≡ true → ⊥
 not_digit b h o = grind (arith, nat_tests)
 
 pub run_all : (p : ℕ → Bool) (t z : Text) → AllOf p t → prefix_len p (t ++ z) ≡ length t + prefix_len p z
 run_all p [] z h = omega arith
 run_all p (b ∷ t) z h = ap (λ v. cond v (1 + prefix_len p (t ++ z)) 0) h.0 ∙ omega (arith, run_all p t z h.1)
 
-pub in_name : (b : ℕ) → starts_name b ≡ true → is_in_name b ≡ true
+pub in_name : (b : ℕ) → begins_name b ≡ true → goes_on_name b ≡ true
 in_name b h = ap (λ v. v || is_digit b) h
 
 pub name_run : (n z : Text) → IsName n → name_len (n ++ z) ≡ length n + name_len z
 name_run [] z h = absurd h
-name_run (b ∷ n) z h = run_all is_in_name (b ∷ n) z (in_name b h.0, h.1)
+name_run (b ∷ n) z h = run_all goes_on_name (b ∷ n) z (in_name b h.0, h.1)
 
-not_byte : (b c : ℕ) (p q : Text) → starts_name b ≡ true → b ∷ p ≡ c ∷ q → starts_name c ≡ false → ⊥
-not_byte b c p q h e f = let same : b ≡ c = cc in let g : starts_name b ≡ starts_name c = ap starts_name same in absurd cc
+not_byte : (b c : ℕ) (p q : Text) → begins_name b ≡ true → b ∷ p ≡ c ∷ q → begins_name c ≡ false → ⊥
+not_byte b c p q h e f = let same : b ≡ c = cc in let g : begins_name b ≡ begins_name c = ap begins_name same in absurd cc
 
 -- how far a token that begins with a byte of a name goes beside the longest name
 pub data Shape (z : Text) (len : ℕ) : Type 0 where
@@ -45,7 +46,7 @@ pub data Shape (z : Text) (len : ℕ) : Type 0 where
   two_colons : len ≡ name_len z + 2 → get_or z (name_len z) 0 ≡ 58 → get_or z (name_len z + 1) 0 ≡ 58 → Shape z len
 
 -- a name and a byte that is in none
-pub name_end : (n : Text) (c : ℕ) (z : Text) → IsName n → is_in_name c ≡ false → name_len (n ++ c ∷ z) ≡ length n
+pub name_end : (n : Text) (c : ℕ) (z : Text) → IsName n → goes_on_name c ≡ false → name_len (n ++ c ∷ z) ≡ length n
 name_end n c z h out = omega (arith, name_run n (c ∷ z) h, ap (λ v. cond v (1 + name_len z) 0) out)
 
 pub at_end : (n u : Text) (i : ℕ) → get_or (n ++ u) (length n + i) 0 ≡ get_or u i 0
@@ -70,7 +71,7 @@ shape_at : (z y : Text) (len n : ℕ) → y ≡ z → n ≡ len → Shape z len 
 shape_at z y len n e f s = subst (λ w. Shape w n) (sym e) (subst (Shape z) (sym f) s)
 
 -- which tokens such a text spells
-name_spells : (b : ℕ) (p q : Text) (t : Kind) → starts_name b ≡ true → Spells (b ∷ p) t → Shape ((b ∷ p) ++ q) (length (b ∷ p))
+name_spells : (b : ℕ) (p q : Text) (t : Kind) → begins_name b ≡ true → Spells (b ∷ p) t → Shape ((b ∷ p) ++ q) (length (b ∷ p))
 name_spells b p q (k.Ident s) h (n, e, r) = shape_at (s ++ q) _ (length s) _ (ap (λ w. w ++ q) e) (ap length e) (name_shape s q n)
 name_spells b p q (k.Word w) h (n, r) = name_shape (b ∷ p) q n
 name_spells b p q (k.Key s) h ((n, name, cut), e) =
@@ -79,7 +80,7 @@ name_spells b p q (k.Key s) h ((n, name, cut), e) =
 name_spells b p q (k.SetKey s) h (name, f) =
     shape_at (s ++ 58 ∷ 58 ∷ q) _ (length s + 2) _ (ap (λ w. w ++ q) f ∙ append_assoc s (58 ∷ 58 ∷ []) q) (ap length f ∙ length-append s (58 ∷ 58 ∷ []) ∙ omega arith) (set_shape s q name)
 name_spells b p q (k.Oper []) h (o, e) = absurd cc
-name_spells b p q (k.Oper (c ∷ s)) h (inl o, e) = absurd (not_operator b h (ap is_operator (let f : b ≡ c = cc in f) ∙ o.1.0))
+name_spells b p q (k.Oper (c ∷ s)) h (inl o, e) = absurd (not_operator b h (ap is_operator_byte (let f : b ≡ c = cc in f) ∙ o.1.0))
 name_spells b p q (k.Oper (c ∷ s)) h (inr o, e) = absurd (not_byte b 60 p (58 ∷ []) h (e ∙ o) refl)
 name_spells b p q (k.Number v) h x = absurd (not_digit b h x.1.0)
 name_spells b p q (k.Str s) h x = absurd (not_byte b 39 p _ h x refl)
@@ -108,12 +109,12 @@ abbrev pub NoneLonger : ℕ → Text → Type 0
 NoneLonger n z = (p r : Text) (t : Kind) → z ≡ p ++ r → Spells p t → length p ≤ n
 
 -- what the tests on the bytes behind the name say
-pub longest_by : (b : ℕ) (z : Text) (n : ℕ) → starts_name b ≡ true → name_len (b ∷ z) ≤ n → (n < name_len (b ∷ z) + 1 → get_or (b ∷ z) (name_len (b ∷ z)) 0 ≢ 58)
+pub longest_by : (b : ℕ) (z : Text) (n : ℕ) → begins_name b ≡ true → name_len (b ∷ z) ≤ n → (n < name_len (b ∷ z) + 1 → get_or (b ∷ z) (name_len (b ∷ z)) 0 ≢ 58)
     → (n < name_len (b ∷ z) + 2 → (get_or (b ∷ z) (name_len (b ∷ z)) 0 ≢ 58) ⊎ (get_or (b ∷ z) (name_len (b ∷ z) + 1) 0 ≢ 58)) → NoneLonger n (b ∷ z)
 longest_by b z n h low one two [] q t cut x = omega arith
 longest_by b z n h low one two (c ∷ p) q t cut x =
     let e : c ≡ b = cc in
-    by_shape (b ∷ z) n (length (c ∷ p)) low one two (subst (λ w. Shape w (length (c ∷ p))) (sym cut) (name_spells c p q t (ap starts_name e ∙ h) x))
+    by_shape (b ∷ z) n (length (c ∷ p)) low one two (subst (λ w. Shape w (length (c ∷ p))) (sym cut) (name_spells c p q t (ap begins_name e ∙ h) x))
 
 pub length_taken : (z : Text) (n : ℕ) → n ≤ length z → length (take n z) ≡ n
 length_taken z n h = omega (arith, length-take n z)
@@ -154,10 +155,10 @@ pub run_of : (p : ℕ → Bool) (z : Text) → AllOf p (take (prefix_len p z) z)
 run_of p [] = tt
 run_of p (b ∷ z) = run_cons p b z (p b) refl (run_of p z)
 
-name_cons : (b : ℕ) (z : Text) → starts_name b ≡ true → IsName (take (1 + name_len z) (b ∷ z))
-name_cons b z h = let f : 1 + name_len z ≡ suc (name_len z) = omega arith in subst (λ m. IsName (take m (b ∷ z))) (sym f) (h, run_of is_in_name z)
+name_cons : (b : ℕ) (z : Text) → begins_name b ≡ true → IsName (take (1 + name_len z) (b ∷ z))
+name_cons b z h = let f : 1 + name_len z ≡ suc (name_len z) = omega arith in subst (λ m. IsName (take m (b ∷ z))) (sym f) (h, run_of goes_on_name z)
 
-pub is_name : (b : ℕ) (z : Text) → starts_name b ≡ true → IsName (take (name_len (b ∷ z)) (b ∷ z))
+pub is_name : (b : ℕ) (z : Text) → begins_name b ≡ true → IsName (take (name_len (b ∷ z)) (b ∷ z))
 is_name b z h = subst (λ v. IsName (take (cond v (1 + name_len z) 0) (b ∷ z))) (sym (in_name b h)) (name_cons b z h)
 
 pub name_short : (z : Text) → name_len z ≤ length z
@@ -192,7 +193,7 @@ differ : (a c : ℕ) → (a == c) ≡ false → a ≢ c
 differ a c h e = let f : (a == c) ≡ true = eq-eqb a c e in cc
 
 -- a name or a reserved word, without a colon behind it
-name_alone : (b : ℕ) (z : Text) (n : ℕ) → starts_name b ≡ true → n ≡ name_len (b ∷ z) → at (b ∷ z) n ≢ 58 → IsToken (b ∷ z) (named (take n (b ∷ z)) (reserved (take n (b ∷ z)))) n
+name_alone : (b : ℕ) (z : Text) (n : ℕ) → begins_name b ≡ true → n ≡ name_len (b ∷ z) → at (b ∷ z) n ≢ 58 → IsToken (b ∷ z) (named (take n (b ∷ z)) (reserved (take n (b ∷ z)))) n
 name_alone b z n h e other =
     let fits : n ≤ length (b ∷ z) = omega (arith, e, name_short (b ∷ z)) in
     let none : at (b ∷ z) (name_len (b ∷ z)) ≢ 58 = λ f. other (ap (at (b ∷ z)) e ∙ f) in
@@ -205,7 +206,7 @@ name_alone b z n h e other =
     }
 
 -- a name or a reserved word before `::=`
-name_before : (b : ℕ) (z : Text) (n : ℕ) → starts_name b ≡ true → n ≡ name_len (b ∷ z) → at (b ∷ z) n ≡ 58 → at (b ∷ z) (n + 1) ≡ 58 → at (b ∷ z) (n + 2) ≡ 61 → IsToken (b ∷ z) (named (take n (b ∷ z)) (reserved (take n (b ∷ z)))) n
+name_before : (b : ℕ) (z : Text) (n : ℕ) → begins_name b ≡ true → n ≡ name_len (b ∷ z) → at (b ∷ z) n ≡ 58 → at (b ∷ z) (n + 1) ≡ 58 → at (b ∷ z) (n + 2) ≡ 61 → IsToken (b ∷ z) (named (take n (b ∷ z)) (reserved (take n (b ∷ z)))) n
 name_before b z n h e one two three =
     let inside : n + 2 < length (b ∷ z) = within_text (b ∷ z) (n + 2) 60 three in
     let name : IsName (take n (b ∷ z)) = subst (λ m. IsName (take m (b ∷ z))) (sym e) (is_name b z h) in
@@ -217,7 +218,7 @@ name_before b z n h e one two three =
       );
     }
 
-key_token : (b : ℕ) (z : Text) (n : ℕ) → starts_name b ≡ true → n ≡ name_len (b ∷ z) → at (b ∷ z) n ≡ 58 → at (b ∷ z) (n + 1) ≢ 58 → IsToken (b ∷ z) (k.Key (take (n + 1) (b ∷ z))) (n + 1)
+key_token : (b : ℕ) (z : Text) (n : ℕ) → begins_name b ≡ true → n ≡ name_len (b ∷ z) → at (b ∷ z) n ≡ 58 → at (b ∷ z) (n + 1) ≢ 58 → IsToken (b ∷ z) (k.Key (take (n + 1) (b ∷ z))) (n + 1)
 key_token b z n h e one two =
     let inside : n < length (b ∷ z) = within_text (b ∷ z) n 57 one in
     let none : at (b ∷ z) (name_len (b ∷ z) + 1) ≢ 58 = λ f. two (ap (at (b ∷ z)) (omega (arith, e)) ∙ f) in
@@ -229,7 +230,7 @@ key_token b z n h e one two =
       );
     }
 
-set_token : (b : ℕ) (z : Text) (n : ℕ) → starts_name b ≡ true → n ≡ name_len (b ∷ z) → at (b ∷ z) n ≡ 58 → at (b ∷ z) (n + 1) ≡ 58 → at (b ∷ z) (n + 2) ≢ 61 → IsToken (b ∷ z) (k.SetKey (take n (b ∷ z))) (n + 2)
+set_token : (b : ℕ) (z : Text) (n : ℕ) → begins_name b ≡ true → n ≡ name_len (b ∷ z) → at (b ∷ z) n ≡ 58 → at (b ∷ z) (n + 1) ≡ 58 → at (b ∷ z) (n + 2) ≢ 61 → IsToken (b ∷ z) (k.SetKey (take n (b ∷ z))) (n + 2)
 set_token b z n h e one two three =
     let inside : n + 1 < length (b ∷ z) = within_text (b ∷ z) (n + 1) 57 two in
     record {
@@ -246,7 +247,7 @@ moved z t u n m f x =
     let g : n ≡ m = cc in
     subst (λ i. IsToken z u i) g (subst (λ v. IsToken z v n) e x)
 
-token_by : (b : ℕ) (z : Text) (n : ℕ) (one two three : Bool) → starts_name b ≡ true → n ≡ name_len (b ∷ z) → (at (b ∷ z) n == 58) ≡ one → (at (b ∷ z) (n + 1) == 58) ≡ two → (at (b ∷ z) (n + 2) == 61) ≡ three
+token_by : (b : ℕ) (z : Text) (n : ℕ) (one two three : Bool) → begins_name b ≡ true → n ≡ name_len (b ∷ z) → (at (b ∷ z) n == 58) ≡ one → (at (b ∷ z) (n + 1) == 58) ≡ two → (at (b ∷ z) (n + 2) == 61) ≡ three
     → (t : Kind) (m : ℕ) → word_by one two three n (b ∷ z) ≡ Token t m → IsToken (b ∷ z) t m
 token_by b z n true true true h e x y w t m f = moved (b ∷ z) _ t n m f (name_before b z n h e (eqb-true _ _ x) (eqb-true _ _ y) (eqb-true _ _ w))
 token_by b z n true true false h e x y w t m f = moved (b ∷ z) _ t (n + 2) m f (set_token b z n h e (eqb-true _ _ x) (eqb-true _ _ y) (differ _ _ w))
@@ -254,6 +255,6 @@ token_by b z n true false three h e x y w t m f = moved (b ∷ z) _ t (n + 1) m 
 token_by b z n false two three h e x y w t m f = moved (b ∷ z) _ t n m f (name_alone b z n h e (differ _ _ x))
 
 -- The piece at a name is the next token.
-pub word_token : (b : ℕ) (z : Text) (t : Kind) (m : ℕ) → starts_name b ≡ true → word (b ∷ z) ≡ Token t m → IsToken (b ∷ z) t m
+pub word_token : (b : ℕ) (z : Text) (t : Kind) (m : ℕ) → begins_name b ≡ true → word (b ∷ z) ≡ Token t m → IsToken (b ∷ z) t m
 unfolding word
 word_token b z t m h f = token_by b z (name_len (b ∷ z)) _ _ _ h refl refl refl refl t m f

@@ -1,5 +1,6 @@
 -- Which tokens cut a source, and where a source stops to be cut: what the lexer answers, said of the whole source.
 use Rattle.std.specs.Prelude.{◌≡◌, ◌≢◌, ℕ, ◌+◌, ◌≤◌, ◌<◌, ◌⊎◌, true, false, List, [], ◌∷◌, ◌++◌, length, slice_index}
+use Rattle.ns_base.specs.Spelling.{is_digit, begins_name}
 use Rattle.ns_tree.specs.declared.token.Token.{Token}
 use Rattle.ns_tree.specs.declared.token.Kind.{Kind}
 use Rattle.ns_tree.specs.declared.token.Kind.TheVariants as k
@@ -7,7 +8,6 @@ use Rattle.ns_lex.specs.declared.piece.Cause.{Cause}
 use Rattle.ns_lex.specs.declared.piece.Cause.TheVariants as cause
 use Rattle.ns_lex.specs.declared.fault.LexFault.{LexFault}
 use Rattle.ns_lex.specs.declared.fault.LexFault.TheVariants as fault
-use Rattle.ns_lex.specs.Bytes.{starts_name, is_digit}
 use Rattle.ns_lex.specs.Piece.{Text}
 use Rattle.ns_lex.specs.Number.{value, greatest}
 use Rattle.ns_lex.specs.Spells.{AllOf, IsName, Spells}
@@ -36,7 +36,7 @@ IsDigits d = (0 < length d) × AllOf is_digit d
 
 -- A letter or _ stands first.
 abbrev pub BeginsName : Text → Type 0
-BeginsName q = starts_name (slice_index q 0) ≡ true
+BeginsName q = begins_name (slice_index q 0) ≡ true
 
 -- A full stop and a digit stand first.
 abbrev pub BeginsFraction : Text → Type 0

@@ -1,8 +1,9 @@
 -- Numbers.
 use Rattle.std.specs.Prelude.{ℕ, ◌+◌, ◌-◌, ◌*◌, ◌==◌, ◌&&◌, nat_lt, if◌then◌else◌, fold, take, slice_index, Option, Some, None}
 use Rattle.std.specs.List.{prefix_len}
+use Rattle.ns_base.specs.Spelling.{is_digit, begins_name}
 use Rattle.ns_tree.specs.declared.token.Kind.TheVariants as k
-use Rattle.ns_lex.specs.Bytes.{is_in, is_digit, starts_name}
+use Rattle.ns_lex.specs.Bytes.{is_in}
 use Rattle.ns_lex.specs.declared.bytes.ByteClass.TheVariants as class
 use Rattle.ns_lex.specs.declared.piece.Piece.{Piece}
 use Rattle.ns_lex.specs.declared.piece.Piece.TheVariants.{Token, Fault}
@@ -34,6 +35,6 @@ sized n (Some v) = Token (k.Number v) n
 unfoldable pub number : Text → Piece
 number z =
     let n = prefix_len (is_in class.Digit) z in
-    if starts_name (slice_index z n) then Fault cause.BadByte n
+    if begins_name (slice_index z n) then Fault cause.BadByte n
     else (if slice_index z n == 46 && is_digit (slice_index z (n + 1)) then Fault cause.BadByte n
     else sized n (at_most_greatest (value (take n z))))

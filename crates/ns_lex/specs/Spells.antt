@@ -1,11 +1,12 @@
 -- Which text spells which token.
-use Rattle.std.specs.Prelude.{◌≡◌, ℕ, ◌≤◌, ◌<◌, ◌⊎◌, Bool, true, cond, ◌==◌, List, [], ◌∷◌, ◌++◌, length, Some, None}
+use Rattle.std.specs.Prelude.{◌≡◌, ℕ, ◌≤◌, ◌<◌, ◌⊎◌, Bool, true, List, [], ◌∷◌, ◌++◌, length, Some, None}
 use Rattle.ns_tree.specs.declared.token.Kind.{Kind}
 use Rattle.ns_tree.specs.declared.token.Kind.TheVariants as k
-use Rattle.ns_lex.specs.Bytes.{starts_name, is_in_name, is_digit, is_operator}
 use Rattle.ns_lex.specs.Piece.{Text}
 use Rattle.ns_lex.specs.Word.{reserved}
 use Rattle.ns_lex.specs.Number.{value, greatest}
+use Rattle.ns_base.specs.Quoted.{doubled}
+use Rattle.ns_base.specs.Spelling.{is_digit, begins_name, goes_on_name, is_operator_byte}
 
 -- Each byte passes the test.
 abbrev pub AllOf : (ℕ → Bool) → Text → Type 0
@@ -15,7 +16,7 @@ AllOf p (b ∷ t) = (p b ≡ true) × AllOf p t
 -- The text is an identifier's: a letter or _, then letters, digits and _.
 abbrev pub IsName : Text → Type 0
 IsName [] = ⊥
-IsName (b ∷ t) = (starts_name b ≡ true) × AllOf is_in_name t
+IsName (b ∷ t) = (begins_name b ≡ true) × AllOf goes_on_name t
 
 -- The text is an identifier's and a colon.
 abbrev pub IsKey : Text → Type 0
@@ -29,12 +30,7 @@ IsKeys t (n ∷ m ∷ ns) = IsKey n × ((u : Text) × (t ≡ n ++ u) × IsKeys u
 
 -- The text is a run of operator characters, or `<:`.
 abbrev pub IsOperator : Text → Type 0
-IsOperator t = ((0 < length t) × AllOf is_operator t) ⊎ (t ≡ 60 ∷ 58 ∷ [])
-
--- the text of a string with each quote in it written twice
-abbrev pub doubled : Text → Text
-doubled [] = []
-doubled (b ∷ t) = cond (b == 39) (39 ∷ 39 ∷ doubled t) (b ∷ doubled t)
+IsOperator t = ((0 < length t) × AllOf is_operator_byte t) ⊎ (t ≡ 60 ∷ 58 ∷ [])
 
 -- The text spells the token.
 abbrev pub Spells : Text → Kind → Type 0

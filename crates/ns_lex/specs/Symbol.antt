@@ -1,7 +1,7 @@
 -- Symbols.
 use Rattle.std.specs.Prelude.{ℕ, ◌+◌, Bool, true, false, ◌==◌, if◌then◌else◌, [], ◌∷◌, take, drop, slice_index}
+use Rattle.ns_base.specs.Spelling.{begins_name, goes_on_name, is_operator_byte}
 use Rattle.ns_tree.specs.declared.token.Kind.TheVariants as k
-use Rattle.ns_lex.specs.Bytes.{starts_name, is_in_name, is_operator}
 use Rattle.ns_lex.specs.declared.piece.Piece.{Piece}
 use Rattle.ns_lex.specs.declared.piece.Piece.TheVariants.{Token, Fault}
 use Rattle.ns_lex.specs.declared.piece.Cause.TheVariants as cause
@@ -13,14 +13,14 @@ use Rattle.ns_lex.specs.Operator.{operator_len}
 -- begun behind it.
 abbrev pub keys_from : ℕ → Bool → ℕ → Text → ℕ
 keys_from far inside at [] = far
-keys_from far true at (b ∷ z) = if b == 58 then keys_from (at + 1) false (at + 1) z else (if is_in_name b then keys_from far true (at + 1) z else far)
-keys_from far false at (b ∷ z) = if starts_name b then keys_from far true (at + 1) z else far
+keys_from far true at (b ∷ z) = if b == 58 then keys_from (at + 1) false (at + 1) z else (if goes_on_name b then keys_from far true (at + 1) z else far)
+keys_from far false at (b ∷ z) = if begins_name b then keys_from far true (at + 1) z else far
 
 -- how long the selector at the front is: keys, else a name; or an operator; 0 for none
 unfoldable pub selector_len : Text → ℕ
 selector_len z =
-    if is_operator (slice_index z 0) then operator_len z
-    else (if starts_name (slice_index z 0) then (if keys_from 0 false 0 z == 0 then name_len z else keys_from 0 false 0 z) else 0)
+    if is_operator_byte (slice_index z 0) then operator_len z
+    else (if begins_name (slice_index z 0) then (if keys_from 0 false 0 z == 0 then name_len z else keys_from 0 false 0 z) else 0)
 
 -- the symbol of the first n bytes behind its `#`
 abbrev pub symbol_of : ℕ → Text → Piece

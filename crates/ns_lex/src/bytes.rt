@@ -4,6 +4,8 @@ ghost use Rattle.std.specs.Prelude.{◌≡◌, ◌≢◌, ◌<◌, ◌≤◌, le
 ghost use Rattle.std.specs.List.{prefix_len};
 ghost use Rattle.ns_lex.specs.Bytes as spec;
 
+use ns_base::spelling::{goes_on_name, is_digit, is_operator_byte};
+
 /// The bytes of which a token may have a run.
 #[derive(Clone, Copy)]
 pub enum ByteClass {
@@ -19,52 +21,14 @@ pub fn is_blank(b: u8) -> bool
     b == 9 || b == 10 || b == 12 || b == 13 || b == 32
 }
 
-/// Whether the byte is a decimal digit.
-pub fn is_digit(b: u8) -> bool
-    ensures { result ≡ spec.is_digit b }
-{
-    b'0' <= b && b <= b'9'
-}
-
-/// Whether an identifier may begin with the byte.
-pub fn starts_name(b: u8) -> bool
-    ensures { result ≡ spec.starts_name b }
-{
-    (b'A' <= b && b <= b'Z') || (b'a' <= b && b <= b'z') || b == b'_'
-}
-
-/// Whether an operator is made of such bytes.
-pub fn is_operator(b: u8) -> bool
-    ensures { result ≡ spec.is_operator b }
-{
-    matches!(
-        b,
-        b'+' | b'-'
-            | b'*'
-            | b'/'
-            | b'\\'
-            | b'~'
-            | b'<'
-            | b'>'
-            | b'='
-            | b'@'
-            | b'%'
-            | b'|'
-            | b'&'
-            | b'?'
-            | b','
-            | b'!'
-    )
-}
-
 /// Whether the byte is of the class.
 pub fn is_in(class: ByteClass, b: u8) -> bool
     ensures { result ≡ spec.is_in class b }
 {
     match class {
         ByteClass::Digit => is_digit(b),
-        ByteClass::Name => starts_name(b) || is_digit(b),
-        ByteClass::Operator => is_operator(b),
+        ByteClass::Name => goes_on_name(b),
+        ByteClass::Operator => is_operator_byte(b),
     }
 }
 

@@ -4,7 +4,7 @@ ghost use Rattle.std.specs.Prelude.{◌≡◌, ◌<◌, length, IfOk};
 ghost use Rattle.ns_lex.specs.Next as spec;
 ghost use Rattle.ns_lex.specs.Piece.{Moves};
 
-use crate::bytes::{byte, is_blank, is_digit, is_operator, starts_name};
+use crate::bytes::{byte, is_blank};
 use crate::comment::{comment, remark};
 use crate::number::number;
 use crate::operator::operator;
@@ -14,6 +14,7 @@ use crate::single::single;
 use crate::symbol::symbol;
 use crate::word::word;
 use ns_base::no_memory::NoMemory;
+use ns_base::spelling::{begins_name, is_digit, is_operator_byte};
 use std::alloc::Global;
 
 /// The piece at the front of a text that is not empty.
@@ -30,7 +31,7 @@ pub fn next_piece(alloc: Global, text: &[u8]) -> Result<Piece, NoMemory>
         Ok(remark(text))
     } else if b == b'(' && byte(text, 1) == b'*' {
         Ok(comment(text))
-    } else if starts_name(b) {
+    } else if begins_name(b) {
         word(alloc, text)
     } else if is_digit(b) {
         Ok(number(text))
@@ -38,7 +39,7 @@ pub fn next_piece(alloc: Global, text: &[u8]) -> Result<Piece, NoMemory>
         quoted(alloc, text)
     } else if b == b'#' {
         symbol(alloc, text)
-    } else if is_operator(b) {
+    } else if is_operator_byte(b) {
         operator(alloc, text)
     } else {
         Ok(single(text))

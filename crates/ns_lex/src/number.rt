@@ -1,12 +1,13 @@
 //! Numbers, which are runs of decimal digits.
 
 ghost use Rattle.std.specs.Prelude.{◌≡◌, length, slice_index, true, All};
-ghost use Rattle.ns_lex.specs.Bytes as bytes;
+ghost use Rattle.ns_base.specs.Spelling.{is_digit};
 ghost use Rattle.ns_lex.specs.Piece.{Moves};
 ghost use Rattle.ns_lex.specs.Number as spec;
 
-use crate::bytes::{ByteClass, byte, is_digit, run, starts_name};
+use crate::bytes::{ByteClass, byte, run};
 use crate::piece::{Cause, Piece};
+use ns_base::spelling::{begins_name, is_digit};
 use ns_tree::token::Kind;
 
 /// The greatest number that a source can hold, which a minus makes the least Integer.
@@ -14,7 +15,7 @@ const GREATEST: u64 = 9223372036854775808;
 
 /// The number that these digits write, if it is not above the greatest.
 fn value(digits: &[u8]) -> Option<u64>
-    requires { All (λ b. bytes.is_digit b ≡ true) digits.now }
+    requires { All (λ b. is_digit b ≡ true) digits.now }
     ensures { result ≡ spec.at_most_greatest (spec.value digits.now) }
 {
     let mut value = 0;
@@ -31,12 +32,12 @@ fn value(digits: &[u8]) -> Option<u64>
 /// The number at the front, or the fault that stands there.
 #[tactic(auto, unfolding(crate::specs::Number::number))]
 pub fn number(text: &[u8]) -> Piece
-    requires { bytes.is_digit (slice_index text.now 0) ≡ true }
+    requires { is_digit (slice_index text.now 0) ≡ true }
     ensures value { result ≡ spec.number text.now }
     ensures within { Moves (length text.now) result }
 {
     let n = run(ByteClass::Digit, text);
-    if starts_name(byte(text, n)) || (byte(text, n) == b'.' && is_digit(byte(text, n + 1))) {
+    if begins_name(byte(text, n)) || (byte(text, n) == b'.' && is_digit(byte(text, n + 1))) {
         return Piece::Fault(Cause::BadByte, n);
     }
     match value(&text[..n]) {

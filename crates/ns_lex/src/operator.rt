@@ -1,7 +1,7 @@
 //! Operators.
 
 ghost use Rattle.std.specs.Prelude.{◌≡◌, ◌≤◌, ◌<◌, length, slice_index, true, IfOk};
-ghost use Rattle.ns_lex.specs.Bytes as bytes;
+ghost use Rattle.ns_base.specs.Spelling.{is_operator_byte};
 ghost use Rattle.ns_lex.specs.Operator as spec;
 ghost use Rattle.ns_lex.specs.Piece.{Moves};
 
@@ -17,7 +17,7 @@ use std::alloc::Global;
 pub fn operator_len(text: &[u8]) -> usize
     ensures value { result ≡ spec.operator_len text.now }
     ensures within { result ≤ length text.now }
-    ensures moves { bytes.is_operator (slice_index text.now 0) ≡ true → 0 < result }
+    ensures moves { is_operator_byte (slice_index text.now 0) ≡ true → 0 < result }
 {
     if byte(text, 0) == b'<' && byte(text, 1) == b':' {
         2
@@ -29,7 +29,7 @@ pub fn operator_len(text: &[u8]) -> usize
 /// The operator at the front.
 #[tactic(auto, unfolding(crate::specs::Operator::operator))]
 pub fn operator(alloc: Global, text: &[u8]) -> Result<Piece, NoMemory>
-    requires { bytes.is_operator (slice_index text.now 0) ≡ true }
+    requires { is_operator_byte (slice_index text.now 0) ≡ true }
     ensures value { IfOk result (λ p. p ≡ spec.operator text.now) }
     ensures within { IfOk result (Moves (length text.now)) }
 {

@@ -4,10 +4,11 @@ ghost use Rattle.std.specs.Prelude.{◌≡◌, ◌≤◌, ◌<◌, length, false
 ghost use Rattle.ns_lex.specs.Piece.{Moves};
 ghost use Rattle.ns_lex.specs.Symbol as spec;
 
-use crate::bytes::{ByteClass, byte, is_digit, is_operator, run, starts_name};
+use crate::bytes::{ByteClass, byte, run};
 use crate::operator::operator_len;
 use crate::piece::{Cause, Piece};
 use ns_base::no_memory::NoMemory;
+use ns_base::spelling::{begins_name, is_digit, is_operator_byte};
 use ns_base::text::Text;
 use ns_tree::token::Kind;
 use std::alloc::Global;
@@ -25,7 +26,7 @@ fn keys_from(text: &[u8]) -> usize
             at += 1;
             end = at;
             inside = false;
-        } else if starts_name(*b) || (inside && is_digit(*b)) {
+        } else if begins_name(*b) || (inside && is_digit(*b)) {
             at += 1;
             inside = true;
         } else {
@@ -41,10 +42,10 @@ fn selector_len(text: &[u8]) -> usize
     ensures value { result ≡ spec.selector_len text.now }
     ensures within { result ≤ length text.now }
 {
-    if is_operator(byte(text, 0)) {
+    if is_operator_byte(byte(text, 0)) {
         return operator_len(text);
     }
-    if !starts_name(byte(text, 0)) {
+    if !begins_name(byte(text, 0)) {
         return 0;
     }
     let n = keys_from(text);

@@ -1,7 +1,7 @@
 //! Identifiers, reserved words and keys.
 
 ghost use Rattle.std.specs.Prelude.{◌≡◌, length, slice_index, true, IfOk};
-ghost use Rattle.ns_lex.specs.Bytes as bytes;
+ghost use Rattle.ns_base.specs.Spelling.{begins_name};
 ghost use Rattle.ns_lex.specs.Piece.{Moves};
 ghost use Rattle.ns_lex.specs.Word as spec;
 
@@ -44,7 +44,7 @@ pub fn reserved(name: &[u8]) -> Option<Reserved>
 /// The identifier, the reserved word or the key at the front.
 #[tactic(auto, unfolding(crate::specs::Word::word))]
 pub fn word(alloc: Global, text: &[u8]) -> Result<Piece, NoMemory>
-    requires { bytes.starts_name (slice_index text.now 0) ≡ true }
+    requires { begins_name (slice_index text.now 0) ≡ true }
     ensures value { IfOk result (λ p. p ≡ spec.word text.now) }
     ensures within { IfOk result (Moves (length text.now)) }
 {

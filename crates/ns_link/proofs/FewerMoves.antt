@@ -18,11 +18,12 @@ use Rattle.ns_world.specs.World.{made}
 use Rattle.ns_find.specs.declared.found.Sending.TheVariants.{Inner}
 use Rattle.ns_kdata.specs.Arguments.{items_of}
 use Rattle.ns_facets.specs.declared.row.Grants.{Grants}
-use Rattle.ns_send.specs.Control.{Progress, Activation, After, Gives, Halts, Control, Now, Enter, Evaluate, Begin, Perform}
+use Rattle.ns_send.specs.Control.{Progress, Activation, After, Gives, Halts, Control, Now, Enter, Evaluate, Begin, Perform, frame_left}
 use Rattle.ns_send.specs.Control.{Part, Skip, Stop, EnterPart, Waiting, Waits, Finishes, halts}
 use Rattle.ns_send.specs.Bodies.{locals_with}
 use Rattle.ns_send.specs.Blocks.{new_cell, method_next}
-use Rattle.ns_send.specs.Classes.{super_part, part_ended}
+use Rattle.ns_world.specs.Booleans.{is_boolean}
+use Rattle.ns_send.specs.Classes.{super_part}
 use Rattle.ns_send.specs.Sends.{Target, To, ToPrivate, ToSuper, to_value, sent}
 use Rattle.ns_send.specs.Start.{start_cells, nothing_done, all_made, start_made}
 use Rattle.ns_kcode.specs.declared.state.KMethod.{KMethod}
@@ -33,7 +34,7 @@ use Rattle.ns_moves.specs.State.{Phase, Start, First, Second, Hosted, State, Unb
 use Rattle.ns_moves.specs.Returns.{delivered, settled, returned, is_home, has_home, unwound, returned_home}
 use Rattle.ns_moves.specs.Arrivals.{arrived, part_arrived, acted_on}
 use Rattle.ns_moves.specs.Operands.{on_top, taken_off, picked}
-use Rattle.ns_moves.specs.Jumps.{goes_back, takes_jump, is_boolean, jumped, jumped_on}
+use Rattle.ns_moves.specs.Jumps.{goes_back, takes_jump, jumped, jumped_on}
 use Rattle.ns_moves.specs.Instructions.{executed}
 use Rattle.ns_moves.specs.Move.{move, moves}
 use Rattle.ns_moves.specs.Starts.{unbegun, new_machine, started}
@@ -92,7 +93,7 @@ module _ (k : ℕ) (code : CodeProgram) where
       → unwound code phase home value frames (to_steps k p) ≡ state_to k (unwound code phase home value frames p)
   unwound_to phase home value [] p = refl
   unwound_to phase home value (frame ∷ frames) p =
-      either_to (is_home home frame) _ _ _ _ (delivered_to phase value frames (part_ended p)) (unwound_to phase home value frames (part_ended p))
+      either_to (is_home home frame) _ _ _ _ (delivered_to phase value frames (frame_left p)) (unwound_to phase home value frames (frame_left p))
 
   home_to : (phase : Phase) (a : Activation) (value : Value) (frames : List Frame) (p : Progress)
       → returned_home code phase a value frames (to_steps k p) ≡ state_to k (returned_home code phase a value frames p)

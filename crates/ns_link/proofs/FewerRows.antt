@@ -28,7 +28,8 @@ use Rattle.ns_kdata.specs.declared.row.DataRow.TheVariants as data_row
 use Rattle.ns_kdata.specs.declared.arguments.Part.{Part}
 use Rattle.ns_kdata.specs.Outcome.{Outcome, Answers, Fails, made_as, making, unchanged, wrong_kind, out_of_range}
 use Rattle.ns_kdata.specs.Arguments.{argument, number_of, symbol_text, shape_of_value, is_text, bytes_of, is_array, items_of, place_in, part_in}
-use Rattle.ns_kdata.specs.Texts.{bytes_in, quoted, copied, text_at, text_less}
+use Rattle.ns_kdata.specs.Texts.{bytes_in, copied, text_at, text_less}
+use Rattle.ns_base.specs.Quoted.{quoted}
 use Rattle.ns_kdata.specs.Rows.{conjunction, disjunction, boolean_text, symbol_less, array_at, stored, put_at_place, new_array, array_of_size}
 use Rattle.ns_facets.specs.declared.row.FacetRow.{FacetRow}
 use Rattle.ns_facets.specs.declared.row.FacetRow.TheVariants as facet

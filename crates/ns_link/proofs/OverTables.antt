@@ -8,7 +8,8 @@ use Rattle.ns_gen.specs.Code.{code_of}
 use Rattle.ns_gen.specs.Stated.{OneProgram}
 use Rattle.ns_model.specs.Whole.{ran}
 use Rattle.ns_model.specs.Laws.{ReturnsGoHome, RunsEnd}
-use Rattle.ns_model.specs.Tables.{head_of, SameTables, MeansTheSame}
+use Rattle.ns_model.specs.Tables.{SameTables, MeansTheSame}
+use Rattle.ns_code.specs.Heads.{head_of}
 use Rattle.ns_link.specs.Laws.{EndsAs, begins, RunsAsMeant, ReportedAsMeant}
 use Rattle.ns_link.proofs.Started.{runs_over_code}
 

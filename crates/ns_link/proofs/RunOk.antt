@@ -6,14 +6,14 @@ use Rattle.ns_world.specs.declared.value.Value.{Value}
 use Rattle.ns_kcode.specs.declared.state.KMethod.{KMethod}
 use Rattle.ns_kcode.specs.declared.state.KState.{KState}
 use Rattle.ns_send.specs.declared.site.Site.{Site}
-use Rattle.ns_send.specs.Control.{Progress, Activation, Exit, FromMethod, FromBody, FromClause, Now, Enter, Evaluate}
+use Rattle.ns_send.specs.Control.{Progress, Activation, Exit, FromMethod, FromBody, FromClause, Now, Enter, Evaluate, frame_left}
 use Rattle.ns_send.specs.Control.{Begin, Perform, Skip, Stop, EnterPart, Waiting, Waits, Finishes}
 use Rattle.ns_send.specs.Classes.{body_ended}
 use Rattle.ns_send.specs.Blocks.{evaluated, method_next, taken}
 use Rattle.ns_send.specs.Sends.{performed}
 use Rattle.ns_meant.specs.Program.{Meant}
 use Rattle.ns_meant.specs.Tables.{gathered, node_texts, nodes_texts}
-use Rattle.ns_model.specs.Outcome.{Outcome, Yields, Returns, Ends, Spent, passed, frame_left, caught, finish, finish_part, is_home}
+use Rattle.ns_model.specs.Outcome.{Outcome, Yields, Returns, Ends, Spent, passed, caught, finish, finish_part, is_home}
 use Rattle.ns_model.specs.Eval.{Call}
 use Rattle.ns_model.specs.Run.{does_at, gone_on, run_part, run}
 use Rattle.ns_gen.specs.Code.{body_lines}

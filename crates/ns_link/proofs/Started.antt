@@ -14,11 +14,11 @@ use Rattle.ns_world.specs.World.{World, made}
 use Rattle.ns_facets.specs.declared.row.Grants.{Grants}
 use Rattle.ns_mirror.specs.Mirror.{cell_number}
 use Rattle.ns_send.specs.Control.{Progress, in_world, After, Gives, Halts, charged}
-use Rattle.ns_send.specs.Sends.{site_at}
+use Rattle.ns_send.specs.Sends.{site_at, own_sel}
 use Rattle.ns_send.specs.Start.{start_cells, nothing_done, all_made, start_made, manifest, first_class}
 use Rattle.ns_meant.specs.Program.{Meant}
 use Rattle.ns_model.specs.Laws.{EndsByItself, ReturnsGoHome, RunsEnd}
-use Rattle.ns_model.specs.Whole.{opened_after, opening_place, own_sel, ran}
+use Rattle.ns_model.specs.Whole.{opened_after, opening_place, ran}
 use Rattle.ns_gen.specs.Code.{code_of}
 use Rattle.ns_moves.specs.Steps as steps
 use Rattle.ns_moves.specs.State.{Sending, Start, First, State, Pends}

@@ -6,13 +6,13 @@ use Rattle.ns_code.specs.declared.own.Own.TheVariants.{PackageUsing, MainArgs}
 use Rattle.ns_world.specs.declared.value.Value.{Value}
 use Rattle.ns_world.specs.declared.value.Value.TheVariants.{Ref}
 use Rattle.ns_send.specs.Control.{Progress}
-use Rattle.ns_send.specs.Sends.{sent_plain, site_at}
+use Rattle.ns_send.specs.Sends.{sent_plain, site_at, own_sel}
 use Rattle.ns_meant.specs.Program.{Meant}
 use Rattle.ns_model.specs.Outcome.{Outcome, Yields, Returns, Ends, Spent, bind}
 use Rattle.ns_model.specs.Laws.{IsEnough, GoesHome, ReturnsGoHome}
 use Rattle.ns_model.specs.Run.{fuel_of}
 use Rattle.ns_send.specs.Start.{manifest, platform, first_class}
-use Rattle.ns_model.specs.Whole.{own_sel, opening, opened, opening_place, concluded}
+use Rattle.ns_model.specs.Whole.{opening, opened, opening_place, concluded}
 use Rattle.ns_gen.specs.Code.{code_of}
 use Rattle.ns_moves.specs.Steps as steps
 use Rattle.ns_moves.specs.State.{Sending, Phase, First, Second, State, Pends}

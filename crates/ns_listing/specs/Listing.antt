@@ -1,26 +1,20 @@
 -- The listing of code, line by line.
-use Rattle.std.specs.Prelude.{ℕ, zero, suc, ◌+◌, List, [], ◌∷◌, ◌++◌, codes, decimal, slice_get, if◌then◌else◌, ◌==◌}
+use Rattle.std.specs.Prelude.{ℕ, zero, suc, ◌+◌, List, [], ◌∷◌, ◌++◌, codes, decimal, slice_get}
 use Rattle.std.specs.Option.{option_map_or}
 use Rattle.std.specs.Fmt.{signed_decimal}
-use Rattle.std.specs.List.{concat, flat_map}
+use Rattle.std.specs.List.{concat}
 use Rattle.ns_code.specs.declared.program.CodeProgram.{CodeProgram}
 use Rattle.ns_code.specs.declared.class.ClassCode.{ClassCode}
 use Rattle.ns_code.specs.declared.body.BodyCode.{BodyCode}
 use Rattle.ns_code.specs.declared.instruction.Instr.{Instr}
 use Rattle.ns_code.specs.declared.instruction.Instr.TheVariants as i
+use Rattle.ns_base.specs.Quoted.{quoted}
 
 -- ---- operands
 
 -- the name of that number, or a question mark where there is none
 abbrev pub name_shown : CodeProgram → ℕ → List ℕ
 name_shown code number = option_map_or (λ name. name) (slice_get code.names number) (codes "?")
-
--- a text in quotes, with inner quotes doubled
-abbrev pub doubled : List ℕ → List ℕ
-doubled = flat_map (λ byte. if byte == 39 then 39 ∷ 39 ∷ [] else byte ∷ [])
-
-abbrev pub quoted : List ℕ → List ℕ
-quoted text = 39 ∷ (doubled text ++ 39 ∷ [])
 
 -- the text of that number in quotes, or a question mark where there is none
 abbrev pub text_shown : CodeProgram → ℕ → List ℕ

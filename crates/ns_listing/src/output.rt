@@ -3,6 +3,7 @@
 ghost use Rattle.std.specs.Prelude.{◌≡◌, ◌++◌, ◌∷◌, [], OnOk};
 ghost use Rattle.std.specs.Fmt.{signed_decimal};
 ghost use Rattle.ns_listing.specs.Listing as spec;
+ghost use Rattle.ns_base.specs.Quoted.{doubled, quoted};
 
 use ns_base::no_memory::NoMemory;
 use ns_base::selector::Sel;
@@ -65,7 +66,7 @@ pub fn put_text(out: &mut Vec<u8>, code: &CodeProgram, number: u32) -> Result<()
 }
 
 fn put_quoted(out: &mut Vec<u8>, text: &[u8]) -> Result<(), NoMemory>
-    ensures { OnOk result (out.new.items ≡ out.old.items ++ spec.quoted text.now) }
+    ensures { OnOk result (out.new.items ≡ out.old.items ++ quoted text.now) }
 {
     put(out, b"'")?;
     put_doubled(out, text)?;
@@ -74,7 +75,7 @@ fn put_quoted(out: &mut Vec<u8>, text: &[u8]) -> Result<(), NoMemory>
 
 /// Bytes, with each quote doubled.
 fn put_doubled(out: &mut Vec<u8>, text: &[u8]) -> Result<(), NoMemory>
-    ensures { OnOk result (out.new.items ≡ out.old.items ++ spec.doubled text.now) }
+    ensures { OnOk result (out.new.items ≡ out.old.items ++ doubled text.now) }
 {
     'bytes: for byte in text {
         if *byte == b'\'' {

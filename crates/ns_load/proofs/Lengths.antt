@@ -7,7 +7,8 @@ use Rattle.ns_tree.specs.declared.token.Token.{Token}
 use Rattle.ns_tree.specs.Tokens.{kinds}
 use Rattle.ns_lex.specs.Lexes.{Cuts}
 use Rattle.ns_lex.specs.Piece.{Text}
-use Rattle.ns_lex.specs.Spells.{IsName, IsOperator, Spells, doubled}
+use Rattle.ns_lex.specs.Spells.{IsName, IsOperator, Spells}
+use Rattle.ns_base.specs.Quoted.{doubled}
 use Rattle.ns_lex.specs.laws.Stands.{stands_spells}
 use Rattle.ns_scope.specs.Whole.{text_of, AllWithin}
 

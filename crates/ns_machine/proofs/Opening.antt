@@ -20,8 +20,8 @@ use Rattle.ns_machine.specs.Opening.{super_number}
 passed_over : (places : List SourcePlace) (later : Option SourcePlace) (step : Step) → super_number step ≡ None
     → super_place_or (instr_of step) (place_of places step) later ≡ later
 passed_over places later (InitSuper argc place) is = absurd (cc)
-passed_over places later (Send sel argc Plain place) is = refl
-passed_over places later (Send sel argc Inner place) is = refl
+passed_over places later (Send sel argc Plain place row) is = refl
+passed_over places later (Send sel argc Inner place row) is = refl
 passed_over places later step is = refl
 
 -- the superclass message has its place

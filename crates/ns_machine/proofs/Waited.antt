@@ -18,7 +18,8 @@ use Rattle.ns_frames.specs.View.{site_shown, frames_shown}
 use Rattle.ns_engine.specs.declared.state.Core.{Core}
 use Rattle.ns_engine.specs.declared.state.Next.TheVariants as next
 use Rattle.ns_engine.specs.Shown.{phase_shown, progress_in}
-use Rattle.ns_engine.specs.Standing.{height_in, greatest_of, AreStanding}
+use Rattle.ns_engine.specs.Standing.{AreStanding}
+use Rattle.ns_send.specs.Bodies.{height_in, greatest_of}
 use Rattle.ns_machine.specs.Waiting.{SendWaits}
 
 -- without frames none are shown, and those that there are stand wherever their values end

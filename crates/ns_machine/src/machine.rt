@@ -1,6 +1,6 @@
 //! A run of code from its start on, as a host sees it.
 
-ghost use Rattle.std.specs.Prelude.{◌≡◌, IfOk, IfSome, IsTrue};
+ghost use Rattle.std.specs.Prelude.{◌≡◌, IfOk, IfSome, IsTrue, false};
 ghost use Rattle.ns_base.specs.Limits.{InRange};
 ghost use Rattle.ns_code.specs.Fits.{Fits};
 ghost use Rattle.ns_verify.specs.Verify.{IsSound};
@@ -10,7 +10,8 @@ ghost use Rattle.ns_report.specs.Ending.{IsLiveEnding};
 ghost use Rattle.ns_moves.specs.State.{is_idle, ending_of, world_of, progress_of, swapped};
 ghost use Rattle.ns_moves.specs.Starts.{new_machine, started, begun};
 ghost use Rattle.ns_moves.specs.Beginning.{MayBegin};
-ghost use Rattle.ns_moves.specs.Turn.{Turns};
+ghost use Rattle.ns_moves.specs.Turn.{is_still, Turns};
+ghost use Rattle.ns_reach.specs.Reached.{StaysInReach};
 ghost use Rattle.ns_machine.specs.Turning.{turn_at, Ran};
 
 use crate::memory::memory_for;
@@ -32,6 +33,7 @@ use ns_moves::valid_world::{
 };
 use ns_plan::plan::Plan;
 use ns_plan::step::NO_PLACE;
+use ns_reach::laws::{sends_stay_in_reach, turns_stay_in_reach};
 use ns_report::line::report_line;
 use ns_start::start::make_start;
 use ns_turns::turning::turn;
@@ -136,12 +138,15 @@ impl Machine {
         self.stage = Stage::Begun(next);
     }
 
-    /// A turn of so many steps: moves up to the end of the run, or up to the first that would charge a step more.
+    /// A turn of so many steps: moves up to the end of the run, or up to the first that would charge a step more. A run that
+    /// goes on stays in reach.
     pub fn turn(&mut self, steps: u64) -> Turn
         ensures turns { Turns self.old.code steps self.old.state self.new.state }
+        ensures reach { is_still self.old.state ≡ false → StaysInReach self.old.state self.new.state }
         ensures rest { self.new ≡ record self.old { state = self.new.state } }
         ensures answer { result ≡ turn_at self.new.state }
     {
+        turns_stay_in_reach();
         match self.stage {
             Stage::Unbegun { .. } => Turn::Going,
             Stage::Begun(from) => {
@@ -159,13 +164,15 @@ impl Machine {
         }
     }
 
-    /// A send of the host up to its end, which the limit on steps bounds.
+    /// A send of the host up to its end, which the limit on steps bounds. It stays in reach of its receiver and its arguments.
     pub fn send(&mut self, receiver: Value, sel: Sel, arguments: &[Value]) -> Ending
         requires { MayBegin self.old.code receiver sel arguments.now self.old.state }
         ensures ran { Ran self.old.code (begun receiver sel arguments.now self.old.state) result self.new.state }
+        ensures reach { StaysInReach (begun receiver sel arguments.now self.old.state) self.new.state }
         ensures rest { self.new ≡ record self.old { state = self.new.state } }
     {
         sends_of_a_host_are_valid();
+        sends_stay_in_reach();
         self.core.phase = Phase::Hosted;
         let next = wait_for_send(
             self.code.code(),

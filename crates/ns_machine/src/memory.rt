@@ -6,7 +6,8 @@ ghost use Rattle.ns_world.specs.World.{empty_world};
 ghost use Rattle.ns_act.specs.Room.{HasRoom};
 ghost use Rattle.ns_plan.specs.Plan.{IsPlanOf};
 ghost use Rattle.ns_plan.specs.Steps.{places_of};
-ghost use Rattle.ns_engine.specs.Standing.{greatest_of, most_arguments};
+ghost use Rattle.ns_engine.specs.Standing.{most_arguments};
+ghost use Rattle.ns_send.specs.Bodies.{greatest_of};
 ghost use Rattle.ns_machine.specs.Fresh.{IsFresh};
 
 use ns_act::run::Run;
@@ -80,7 +81,6 @@ fn world_for(alloc: Global, limits: Limits) -> Result<World, NoMemory>
 
 /// No frames, with memory for as many as the limit on depth allows, for their values, and for the arguments of a send that
 /// waits, with its answer.
-#[tactic(auto, using(crate::proofs::Fresh::greatest_same))]
 fn stack_for(alloc: Global, code: &CodeProgram, plan: &Plan, depth: u64) -> Result<Stack, NoMemory>
     requires depth { depth ≤ 100000 }
     requires plan { IsPlanOf code.now plan.now }

@@ -6,7 +6,7 @@ ghost use Rattle.ns_world.specs.Starts.{is_receiver, has_class, start_of, class_
 ghost use Rattle.ns_world.specs.Lawful.{IsLawful, IsLiveValue};
 ghost use Rattle.ns_send.specs.Start as spec;
 ghost use Rattle.ns_send.specs.Start.{manifest};
-ghost use Rattle.ns_moves.specs.Returns.{own_sel};
+ghost use Rattle.ns_send.specs.Sends.{own_sel};
 ghost use Rattle.ns_moves.specs.Steps.{opening_place};
 ghost use Rattle.ns_engine.specs.Standing.{HasRooms};
 ghost use Rattle.ns_engine.specs.Own.{AreOwn};

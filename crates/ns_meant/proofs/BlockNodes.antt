@@ -15,7 +15,7 @@ use Rattle.ns_meant.specs.Expressions.{Standing, Receiver, to_value, to_self, to
 use Rattle.ns_meant.specs.Expressions.{value_of, as_receiver, as_value, names_said, keys_said, messages_of, turns_of, with_cascade, named, set, sets_of}
 use Rattle.ns_meant.specs.Expressions.{reach_of, reach_self, reach_outer, at_level, name_sent, keys_sent, sent_at, expr_node, cascade_messages}
 use Rattle.ns_meant.specs.Expressions.{message_said, key_expr_said, keys_nodes, bin_said, opers_said, un_node, un_said, primary_receiver, items_nodes, one}
-use Rattle.ns_meant.specs.Statements.{block_body, first_values, slots_values, bars_values, list_steps, statements_steps, expression_of}
+use Rattle.ns_meant.specs.Statements.{block_body, first_values, slots_values, bars_values, list_steps, statements_steps}
 use Rattle.ns_meant.specs.Statements.{expr_bodies, cascade_bodies, message_bodies, key_expr_bodies, keys_bodies, bin_bodies}
 use Rattle.ns_meant.specs.Statements.{opers_bodies, un_bodies, primary_bodies, items_bodies, bars_bodies, slots_bodies}
 use Rattle.ns_meant.specs.Statements.{init_bodies, statements_bodies, list_bodies}
@@ -26,6 +26,7 @@ use Rattle.ns_meant.specs.Uses.{Use, DoesHave, ReachHas, NodeHas, NodesHave, Mes
 use Rattle.ns_meant.specs.There.{BlocksIn}
 use Rattle.ns_meant.specs.laws.Sits.{Sits, sits_left, sits_right, sits_first}
 use Rattle.ns_meant.specs.laws.Numbering.{message_counted, key_expr_counted, bin_counted, un_counted, expr_counted, init_counted, bars_counted}
+use Rattle.ns_meant.specs.Tables.{step_node}
 
 module _ (meant : m.Meant) (here : Standing) where
   abbrev Has : Use → Type 0
@@ -266,7 +267,7 @@ module _ (meant : m.Meant) (here : Standing) where
             (sits_right meant.bodies next count (expr_bodies here next expr) (list_bodies here (next + count) rest) (expr_counted expr here next) sits),
       )
 
-  list_expressions : (list : p.StatementList) (next : ℕ) → Sits meant.bodies next (list_bodies here next list) → ExpressionsHave Has (map expression_of (list_steps here next list))
+  list_expressions : (list : p.StatementList) (next : ℕ) → Sits meant.bodies next (list_bodies here next list) → ExpressionsHave Has (map step_node (list_steps here next list))
   list_expressions p.no_statements next sits = tt
   list_expressions (p.more_statements (p.statement_with None expr) rest) next sits =
       let count = length (b.expr_blocks here.scope expr) in (
@@ -288,7 +289,7 @@ module _ (meant : m.Meant) (here : Standing) where
   statements_block (p.statements_with list stop) next sits = list_block list next sits
 
   statements_expressions : (body : p.Statements) (next : ℕ) → Sits meant.bodies next (statements_bodies here next body) →
-      ExpressionsHave Has (map expression_of (statements_steps here next body))
+      ExpressionsHave Has (map step_node (statements_steps here next body))
   statements_expressions (p.statements_with list stop) next sits = list_expressions list next sits
 
   -- ---- bodies

@@ -10,6 +10,7 @@ use Rattle.ns_tree.specs.declared.tree.Origin.{Origin}
 use Rattle.ns_tree.specs.declared.tree.Origin.TheVariants as o
 use Rattle.ns_tree.specs.Plain as p
 use Rattle.ns_tree.specs.PlainOf.{unit_of}
+use Rattle.ns_tree.specs.Parts.{unit_class}
 use Rattle.ns_scope.specs.declared.program.Program.{Program}
 use Rattle.ns_scope.specs.declared.scope.ClassScope.{ClassScope}
 use Rattle.ns_scope.specs.declared.scope.Scope.{Scope}
@@ -20,8 +21,9 @@ use Rattle.ns_scope.specs.Scopes.{class_scope, clause_scope, initialiser_scope, 
 use Rattle.ns_scope.specs.Bodies as b
 use Rattle.ns_meant.specs.Program as m
 use Rattle.ns_meant.specs.Expressions.{Standing, place_at, sent_at, name_sent, name_node, send_node, to_value, to_super, to_outer, one, joined, message_said}
-use Rattle.ns_meant.specs.Statements.{bars_values, statements_steps, expression_of, body_with, routine, routine_bodies, message_bodies, bars_bodies}
+use Rattle.ns_meant.specs.Statements.{bars_values, statements_steps, body_with, routine, routine_bodies, message_bodies, bars_bodies}
 use Rattle.ns_meant.specs.Statements.{statements_bodies}
+use Rattle.ns_meant.specs.Tables.{step_node}
 
 -- ---- where declarations stand
 
@@ -116,7 +118,7 @@ initialiser_of here name clause bars body =
       arguments = super_arguments here (here.body + 1) clause;
       slots = bars_values here (here.body + 1 + length (b.super_blocks here.scope clause)) 0 bars;
       expressions =
-          map expression_of (statements_steps here (here.body + 1 + length (b.super_blocks here.scope clause) + length (b.bars_blocks here.scope bars)) body);
+          map step_node (statements_steps here (here.body + 1 + length (b.super_blocks here.scope clause) + length (b.bars_blocks here.scope bars)) body);
     }
 
 abbrev pub initialiser_body : Standing → p.Class → m.Body
@@ -320,9 +322,6 @@ abbrev mutual
   what_declared around number next (p.method_member method) = []
 
 -- ---- programs
-
-abbrev pub unit_class : p.SourceUnit → p.Class
-unit_class (p.unit_with marker category class) = class
 
 -- how many declarations stand in units
 abbrev pub units_count : List p.SourceUnit → ℕ

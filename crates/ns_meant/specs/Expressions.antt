@@ -6,6 +6,7 @@ use Rattle.ns_base.specs.declared.place.Place.{Place}
 use Rattle.ns_tree.specs.declared.tree.Named.{Named}
 use Rattle.ns_tree.specs.declared.tree.Access.{Access}
 use Rattle.ns_tree.specs.Plain as p
+use Rattle.ns_tree.specs.Parts.{first_key}
 use Rattle.ns_scope.specs.declared.scope.ClassScope.{ClassScope}
 use Rattle.ns_scope.specs.declared.scope.Scope.{Scope}
 use Rattle.ns_scope.specs.declared.resolve.Target.{Target}
@@ -105,10 +106,6 @@ value_of (to_outer class) = m.self_value
 abbrev pub joined : p.Keys → List ℕ
 joined p.no_keys = []
 joined (p.more_keys name argument rest) = name.text ++ joined rest
-
-abbrev pub first_key : p.Keys → ℕ
-first_key p.no_keys = 0
-first_key (p.more_keys name argument rest) = name.at
 
 abbrev pub keys_sent : Standing → p.Keys → m.Sent
 keys_sent here keys = sent_at here (joined keys) (first_key keys)

@@ -1,10 +1,10 @@
 -- When a program is right: its bodies and its classes name what is there.
 use Rattle.std.specs.Prelude.{◌≡◌, ◌<◌, ◌≤◌, ℕ, List, [], ◌∷◌, ◌++◌, true, Option, Some, None, length, map, flat_map, slice_get}
+use Rattle.ns_base.specs.Spelling.{is_identifier}
 use Rattle.ns_scope.specs.declared.scope.CodeSide.{CodeSide}
 use Rattle.ns_scope.specs.declared.scope.CodeSide.TheVariants as side
 use Rattle.ns_code.specs.Selector.{text_arity}
 use Rattle.ns_code.specs.Soundness.{are_different}
-use Rattle.ns_code.specs.Spelling.{is_identifier}
 use Rattle.ns_meant.specs.Program as m
 use Rattle.ns_meant.specs.There.{AreRightBodies, slot_selectors, nested_names}
 

@@ -39,11 +39,6 @@ list_steps here next (p.more_statements statement rest) =
 abbrev pub statements_steps : Standing → ℕ → p.Statements → List m.Step
 statements_steps here next (p.statements_with list stop) = list_steps here next list
 
--- the expression of a step; in an initialiser without faults none returns
-abbrev pub expression_of : m.Step → m.Node
-expression_of (m.evaluate node) = node
-expression_of (m.return node) = node
-
 -- ---- bodies
 
 -- where the expressions of a block stand, which has this number

@@ -9,9 +9,7 @@ use Rattle.ns_code.specs.declared.class.SlotCode.{SlotCode}
 use Rattle.ns_code.specs.declared.class.NestedCode.{NestedCode}
 use Rattle.ns_code.specs.declared.class.MethodCode.{MethodCode}
 use Rattle.ns_code.specs.Soundness.{instance_side, all_slot_selectors, texts_of, nested_names, are_different, instance_selectors, side_selectors}
-
-abbrev pub private_access : ℕ
-private_access = 2
+use Rattle.ns_code.specs.Access.{private_access}
 
 -- the selectors of slots, nested classes and methods
 abbrev pub selectors_of : CodeProgram → List SlotCode → List NestedCode → List MethodCode → List (List ℕ)

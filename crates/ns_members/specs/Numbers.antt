@@ -5,9 +5,9 @@ use Rattle.std.specs.List.{list_any, slice_index_or}
 use Rattle.std.specs.List.Sorted.{IsPermutation}
 use Rattle.std.specs.Str.{bytes_eq}
 use Rattle.ns_base.specs.Names.{NoRepeats}
+use Rattle.ns_base.specs.Spelling.{is_identifier}
 use Rattle.ns_code.specs.Selectors.{IsTableOf}
 use Rattle.ns_code.specs.Soundness.{nested_names}
-use Rattle.ns_code.specs.Spelling.{is_identifier}
 use Rattle.ns_code.specs.declared.program.CodeProgram.{CodeProgram}
 use Rattle.ns_code.specs.declared.class.ClassCode.{ClassCode}
 use Rattle.ns_code.specs.declared.class.SlotCode.{SlotCode}
@@ -15,7 +15,7 @@ use Rattle.ns_code.specs.declared.class.NestedCode.{NestedCode}
 use Rattle.ns_code.specs.declared.class.MethodCode.{MethodCode}
 use Rattle.ns_members.specs.declared.names.NameTable.{NameTable}
 use Rattle.ns_members.specs.declared.privates.Privates.{Privates}
-use Rattle.ns_members.specs.Members.{private_access}
+use Rattle.ns_code.specs.Access.{private_access}
 
 -- the number of the name that is this text with a colon behind it
 abbrev pub with_colon : List (List ℕ) → List ℕ → Option ℕ

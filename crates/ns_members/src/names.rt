@@ -2,9 +2,9 @@
 
 ghost use Rattle.std.specs.Prelude.{◌≡◌, ◌≢◌, ◌≤◌, ◌<◌, Some, length, map, IfOk, slice_get};
 ghost use Rattle.std.specs.List.{AllPairs};
+ghost use Rattle.ns_base.specs.Spelling.{is_identifier};
 ghost use Rattle.ns_code.specs.Selector.{selector_arity};
 ghost use Rattle.ns_code.specs.Soundness as spec;
-ghost use Rattle.ns_code.specs.Spelling.{is_identifier};
 ghost use Rattle.ns_code.specs.declared.program.CodeProgram.{CodeProgram};
 ghost use Rattle.ns_members.specs.Numbers.{IsNameTable, setter_number, with_colon};
 

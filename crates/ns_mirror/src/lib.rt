@@ -7,5 +7,5 @@ pub mod mirror;
 pub mod naming;
 pub mod row;
 mod selectors;
-mod slots;
+pub mod slots;
 mod value;

@@ -127,8 +127,9 @@ fn performed_with(
     })
 }
 
-/// The number of the cell that a value refers to.
-fn cell_number(value: Value) -> u32
+/// The number of the cell that a value refers to, 0 where it refers to none.
+#[inline(always)]
+pub fn cell_number(value: Value) -> u32
     ensures { result ≡ spec.cell_number value }
 {
     match value {

@@ -62,8 +62,9 @@ fn read_slot(world: &World, code: &CodeProgram, object: Value, sel: Sel) -> Resu
     }
 }
 
-/// A word of an object.
-fn word_of_object(world: &World, object: Value, word: u32) -> Value
+/// A word of an object, nil of any other value.
+#[inline]
+pub fn word_of_object(world: &World, object: Value, word: u32) -> Value
     requires { (at : ℕ) → object ≡ value_is.Ref at → word < length (words_at world.now.world.cells at) }
     ensures { result ≡ spec.word_of_object world.now.world.cells object word }
 {
@@ -112,8 +113,9 @@ fn write_slot(
     Ok(value)
 }
 
-/// Stores a word of an object.
-fn store(world: &mut World, object: Value, word: u32, value: Value)
+/// Stores a word of an object; of any other value nothing.
+#[inline]
+pub fn store(world: &mut World, object: Value, word: u32, value: Value)
     requires { (at : ℕ) → object ≡ value_is.Ref at → word < length (open_words_at world.old.world.cells at) }
     ensures { world.new ≡ record world.old { world = stored world.old.world object word value } }
 {

@@ -50,7 +50,8 @@ use Rattle.ns_send.specs.Sends.{Target, To, ToPrivate, ToSuper, receiver_of, fou
 use Rattle.ns_send.specs.Sends.{method_entered, factory_entered, nested_in, done_with, message_sel, not_found, answered_by, sent, sent_from}
 use Rattle.ns_send.specs.Sends.{sent_plain}
 use Rattle.ns_send.specs.Report.{cell_text, value_text, place_text, kind_text, report_line}
-use Rattle.ns_model.specs.Tables.{head_of, SameTables, ActAlike}
+use Rattle.ns_model.specs.Tables.{SameTables, ActAlike}
+use Rattle.ns_code.specs.Heads.{head_of}
 use Rattle.ns_model.proofs.Lookups.{recoded, layout_same, word_same, kept_same, found_same, private_same}
 use Rattle.ns_model.proofs.RowsRead.{class_same, row_same}
 

@@ -22,14 +22,14 @@ use Rattle.ns_kcode.specs.Rows.{beginning}
 use Rattle.ns_send.specs.declared.site.Site.{Site}
 use Rattle.ns_send.specs.Control.{Progress, in_world, After, Gives, Halts}
 use Rattle.ns_send.specs.Blocks.{method_next, turns_of}
-use Rattle.ns_send.specs.Sends.{sent_plain}
+use Rattle.ns_send.specs.Sends.{sent_plain, own_sel}
 use Rattle.ns_send.specs.Start.{facet_if, facets_of, top_if, tops_of, standing_cells, start_cells, nothing_done}
 use Rattle.ns_send.specs.Start.{all_made, start_made, manifest, platform, first_class}
 use Rattle.ns_send.specs.laws.Onward.{charged_all}
 use Rattle.ns_meant.specs.Program.{Meant}
 use Rattle.ns_model.specs.Outcome.{Outcome, Yields, Returns, Ends, Spent}
 use Rattle.ns_model.specs.Run.{run, fuel_of}
-use Rattle.ns_model.specs.Whole.{own_sel, opening_place, opening, opened}
+use Rattle.ns_model.specs.Whole.{opening_place, opening, opened}
 use Rattle.ns_model.specs.Laws.{IsEnough, Ready, EndsByItself, method_begins}
 use Rattle.ns_model.proofs.Fuel.{IsOrdered, Fine, fine_bind, moves_on, gone_fine, run_fine}
 use Rattle.ns_model.proofs.Facts.{facts}

@@ -20,7 +20,8 @@ use Rattle.ns_world.specs.World.{World}
 use Rattle.ns_kdata.specs.declared.row.DataRow.{DataRow}
 use Rattle.ns_kdata.specs.declared.row.DataRow.TheVariants as data_row
 use Rattle.ns_kdata.specs.Outcome.{Answers, making, unchanged}
-use Rattle.ns_kdata.specs.Arguments.{argument, truth, symbol_text, shape_of_value}
+use Rattle.ns_kdata.specs.Arguments.{argument, symbol_text, shape_of_value}
+use Rattle.ns_world.specs.Booleans.{truth}
 use Rattle.ns_kdata.specs.Texts.{is_before}
 use Rattle.ns_kdata.specs.Rows.{symbol_less}
 use Rattle.ns_facets.specs.declared.row.FacetRow.{FacetRow}

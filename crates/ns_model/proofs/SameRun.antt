@@ -11,13 +11,13 @@ use Rattle.ns_world.specs.declared.value.Value.{Value}
 use Rattle.ns_world.specs.World.{counters_of}
 use Rattle.ns_facets.specs.declared.row.Grants.{Grants}
 use Rattle.ns_send.specs.Control.{Progress, After, Gives, Halts, Control}
-use Rattle.ns_send.specs.Sends.{sent_plain}
+use Rattle.ns_send.specs.Sends.{sent_plain, own_sel}
 use Rattle.ns_send.specs.Start.{start_made, manifest, platform, first_class}
 use Rattle.ns_send.specs.Report.{report_line}
 use Rattle.ns_meant.specs.Program.{Meant}
 use Rattle.ns_model.specs.Outcome.{Outcome, Yields, Returns, Ends, Spent, bind}
 use Rattle.ns_model.specs.Run.{run, fuel_of}
-use Rattle.ns_model.specs.Whole.{own_sel, opening_place, opening, opened, opened_after, concluded, ran, RunEnd, RunReport, status_of, report_of}
+use Rattle.ns_model.specs.Whole.{opening_place, opening, opened, opened_after, concluded, ran, RunEnd, RunReport, status_of, report_of}
 use Rattle.ns_model.specs.Laws.{MoreFuel}
 use Rattle.ns_model.specs.Tables.{SameTables, MeansTheSame}
 use Rattle.ns_model.proofs.ActionsRead.{act_alike}

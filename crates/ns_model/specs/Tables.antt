@@ -1,10 +1,10 @@
 -- Codes that have the same tables, over which a run means the same.
-use Rattle.std.specs.Prelude.{◌≡◌, ℕ, List, [], map, Option}
+use Rattle.std.specs.Prelude.{◌≡◌, ℕ, List, map, Option}
 use Rattle.ns_base.specs.declared.limits.Limits.{Limits}
 use Rattle.ns_base.specs.declared.place.Place.{Place as SourcePlace}
 use Rattle.ns_base.specs.declared.selector.Sel.{Sel}
 use Rattle.ns_code.specs.declared.program.CodeProgram.{CodeProgram}
-use Rattle.ns_code.specs.declared.body.BodyCode.{BodyCode}
+use Rattle.ns_code.specs.Heads.{head_of}
 use Rattle.ns_world.specs.declared.value.Value.{Value}
 use Rattle.ns_world.specs.declared.ending.Ending.{Ending}
 use Rattle.ns_world.specs.Heap.{Heap}
@@ -20,10 +20,6 @@ use Rattle.ns_send.specs.Report.{report_line}
 use Rattle.ns_meant.specs.Program.{Meant}
 use Rattle.ns_model.specs.Run.{run}
 use Rattle.ns_model.specs.Whole.{RunEnd, ran, report_of}
-
--- a body without its instructions
-abbrev pub head_of : BodyCode → BodyCode
-head_of body = record body { height = 0; instrs = []; places = [] }
 
 -- Two codes have the same tables: the same files, names and records of classes, and bodies with the same heads.
 pub record SameTables (code other : CodeProgram) : Type 0 where

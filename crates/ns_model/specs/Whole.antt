@@ -3,13 +3,11 @@ use Rattle.std.specs.Prelude.{ℕ, List, [], ◌∷◌, Option, Some, None, slic
 use Rattle.std.specs.Option.{option_map_or}
 use Rattle.ns_base.specs.declared.limits.Limits.{Limits}
 use Rattle.ns_base.specs.declared.place.Place.{Place}
-use Rattle.ns_base.specs.declared.selector.Sel.{Sel}
 use Rattle.ns_base.specs.declared.status.Status.{Status}
 use Rattle.ns_base.specs.declared.status.Status.TheVariants as status
 use Rattle.ns_code.specs.declared.program.CodeProgram.{CodeProgram}
 use Rattle.ns_code.specs.declared.own.Own.{Own}
 use Rattle.ns_code.specs.declared.own.Own.TheVariants.{PackageUsing, MainArgs}
-use Rattle.ns_code.specs.Selector.{own_number}
 use Rattle.ns_world.specs.declared.value.Value.{Value}
 use Rattle.ns_world.specs.declared.ending.Counters.{Counters}
 use Rattle.ns_world.specs.declared.ending.Ending.{Ending}
@@ -18,7 +16,7 @@ use Rattle.ns_world.specs.declared.ending.LimitKind.TheVariants.{Steps}
 use Rattle.ns_world.specs.World.{counters_of}
 use Rattle.ns_facets.specs.declared.row.Grants.{Grants}
 use Rattle.ns_send.specs.Control.{Progress, After, Gives, Halts}
-use Rattle.ns_send.specs.Sends.{sent_plain}
+use Rattle.ns_send.specs.Sends.{sent_plain, own_sel}
 use Rattle.ns_send.specs.Report.{report_line}
 use Rattle.ns_send.specs.Start.{start_made, manifest, platform, first_class}
 use Rattle.ns_meant.specs.Tables.{tables}
@@ -36,10 +34,6 @@ place_in other = None
 -- the place of the opening sends: that of the first class's name (this profile)
 abbrev pub opening_place : Meant → Option Place
 opening_place meant = option_map_or (λ (class : Declaration). place_in (does_at meant class.initialiser)) (slice_get meant.classes 0) None
-
--- a selector that the machine sends by itself
-abbrev pub own_sel : CodeProgram → Own → Sel
-own_sel code own = record { 0 = own_number code own }
 
 -- a plain send that no code makes
 abbrev pub opening : Meant → CodeProgram → Value → Own → List Value → Progress → Outcome Value

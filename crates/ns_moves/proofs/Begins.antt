@@ -31,7 +31,6 @@ use Rattle.ns_moves.specs.Starts.{unbegun}
 use Rattle.ns_moves.specs.Valid.{BeginsWith, WorldIsValid, fitting, array_behind, is_no_facet, blocks_have_homes, EndsIn, Valid}
 use Rattle.ns_moves.specs.Beginning.{NewIsValid, MayBegin, HostKeepsValid}
 use Rattle.ns_moves.proofs.WorldCells.{both_of, first_of, second_of}
-use Rattle.ns_moves.proofs.WorldEnds.{site_named}
 use Rattle.ns_moves.proofs.BeginsCells.{IsClean, MayStart, made_all, AllMayStart, may_start_on, last_of, MadeAll, all_made_all, sizes_add}
 use Rattle.ns_moves.proofs.BeginsCells.{made_size, last_at, behind_texts, texts_live}
 
@@ -217,7 +216,7 @@ module _ (code : CodeProgram) (grants : Grants) where
           refl,
           record { live = live; few = may.few },
           fits,
-          site_named code (site_at p.world.cells None receiver sel) (site_fits code receiver sel None p w.lawful fits.selector (λ place none. absurd (cc))),
+          site_fits code receiver sel None p w.lawful fits.selector (λ place none. absurd (cc)),
         ),
         tt,
       )

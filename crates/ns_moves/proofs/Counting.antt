@@ -23,10 +23,11 @@ use Rattle.ns_kcode.specs.declared.state.KMethod.{KMethod}
 use Rattle.ns_kcode.specs.Next.{next}
 use Rattle.ns_send.specs.declared.site.Site.{Site}
 use Rattle.ns_send.specs.Site.{error}
-use Rattle.ns_send.specs.Control.{Progress, in_world, Activation, FromMethod, FromBody, FromClause, After, Gives, Halts, Control, Now, Enter}
+use Rattle.ns_send.specs.Control.{Progress, in_world, Activation, FromMethod, FromBody, FromClause, After, Gives, Halts, Control, Now, Enter, frame_left}
 use Rattle.ns_send.specs.Control.{Evaluate, Begin, Perform, Part, Skip, Stop, EnterPart, Waiting, Waits, Finishes, charged, halts}
 use Rattle.ns_send.specs.Blocks.{evaluated, method_next, new_text, new_block, new_array}
-use Rattle.ns_send.specs.Classes.{super_part, body_ended, part_ended}
+use Rattle.ns_world.specs.Booleans.{is_boolean}
+use Rattle.ns_send.specs.Classes.{super_part, body_ended}
 use Rattle.ns_send.specs.Start.{start_cells, nothing_done, all_made, start_made}
 use Rattle.ns_send.specs.Sends.{Target, To, ToPrivate, ToSuper, to_value, answered_by, sent}
 use Rattle.ns_send.specs.Actions.{Sends, Evaluates, Continues, BeginsPart, EndsBody, MakesBlock, MakesText, MakesArray, FillsSlot, StoresLocal}
@@ -39,7 +40,7 @@ use Rattle.ns_moves.specs.State.{State, Unbegun, Going, Pends, Ended, Stuck}
 use Rattle.ns_moves.specs.Steps.{Step, steps_of, steps_from, literal}
 use Rattle.ns_moves.specs.Returns.{concluded, delivered, settled, returned, is_home, has_home, unwound, returned_home}
 use Rattle.ns_moves.specs.Arrivals.{arrived, part_arrived, acted_on}
-use Rattle.ns_moves.specs.Jumps.{goes_back, jumped, takes_jump, is_boolean, jumped_on}
+use Rattle.ns_moves.specs.Jumps.{goes_back, jumped, takes_jump, jumped_on}
 use Rattle.ns_moves.specs.Instructions.{executed}
 use Rattle.ns_moves.specs.Move.{move}
 use Rattle.ns_moves.specs.ValidFrames.{homes_fall}
@@ -143,11 +144,11 @@ unwound_counted : (code : CodeProgram) (phase : Phase) (home : ℕ) (v : Value) 
     → FramesAreCounted (unwound code phase home v frames p)
 unwound_counted code phase home v [] p c = tt
 unwound_counted code phase home v (frame ∷ frames) p c =
-    let down : AreCounted frames (part_ended p) = less frame frames p (part_ended p) refl refl c in
-    tested (is_home home frame) (delivered_counted code phase v frames (part_ended p) down) (unwound_counted code phase home v frames (part_ended p) down)
+    let down : AreCounted frames (frame_left p) = less frame frames p (frame_left p) refl refl c in
+    tested (is_home home frame) (delivered_counted code phase v frames (frame_left p) down) (unwound_counted code phase home v frames (frame_left p) down)
   where
-    tested : (b : Bool) → FramesAreCounted (delivered code phase v frames (part_ended p)) → FramesAreCounted (unwound code phase home v frames (part_ended p))
-        → FramesAreCounted (cond b (delivered code phase v frames (part_ended p)) (unwound code phase home v frames (part_ended p)))
+    tested : (b : Bool) → FramesAreCounted (delivered code phase v frames (frame_left p)) → FramesAreCounted (unwound code phase home v frames (frame_left p))
+        → FramesAreCounted (cond b (delivered code phase v frames (frame_left p)) (unwound code phase home v frames (frame_left p)))
     tested true here below = here
     tested false here below = below
 
@@ -232,7 +233,7 @@ module _ (code : CodeProgram) (phase : Phase) (leaving : Leaving) (a : Activatio
   returns_to (Loud exit) v =
       end_counted code phase (body_ended code exit a v p) (Running leaving a ls (instr ∷ rest) first) frames p
       (action_spends code (EndsBody exit a v) p) counted
-  returns_to Silent v = less (Running leaving a ls (instr ∷ rest) first) frames p (part_ended p) refl refl counted
+  returns_to Silent v = less (Running leaving a ls (instr ∷ rest) first) frames p (frame_left p) refl refl counted
 
   returns_home : (v : Value) (below : List Value) → FramesAreCounted (returned_home code phase a v (Running leaving a ls rest below ∷ frames) p)
   returns_home v below = tested (has_home a.home (Running leaving a ls rest below ∷ frames))

@@ -22,7 +22,7 @@ use Rattle.ns_send.specs.Control.{FromMethod, FromBody}
 use Rattle.ns_send.specs.Worked.{small_progress, small_site, in_m}
 use Rattle.ns_moves.specs.State.{Loud, Running, Hosted, State, Going, Stuck, ending_of, world_of}
 use Rattle.ns_moves.specs.Move.{move, moves}
-use Rattle.ns_moves.specs.Returns.{own_sel}
+use Rattle.ns_send.specs.Sends.{own_sel}
 use Rattle.ns_moves.specs.Turn.{charges, charged_in, after_turn}
 use Rattle.ns_moves.specs.Starts.{new_machine, started}
 use Rattle.ns_moves.specs.Charging.{will_charge}

@@ -4,8 +4,7 @@ use Rattle.std.specs.Prelude.{nat_lt, ◌==◌, ◌&&◌}
 use Rattle.std.proofs.lemmas.Bool.{eqb-true}
 use Rattle.ns_code.specs.declared.program.CodeProgram.{CodeProgram}
 use Rattle.ns_world.specs.declared.value.Value.{Value}
-use Rattle.ns_send.specs.Classes.{part_ended}
-use Rattle.ns_send.specs.Control.{Progress, FromMethod, FromBody, FromClause}
+use Rattle.ns_send.specs.Control.{Progress, FromMethod, FromBody, FromClause, frame_left}
 use Rattle.ns_moves.specs.State.{Loud, Silent, Frame, Running, Looping, Phase}
 use Rattle.ns_moves.specs.Returns.{delivered, has_home, unwound}
 use Rattle.ns_moves.specs.Homes.{LandedBelow}
@@ -31,18 +30,18 @@ pub lands_below : (code : CodeProgram) (phase : Phase) (bound home : ℕ) (value
 lands_below code phase bound home value [] p f h = absurd (cc)
 lands_below code phase bound home value (Running (Loud FromMethod) a ls rest stack ∷ frames) p f h =
     let rest_falls : homes_fall a.home frames ≡ true = and_second (nat_lt a.home bound) (homes_fall a.home frames) f in
-    tested (a.home == home) refl h rest_falls (λ h'. lands_below code phase a.home home value frames (part_ended p) rest_falls h')
+    tested (a.home == home) refl h rest_falls (λ h'. lands_below code phase a.home home value frames (frame_left p) rest_falls h')
   where
     tested : (b : Bool) → (a.home == home) ≡ b → cond b true (has_home home frames) ≡ true → homes_fall a.home frames ≡ true
-        → (has_home home frames ≡ true → LandedBelow code phase home value (unwound code phase home value frames (part_ended p)))
+        → (has_home home frames ≡ true → LandedBelow code phase home value (unwound code phase home value frames (frame_left p)))
         → LandedBelow code phase home value
-        (cond b (delivered code phase value frames (part_ended p)) (unwound code phase home value frames (part_ended p)))
+        (cond b (delivered code phase value frames (frame_left p)) (unwound code phase home value frames (frame_left p)))
     tested true e h falls below =
-        record { below = frames; after = part_ended p; is = refl; earlier = subst (λ n. homes_fall n frames ≡ true) (eqb-true a.home home e) falls }
+        record { below = frames; after = frame_left p; is = refl; earlier = subst (λ n. homes_fall n frames ≡ true) (eqb-true a.home home e) falls }
     tested false e h falls below = below h
 lands_below code phase bound home value (Running (Loud FromBody) a ls rest stack ∷ frames) p f h =
-    lands_below code phase bound home value frames (part_ended p) f h
+    lands_below code phase bound home value frames (frame_left p) f h
 lands_below code phase bound home value (Running (Loud (FromClause object holder class)) a ls rest stack ∷ frames) p f h =
-    lands_below code phase bound home value frames (part_ended p) f h
-lands_below code phase bound home value (Running Silent a ls rest stack ∷ frames) p f h = lands_below code phase bound home value frames (part_ended p) f h
-lands_below code phase bound home value (Looping method state site ∷ frames) p f h = lands_below code phase bound home value frames (part_ended p) f h
+    lands_below code phase bound home value frames (frame_left p) f h
+lands_below code phase bound home value (Running Silent a ls rest stack ∷ frames) p f h = lands_below code phase bound home value frames (frame_left p) f h
+lands_below code phase bound home value (Looping method state site ∷ frames) p f h = lands_below code phase bound home value frames (frame_left p) f h

@@ -21,16 +21,16 @@ use Rattle.ns_send.specs.Blocks.{item_at, listed, waiting, acted}
 use Rattle.ns_send.specs.Lawful.{LawfulRun, LawfulControl, LawfulPart, LawfulWaiting}
 use Rattle.ns_send.specs.Onward.{reached, part_reached, waiting_reached}
 use Rattle.ns_send.specs.Spending.{Charged, ControlSpends, PartSpends, WaitingSpends}
-use Rattle.ns_send.specs.Fitting.{FitsEnd, FitsNext, FitsNextPart, EntersPart, FitsNextWaiting, FitsSite as SiteFits, GoesOnAt, HasHome, PartGoesOnAt, EntersBlock}
+use Rattle.ns_send.specs.Fitting.{FitsEnd, FitsNext, FitsNextPart, EntersPart, FitsNextWaiting, GoesOnAt, HasHome, PartGoesOnAt, EntersBlock, FitsSite, kind_of}
 use Rattle.ns_send.specs.Fitting.{ends_kind as own_kind}
 use Rattle.ns_moves.specs.State.{Loud, Silent, Frame, Running, Looping, Phase}
 use Rattle.ns_moves.specs.Arrivals.{arrived, part_arrived, acted_on}
-use Rattle.ns_moves.specs.ValidFrames.{Nothing, SendValue, BlockValue, PartEnd, kind_of, has_home_of, has_block_home, ends_kind, FitsLeaving}
-use Rattle.ns_moves.specs.ValidFrames.{FitsSite, LoopingIsValid, FramesAreValid}
+use Rattle.ns_moves.specs.ValidFrames.{Nothing, SendValue, BlockValue, PartEnd, has_home_of, has_block_home, ends_kind, FitsLeaving}
+use Rattle.ns_moves.specs.ValidFrames.{LoopingIsValid, FramesAreValid}
 use Rattle.ns_moves.specs.Standing.{FramesStand}
 use Rattle.ns_moves.proofs.FramesKnown.{Known}
-use Rattle.ns_moves.proofs.FramesLast.{Onto, frames_last, receiver_of}
-use Rattle.ns_moves.proofs.FramesEnter.{site_of, entered_valid}
+use Rattle.ns_moves.proofs.FramesLast.{Onto, frames_last}
+use Rattle.ns_moves.proofs.FramesEnter.{entered_valid}
 use Rattle.ns_moves.proofs.FramesReturn.{EndsWell, onto_of, settled_stands, part_over}
 
 -- ---- kinds, ends and homes
@@ -131,7 +131,7 @@ module _ (known : Known) (code : CodeProgram) (sound : IsSound code) (phase : Ph
 
   -- ---- sends
 
-  pub sent_stands : (steps : ℕ) (Few : Type 0) (site : Site) (c : Control) → FramesAreValid code p SendValue frames → SiteFits code site → Few
+  pub sent_stands : (steps : ℕ) (Few : Type 0) (site : Site) (c : Control) → FramesAreValid code p SendValue frames → FitsSite code site → Few
       → LawfulControl code c → FitsNext initialiser_kind code c → GoesOnAt Few site no_home c → IsLater p.world (reached c).world → ControlSpends steps p c
       → FramesStand code (arrived code phase c frames)
   sent_stands steps Few site (Now (Gives v q)) valid named few after fits at later s =
@@ -140,7 +140,7 @@ module _ (known : Known) (code : CodeProgram) (sound : IsSound code) (phase : Ph
   sent_stands steps Few site (Enter exit a ls q) valid named few after fits at later s =
       let onto = enters steps exit a ls q s after.0 later in
       let kind = sent_kind (kind_of code a.body) exit fits.1.kind in
-      let here = subst (λ (s : Site). FitsSite code s) (sym at.0) (site_of code site named) in (
+      let here = subst (λ (s : Site). FitsSite code s) (sym at.0) named in (
         refl,
         (
           entered_valid known code sound q (Loud exit) a ls fits.0 kind.0 (leaves_of code initialiser_kind q exit a fits.1) after.1.locals
@@ -150,14 +150,14 @@ module _ (known : Known) (code : CodeProgram) (sound : IsSound code) (phase : Ph
       )
   sent_stands steps Few site (Evaluate block arguments at q) valid named few after fits goes later s =
       let onto = charged_onto steps 0 0 q after.0 later s in
-      let here = subst (λ (s : Site). FitsSite code s) (sym goes.0) (site_of code site named) in
+      let here = subst (λ (s : Site). FitsSite code s) (sym goes.0) named in
       ((fits, goes.1 few, after.2, here), block_too code q frames (frames_last known code p q onto SendValue frames valid))
   sent_stands steps Few site (Begin method state at q) valid named few after fits goes later s =
       let onto = charged_onto steps 1 0 q after.0 later s in
-      let here = subst (λ (s : Site). FitsSite code s) (sym goes) (site_of code site named) in
+      let here = subst (λ (s : Site). FitsSite code s) (sym goes) named in
       let own : LoopingIsValid q.world.cells code Nothing method state at = record {
         live = after.1;
-        receiver = receiver_of q.world.cells method state fits;
+        receiver = fits.receiver;
         arguments = fits.arguments;
         counts = fits.counts;
         waits = refl;
@@ -166,13 +166,13 @@ module _ (known : Known) (code : CodeProgram) (sound : IsSound code) (phase : Ph
       (refl, (own, frames_last known code p q onto SendValue frames valid))
   sent_stands steps Few site (Perform receiver sel array at q) valid named few after fits goes later s =
       let onto = charged_onto steps 0 0 q after.0 later s in
-      let place = subst (λ (s : Site). SiteFits code s) (sym goes) named in
-      let here = site_of code _ (known.sends.sites code receiver sel at.place q after.0 fits.0.selector place.place) in
+      let place = subst (λ (s : Site). FitsSite code s) (sym goes) named in
+      let here = known.sends.sites code receiver sel at.place q after.0 fits.0.selector place.place in
       ((after.1, fits.1, fits.0, here), frames_last known code p q onto SendValue frames valid)
 
   -- ---- evaluations
 
-  pub evaluated_stands : (steps body home : ℕ) (Few : Type 0) (site : Site) (c : Control) → FramesAreValid code p BlockValue frames → SiteFits code site
+  pub evaluated_stands : (steps body home : ℕ) (Few : Type 0) (site : Site) (c : Control) → FramesAreValid code p BlockValue frames → FitsSite code site
       → ((q : Progress) → p.begun ≤ q.begun → has_block_home code q.begun body home ≡ true)
       → LawfulControl code c → FitsNext block_kind code c → GoesOnAt Few site home c → EntersBlock body c → IsLater p.world (reached c).world → ControlSpends steps p c
       → FramesStand code (arrived code phase c frames)
@@ -182,7 +182,7 @@ module _ (known : Known) (code : CodeProgram) (sound : IsSound code) (phase : Ph
   evaluated_stands steps body home Few site (Enter FromBody a ls q) valid named homes after fits at is later s =
       let onto = enters steps FromBody a ls q s after.0 later in
       let kind : kind_of code a.body ≡ block_kind = eqb-true (kind_of code a.body) block_kind fits.1.kind in
-      let here = subst (λ (s : Site). FitsSite code s) (sym at.0) (site_of code site named) in
+      let here = subst (λ (s : Site). FitsSite code s) (sym at.0) named in
       let own : has_block_home code q.begun a.body a.home ≡ true =
       ap (λ b. has_block_home code q.begun b a.home) is ∙ (ap (λ h. has_block_home code q.begun body h) at.1 ∙ homes q onto.begun) in
       let at_home = subst (λ k. has_home_of code q.begun k a.body a.home ≡ true) (sym kind) own in (
@@ -228,7 +228,7 @@ module _ (known : Known) (code : CodeProgram) (sound : IsSound code) (phase : Ph
       let fitting = fits.1 in
       let own : LoopingIsValid q.world.cells code BlockValue method state site = record {
         live = after.3;
-        receiver = receiver_of q.world.cells method state fitting;
+        receiver = fitting.receiver;
         arguments = fitting.arguments;
         counts = fitting.counts;
         waits = refl;

@@ -8,35 +8,17 @@ use Rattle.ns_code.specs.declared.body.BodyCode.{BodyCode}
 use Rattle.ns_code.specs.declared.instruction.Instr.TheVariants as i
 use Rattle.ns_code.specs.Soundness.{clause_kind}
 use Rattle.ns_world.specs.declared.value.Value.{Value}
-use Rattle.ns_world.specs.declared.kernel.ClassName.{ClassName}
-use Rattle.ns_world.specs.declared.kernel.ClassName.TheVariants as name
 use Rattle.ns_world.specs.Lawful.{IsLiveValue}
 use Rattle.ns_verify.specs.Heights.{begin, height_at}
 use Rattle.ns_verify.specs.Verify.{IsSound}
 use Rattle.ns_verify.specs.Places.{height_before}
-use Rattle.ns_send.specs.declared.site.Site.{Site}
 use Rattle.ns_send.specs.Control.{Progress, Activation}
-use Rattle.ns_send.specs.Fitting.{FitsEntered, StandsWell, FitsSite as SiteFits, names_class as is_named}
+use Rattle.ns_send.specs.Fitting.{FitsEntered, StandsWell, FitsSite, kind_of}
 use Rattle.ns_moves.specs.State.{Leaving}
 use Rattle.ns_moves.specs.Steps.{steps_of}
-use Rattle.ns_moves.specs.ValidFrames.{Nothing, kind_of, has_home_of, ends_kind, FitsLeaving, names_class, FitsSite, StandsBefore, next_number, RunningIsValid}
+use Rattle.ns_moves.specs.ValidFrames.{Nothing, has_home_of, ends_kind, FitsLeaving, StandsBefore, next_number, RunningIsValid}
 use Rattle.ns_moves.proofs.FramesKnown.{Known}
 use Rattle.ns_moves.proofs.FramesStanding.{all_left, height_is}
-
--- ---- sites
-
-class_same : (code : CodeProgram) (class : ClassName) → names_class code class ≡ is_named code class
-class_same code (name.Declared decl) = refl
-class_same code (name.ClassOf decl) = refl
-class_same code (name.Kernel row) = refl
-
-pub site_of : (code : CodeProgram) (site : Site) → SiteFits code site → FitsSite code site
-site_of code site fits = record { place = fits.place; class = class_same code site.class ∙ fits.class; sel = fits.sel }
-
-pub site_from : (code : CodeProgram) (site : Site) → FitsSite code site → SiteFits code site
-site_from code site fits = record { place = fits.place; class = sym (class_same code site.class) ∙ fits.class; sel = fits.sel }
-
--- ---- the beginning of a body
 
 none_known : (count : ℕ) → get_or (replicate count None) 0 None ≡ (let none : Option ℕ = None in none)
 none_known zero = refl

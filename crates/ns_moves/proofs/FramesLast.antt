@@ -1,26 +1,22 @@
 -- Frames stay valid while the run goes on.
-use Rattle.std.proofs.Common.{◌≡◌, ℕ, ◌+◌, ◌≤◌, List, [], ◌∷◌, get_or, refl, sym, ◌∙◌, arith, All, Bool, true, false, cond}
+use Rattle.std.proofs.Common.{◌≡◌, ℕ, ◌+◌, ◌≤◌, List, [], ◌∷◌, get_or, arith, All, Bool, true, false, cond}
 use Rattle.std.specs.Prelude.{nat_lt, ◌==◌}
 use Rattle.ns_code.specs.declared.program.CodeProgram.{CodeProgram}
 use Rattle.ns_code.specs.Soundness.{method_kind, block_kind}
 use Rattle.ns_world.specs.declared.value.Value.{Value}
-use Rattle.ns_world.specs.declared.value.Value.TheVariants as value
 use Rattle.ns_world.specs.Heap.{Heap}
 use Rattle.ns_world.specs.Lawful.{IsLiveValue}
 use Rattle.ns_world.specs.Later.{RunsOn}
 use Rattle.ns_kcode.specs.declared.state.KMethod.{KMethod}
-use Rattle.ns_kcode.specs.declared.state.KMethod.TheVariants as method
 use Rattle.ns_kcode.specs.declared.state.KState.{KState}
 use Rattle.ns_send.specs.declared.site.Site.{Site}
 use Rattle.ns_send.specs.Control.{Progress, Activation, FromMethod, FromBody, FromClause}
 use Rattle.ns_send.specs.Bodies.{no_home}
-use Rattle.ns_send.specs.Fitting.{FitsMethod, belongs_to as belongs}
-use Rattle.ns_send.specs.Fitting.{is_boolean as is_truth}
+use Rattle.ns_send.specs.Fitting.{FitsMethod, kind_of, environment_body}
 use Rattle.ns_moves.specs.State.{Leaving, Loud, Silent, Frame, Running, Looping}
 use Rattle.ns_moves.specs.Steps.{Step}
-use Rattle.ns_moves.specs.Jumps.{is_boolean}
-use Rattle.ns_moves.specs.ValidFrames.{Awaited, Nothing, SendValue, BlockValue, PartEnd, awaited_below, kind_of, is_in_method, has_home_of}
-use Rattle.ns_moves.specs.ValidFrames.{FitsLeaving, environment_body, RunningIsValid, belongs_to, LoopingIsValid, FrameIsValid, FramesAreValid}
+use Rattle.ns_moves.specs.ValidFrames.{Awaited, Nothing, SendValue, BlockValue, PartEnd, awaited_below, is_in_method, has_home_of}
+use Rattle.ns_moves.specs.ValidFrames.{FitsLeaving, RunningIsValid, LoopingIsValid, FrameIsValid, FramesAreValid}
 use Rattle.ns_moves.proofs.FramesKnown.{Known}
 use Rattle.ns_moves.specs.laws.Frames.{first_valid, others_valid}
 
@@ -55,38 +51,13 @@ home_lasts code low high kind body home h e =
 
 -- ---- methods of the kernel
 
-truth_same : (v : Value) → is_boolean v ≡ is_truth v
-truth_same value.Nil = refl
-truth_same value.True = refl
-truth_same value.False = refl
-truth_same (value.Int number) = refl
-truth_same (value.Sym sel) = refl
-truth_same (value.Kernel class) = refl
-truth_same (value.Ref at) = refl
-
-belongs_same : (heap : Heap) (receiver : Value) (named : KMethod) → belongs_to heap receiver named ≡ belongs heap receiver named
-belongs_same heap receiver method.And = truth_same receiver
-belongs_same heap receiver method.Or = truth_same receiver
-belongs_same heap receiver method.IfTrue = truth_same receiver
-belongs_same heap receiver method.IfFalse = truth_same receiver
-belongs_same heap receiver method.IfTrueIfFalse = truth_same receiver
-belongs_same heap receiver method.IfFalseIfTrue = truth_same receiver
-belongs_same heap receiver method.WhileTrue = refl
-belongs_same heap receiver method.WhileFalse = refl
-belongs_same heap receiver method.ToDo = refl
-belongs_same heap receiver method.TimesRepeat = refl
-belongs_same heap receiver method.Do = refl
-
 pub method_of : (code : CodeProgram) (heap : Heap) (awaited : Awaited) (named : KMethod) (state : KState) (site : Site)
     → LoopingIsValid heap code awaited named state site → FitsMethod heap named state
 method_of code heap awaited named state site valid = record {
   arguments = valid.arguments;
-  receiver = sym (belongs_same heap state.receiver named) ∙ valid.receiver;
+  receiver = valid.receiver;
   counts = valid.counts;
 }
-
-pub receiver_of : (heap : Heap) (named : KMethod) (state : KState) → FitsMethod heap named state → belongs_to heap state.receiver named ≡ true
-receiver_of heap named state fits = belongs_same heap state.receiver named ∙ fits.receiver
 
 -- ---- while the run goes on
 
@@ -127,7 +98,7 @@ module _ (known : Known) (code : CodeProgram) (old new : Progress) (onto : Onto 
       let fits = known.lasting.methods named state code old.world new.world onto.run (method_of code old.world.cells awaited named state site valid) in
       record {
         live = known.lasting.states state code old.world new.world onto.run valid.live;
-        receiver = receiver_of new.world.cells named state fits;
+        receiver = fits.receiver;
         arguments = fits.arguments;
         counts = fits.counts;
         waits = valid.waits;

@@ -16,7 +16,7 @@ use Rattle.ns_send.specs.Control.{Progress, Activation}
 use Rattle.ns_send.specs.Blocks.{block_body_in, evaluated, method_next}
 use Rattle.ns_send.specs.Sends.{sent_from}
 use Rattle.ns_send.specs.Lawful.{FitsSelector}
-use Rattle.ns_send.specs.Fitting.{home_in}
+use Rattle.ns_send.specs.Fitting.{home_in, FitsSite}
 use Rattle.ns_send.specs.Actions.{Evaluates, Continues}
 use Rattle.ns_send.specs.Spending.{action_steps}
 use Rattle.ns_facets.specs.declared.row.Grants.{Grants}
@@ -24,12 +24,11 @@ use Rattle.ns_moves.specs.State.{Leaving, Frame, Running, Looping, Sending, Perf
 use Rattle.ns_moves.specs.Steps.{Step}
 use Rattle.ns_moves.specs.Arrivals.{arrived}
 use Rattle.ns_moves.specs.Move.{move}
-use Rattle.ns_moves.specs.ValidFrames.{Nothing, SendValue, awaited_below, FitsSite, RunningIsValid, FramesAreValid}
+use Rattle.ns_moves.specs.ValidFrames.{Nothing, SendValue, awaited_below, RunningIsValid, FramesAreValid}
 use Rattle.ns_moves.specs.Valid.{GoesOn, Valid}
 use Rattle.ns_moves.specs.Standing.{FramesStand}
 use Rattle.ns_moves.proofs.FramesKnown.{Known}
 use Rattle.ns_moves.proofs.FramesLast.{method_of}
-use Rattle.ns_moves.proofs.FramesEnter.{site_from}
 use Rattle.ns_moves.proofs.FramesStanding.{no_next}
 use Rattle.ns_moves.proofs.FramesReturn.{EndsWell}
 use Rattle.ns_moves.proofs.FramesArrive.{sent_stands, evaluated_stands, waited_stands, few_acted}
@@ -82,7 +81,7 @@ module _ (known : Known) (code : CodeProgram) (grants : Grants) where
   waiting_sends phase receiver sel vs site frames p on ends valid live fits named =
       let lawful = on.world.lawful in
       sent_stands known code on.world.sound phase frames p lawful ends 1 (FitsSelector p.world.cells code sel vs) site (sent_from code receiver sel vs site p) valid
-      (site_from code site named) fits (known.sends.from_lawful code receiver sel vs site p lawful live fits)
+      named fits (known.sends.from_lawful code receiver sel vs site p lawful live fits)
       (known.sends.from_fits code receiver sel vs site p lawful live fits) (known.sends.from_at code receiver sel vs site p)
       (known.sends.from_later code receiver sel vs site p) (known.sends.from_spends code receiver sel vs site p)
 
@@ -109,7 +108,7 @@ module _ (known : Known) (code : CodeProgram) (grants : Grants) where
       let action = Evaluates block arguments site in
       let shape = shape_of_value p.world.cells block in
       evaluated_stands known code on.world.sound phase frames p lawful (ends phase frames p on) 1 (block_body_in shape) (home_in shape) (length arguments ≤ 255) site
-      (evaluated code block arguments site p) valid (site_from code site named)
+      (evaluated code block arguments site p) valid named
       (λ q more. home_more code p.begun q.begun (block_body_in shape) (home_in shape) more (block_home code p.begun p.world.cells block on.world.homes is))
       (known.sends.evaluated_lawful code block arguments site p lawful live) (known.actions.hands_on code action p lawful live)
       (known.sends.evaluated_at code block arguments site p) (known.sends.evaluated_body code block arguments site p)

@@ -24,11 +24,10 @@ use Rattle.ns_send.specs.Bodies.{initialiser_of}
 use Rattle.ns_send.specs.Start.{standing_cells, size_of_cells, platform}
 use Rattle.ns_moves.specs.State.{Frame, Phase, Start, First, Second, Hosted}
 use Rattle.ns_moves.specs.Steps.{placed, place_in, super_place_or, super_place, opening_place}
-use Rattle.ns_moves.specs.Returns.{own_sel}
+use Rattle.ns_send.specs.Sends.{own_sel}
 use Rattle.ns_moves.specs.Valid.{BeginsWith, array_behind, HasArguments, GoesOn}
 use Rattle.ns_moves.proofs.FramesKnown.{Known}
 use Rattle.ns_moves.proofs.FramesLast.{value_lasts}
-use Rattle.ns_moves.proofs.FramesEnter.{site_of}
 use Rattle.ns_moves.proofs.FramesReturn.{EndsWell, all_more}
 use Rattle.ns_moves.proofs.InstrFacts.{body_fits, place_there}
 use Rattle.ns_moves.proofs.InstrStacks.{none_at_all}
@@ -202,7 +201,7 @@ ends_well known code grants (First arguments) frames p on = λ q v onto live.
         refl,
         record { live = live; few = omega arith },
         record { selector = is; arity = sym (known.own.arities code MainArgs); live = both },
-        site_of code _ sites,
+        sites,
       ),
       tt,
     )

@@ -15,9 +15,9 @@ use Rattle.ns_kcode.specs.declared.state.KMethod.TheVariants as method
 use Rattle.ns_kcode.specs.declared.state.KState.{KState}
 use Rattle.ns_send.specs.declared.site.Site.{Site}
 use Rattle.ns_send.specs.Site.{error}
-use Rattle.ns_send.specs.Control.{Progress, Activation, Exit, FromMethod, FromBody, FromClause, After, Gives, Halts}
+use Rattle.ns_send.specs.Control.{Progress, Activation, Exit, FromMethod, FromBody, FromClause, After, Gives, Halts, frame_left}
 use Rattle.ns_send.specs.Blocks.{taken}
-use Rattle.ns_send.specs.Classes.{body_ended, part_ended}
+use Rattle.ns_send.specs.Classes.{body_ended}
 use Rattle.ns_send.specs.Lawful.{LawfulRun, LawfulAfter, FitsExit}
 use Rattle.ns_send.specs.Onward.{after_reached}
 use Rattle.ns_send.specs.Actions.{EndsBody}
@@ -25,8 +25,9 @@ use Rattle.ns_send.specs.Spending.{CellSpends, EndSpends}
 use Rattle.ns_moves.specs.State.{Leaving, Loud, Silent, Frame, Running, Looping, Phase, Ended}
 use Rattle.ns_moves.specs.Steps.{Step}
 use Rattle.ns_moves.specs.Returns.{concluded, delivered, settled, returned, ends_at, has_home, unwound, returned_home}
-use Rattle.ns_moves.specs.ValidFrames.{Awaited, Nothing, SendValue, BlockValue, PartEnd, awaited_below, kind_of, next_number, StandsBefore, Stands}
-use Rattle.ns_moves.specs.ValidFrames.{FitsLeaving, RunningIsValid, counts_fit, LoopingIsValid, FramesAreValid}
+use Rattle.ns_moves.specs.ValidFrames.{Awaited, Nothing, SendValue, BlockValue, PartEnd, awaited_below, next_number, StandsBefore, Stands}
+use Rattle.ns_send.specs.Fitting.{kind_of, counts_fit}
+use Rattle.ns_moves.specs.ValidFrames.{FitsLeaving, RunningIsValid, LoopingIsValid, FramesAreValid}
 use Rattle.ns_moves.specs.Valid.{has_frame}
 use Rattle.ns_moves.specs.Standing.{FramesStand}
 use Rattle.ns_moves.proofs.FramesKnown.{Known}
@@ -99,8 +100,8 @@ EndsWell code phase p = (q : Progress) (v : Value) → Onto code p q → IsLiveV
 
 module _ (known : Known) (code : CodeProgram) (sound : IsSound code) where
   -- the run goes on by giving a frame back
-  pub onto_left : (p : Progress) → LawfulRun code p → Onto code p (part_ended p)
-  onto_left p lawful = onto_of code p (part_ended p) lawful (known.worlds.left_lawful p.world code lawful) (known.worlds.left_later p.world) (omega arith)
+  pub onto_left : (p : Progress) → LawfulRun code p → Onto code p (frame_left p)
+  onto_left p lawful = onto_of code p (frame_left p) lawful (known.worlds.left_lawful p.world code lawful) (known.worlds.left_later p.world) (omega arith)
 
   pub onto_same : (p : Progress) → LawfulRun code p → Onto code p p
   onto_same p lawful = onto_of code p p lawful lawful (known.worlds.same p.world) (omega arith)
@@ -220,7 +221,7 @@ module _ (known : Known) (code : CodeProgram) (sound : IsSound code) where
       (end_gives code p after lawful (known.actions.ended code exit a v p lawful (exit_fits p.world.cells exit a leaves) live)
       (known.actions.leads code (EndsBody exit a v) p) (known.actions.spends code (EndsBody exit a v) p)) valid
   returned_stands phase Silent a ls rest stack v frames p lawful ends leaves live valid =
-      part_over frames (part_ended p) (frames_last known code p (part_ended p) (onto_left p lawful) PartEnd frames valid)
+      part_over frames (frame_left p) (frames_last known code p (frame_left p) (onto_left p lawful) PartEnd frames valid)
 
   pub unwound_stands : (phase : Phase) (home : ℕ) (v : Value) (frames : List Frame) (old p : Progress) (awaited : Awaited) → EndsWell code phase old → Onto code old p
       → has_home home frames ≡ true → IsLiveValue p.world.cells code v → FramesAreValid code p awaited frames → FramesStand code (unwound code phase home v frames p)
@@ -228,30 +229,30 @@ module _ (known : Known) (code : CodeProgram) (sound : IsSound code) where
   unwound_stands phase home v (Running (Loud exit) a ls rest stack ∷ frames) old p awaited ends onto has live valid =
       let frame : Frame = Running (Loud exit) a ls rest stack in
       let down = onto_left p onto.run.after in
-      let live' = value_lasts known code p (part_ended p) down v live in
-      let on = onto_on old p (part_ended p) onto down in
-      let below = frames_last known code p (part_ended p) down (awaited_below code frame) frames (others_valid code p awaited frame frames valid) in
+      let live' = value_lasts known code p (frame_left p) down v live in
+      let on = onto_on old p (frame_left p) onto down in
+      let below = frames_last known code p (frame_left p) down (awaited_below code frame) frames (others_valid code p awaited frame frames valid) in
       tested (ends_at (Loud exit) a.home home) has
-      (delivered_stands phase v frames old (part_ended p) (awaited_below code frame) ends on (loud_below code exit a ls rest stack) live' below)
-      (λ has'. unwound_stands phase home v frames old (part_ended p) (awaited_below code frame) ends on has' live' below)
+      (delivered_stands phase v frames old (frame_left p) (awaited_below code frame) ends on (loud_below code exit a ls rest stack) live' below)
+      (λ has'. unwound_stands phase home v frames old (frame_left p) (awaited_below code frame) ends on has' live' below)
     where
-      tested : (b : Bool) → cond b true (has_home home frames) ≡ true → FramesStand code (delivered code phase v frames (part_ended p))
-          → (has_home home frames ≡ true → FramesStand code (unwound code phase home v frames (part_ended p)))
-          → FramesStand code (cond b (delivered code phase v frames (part_ended p)) (unwound code phase home v frames (part_ended p)))
+      tested : (b : Bool) → cond b true (has_home home frames) ≡ true → FramesStand code (delivered code phase v frames (frame_left p))
+          → (has_home home frames ≡ true → FramesStand code (unwound code phase home v frames (frame_left p)))
+          → FramesStand code (cond b (delivered code phase v frames (frame_left p)) (unwound code phase home v frames (frame_left p)))
       tested true has here further = here
       tested false has here further = further has
   unwound_stands phase home v (Running Silent a ls rest stack ∷ frames) old p awaited ends onto has live valid =
       let frame : Frame = Running Silent a ls rest stack in
       let down = onto_left p onto.run.after in
-      unwound_stands phase home v frames old (part_ended p) PartEnd ends (onto_on old p (part_ended p) onto down) has
-      (value_lasts known code p (part_ended p) down v live)
-      (frames_last known code p (part_ended p) down PartEnd frames (others_valid code p awaited frame frames valid))
+      unwound_stands phase home v frames old (frame_left p) PartEnd ends (onto_on old p (frame_left p) onto down) has
+      (value_lasts known code p (frame_left p) down v live)
+      (frames_last known code p (frame_left p) down PartEnd frames (others_valid code p awaited frame frames valid))
   unwound_stands phase home v (Looping named state site ∷ frames) old p awaited ends onto has live valid =
       let frame : Frame = Looping named state site in
       let down = onto_left p onto.run.after in
-      unwound_stands phase home v frames old (part_ended p) SendValue ends (onto_on old p (part_ended p) onto down) has
-      (value_lasts known code p (part_ended p) down v live)
-      (frames_last known code p (part_ended p) down SendValue frames (others_valid code p awaited frame frames valid))
+      unwound_stands phase home v frames old (frame_left p) SendValue ends (onto_on old p (frame_left p) onto down) has
+      (value_lasts known code p (frame_left p) down v live)
+      (frames_last known code p (frame_left p) down SendValue frames (others_valid code p awaited frame frames valid))
 
   pub home_stands : (phase : Phase) (a : Activation) (v : Value) (frames : List Frame) (p : Progress) (awaited : Awaited) → LawfulRun code p → EndsWell code phase p
       → IsLiveValue p.world.cells code v → FramesAreValid code p awaited frames → FramesStand code (returned_home code phase a v frames p)

@@ -16,8 +16,9 @@ use Rattle.ns_verify.specs.Uses.{IsUsable, HasLocal, HasSlot, IsSendOf, IsStartO
 use Rattle.ns_find.specs.declared.found.Sending.TheVariants.{Inner}
 use Rattle.ns_send.specs.Bodies.{is_beside, locals_with, local_stored}
 use Rattle.ns_send.specs.Blocks.{new_text, new_block, new_array}
-use Rattle.ns_send.specs.Classes.{super_selector, super_part, slot_filled, part_ended}
-use Rattle.ns_send.specs.Fitting.{FitsMessage}
+use Rattle.ns_world.specs.Booleans.{is_boolean}
+use Rattle.ns_send.specs.Classes.{super_selector, super_part, slot_filled}
+use Rattle.ns_send.specs.Fitting.{FitsMessage, kind_of}
 use Rattle.ns_moves.specs.Operands.{on_top, taken_off}
 use Rattle.ns_moves.specs.Instructions.{executed}
 use Rattle.ns_moves.proofs.FramesArrive.{part_stands}
@@ -37,7 +38,7 @@ use Rattle.ns_world.specs.World.{World, stepped}
 use Rattle.ns_world.specs.Lawful.{IsLiveValue, FitsBody}
 use Rattle.ns_verify.specs.Verify.{IsSound}
 use Rattle.ns_send.specs.Site.{error}
-use Rattle.ns_send.specs.Control.{Progress, in_world, Activation, FromMethod, FromBody, FromClause, After, Gives, Halts, charged}
+use Rattle.ns_send.specs.Control.{Progress, in_world, Activation, FromMethod, FromBody, FromClause, After, Gives, Halts, charged, frame_left}
 use Rattle.ns_send.specs.Lawful.{LawfulRun, FitsTarget, FitsSelector, FitsSlot, FitsLocal}
 use Rattle.ns_send.specs.Sends.{Target, To, ToPrivate, ToSuper, to_value, receiver_of, sent}
 use Rattle.ns_send.specs.Actions.{Sends, BeginsPart, MakesText, MakesArray, MakesBlock, FillsSlot, StoresLocal}
@@ -45,8 +46,8 @@ use Rattle.ns_moves.specs.State.{Leaving, Loud, Silent, Frame, Running, Phase, S
 use Rattle.ns_moves.specs.Steps.{Step, place_in, steps_from, literal}
 use Rattle.ns_moves.specs.Returns.{settled, returned, has_home, unwound, returned_home}
 use Rattle.ns_moves.specs.Arrivals.{arrived, part_arrived}
-use Rattle.ns_moves.specs.Jumps.{goes_back, jumped, takes_jump, is_boolean, jumped_on}
-use Rattle.ns_moves.specs.ValidFrames.{Awaited, Nothing, SendValue, PartEnd, awaited_below, is_send, is_super_part, next_number, height_of, kind_of, ends_kind, Stands, StandsBefore, RunningIsValid, FramesAreValid}
+use Rattle.ns_moves.specs.Jumps.{goes_back, jumped, takes_jump, jumped_on}
+use Rattle.ns_moves.specs.ValidFrames.{Awaited, Nothing, SendValue, PartEnd, awaited_below, is_send, is_super_part, next_number, height_of, ends_kind, Stands, StandsBefore, RunningIsValid, FramesAreValid}
 use Rattle.ns_moves.specs.Standing.{FramesStand}
 use Rattle.ns_moves.proofs.FramesKnown.{Known}
 use Rattle.ns_moves.proofs.FramesLast.{Onto, both_valid, value_lasts, values_last, running_lasts, frames_last}
@@ -335,15 +336,15 @@ module _ (known : Known) (code : CodeProgram) (sound : IsSound code) (phase : Ph
       subst (λ l. FramesStand code (returned_home code phase a v (Running l a ls rest stack ∷ frames) p))
       (sym (block_leaves leaving (kind_of code a.body) valid.kind (body_kind ∙ kind))) (tested (has_home a.home frames) refl)
     where
-      down : Onto code p (part_ended p)
+      down : Onto code p (frame_left p)
       down = onto_left known code sound p lawful
 
       tested : (c : Bool) → has_home a.home frames ≡ c
-          → FramesStand code (cond c (unwound code phase a.home v frames (part_ended p)) (Ended (error DeadReturn a.site) phase p))
+          → FramesStand code (cond c (unwound code phase a.home v frames (frame_left p)) (Ended (error DeadReturn a.site) phase p))
       tested true has =
-          unwound_stands known code sound phase a.home v frames p (part_ended p) (awaited_below code (Running leaving a ls (step ∷ rest) first)) ends down has
-          (value_lasts known code p (part_ended p) down v live)
-          (frames_last known code p (part_ended p) down (awaited_below code (Running leaving a ls (step ∷ rest) first)) frames below)
+          unwound_stands known code sound phase a.home v frames p (frame_left p) (awaited_below code (Running leaving a ls (step ∷ rest) first)) ends down has
+          (value_lasts known code p (frame_left p) down v live)
+          (frames_last known code p (frame_left p) down (awaited_below code (Running leaving a ls (step ∷ rest) first)) frames below)
       tested false has = tt
 
   abbrev Live : Value → Type 0

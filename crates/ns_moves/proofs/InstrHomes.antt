@@ -13,7 +13,8 @@ use Rattle.ns_verify.specs.Chains.{around, home_kind, home_kinds_from, home_kind
 use Rattle.ns_verify.specs.Places.{home_of}
 use Rattle.ns_verify.specs.Uses.{HasBlock, StandsInside}
 use Rattle.ns_send.specs.Bodies.{no_home}
-use Rattle.ns_moves.specs.ValidFrames.{kind_of, is_in_method, has_block_home, has_home_of}
+use Rattle.ns_moves.specs.ValidFrames.{is_in_method, has_block_home, has_home_of}
+use Rattle.ns_send.specs.Fitting.{kind_of}
 use Rattle.ns_moves.proofs.FramesKnown.{Known}
 
 -- ---- the kinds of homes

@@ -19,9 +19,10 @@ use Rattle.ns_find.specs.Find.{found_from}
 use Rattle.ns_kdata.specs.Arguments.{items_of}
 use Rattle.ns_send.specs.declared.site.Site.{Site}
 use Rattle.ns_send.specs.Site.{error}
-use Rattle.ns_send.specs.Control.{Progress, Activation, After, Control, Part, charged}
+use Rattle.ns_send.specs.Control.{Progress, Activation, After, Control, Part, charged, frame_left}
 use Rattle.ns_send.specs.Blocks.{new_cell, evaluated, method_next}
-use Rattle.ns_send.specs.Classes.{super_part, body_ended, part_ended, kept_by}
+use Rattle.ns_world.specs.Booleans.{is_boolean}
+use Rattle.ns_send.specs.Classes.{super_part, body_ended, kept_by}
 use Rattle.ns_send.specs.Sends.{Target, To, ToPrivate, ToSuper, to_value, receiver_of, sent}
 use Rattle.ns_send.specs.Onward.{reached, after_reached, part_reached, touched}
 use Rattle.ns_send.specs.laws.Onward.{Going, charged_all, may_come}
@@ -34,7 +35,7 @@ use Rattle.ns_moves.specs.State.{Going as Goes, Pends, Ended, Stuck, progress_of
 use Rattle.ns_moves.specs.Steps.{Step, steps_from, literal}
 use Rattle.ns_moves.specs.Returns.{delivered, settled, returned, is_home, has_home, unwound, returned_home}
 use Rattle.ns_moves.specs.Arrivals.{arrived, part_arrived, acted_on}
-use Rattle.ns_moves.specs.Jumps.{goes_back, jumped, takes_jump, is_boolean, jumped_on}
+use Rattle.ns_moves.specs.Jumps.{goes_back, jumped, takes_jump, jumped_on}
 use Rattle.ns_moves.specs.Instructions.{executed}
 use Rattle.ns_moves.specs.Move.{sent_on, move}
 use Rattle.ns_moves.specs.Onward.{GoesOnward, MovesGoOnward}
@@ -57,7 +58,7 @@ of_going named old new g = record { later = g.world.later; begun = g.begun }
 at_state : (old : Progress) (s : State) (q : Progress) → progress_of s ≡ q → GoesOnward old q → GoesOnward old (progress_of s)
 at_state old s q e g = subst (λ (r : Progress). GoesOnward old r) (sym e) g
 
-left_onward : (p : Progress) → GoesOnward p (part_ended p)
+left_onward : (p : Progress) → GoesOnward p (frame_left p)
 left_onward p = record { later = later_left p.world; begun = omega arith }
 
 unwound_onward : (code : CodeProgram) (phase : Phase) (home : ℕ) (answer : Value) (frames : List Frame) (p : Progress)
@@ -65,12 +66,12 @@ unwound_onward : (code : CodeProgram) (phase : Phase) (home : ℕ) (answer : Val
 unwound_onward code phase home answer [] p = stays p
 unwound_onward code phase home answer (frame ∷ frames) p =
     tested (is_home home frame)
-    (at_state p (delivered code phase answer frames (part_ended p)) (part_ended p) (delivered_at code phase answer frames (part_ended p)) (left_onward p))
-    (then p (part_ended p) _ (left_onward p) (unwound_onward code phase home answer frames (part_ended p)))
+    (at_state p (delivered code phase answer frames (frame_left p)) (frame_left p) (delivered_at code phase answer frames (frame_left p)) (left_onward p))
+    (then p (frame_left p) _ (left_onward p) (unwound_onward code phase home answer frames (frame_left p)))
   where
-    tested : (b : Bool) → GoesOnward p (progress_of (delivered code phase answer frames (part_ended p)))
-        → GoesOnward p (progress_of (unwound code phase home answer frames (part_ended p)))
-        → GoesOnward p (progress_of (cond b (delivered code phase answer frames (part_ended p)) (unwound code phase home answer frames (part_ended p))))
+    tested : (b : Bool) → GoesOnward p (progress_of (delivered code phase answer frames (frame_left p)))
+        → GoesOnward p (progress_of (unwound code phase home answer frames (frame_left p)))
+        → GoesOnward p (progress_of (cond b (delivered code phase answer frames (frame_left p)) (unwound code phase home answer frames (frame_left p))))
     tested true here below = here
     tested false here below = below
 

@@ -21,16 +21,15 @@ use Rattle.ns_facets.specs.declared.row.Grants.{Grants}
 use Rattle.ns_send.specs.Control.{Progress}
 use Rattle.ns_send.specs.Bodies.{initialiser_of}
 use Rattle.ns_send.specs.Start.{standing_cells, manifest, platform, first_class}
-use Rattle.ns_send.specs.Sends.{site_at}
+use Rattle.ns_send.specs.Sends.{own_sel}
 use Rattle.ns_send.specs.Lawful.{FitsSelector}
 use Rattle.ns_send.specs.laws.Sites.{site_fits}
 use Rattle.ns_send.specs.laws.OwnSelectors.{own_is, own_arity}
 use Rattle.ns_moves.specs.State.{Unbegun, Going, Pends, Ended, Stuck}
 use Rattle.ns_moves.specs.Steps.{place_in, placed, super_place, super_place_or, opening_place}
-use Rattle.ns_moves.specs.Returns.{own_sel, opening}
+use Rattle.ns_moves.specs.Returns.{opening}
 use Rattle.ns_moves.specs.Valid.{WorldIsValid, PendingIsValid}
 use Rattle.ns_moves.specs.Beginning.{StartKeepsValid, SecondIsValid}
-use Rattle.ns_moves.proofs.WorldEnds.{site_named}
 use Rattle.ns_moves.proofs.OpeningCells.{manifest_live, platform_live, array_live, first_class_live}
 
 -- ---- the place of the opening sends is in a file of the code
@@ -115,8 +114,7 @@ module _ (code : CodeProgram) (grants : Grants) where
         refl,
         record { live = live; few = few },
         fits,
-        site_named code (site_at p.world.cells (opening_place code) receiver (own_sel code own))
-            (site_fits code receiver (own_sel code own) (opening_place code) p w.lawful fits.selector (opening_fits code w.lawful.fits)),
+        site_fits code receiver (own_sel code own) (opening_place code) p w.lawful fits.selector (opening_fits code w.lawful.fits),
       )
 
   pub second_valid : SecondIsValid code grants

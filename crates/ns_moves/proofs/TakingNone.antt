@@ -18,12 +18,12 @@ use Rattle.ns_classes.specs.Apply.{class_fault}
 use Rattle.ns_classes.specs.Nested.{kept_class}
 use Rattle.ns_send.specs.declared.site.Site.{Site}
 use Rattle.ns_send.specs.Site.{error}
-use Rattle.ns_send.specs.Control.{Progress, in_world, Activation, Exit, FromMethod, FromBody, FromClause, After, Gives, Halts, Part, Skip, Stop}
+use Rattle.ns_send.specs.Control.{Progress, in_world, Activation, Exit, FromMethod, FromBody, FromClause, After, Gives, Halts, Part, Skip, Stop, frame_left}
 use Rattle.ns_send.specs.Control.{EnterPart, charged}
 use Rattle.ns_send.specs.Bodies.{initialiser_of, no_home, opened}
 use Rattle.ns_send.specs.Blocks.{new_cell}
 use Rattle.ns_send.specs.Classes.{class_made, keeping, newly_kept, kept_or, factory_selector, super_selector, declared_part, object_part}
-use Rattle.ns_send.specs.Classes.{part_of, super_part, body_ended, part_ended}
+use Rattle.ns_send.specs.Classes.{part_of, super_part, body_ended}
 use Rattle.ns_send.specs.laws.Onward.{charged_all}
 use Rattle.ns_send.specs.laws.Counting.{made_counts, frame_charged, nothing_charged, opened_counts}
 use Rattle.ns_moves.specs.State.{Leaving, Loud, Silent, Frame, Running, Looping, Phase, Start, First, Second, Hosted, Ended}
@@ -97,10 +97,10 @@ unwound_none : (code : CodeProgram) (phase : Phase) (home : ℕ) (answer : Value
     → TookNone old (unwound code phase home answer frames p)
 unwound_none code phase home answer [] old p e = record { steps = e; going = refl }
 unwound_none code phase home answer (frame ∷ frames) old p e = tested (is_home home frame)
-    (delivered_none code phase answer frames old (part_ended p) e) (unwound_none code phase home answer frames old (part_ended p) e)
+    (delivered_none code phase answer frames old (frame_left p) e) (unwound_none code phase home answer frames old (frame_left p) e)
   where
-    tested : (b : Bool) → TookNone old (delivered code phase answer frames (part_ended p)) → TookNone old (unwound code phase home answer frames (part_ended p))
-        → TookNone old (cond b (delivered code phase answer frames (part_ended p)) (unwound code phase home answer frames (part_ended p)))
+    tested : (b : Bool) → TookNone old (delivered code phase answer frames (frame_left p)) → TookNone old (unwound code phase home answer frames (frame_left p))
+        → TookNone old (cond b (delivered code phase answer frames (frame_left p)) (unwound code phase home answer frames (frame_left p)))
     tested true here below = here
     tested false here below = below
 

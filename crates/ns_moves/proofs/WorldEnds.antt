@@ -6,48 +6,26 @@ use Rattle.ns_world.specs.declared.ending.Ending.{Ending}
 use Rattle.ns_world.specs.declared.ending.Ending.TheVariants.{Done, Error, Limit}
 use Rattle.ns_world.specs.declared.ending.Kind.TheVariants.{DeadReturn}
 use Rattle.ns_world.specs.declared.ending.LimitKind.TheVariants.{Steps, Cells, Depth, Out}
-use Rattle.ns_world.specs.declared.kernel.ClassName.{ClassName}
-use Rattle.ns_world.specs.declared.kernel.ClassName.TheVariants as name
 use Rattle.ns_world.specs.Lawful.{IsLiveValue}
 use Rattle.ns_facets.specs.declared.row.Grants.{Grants}
 use Rattle.ns_kcode.specs.declared.state.KMethod.{KMethod}
 use Rattle.ns_send.specs.declared.site.Site.{Site}
 use Rattle.ns_send.specs.Site.{error}
-use Rattle.ns_send.specs.Control.{Progress, Activation, After, Gives, Halts, Control, Now, Enter, Evaluate, Begin, Perform}
+use Rattle.ns_send.specs.Control.{Progress, Activation, After, Gives, Halts, Control, Now, Enter, Evaluate, Begin, Perform, frame_left}
 use Rattle.ns_send.specs.Control.{Part, Skip, Stop, EnterPart, Waiting, Waits, Finishes}
-use Rattle.ns_send.specs.Classes.{part_ended}
 use Rattle.ns_send.specs.Lawful.{LawfulAfter, LawfulControl, LawfulWaiting}
 use Rattle.ns_send.specs.Onward.{reached, after_reached, part_reached, waiting_reached}
 use Rattle.ns_send.specs.Spending.{ControlSpends, WaitingSpends, CellSpends, EndSpends}
 use Rattle.ns_send.specs.Actions.{EndsPart}
 use Rattle.ns_send.specs.Ending.{FitsEnding, EndsAfter, EndsControl, EndsIn, EndsWaiting}
-use Rattle.ns_send.specs.Fitting.{FitsSite as FitsSendSite, names_class as names_send_class}
+use Rattle.ns_send.specs.Fitting.{FitsSite}
 use Rattle.ns_moves.specs.State.{Frame, Running, Looping, Phase, Start, First, Second, Hosted, State, Unbegun, Going, Pends, Ended, Stuck}
 use Rattle.ns_moves.specs.Returns.{concluded, delivered, settled, is_home, has_home, unwound, returned_home}
 use Rattle.ns_moves.specs.Arrivals.{arrived, part_arrived, acted_on}
-use Rattle.ns_moves.specs.ValidFrames.{FitsSite, names_class}
 use Rattle.ns_moves.specs.Valid.{EndsIn as EndsValid, Valid}
 use Rattle.ns_moves.specs.Counted.{FramesAreCounted}
 use Rattle.ns_moves.specs.WorldStays.{WorldFits}
 use Rattle.ns_moves.proofs.WorldKeeps.{InWorld, action_in}
-
--- ---- sites
-
-class_named : (code : CodeProgram) (class : ClassName) → names_send_class code class ≡ true → names_class code class ≡ true
-class_named code (name.Declared decl) e = e
-class_named code (name.ClassOf decl) e = e
-class_named code (name.Kernel row) e = e
-
-class_sent : (code : CodeProgram) (class : ClassName) → names_class code class ≡ true → names_send_class code class ≡ true
-class_sent code (name.Declared decl) e = e
-class_sent code (name.ClassOf decl) e = e
-class_sent code (name.Kernel row) e = e
-
-pub site_named : (code : CodeProgram) (site : Site) → FitsSendSite code site → FitsSite code site
-site_named code site f = record { place = f.place; class = class_named code site.class f.class; sel = f.sel }
-
-pub site_sent : (code : CodeProgram) (site : Site) → FitsSite code site → FitsSendSite code site
-site_sent code site f = record { place = f.place; class = class_sent code site.class f.class; sel = f.sel }
 
 -- ---- states, before their frames are counted
 
@@ -71,9 +49,9 @@ module _ (code : CodeProgram) (grants : Grants) where
   pub ended_in : (ending : Ending) (phase : Phase) (p : Progress) → InWorld code grants phase p → FitsEnding code ending → EndsValid code grants ending phase p
   ended_in ending Start p w f = let e = w.some in absurd (cc)
   ended_in (Done v) phase p w f = absurd f
-  ended_in (Error e) (First arguments) p w f = (w.world, site_named code (record { place = e.place; class = e.class; sel = e.sel }) f)
-  ended_in (Error e) Second p w f = (w.world, site_named code (record { place = e.place; class = e.class; sel = e.sel }) f)
-  ended_in (Error e) Hosted p w f = (w.world, site_named code (record { place = e.place; class = e.class; sel = e.sel }) f)
+  ended_in (Error e) (First arguments) p w f = (w.world, f)
+  ended_in (Error e) Second p w f = (w.world, f)
+  ended_in (Error e) Hosted p w f = (w.world, f)
   ended_in (Limit Steps) (First arguments) p w f = (w.world, tt)
   ended_in (Limit Steps) Second p w f = (w.world, tt)
   ended_in (Limit Steps) Hosted p w f = (w.world, tt)
@@ -158,13 +136,13 @@ module _ (code : CodeProgram) (grants : Grants) where
   unwound_in phase home v [] p w live d = tt
   unwound_in phase home v (frame ∷ frames) p w live d =
       let one : length (frame ∷ frames) ≡ length frames + 1 = omega arith in
-      let q : Progress = part_ended p in
+      let q : Progress = frame_left p in
       let less : q.world.depth ≡ length frames = omega (arith, d, one) in
       let down : InWorld code grants phase q = action_in code grants phase EndsPart p w tt in
       tested (is_home home frame) (delivered_in phase v frames q down live less) (unwound_in phase home v frames q down live less)
     where
-      tested : (b : Bool) → InWorldOf (delivered code phase v frames (part_ended p)) → InWorldOf (unwound code phase home v frames (part_ended p))
-          → InWorldOf (cond b (delivered code phase v frames (part_ended p)) (unwound code phase home v frames (part_ended p)))
+      tested : (b : Bool) → InWorldOf (delivered code phase v frames (frame_left p)) → InWorldOf (unwound code phase home v frames (frame_left p))
+          → InWorldOf (cond b (delivered code phase v frames (frame_left p)) (unwound code phase home v frames (frame_left p)))
       tested true here below = here
       tested false here below = below
 
@@ -174,4 +152,4 @@ module _ (code : CodeProgram) (grants : Grants) where
     where
       tested : (b : Bool) → InWorldOf (cond b (unwound code phase a.home v frames p) (Ended (error DeadReturn a.site) phase p))
       tested true = unwound_in phase a.home v frames p w live d
-      tested false = ended_in (error DeadReturn a.site) phase p w (site_sent code a.site site)
+      tested false = ended_in (error DeadReturn a.site) phase p w site

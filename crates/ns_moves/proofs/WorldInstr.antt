@@ -19,6 +19,7 @@ use Rattle.ns_send.specs.Site.{error}
 use Rattle.ns_send.specs.Control.{Progress, Activation, charged}
 use Rattle.ns_send.specs.Classes.{super_part, body_ended}
 use Rattle.ns_send.specs.Blocks.{new_block, new_text, new_array}
+use Rattle.ns_world.specs.Booleans.{is_boolean}
 use Rattle.ns_send.specs.Sends.{Target, To, ToPrivate, ToSuper, to_value, sent}
 use Rattle.ns_send.specs.Lawful.{FitsTarget, FitsSelector}
 use Rattle.ns_send.specs.Actions.{Sends, BeginsPart, EndsPart, EndsBody, MakesBlock, MakesText, MakesArray, FillsSlot, StoresLocal}
@@ -33,12 +34,12 @@ use Rattle.ns_moves.specs.Steps.{Step, steps_from, literal}
 use Rattle.ns_moves.specs.Operands.{on_top, taken_off, picked}
 use Rattle.ns_moves.specs.Returns.{returned}
 use Rattle.ns_moves.specs.Arrivals.{arrived, part_arrived}
-use Rattle.ns_moves.specs.Jumps.{goes_back, jumped, takes_jump, is_boolean, jumped_on}
+use Rattle.ns_moves.specs.Jumps.{goes_back, jumped, takes_jump, jumped_on}
 use Rattle.ns_moves.specs.Instructions.{executed}
-use Rattle.ns_moves.specs.ValidFrames.{FitsSite}
+use Rattle.ns_send.specs.Fitting.{FitsSite}
 use Rattle.ns_moves.specs.WorldAsks.{TakesArguments, CanLeave, InstrAsks}
 use Rattle.ns_moves.proofs.WorldKeeps.{InWorld, action_in, stepped_in}
-use Rattle.ns_moves.proofs.WorldEnds.{InWorldOf, ended_in, settled_in, cell_settles, end_settles, arrived_in, part_in, returned_home_in, site_sent}
+use Rattle.ns_moves.proofs.WorldEnds.{InWorldOf, ended_in, settled_in, cell_settles, end_settles, arrived_in, part_in, returned_home_in}
 
 -- ---- operands
 
@@ -97,13 +98,13 @@ module _ (code : CodeProgram) (grants : Grants) (phase : Phase) (leaving : Leavi
       → Fits (part_arrived code phase (super_part code a vs p) (Running leaving a ls rest below ∷ frames))
   begins_part vs below self all =
       part_in code grants phase (super_part code a vs p) (Running leaving a ls rest below ∷ frames)
-      (action_in code grants phase (BeginsPart a vs) p w (self, all)) (action_ends code (BeginsPart a vs) p w.world.lawful (site_sent code a.site site))
+      (action_in code grants phase (BeginsPart a vs) p w (self, all)) (action_ends code (BeginsPart a vs) p w.world.lawful site)
 
   returns : (how : Leaving) (v : Value) → CanLeave p.world.cells code how → Live v → Fits (returned code phase how a v frames p)
   returns (Loud exit) v can live =
       settled_in code grants phase (body_ended code exit a v p) frames (action_in code grants phase (EndsBody exit a v) p w (can, live))
       (end_settles code grants p (body_ended code exit a v p) (frame []) frames depth (ended_lawful code exit a v p w.world.lawful can live)
-      (action_ends code (EndsBody exit a v) p w.world.lawful (site_sent code a.site site)) (action_spends code (EndsBody exit a v) p))
+      (action_ends code (EndsBody exit a v) p w.world.lawful site) (action_spends code (EndsBody exit a v) p))
   returns Silent v can live = action_in code grants phase EndsPart p w tt
 
   jumps : (landing : List Step) (stack : List Value) → Fits (jumped phase leaving a ls rest landing stack frames p)
@@ -126,7 +127,7 @@ module _ (code : CodeProgram) (grants : Grants) (phase : Phase) (leaving : Leavi
           (Ended (error MustBeBoolean a.site) phase p))
       tested true true = jumps landing stack
       tested true false = w
-      tested false c = ended_in code grants (error MustBeBoolean a.site) phase p w (site_sent code a.site site)
+      tested false c = ended_in code grants (error MustBeBoolean a.site) phase p w site
 
   pub executed_in : (instr : Instr) (place : Option SourcePlace) (stack : List Value) → InstrAsks code instr leaving a p → All Live stack
       → ForSome place (λ (place : SourcePlace). place.file < length code.files) → Fits (executed code phase instr place leaving a ls rest stack frames p)

@@ -22,14 +22,14 @@ use Rattle.ns_send.specs.laws.LawfulParts.{next_lawful}
 use Rattle.ns_moves.specs.State.{Frame, Running, Looping, Sending, Performing, Evaluating, Phase, State, Unbegun, Going, Pends, Ended, Stuck}
 use Rattle.ns_moves.specs.Arrivals.{arrived}
 use Rattle.ns_moves.specs.Move.{sent_on, move}
-use Rattle.ns_moves.specs.ValidFrames.{FitsSite}
+use Rattle.ns_send.specs.Fitting.{FitsSite}
 use Rattle.ns_moves.specs.Valid.{GoesOn, Valid}
 use Rattle.ns_moves.specs.Counted.{FramesAreCounted}
 use Rattle.ns_moves.specs.WorldStays.{WorldFits}
 use Rattle.ns_moves.specs.WorldAsks.{FindsAsked}
 use Rattle.ns_moves.proofs.Counting.{moves_counted}
 use Rattle.ns_moves.proofs.WorldKeeps.{InWorld, action_in, waited_in}
-use Rattle.ns_moves.proofs.WorldEnds.{InWorldOf, counted_fits, arrived_in, acted_in, site_sent}
+use Rattle.ns_moves.proofs.WorldEnds.{InWorldOf, counted_fits, arrived_in, acted_in}
 use Rattle.ns_moves.proofs.WorldInstr.{executed_in}
 
 module _ (code : CodeProgram) (grants : Grants) where
@@ -42,7 +42,7 @@ module _ (code : CodeProgram) (grants : Grants) where
   waited phase receiver sel vs site frames p g live fits named =
       arrived_in code grants phase (sent_on code receiver sel vs site p) frames p
       (waited_in code grants phase receiver sel vs site p (in_world_of phase frames p g) live fits) g.depth
-      (from_lawful code receiver sel vs site p g.world.lawful live fits) (waited_ends code receiver sel vs site p g.world.lawful (site_sent code site named))
+      (from_lawful code receiver sel vs site p g.world.lawful live fits) (waited_ends code receiver sel vs site p g.world.lawful named)
       (from_spends code receiver sel vs site p)
 
   move_in : (s : State) → Valid code grants s → FindsAsked code s → InWorldOf code grants (move code s)
@@ -59,7 +59,7 @@ module _ (code : CodeProgram) (grants : Grants) where
       acted_in code grants phase method site (action_steps (next method state)) (method_next method state site p) (Looping method state site) frames p
       (action_in code grants phase (Continues method state site) p w looping.live) g.depth
       (next_lawful code method state site p g.world.lawful looping.live)
-      (action_ends code (Continues method state site) p g.world.lawful (site_sent code site looping.named))
+      (action_ends code (Continues method state site) p g.world.lawful looping.named)
       (action_spends code (Continues method state site) p)
   move_in (Pends phase (Sending receiver sel arguments site) frames p) (g, (none, send, fits, named), below) asks =
       waited phase receiver sel arguments site frames p g send.live fits named
@@ -69,7 +69,7 @@ module _ (code : CodeProgram) (grants : Grants) where
       let w : InWorld code grants phase p = in_world_of phase frames p g in
       arrived_in code grants phase (evaluated code block arguments site p) frames p (action_in code grants phase (Evaluates block arguments site) p w live)
       g.depth (evaluated_lawful code block arguments site p g.world.lawful live)
-      (action_ends code (Evaluates block arguments site) p g.world.lawful (site_sent code site named))
+      (action_ends code (Evaluates block arguments site) p g.world.lawful named)
       (action_spends code (Evaluates block arguments site) p)
 
   -- a valid state has its frames counted

@@ -15,7 +15,8 @@ use Rattle.ns_send.specs.Control.{Progress}
 use Rattle.ns_send.specs.Start.{standing_cells, platform}
 use Rattle.ns_send.specs.Lawful.{FitsSelector}
 use Rattle.ns_moves.specs.State.{State, is_idle, world_of}
-use Rattle.ns_moves.specs.Returns.{own_sel, opening}
+use Rattle.ns_moves.specs.Returns.{opening}
+use Rattle.ns_send.specs.Sends.{own_sel}
 use Rattle.ns_moves.specs.Starts.{new_machine, started, begun}
 use Rattle.ns_moves.specs.Valid.{WorldIsValid, HasArguments, PendingIsValid, Valid}
 

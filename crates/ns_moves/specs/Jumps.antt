@@ -6,6 +6,7 @@ use Rattle.ns_world.specs.declared.ending.LimitKind.TheVariants.{Steps}
 use Rattle.ns_world.specs.declared.ending.Kind.TheVariants.{MustBeBoolean}
 use Rattle.ns_world.specs.World.{stepped}
 use Rattle.ns_send.specs.Control.{Progress, Activation, charged}
+use Rattle.ns_world.specs.Booleans.{is_boolean}
 use Rattle.ns_send.specs.Site.{error}
 use Rattle.ns_moves.specs.Steps.{Step}
 use Rattle.ns_moves.specs.State.{Leaving, Frame, Running, Phase, State, Going, Ended}
@@ -27,12 +28,6 @@ abbrev pub takes_jump : Bool → Value → Bool
 takes_jump true True = true
 takes_jump false False = true
 takes_jump wanted value = false
-
--- whether a value is a boolean
-abbrev pub is_boolean : Value → Bool
-is_boolean True = true
-is_boolean False = true
-is_boolean value = false
 
 -- a conditional jump on a value, which it takes
 abbrev pub jumped_on : Phase → Bool → Value → Leaving → Activation → List Value → List Step → List Step → List Value → List Frame → Progress → State

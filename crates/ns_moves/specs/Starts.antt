@@ -9,9 +9,9 @@ use Rattle.ns_facets.specs.declared.row.Grants.{Grants}
 use Rattle.ns_mirror.specs.Mirror.{cell_number}
 use Rattle.ns_send.specs.Control.{After, Gives, Halts}
 use Rattle.ns_send.specs.Start.{start_made, manifest, first_class}
-use Rattle.ns_send.specs.Sends.{site_at}
+use Rattle.ns_send.specs.Sends.{site_at, own_sel}
 use Rattle.ns_moves.specs.State.{Sending, Start, First, Hosted, State, Unbegun, Pends, Ended, is_idle, progress_of, world_of}
-use Rattle.ns_moves.specs.Returns.{own_sel, opening}
+use Rattle.ns_moves.specs.Returns.{opening}
 
 -- ---- the first state
 

@@ -20,7 +20,8 @@ use Rattle.ns_send.specs.Start.{standing_cells, size_of_cells}
 use Rattle.ns_send.specs.Lawful.{LawfulRun, FitsSelector}
 use Rattle.ns_verify.specs.Verify.{IsSound}
 use Rattle.ns_moves.specs.State.{Frame, Pending, Sending, Performing, Evaluating, Phase, Start, First, State, Unbegun, Going, Pends, Ended, Stuck}
-use Rattle.ns_moves.specs.ValidFrames.{FitsSite, Nothing, awaited_for, has_block_home, homes_fall, FramesAreValid}
+use Rattle.ns_moves.specs.ValidFrames.{Nothing, awaited_for, has_block_home, homes_fall, FramesAreValid}
+use Rattle.ns_send.specs.Fitting.{FitsSite}
 
 -- ---- the world
 

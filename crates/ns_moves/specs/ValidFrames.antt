@@ -1,53 +1,31 @@
 -- Which frames a run can have. A frame waits where another stands above it or something waits to be done; then it
 -- stands behind the instruction that waits.
-use Rattle.std.specs.Prelude.{◌≡◌, ℕ, pos, zero, suc, ◌+◌, ◌-◌, ◌<◌, nat_lt, int_le, IsTrue, Bool, true, false, ◌==◌, ◌&&◌, ◌||◌, if◌then◌else◌}
-use Rattle.std.specs.Prelude.{List, [], ◌∷◌, length, slice_get, Option, Some, All, IsSome}
-use Rattle.std.specs.Ordering.{int_eq}
-use Rattle.std.specs.Option.{option_map_or, ForSome}
+use Rattle.std.specs.Prelude.{◌≡◌, ℕ, zero, suc, ◌+◌, ◌-◌, ◌<◌, nat_lt, IsTrue, Bool, true, false, ◌==◌, ◌&&◌, ◌||◌, if◌then◌else◌}
+use Rattle.std.specs.Prelude.{List, [], ◌∷◌, length, slice_get, Some, All, IsSome}
+use Rattle.std.specs.Option.{ForSome}
 use Rattle.std.specs.List.{slice_index_or}
-use Rattle.ns_base.specs.declared.place.Place.{Place as SourcePlace}
 use Rattle.ns_code.specs.declared.program.CodeProgram.{CodeProgram}
 use Rattle.ns_code.specs.declared.body.BodyCode.{BodyCode}
 use Rattle.ns_code.specs.declared.instruction.Instr.{Instr}
 use Rattle.ns_code.specs.declared.instruction.Instr.TheVariants as instr
-use Rattle.ns_code.specs.Selector.{is_selector_number}
 use Rattle.ns_code.specs.Soundness.{method_kind, block_kind, initialiser_kind, clause_kind}
 use Rattle.ns_world.specs.declared.value.Value.{Value}
 use Rattle.ns_world.specs.declared.value.Value.TheVariants.{Ref}
-use Rattle.ns_world.specs.declared.kernel.ClassName.{ClassName}
-use Rattle.ns_world.specs.declared.kernel.ClassName.TheVariants as name
 use Rattle.ns_world.specs.Heap.{Heap}
-use Rattle.ns_world.specs.Lawful.{IsLiveValue, FitsEnvironment, parent_of}
+use Rattle.ns_world.specs.Lawful.{IsLiveValue, FitsEnvironment}
 use Rattle.ns_code.specs.Table.{takes}
 use Rattle.ns_verify.specs.Heights.{heights}
 use Rattle.ns_verify.specs.Chains.{home_kinds}
-use Rattle.ns_kdata.specs.Arguments.{items_of, is_array}
 use Rattle.ns_kcode.specs.declared.state.KMethod.{KMethod}
-use Rattle.ns_kcode.specs.declared.state.KMethod.TheVariants as method
 use Rattle.ns_kcode.specs.declared.state.KState.{KState}
 use Rattle.ns_send.specs.declared.site.Site.{Site}
 use Rattle.ns_send.specs.Control.{Progress, Activation, FromMethod, FromBody, FromClause}
-use Rattle.ns_send.specs.Bodies.{has_environment, locals_of, clause_of, no_home}
-use Rattle.ns_send.specs.Blocks.{is_block, is_integer, has_arguments}
+use Rattle.ns_send.specs.Bodies.{clause_of, no_home}
+use Rattle.ns_send.specs.Blocks.{has_arguments}
 use Rattle.ns_send.specs.Lawful.{LiveState, FitsActivation, FitsExit}
-use Rattle.ns_send.specs.Fitting.{FitsObject}
+use Rattle.ns_send.specs.Fitting.{belongs_to, counts_fit, kind_of, locals_beside, environment_body, FitsObject, FitsSite}
 use Rattle.ns_moves.specs.State.{Leaving, Loud, Silent, Frame, Running, Looping, Pending, Evaluating}
 use Rattle.ns_moves.specs.Steps.{Step, steps_of, steps_from}
-use Rattle.ns_moves.specs.Jumps.{is_boolean}
-
--- ---- sites
-
--- whether a class name names a declaration of the code, or a class of the kernel
-abbrev pub names_class : CodeProgram → ClassName → Bool
-names_class code (name.Declared decl) = nat_lt decl (length code.classes)
-names_class code (name.ClassOf decl) = nat_lt decl (length code.classes)
-names_class code (name.Kernel row) = true
-
--- A site names a file of the code, where it has a place, a class and a selector.
-pub record FitsSite (code : CodeProgram) (site : Site) : Type 0 where
-  pub place : ForSome site.place (λ (place : SourcePlace). place.file < length code.files)
-  pub class : IsTrue (names_class code site.class)
-  pub sel : IsTrue (is_selector_number code site.sel.0)
 
 -- ---- what a frame waits for
 
@@ -57,10 +35,6 @@ pub data Awaited : Type 0 where
   SendValue : Awaited
   BlockValue : Awaited
   PartEnd : Awaited
-
--- the kind of a body
-abbrev pub kind_of : CodeProgram → ℕ → ℕ
-kind_of code body = option_map_or (λ (b : BodyCode). b.kind) (slice_get code.bodies body) clause_kind
 
 -- what the frame below one waits for
 abbrev pub awaited_below : CodeProgram → Frame → Awaited
@@ -153,14 +127,6 @@ FitsLeaving heap code (Loud (FromClause object holder class)) activation =
     × (activation.self ≡ Ref object) × (activation.holder ≡ holder) × (clause_of code class ≡ Some activation.body)
 FitsLeaving heap code leaving activation = Unit {0}
 
--- the body whose locals the environment of an activation has: its own, or the one around it
-abbrev pub environment_body : CodeProgram → ℕ → Option ℕ
-environment_body code body = if has_environment code body then Some body else parent_of code body
-
--- how many locals stand beside an activation
-abbrev pub locals_beside : CodeProgram → ℕ → ℕ
-locals_beside code body = if has_environment code body then 0 else locals_of code body
-
 -- A body runs: its self, holder, environment and locals fit it, an initialiser's self is an object with its holder,
 -- and it stands where its instructions and its operands meet.
 pub record RunningIsValid (code : CodeProgram) (progress : Progress) (awaited : Awaited) (leaving : Leaving) (activation : Activation)
@@ -179,21 +145,6 @@ pub record RunningIsValid (code : CodeProgram) (progress : Progress) (awaited : 
   pub named : FitsSite code activation.site
 
 -- ---- methods of the kernel
-
--- whether a receiver is of the kind that a method belongs to
-abbrev pub belongs_to : Heap → Value → KMethod → Bool
-belongs_to heap receiver method.WhileTrue = is_block heap receiver
-belongs_to heap receiver method.WhileFalse = is_block heap receiver
-belongs_to heap receiver method.ToDo = is_integer receiver
-belongs_to heap receiver method.TimesRepeat = is_integer receiver
-belongs_to heap receiver method.Do = is_array heap receiver
-belongs_to heap receiver method = is_boolean receiver
-
--- whether the counts of `do:` are within its array
-abbrev pub counts_fit : Heap → KState → KMethod → Bool
-counts_fit heap state method.Do =
-    int_eq state.size (pos (length (items_of heap state.receiver))) && int_le (pos 0) state.count && int_le state.count state.size
-counts_fit heap state method = true
 
 -- whether it can wait for that
 abbrev pub waits_for : Awaited → Bool

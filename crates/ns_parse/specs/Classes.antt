@@ -5,6 +5,7 @@ use Rattle.ns_tree.specs.declared.tree.Named.{Named}
 use Rattle.ns_tree.specs.declared.tree.Access.{Access}
 use Rattle.ns_tree.specs.declared.tree.Base.{Base}
 use Rattle.ns_tree.specs.Plain as p
+use Rattle.ns_tree.specs.Made.{made_clause, made_unit, made_method}
 use Rattle.ns_parse.specs.declared.classes.SideOf.{SideOf}
 use Rattle.ns_parse.specs.declared.classes.SideOf.TheVariants as sides
 use Rattle.ns_phrase.specs.declared.expressions.Holder.{Holder}
@@ -20,12 +21,6 @@ use Rattle.ns_terminal.specs.Pattern.{pattern, factory, base, starts_base}
 use Rattle.ns_phrase.specs.Expressions.{keys, bars, statements, primary}
 
 -- ---- trees from their parts
-
-abbrev pub clause_from : Base × (Option Base × Option p.Message) → p.SuperClause
-clause_from x = p.clause_with x.0 x.1.0 x.1.1
-
-abbrev pub method_from : p.Pattern × (p.Bars × p.Statements) → p.Method
-method_from x = p.method_with x.0 x.1.0 x.1.1
 
 -- a member, but for its categories
 abbrev pub MemberForm : Type 0
@@ -49,9 +44,6 @@ ClassHead = Named × (Option p.Pattern × Option p.SuperClause)
 
 abbrev pub class_from : (ClassHead × (p.Bars × p.Statements)) × (p.Side × p.ClassSide) → p.Class
 class_from x = p.class_with x.0.0.0 x.0.0.1.0 x.0.0.1.1 x.0.1.0 x.0.1.1 x.1.0 x.1.1
-
-abbrev pub unit_from : Bool × (Option (List ℕ) × p.Class) → p.SourceUnit
-unit_from x = p.unit_with x.0 x.1.0 x.1.1
 
 -- ---- what begins a member
 
@@ -84,14 +76,14 @@ module _ (primary : Reader p.Primary) where
       (read_or (is_name s.Key) (read_mapped (λ ks. Some (p.keywords ks)) (keys primary o.All)) (read_none None))
 
   unfoldable pub clause : Reader p.SuperClause
-  clause = read_mapped clause_from (read_both base (read_both over super_message))
+  clause = read_mapped made_clause (read_both base (read_both over super_message))
 
   -- slots and statements between parentheses
   unfoldable pub body : Holder → Reader (p.Bars × p.Statements)
   body holder = read_after (skip m.Open) (read_until (read_both (bars primary holder) (statements primary)) (skip m.Close))
 
   unfoldable pub method : Reader p.Method
-  method = read_mapped method_from (read_both pattern (read_after (skip m.Equals) (body h.Code)))
+  method = read_mapped made_method (read_both pattern (read_after (skip m.Equals) (body h.Code)))
 
   abbrev pub method_member : Reader p.What
   method_member = read_mapped p.method_member method
@@ -145,4 +137,4 @@ module _ (primary : Reader p.Primary) where
 
 -- a file in which so many brackets, and so many classes, nest
 unfoldable pub file : ℕ → Reader p.SourceUnit
-file depth = read_mapped unit_from (read_both (flag m.Newspeak3) (read_both category (class (primary depth) (what (primary depth) depth))))
+file depth = read_mapped made_unit (read_both (flag m.Newspeak3) (read_both category (class (primary depth) (what (primary depth) depth))))

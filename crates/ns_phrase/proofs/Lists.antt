@@ -3,12 +3,13 @@ use Rattle.std.proofs.Common.{◌≡◌, ℕ, zero, suc, ◌+◌, ◌-◌, ◌�
 use Rattle.std.proofs.lemmas.List.{append-nil}
 use Rattle.ns_tree.specs.declared.token.Kind.{Kind}
 use Rattle.ns_tree.specs.Rule.{Listed, none, last, next}
+use Rattle.ns_tree.specs.Made.{listed_items}
 use Rattle.ns_terminal.specs.declared.fault.ParseFault.{ParseFault}
 use Rattle.ns_terminal.specs.declared.fault.ParseFault.TheVariants.{TooDeep, Syntax, Memory}
 use Rattle.ns_terminal.specs.declared.mark.Mark.{Mark}
 use Rattle.ns_terminal.specs.Left.{Left}
 use Rattle.ns_terminal.specs.Mark.{is_mark, skip, flag}
-use Rattle.ns_terminal.specs.Read.{Outcome, Reader, got, fault, and_then, begins, read_mapped, read_listed, read_list_turns, behind, put_next, items, ends_there, ends_separated}
+use Rattle.ns_terminal.specs.Read.{Outcome, Reader, got, fault, and_then, begins, read_mapped, read_listed, read_list_turns, behind, put_next, ends_there, ends_separated}
 use Rattle.ns_terminal.specs.Reads.{Fails, Gives, next_is}
 use Rattle.ns_terminal.specs.laws.Takes.{Takes, fewer}
 use Rattle.ns_terminal.specs.laws.TakesTokens.{takes_skip}
@@ -28,7 +29,7 @@ abbrev pub is_some : {A : Type 0} → List A → Bool
 is_some [] = false
 is_some (x ∷ xs) = true
 
-nexts_items : {A : Type 0} (xs : List A) (l : Listed A) → items (nexts xs l) ≡ xs ++ items l
+nexts_items : {A : Type 0} (xs : List A) (l : Listed A) → listed_items (nexts xs l) ≡ xs ++ listed_items l
 nexts_items [] l = refl
 nexts_items (x ∷ xs) l = ap (λ ys. x ∷ ys) (nexts_items xs l)
 
@@ -156,9 +157,9 @@ module _ {A : Type 0} (first : Kind → Bool) (sep : Mark) (p : Reader A) where
 
   module _ {B : Type 0} (to : List A → Bool → B) where
     abbrev pub made : Listed A → B
-    made l = to (items l) (ends_separated l)
+    made l = to (listed_items l) (ends_separated l)
 
-    made_of : (o : Outcome (Listed A)) (l : Listed A) (xs : List A) (stop : Bool) (b : B) (n : ℕ) (ts : List Kind) → o ≡ got l n ts → items l ≡ xs → ends_separated l ≡ stop → b ≡ to xs stop
+    made_of : (o : Outcome (Listed A)) (l : Listed A) (xs : List A) (stop : Bool) (b : B) (n : ℕ) (ts : List Kind) → o ≡ got l n ts → listed_items l ≡ xs → ends_separated l ≡ stop → b ≡ to xs stop
         → and_then o (λ a m us. got (made a) m us) ≡ got b n ts
     made_of o l xs stop b n ts e i s same =
         ap (λ o. and_then o (λ a m us. got (made a) m us)) e ∙ ap (λ v. got v n ts) (ap (λ ys. to ys (ends_separated l)) i ∙ ap (to xs) s ∙ sym same)

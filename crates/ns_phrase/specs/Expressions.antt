@@ -6,13 +6,14 @@ use Rattle.ns_tree.specs.declared.tree.Access.{Access}
 use Rattle.ns_tree.specs.Lists.{list_keys, list_opers, list_messages, list_exprs, list_slots, list_statements}
 use Rattle.ns_tree.specs.Plain as p
 use Rattle.ns_tree.specs.Rule.{Listed}
+use Rattle.ns_tree.specs.Made.{made_un, made_slot, made_statement, listed_items}
 use Rattle.ns_phrase.specs.declared.expressions.Holder.{Holder}
 use Rattle.ns_phrase.specs.declared.expressions.Holder.TheVariants as h
 use Rattle.ns_terminal.specs.declared.mark.Mark.TheVariants as m
 use Rattle.ns_terminal.specs.declared.name.Sort.TheVariants as s
 use Rattle.ns_terminal.specs.declared.name.Operators.{Operators}
 use Rattle.ns_terminal.specs.declared.name.Operators.TheVariants as o
-use Rattle.ns_terminal.specs.Read.{Reader, read_none, read_never, read_mapped, read_both, read_after, read_until, read_placed, read_or, read_many, read_listed, items, ends_separated}
+use Rattle.ns_terminal.specs.Read.{Reader, read_none, read_never, read_mapped, read_both, read_after, read_until, read_placed, read_or, read_many, read_listed, ends_separated}
 use Rattle.ns_terminal.specs.Mark.{is_mark, skip, place, flag, maybe_place}
 use Rattle.ns_terminal.specs.Name.{is_name, name, names}
 use Rattle.ns_terminal.specs.Pattern.{params}
@@ -36,9 +37,6 @@ starts_slot h.Code kind = is_name s.Ident kind
 
 -- ---- trees from their parts
 
-abbrev pub un_from : (ℕ × p.Primary) × List Named → p.UnExpr
-un_from x = p.un_with x.0.0 x.0.1 x.1
-
 abbrev pub bin_from : p.UnExpr × p.Opers → p.BinExpr
 bin_from x = p.bin_with x.0 x.1
 
@@ -51,17 +49,11 @@ binary_from x = p.binary x.0 x.1
 abbrev pub expr_from : List Named × (p.KeyExpr × p.Cascade) → p.Expr
 expr_from x = p.expr_with x.0 x.1.0 x.1.1
 
-abbrev pub slot_from : Option Access × (Named × p.SlotInit) → p.Slot
-slot_from x = p.slot_with x.0 x.1.0 x.1.1
-
-abbrev pub statement_from : Option ℕ × p.Expr → p.Statement
-statement_from x = p.statement_with x.0 x.1
-
 abbrev pub statements_from : Listed p.Statement → p.Statements
-statements_from l = p.statements_with (list_statements (items l)) (ends_separated l)
+statements_from l = p.statements_with (list_statements (listed_items l)) (ends_separated l)
 
 abbrev pub tuple_from : Listed p.Expr → p.Primary
-tuple_from l = p.tuple (list_exprs (items l)) (ends_separated l)
+tuple_from l = p.tuple (list_exprs (listed_items l)) (ends_separated l)
 
 abbrev pub block_from : List Named × (p.Bars × p.Statements) → p.Block
 block_from x = p.block_with x.0 x.1.0 x.1.1
@@ -76,7 +68,7 @@ slot_access h.Code = read_none None
 module _ (primary : Reader p.Primary) where
   -- a primary, and names that are sent to it
   unfoldable pub un : Reader p.UnExpr
-  un = read_mapped un_from (read_both (read_placed primary) (names s.Ident))
+  un = read_mapped made_un (read_both (read_placed primary) (names s.Ident))
 
   -- over the operators that are messages there
   module _ (operators : Operators) where
@@ -131,7 +123,7 @@ module _ (primary : Reader p.Primary) where
       (read_mapped p.bare (flag m.Stop)))
 
   unfoldable pub slot : Holder → Reader p.Slot
-  slot holder = read_mapped slot_from (read_both (slot_access holder) (read_both (name s.Ident) init))
+  slot holder = read_mapped made_slot (read_both (slot_access holder) (read_both (name s.Ident) init))
 
   abbrev pub slots : Holder → Reader p.Slots
   slots holder = read_mapped list_slots (read_many (starts_slot holder) (slot holder))
@@ -141,7 +133,7 @@ module _ (primary : Reader p.Primary) where
   bars holder = read_or (is_mark m.Bar) (read_mapped p.bars_around (read_after (skip m.Bar) (read_until (slots holder) (skip m.Bar)))) (read_none p.no_bars)
 
   unfoldable pub statement : Reader p.Statement
-  statement = read_mapped statement_from (read_both (maybe_place m.Caret) (expr o.All))
+  statement = read_mapped made_statement (read_both (maybe_place m.Caret) (expr o.All))
 
   -- statements with a full stop between two, and perhaps one behind the last
   abbrev pub statements : Reader p.Statements

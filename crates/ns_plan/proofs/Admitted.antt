@@ -20,7 +20,8 @@ use Rattle.ns_code.specs.Soundness.{name_text, texts_of, nested_names, all_slot_
 use Rattle.ns_find.specs.declared.found.Found.TheVariants as found
 use Rattle.ns_find.specs.declared.members.Side.TheVariants.{Instance as InstanceSide}
 use Rattle.ns_find.specs.Find.{side_of}
-use Rattle.ns_find.specs.Members.{private_access, is_named, SetterOf, NamedAs}
+use Rattle.ns_find.specs.Members.{is_named, SetterOf, NamedAs}
+use Rattle.ns_code.specs.Access.{private_access}
 use Rattle.ns_members.specs.Members.{private_selectors}
 use Rattle.ns_send.specs.Lawful.{declaration_at as around_body, outer_of as around_outer}
 use Rattle.ns_verify.specs.Causes.{private_side}

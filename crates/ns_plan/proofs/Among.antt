@@ -11,7 +11,8 @@ use Rattle.ns_code.specs.declared.class.MethodCode.{MethodCode}
 use Rattle.ns_world.specs.Layout.{declaration_of, entries_of}
 use Rattle.ns_find.specs.declared.members.Side.{Side}
 use Rattle.ns_find.specs.declared.members.Side.TheVariants.{Instance as InstanceSide, Class as ClassSide}
-use Rattle.ns_find.specs.Members.{is_named, NamedAs, private_access}
+use Rattle.ns_find.specs.Members.{is_named, NamedAs}
+use Rattle.ns_code.specs.Access.{private_access}
 use Rattle.ns_send.specs.Bodies.{enclosing}
 use Rattle.ns_send.specs.Lawful.{declaration_at}
 use Rattle.ns_plan.specs.declared.step.Member.{Member}

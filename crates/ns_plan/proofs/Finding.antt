@@ -20,7 +20,8 @@ use Rattle.ns_find.specs.declared.members.Wanted.TheVariants.{Private}
 use Rattle.ns_find.specs.declared.members.Side.{Side}
 use Rattle.ns_find.specs.declared.members.Side.TheVariants.{Instance as InstanceSide, Class as ClassSide}
 use Rattle.ns_find.specs.Find.{found_private, side_of}
-use Rattle.ns_find.specs.Members.{Member as FoundMember, is_named, NamedAs, search, private_access, slots_members, nested_members, method_members, side_members}
+use Rattle.ns_find.specs.Members.{Member as FoundMember, is_named, NamedAs, search, slots_members, nested_members, method_members, side_members}
+use Rattle.ns_code.specs.Access.{private_access}
 use Rattle.ns_send.specs.Bodies.{enclosing, side_at}
 use Rattle.ns_send.specs.Control.{Activation}
 use Rattle.ns_send.specs.Lawful.{FitsActivation, declaration_at, outer_of}

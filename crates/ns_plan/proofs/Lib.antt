@@ -9,4 +9,5 @@ mod Sorting
 mod Named
 mod Sending
 mod Outward
+mod IntegerRows
 pub mod Admitted

@@ -9,8 +9,9 @@ use Rattle.ns_code.specs.declared.instruction.Instr.{Instr}
 use Rattle.ns_code.specs.Fits.{Fits, BodyFits}
 use Rattle.ns_plan.specs.declared.making.Draft.{Draft}
 use Rattle.ns_plan.specs.Steps.{no_place, prepared, all_steps, all_places, places_in}
-use Rattle.ns_plan.specs.Rows.{all_rows, row_of, greatest_frame}
+use Rattle.ns_plan.specs.Rows.{all_rows, row_of}
 use Rattle.ns_plan.specs.Making.{IsAdded}
+use Rattle.ns_send.specs.Bodies.{greatest_of}
 
 -- what was added, before the bodies that are left
 pub record IsSoFar (code : CodeProgram) (draft : Draft) (left : List BodyCode) : Type 0 where
@@ -19,7 +20,7 @@ pub record IsSoFar (code : CodeProgram) (draft : Draft) (left : List BodyCode) :
   pub places : draft.places.items ++ all_places left ≡ all_places code.bodies
   pub few : length draft.places.items ≤ no_place
   pub count : length draft.bodies.items + length left ≡ length code.bodies
-  pub greatest : max draft.greatest (greatest_frame left) ≡ greatest_frame code.bodies
+  pub greatest : max draft.greatest (greatest_of left) ≡ greatest_of code.bodies
 
 pub so_far_starts : (code : CodeProgram) (draft : Draft) → draft.steps.items ≡ [] → draft.bodies.items ≡ [] → draft.places.items ≡ [] → draft.greatest ≡ 0 → IsSoFar code draft code.bodies
 so_far_starts code draft steps bodies places greatest =
@@ -58,8 +59,8 @@ so_far_goes_on code old new body left was added =
       few = added.few;
       count = omega (arith, k, was.count);
       greatest =
-          ap (λ m. max m (greatest_frame left)) added.greatest
-          ∙ (greater old.greatest (body.locals + body.height) (greatest_frame left) ∙ was.greatest);
+          ap (λ m. max m (greatest_of left)) added.greatest
+          ∙ (greater old.greatest (body.locals + body.height) (greatest_of left) ∙ was.greatest);
     }
   where
     greater : (a b c : ℕ) → max (max a b) c ≡ max a (max b c)
@@ -71,7 +72,7 @@ pub record IsMade (code : CodeProgram) (draft : Draft) : Type 0 where
   pub bodies : draft.bodies.items ≡ all_rows 0 0 code.bodies
   pub places : draft.places.items ≡ all_places code.bodies
   pub few : length (all_places code.bodies) ≤ no_place
-  pub greatest : draft.greatest ≡ greatest_frame code.bodies
+  pub greatest : draft.greatest ≡ greatest_of code.bodies
 
 pub so_far_ends : (code : CodeProgram) (draft : Draft) → IsSoFar code draft [] → IsMade code draft
 so_far_ends code draft was =

@@ -11,6 +11,7 @@ use Rattle.std.proofs.lemmas.List.Quantifiers.{position-Some}
 use Rattle.std.proofs.lemmas.Map.Keys.{apart_from_distinct}
 use Rattle.std.proofs.lemmas.Slice.Eq.{bytes_eq-Decides}
 use Rattle.ns_base.specs.Names.{NoRepeats}
+use Rattle.ns_base.specs.Spelling.{is_selector}
 use Rattle.ns_code.specs.declared.program.CodeProgram.{CodeProgram}
 use Rattle.ns_code.specs.declared.class.ClassCode.{ClassCode}
 use Rattle.ns_code.specs.declared.class.SlotCode.{SlotCode}
@@ -18,10 +19,10 @@ use Rattle.ns_code.specs.declared.class.NestedCode.{NestedCode}
 use Rattle.ns_code.specs.declared.class.MethodCode.{MethodCode}
 use Rattle.ns_code.specs.Fits.{Fits}
 use Rattle.ns_code.specs.Selector.{selector_text, own_text_at}
-use Rattle.ns_code.specs.Spelling.{is_selector}
 use Rattle.ns_find.specs.declared.members.Side.{Side}
 use Rattle.ns_find.specs.declared.members.Side.TheVariants.{Instance as InstanceSide, Class as ClassSide}
-use Rattle.ns_find.specs.Members.{private_access, is_named, SetterOf, NamedAs}
+use Rattle.ns_find.specs.Members.{is_named, SetterOf, NamedAs}
+use Rattle.ns_code.specs.Access.{private_access}
 use Rattle.ns_members.specs.Numbers.{with_colon, setter_number}
 use Rattle.ns_plan.specs.declared.index.Entry.{Entry}
 use Rattle.ns_plan.specs.declared.members.Members.{Members}

@@ -6,7 +6,8 @@ use Rattle.std.proofs.lemmas.Option.{none-some, same_Some}
 use Rattle.ns_code.specs.declared.program.CodeProgram.{CodeProgram}
 use Rattle.ns_code.specs.declared.body.BodyCode.{BodyCode}
 use Rattle.ns_plan.specs.declared.row.Row.{Row}
-use Rattle.ns_plan.specs.Rows.{entry_in, row_of, all_rows, greatest_frame, IsRowOf}
+use Rattle.ns_plan.specs.Rows.{entry_in, row_of, all_rows, IsRowOf}
+use Rattle.ns_send.specs.Bodies.{greatest_of}
 
 -- the body of a number that is there
 pub record HasBody (bodies : List BodyCode) (number : ℕ) : Type 0 where
@@ -57,7 +58,7 @@ row_told code rows number d are lt =
     subst (λ r. IsRowOf code number r) (sym row) (told code number there.body there.is)
 
 -- no body has a greater frame than the greatest
-pub within_greatest : (bodies : List BodyCode) (number : ℕ) → option_map_or (λ (b : BodyCode). b.locals) (slice_get bodies number) 0 + option_map_or (λ (b : BodyCode). b.height) (slice_get bodies number) 0 ≤ greatest_frame bodies
+pub within_greatest : (bodies : List BodyCode) (number : ℕ) → option_map_or (λ (b : BodyCode). b.locals) (slice_get bodies number) 0 + option_map_or (λ (b : BodyCode). b.height) (slice_get bodies number) 0 ≤ greatest_of bodies
 within_greatest [] number = omega arith
 within_greatest (body ∷ bodies) zero = omega arith
-within_greatest (body ∷ bodies) (suc number) = let rest : option_map_or (λ (b : BodyCode). b.locals) (slice_get bodies number) 0 + option_map_or (λ (b : BodyCode). b.height) (slice_get bodies number) 0 ≤ greatest_frame bodies = within_greatest bodies number in omega (arith, rest)
+within_greatest (body ∷ bodies) (suc number) = let rest : option_map_or (λ (b : BodyCode). b.locals) (slice_get bodies number) 0 + option_map_or (λ (b : BodyCode). b.height) (slice_get bodies number) 0 ≤ greatest_of bodies = within_greatest bodies number in omega (arith, rest)

@@ -1,3 +1,4 @@
+pub mod Integers
 pub mod Privates
 pub mod Members
 pub mod Outers

@@ -10,7 +10,7 @@ use Rattle.ns_code.specs.declared.class.NestedCode.{NestedCode}
 use Rattle.ns_code.specs.declared.class.MethodCode.{MethodCode}
 use Rattle.ns_find.specs.declared.members.Side.{Side}
 use Rattle.ns_find.specs.declared.members.Side.TheVariants.{Instance as InstanceSide, Class as ClassSide}
-use Rattle.ns_find.specs.Members.{private_access}
+use Rattle.ns_code.specs.Access.{private_access}
 use Rattle.ns_members.specs.Numbers.{setter_number}
 use Rattle.ns_plan.specs.declared.index.Entry.{Entry}
 use Rattle.ns_plan.specs.declared.members.Members.{Members}

@@ -9,7 +9,8 @@ use Rattle.ns_moves.specs.Steps.{steps_of, steps_from}
 use Rattle.ns_plan.specs.declared.plan.Plan.{Plan}
 use Rattle.ns_plan.specs.declared.step.Step.{Step}
 use Rattle.ns_plan.specs.Steps.{all_steps, places_of, no_place, place_of, step_shown, HasItsMember}
-use Rattle.ns_plan.specs.Rows.{all_rows, greatest_frame}
+use Rattle.ns_plan.specs.Rows.{all_rows}
+use Rattle.ns_send.specs.Bodies.{greatest_of}
 
 -- A plan has the steps, the bodies, the places and the selectors of a code that is sound, and the size of its greatest frame.
 pub record IsPlanOf (code : CodeProgram) (plan : Plan) : Type 0 where
@@ -18,7 +19,7 @@ pub record IsPlanOf (code : CodeProgram) (plan : Plan) : Type 0 where
   pub places : plan.places ≡ places_of code
   pub few : length (places_of code) ≤ no_place
   pub selectors : IsTableOf code plan.selectors
-  pub greatest : plan.greatest ≡ greatest_frame code.bodies
+  pub greatest : plan.greatest ≡ greatest_of code.bodies
   pub fits : Fits code
 
 -- A body has a step of that number.
@@ -27,7 +28,7 @@ pub record IsStep (code : CodeProgram) (body next : ℕ) : Type 0 where
   pub next_there : next < length (steps_of code body)
 
 -- A step is the one of that number of a body: what is left from there on begins with it, by its instruction and its place, which
--- stays its place where more places come behind those of the code; and a private send has its member.
+-- stays its place where more places come behind those of the code; and a send has its member.
 pub record IsStepAt (code : CodeProgram) (body next : ℕ) (step : Step) : Type 0 where
   pub shown : steps_from code body next ≡ step_shown (places_of code) step ∷ steps_from code body (next + 1)
   pub longer : (more : List SourcePlace) → length (places_of code ++ more) ≤ no_place →

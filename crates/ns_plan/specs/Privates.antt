@@ -16,7 +16,8 @@ use Rattle.ns_find.specs.declared.found.Found.TheVariants as found
 use Rattle.ns_find.specs.declared.members.Side.{Side}
 use Rattle.ns_find.specs.declared.members.Side.TheVariants.{Instance as InstanceSide, Class as ClassSide}
 use Rattle.ns_find.specs.Find.{side_of}
-use Rattle.ns_find.specs.Members.{private_access, is_named, SetterOf, NamedAs}
+use Rattle.ns_find.specs.Members.{is_named, SetterOf, NamedAs}
+use Rattle.ns_code.specs.Access.{private_access}
 use Rattle.ns_send.specs.Lawful.{outer_of}
 use Rattle.ns_plan.specs.declared.step.Member.{Member}
 use Rattle.ns_plan.specs.declared.step.Member.TheVariants.{Method, Getter, Setter, Nested, Absent}

@@ -1,15 +1,13 @@
 -- What is asked of each body.
-use Rattle.std.specs.Prelude.{◌≡◌, ℕ, zero, suc, ◌+◌, List, [], ◌∷◌, length, max, Some, ◌==◌, slice_get, if◌then◌else◌}
-use Rattle.std.specs.Option.{option_map_or}
+use Rattle.std.specs.Prelude.{◌≡◌, ℕ, zero, suc, ◌+◌, List, [], ◌∷◌, length, Some, ◌==◌, if◌then◌else◌}
 use Rattle.ns_code.specs.declared.program.CodeProgram.{CodeProgram}
 use Rattle.ns_code.specs.declared.body.BodyCode.{BodyCode}
 use Rattle.ns_code.specs.Soundness.{class_side}
 use Rattle.ns_world.specs.Lawful.{parent_of}
 use Rattle.ns_find.specs.Find.{side_of}
-use Rattle.ns_send.specs.Bodies.{parameters_of, locals_of, has_environment, side_of_body}
-use Rattle.ns_send.specs.Fitting.{environment_body, locals_beside}
+use Rattle.ns_send.specs.Bodies.{parameters_of, locals_of, has_environment, side_of_body, height_in}
+use Rattle.ns_send.specs.Fitting.{environment_body, locals_beside, kind_of}
 use Rattle.ns_send.specs.Lawful.{declaration_of_body}
-use Rattle.ns_moves.specs.ValidFrames.{kind_of}
 use Rattle.ns_plan.specs.declared.row.Row.{Row}
 
 -- where the steps of a body begin among those of all bodies
@@ -20,10 +18,6 @@ entry_in (first ∷ bodies) (suc body) = length first.instrs + entry_in bodies b
 
 abbrev pub entry_of : CodeProgram → ℕ → ℕ
 entry_of code body = entry_in code.bodies body
-
--- how many operands a body has at most
-abbrev pub height_of : CodeProgram → ℕ → ℕ
-height_of code body = option_map_or (λ (b : BodyCode). b.height) (slice_get code.bodies body) 0
 
 -- the row of a body by its number, whose steps begin there
 abbrev pub row_of : ℕ → ℕ → BodyCode → Row
@@ -47,11 +41,6 @@ abbrev pub all_rows : ℕ → ℕ → List BodyCode → List Row
 all_rows number entry [] = []
 all_rows number entry (body ∷ bodies) = row_of number entry body ∷ all_rows (number + 1) (entry + length body.instrs) bodies
 
--- how many locals and operands a body has at most
-abbrev pub greatest_frame : List BodyCode → ℕ
-greatest_frame [] = 0
-greatest_frame (body ∷ bodies) = max (body.locals + body.height) (greatest_frame bodies)
-
 -- A row is that of a body.
 pub record IsRowOf (code : CodeProgram) (body : ℕ) (row : Row) : Type 0 where
   pub entry : row.entry ≡ entry_of code body
@@ -60,7 +49,7 @@ pub record IsRowOf (code : CodeProgram) (body : ℕ) (row : Row) : Type 0 where
   pub locals : row.locals ≡ locals_of code body
   pub environment : row.environment ≡ has_environment code body
   pub beside : row.beside ≡ locals_beside code body
-  pub height : row.height ≡ height_of code body
+  pub height : row.height ≡ height_in code body
   pub side : side_of row.class_side ≡ side_of_body code body
   pub kind : row.kind ≡ kind_of code body
   pub parent : row.parent ≡ parent_of code body

@@ -9,11 +9,14 @@ use Rattle.ns_code.specs.Table.{goes_on, target}
 use Rattle.ns_verify.specs.Verify.{IsSound}
 use Rattle.ns_verify.specs.Uses.{IsUsable}
 use Rattle.ns_world.specs.declared.value.Value.{Value}
+use Rattle.ns_world.specs.Heap.{Heap}
 use Rattle.ns_world.specs.Lawful.{IsLawful}
 use Rattle.ns_world.specs.World.{World}
 use Rattle.ns_find.specs.declared.found.Found.TheVariants as found
+use Rattle.ns_find.specs.declared.found.Sending.{Sending}
 use Rattle.ns_world.specs.Layout.{declaration_of, entries_of}
-use Rattle.ns_send.specs.Bodies.{enclosing, locals_of}
+use Rattle.ns_kint.specs.declared.row.IntRow.{IntRow}
+use Rattle.ns_send.specs.Bodies.{enclosing, locals_of, height_in, greatest_of}
 use Rattle.ns_send.specs.Control.{Progress, Activation}
 use Rattle.ns_send.specs.Lawful.{FitsActivation, declaration_at}
 use Rattle.ns_send.specs.Sends.{ToPrivate, found_at}
@@ -23,9 +26,9 @@ use Rattle.ns_moves.specs.Steps.{steps_from}
 use Rattle.ns_moves.specs.ValidFrames.{Nothing, RunningIsValid}
 use Rattle.ns_plan.specs.declared.step.Step.{Step}
 use Rattle.ns_plan.specs.declared.step.Member.TheVariants.{Absent}
+use Rattle.ns_plan.specs.Integers.{FindsInteger, row_of_send}
 use Rattle.ns_plan.specs.Privates.{IsAmong, found_in, member_at}
 use Rattle.ns_plan.specs.Steps.{instr_of}
-use Rattle.ns_plan.specs.Rows.{height_of, greatest_frame}
 use Rattle.ns_plan.specs.Plan.{IsStep, IsStepAt}
 
 -- The first step of a body is there.
@@ -86,6 +89,10 @@ PrivateSendsFind code =
     → IsUsable code activation.body b at (SendPrivate level sel argc)
     → found_at world.cells code activation (ToPrivate level) sel.0 ≢ found.Absent
 
+-- An Integer finds the row of Integer that a selector names, however it is sent.
+abbrev pub IntegersFindRows : Heap → CodeProgram → Type 0
+IntegersFindRows heap code = (sel : Sel) (kind : Sending) (row : IntRow) → row_of_send code sel ≡ Some row → FindsInteger heap code sel kind row
+
 -- No body has more locals and operands than the greatest frame.
 abbrev pub FramesAreWithin : CodeProgram → Type 0
-FramesAreWithin code = (body : ℕ) → locals_of code body + height_of code body ≤ greatest_frame code.bodies
+FramesAreWithin code = (body : ℕ) → locals_of code body + height_in code body ≤ greatest_of code.bodies

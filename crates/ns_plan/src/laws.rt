@@ -1,8 +1,10 @@
 //! Laws of steps. Each function does nothing, and its contract is the law.
 
 ghost use Rattle.ns_code.specs.declared.program.CodeProgram.{CodeProgram};
-ghost use Rattle.ns_plan.specs.Stated.{BodiesBegin, StepsGoOn, JumpsLand, StepsAreUsable, RunningHasStep, MembersAreFound, MembersAreEntries, PrivateSendsHaveMembers, PrivateSendsFind, FramesAreWithin};
+ghost use Rattle.ns_world.specs.Heap.{Heap};
+ghost use Rattle.ns_plan.specs.Stated.{BodiesBegin, StepsGoOn, JumpsLand, StepsAreUsable, RunningHasStep, MembersAreFound, MembersAreEntries, PrivateSendsHaveMembers, PrivateSendsFind, IntegersFindRows, FramesAreWithin};
 
+use ns_find::laws::integers_find_their_rows;
 use ns_send::finding::enclosing_objects_are_there;
 use ns_verify::laws::{heights_agree, sound_code_has_no_cause, sound_instructions_are_usable};
 
@@ -43,6 +45,13 @@ pub fn private_sends_find()
     ensures finds { (code : CodeProgram) → PrivateSendsFind code }
 {
     members_are_found();
+}
+
+/// What an Integer finds is the row of Integer that was found for the send when the code was prepared, where one was.
+pub fn integers_find_rows()
+    ensures { (heap : Heap) (code : CodeProgram) → IntegersFindRows heap code }
+{
+    integers_find_their_rows();
 }
 
 /// No body has more locals and operands than the greatest frame.

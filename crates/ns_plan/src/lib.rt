@@ -2,6 +2,7 @@
 #![tactic(auto)]
 
 mod index;
+mod integers;
 pub mod laws;
 mod making;
 mod members;

@@ -5,8 +5,10 @@ ghost use Rattle.ns_code.specs.Fits.{BodyFits};
 ghost use Rattle.ns_plan.specs.Steps.{no_place, places_in};
 ghost use Rattle.ns_plan.specs.Rows.{row_of};
 ghost use Rattle.ns_plan.specs.Making.{IsAdded, SendsAName};
+ghost use Rattle.ns_plan.specs.Integers.{AreRowsOf};
 ghost use Rattle.ns_plan.specs.Members.{ArePrivatesOf};
 
+use crate::integers::IntegerRows;
 use crate::members::Privates;
 use crate::row::Row;
 use crate::step::{NO_PLACE, Step};
@@ -47,9 +49,11 @@ impl Draft {
         &mut self,
         code: &CodeProgram,
         privates: &Privates,
+        rows: &IntegerRows,
         body: &BodyCode,
     ) -> Result<(), NoMemory>
         requires privates { ArePrivatesOf code.now privates.now }
+        requires rows { AreRowsOf code.now rows.now }
         requires body { BodyFits code.now body.now }
         requires names { All (SendsAName code.now) body.now.instrs }
         requires number { length self.old.bodies.items < 65536 }
@@ -64,6 +68,7 @@ impl Draft {
             &mut self.steps,
             code,
             privates,
+            rows,
             body,
             self.places.len() as u32,
         )?;

@@ -6,9 +6,11 @@ ghost use Rattle.ns_code.specs.declared.program.CodeProgram.{CodeProgram};
 ghost use Rattle.ns_code.specs.Selector.{selector_arity, own_number};
 ghost use Rattle.ns_plan.specs.declared.step.Step.TheVariants.{PushNil};
 ghost use Rattle.ns_plan.specs.Plan.{IsPlanOf, IsStep, IsStepAt};
-ghost use Rattle.ns_plan.specs.Rows.{entry_of, greatest_frame, IsRowOf};
+ghost use Rattle.ns_plan.specs.Rows.{entry_of, IsRowOf};
 ghost use Rattle.ns_plan.specs.Steps.{places_of};
+ghost use Rattle.ns_send.specs.Bodies.{greatest_of};
 
+use crate::integers::IntegerRows;
 use crate::making::Draft;
 use crate::members::Privates;
 use crate::row::Row;
@@ -43,10 +45,11 @@ impl Plan {
         let code = verified.code();
         let selectors = SelectorTable::new(alloc, code)?;
         let privates = Privates::new(alloc, code)?;
+        let rows = IntegerRows::new(alloc, code)?;
         sound_instructions_are_usable();
         let mut draft = Draft::new(alloc);
         'bodies: for body in code.bodies.as_slice() {
-            draft.add(code, &privates, body)?;
+            draft.add(code, &privates, &rows, body)?;
         }
         Ok(Plan {
             steps: Items::from_vec(draft.steps),
@@ -117,7 +120,7 @@ impl Plan {
 
     /// The greatest number of locals and operands that a body has.
     pub fn greatest_frame(&self) -> u32
-        ensures { (code : CodeProgram) → IsPlanOf code self.now → result ≡ greatest_frame code.bodies }
+        ensures { (code : CodeProgram) → IsPlanOf code self.now → result ≡ greatest_of code.bodies }
     {
         self.greatest
     }

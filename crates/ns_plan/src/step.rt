@@ -2,6 +2,7 @@
 
 use ns_base::selector::Sel;
 use ns_find::found::Sending;
+use ns_kint::row::IntRow;
 
 /// A private member of a declaration: a method by its body, the getter or the setter of a slot by the number of the
 /// slot, or a nested class by its declaration; or that there is none of that name. Its holder is not known before it
@@ -16,7 +17,8 @@ pub enum Member {
 }
 
 /// One step of a body, which is an instruction. A send and the start of a superclass part have the number of their
-/// place among all places of the code, `NO_PLACE` where they have none. A private send has its member too.
+/// place among all places of the code, `NO_PLACE` where they have none. A private send has its member too, and a send
+/// to a value the row of Integer that its selector names, which an Integer finds.
 #[derive(Clone, Copy)]
 pub enum Step {
     PushNil,
@@ -44,6 +46,7 @@ pub enum Step {
         argc: u8,
         kind: Sending,
         place: u32,
+        row: Option<IntRow>,
     },
     SendPrivate {
         level: u8,

@@ -5,8 +5,10 @@ ghost use Rattle.ns_plan.specs.declared.step.Step.TheVariants as made;
 ghost use Rattle.ns_plan.specs.Members.{ArePrivatesOf};
 ghost use Rattle.ns_plan.specs.Privates.{member_at};
 ghost use Rattle.ns_plan.specs.Steps as spec;
+ghost use Rattle.ns_plan.specs.Integers.{AreRowsOf, row_of_send};
 ghost use Rattle.ns_plan.specs.Making.{AreFrom, SendsAName, number_at, behind};
 
+use crate::integers::IntegerRows;
 use crate::members::Privates;
 use crate::privates::member_at;
 use crate::step::{NO_PLACE, Step};
@@ -23,10 +25,12 @@ pub fn add_steps(
     steps: &mut Vec<Step>,
     code: &CodeProgram,
     privates: &Privates,
+    rows: &IntegerRows,
     body: &BodyCode,
     first: u32,
 ) -> Result<(), NoMemory>
     requires privates { ArePrivatesOf code.now privates.now }
+    requires rows { AreRowsOf code.now rows.now }
     requires names { All (SendsAName code.now) body.now.instrs }
     requires few { length body.now.instrs ≤ 65536 }
     requires order { AreFrom 0 body.now.places }
@@ -37,7 +41,8 @@ pub fn add_steps(
     let mut left = body.places.as_slice();
     let mut at: u32 = 0;
     'instrs: for instr in body.instrs.as_slice() {
-        steps.push(step_of(code, privates, body, number_at(left, end, at), *instr))?;
+        let place = number_at(left, end, at);
+        steps.push(step_of(code, privates, rows, body, place, *instr))?;
         left = behind(left, at);
         at += 1;
     }
@@ -75,11 +80,13 @@ fn behind(left: &[(u32, Place)], at: u32) -> &[(u32, Place)]
 fn step_of(
     code: &CodeProgram,
     privates: &Privates,
+    rows: &IntegerRows,
     body: &BodyCode,
     place: u32,
     instr: Instr,
 ) -> Step
     requires privates { ArePrivatesOf code.now privates.now }
+    requires rows { AreRowsOf code.now rows.now }
     requires name { SendsAName code.now instr }
     ensures { result ≡ spec.step_of code.now body.now place instr }
 {
@@ -98,8 +105,8 @@ fn step_of(
         Instr::MakeArray(count) => Step::MakeArray(count),
         Instr::Pop => Step::Pop,
         Instr::Pick(number) => Step::Pick(number),
-        Instr::Send { sel, argc } => send(Sending::Plain, sel, argc, place),
-        Instr::SendInner { sel, argc } => send(Sending::Inner, sel, argc, place),
+        Instr::Send { sel, argc } => send(code, rows, Sending::Plain, sel, argc, place),
+        Instr::SendInner { sel, argc } => send(code, rows, Sending::Inner, sel, argc, place),
         Instr::SendPrivate { level, sel, argc } => send_private(
             code, privates, body, level, sel, argc, place,
         ),
@@ -115,15 +122,24 @@ fn step_of(
     }
 }
 
-/// A send to a value.
-fn send(kind: Sending, sel: Sel, argc: u8, place: u32) -> Step
-    ensures { result ≡ made.Send sel argc kind place }
+/// A send to a value, with the row of Integer that its selector names.
+fn send(
+    code: &CodeProgram,
+    rows: &IntegerRows,
+    kind: Sending,
+    sel: Sel,
+    argc: u8,
+    place: u32,
+) -> Step
+    requires { AreRowsOf code.now rows.now }
+    ensures { result ≡ made.Send sel argc kind place (row_of_send code.now sel) }
 {
     Step::Send {
         sel,
         argc,
         kind,
         place,
+        row: rows.of_send(code, sel),
     }
 }
 

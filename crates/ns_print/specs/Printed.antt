@@ -1,9 +1,10 @@
 -- The canonical text of tokens.
-use Rattle.std.specs.Prelude.{ℕ, nat_eq, if◌then◌else◌, List, [], ◌∷◌, ◌++◌, flat_map, decimal, codes}
+use Rattle.std.specs.Prelude.{ℕ, List, [], ◌∷◌, ◌++◌, flat_map, decimal, codes}
 use Rattle.ns_tree.specs.declared.token.Kind.{Kind}
 use Rattle.ns_tree.specs.declared.token.Kind.TheVariants as k
 use Rattle.ns_tree.specs.declared.token.Reserved.{Reserved}
 use Rattle.ns_tree.specs.declared.token.Reserved.TheVariants as r
+use Rattle.ns_base.specs.Quoted.{doubled}
 
 abbrev pub word : Reserved → List ℕ
 word r.Class = codes "class"
@@ -16,10 +17,6 @@ word r.Outer = codes "outer"
 word r.True = codes "true"
 word r.False = codes "false"
 word r.Nil = codes "nil"
-
--- a string's bytes, with each quote doubled
-abbrev pub doubled : List ℕ → List ℕ
-doubled = flat_map (λ b. if nat_eq b 39 then codes "''" else b ∷ [])
 
 -- the text of a token
 abbrev pub spell : Kind → List ℕ

@@ -3,7 +3,8 @@
 ghost use Rattle.std.specs.Prelude.{◌≡◌, ◌++◌, ◌∷◌, [], OnOk, map};
 ghost use Rattle.ns_tree.specs.declared.token.Kind.TheVariants as k;
 ghost use Rattle.ns_tree.specs.Flat.{ident, set_key, stop_if, flat_access, flat_caret};
-ghost use Rattle.ns_print.specs.Printed.{lines, doubled};
+ghost use Rattle.ns_print.specs.Printed.{lines};
+ghost use Rattle.ns_base.specs.Quoted.{doubled};
 
 use ns_base::no_memory::NoMemory;
 use ns_base::text::Text;

@@ -1,16 +1,20 @@
 //! A step by the quick way.
 
 ghost use Rattle.ns_plan.specs.Steps.{instr_of, place_of, send_instr};
-ghost use Rattle.std.specs.Prelude.{slice_get};
+ghost use Rattle.std.specs.Prelude.{◌≡◌, slice_get};
+ghost use Rattle.ns_plan.specs.Integers.{row_of_send};
 ghost use Rattle.ns_engine.specs.Doing.{CanDo};
-ghost use Rattle.ns_engine.specs.Tried.{DoesOrNot};
+ghost use Rattle.ns_engine.specs.Straight.{IsOnTop};
+ghost use Rattle.ns_engine.specs.Tried.{DoesOrNot, Leads};
 ghost use Rattle.ns_quick.specs.Above.{HasMemberAbove};
 
 use ns_base::selector::Sel;
 use ns_code::program::CodeProgram;
 use ns_engine::blocks::push_block;
 use ns_engine::leaping::{jump, jump_false, jump_true};
-use ns_engine::locals::{push_local, store_local};
+use ns_engine::led::{Led, led_on, led_straight};
+use ns_engine::locals::{push_local_of, store_local_of};
+use ns_engine::on_top::OnTop;
 use ns_engine::pushing::{
     push_false, push_int, push_nil, push_outer, push_self, push_sym, push_true,
 };
@@ -19,60 +23,91 @@ use ns_engine::storing::store_slot;
 use ns_engine::taking::{pick, pop};
 use ns_find::found::Sending;
 use ns_frames::registers::Registers;
+use ns_kint::row::IntRow;
 use ns_plan::step::Step;
 use ns_returns::answering::{return_self, return_value};
 use ns_returns::unwinding::return_home;
 use ns_sends::giving::{send, send_inner};
+use ns_sends::integers::send_integer;
 use ns_sends::private::send_private;
 
-/// Does a step, behind which the registers stand, where it is one of those that are taken most and goes on with the
-/// topmost frame; else nothing is done.
+/// Does a step, behind which the registers stand, where it is one of those that are taken most; else nothing is done. Those that
+/// lead straight on come first.
 #[inline(always)]
-pub fn perform(code: &CodeProgram, core: &mut Core, at: Registers, step: Step) -> Option<Registers>
+#[tactic(auto, using(ns_engine::specs::laws::Straight::plain_straight, ns_engine::specs::laws::Straight::tried_straight, ns_engine::specs::laws::Straight::tried_on))]
+pub fn perform(code: &CodeProgram, core: &mut Core, at: Registers, top: OnTop, step: Step) -> Led
     requires can { CanDo code.now core.old at (instr_of step) }
+    requires top { IsOnTop code.now top core.old.stack.frames.items }
     requires member { HasMemberAbove code.now core.old.stack.frames.items step }
-    ensures { DoesOrNot code.now (instr_of step) (place_of core.old.places step) core.old at core.new result }
+    ensures { Leads code.now (instr_of step) (place_of core.old.places step) core.old at core.new result }
 {
     match step {
-        Step::PushNil => Some(push_nil(code, core, at)),
-        Step::PushTrue => Some(push_true(code, core, at)),
-        Step::PushFalse => Some(push_false(code, core, at)),
-        Step::PushInt(number) => Some(push_int(code, core, at, number)),
-        Step::PushSym(sel) => Some(push_sym(code, core, at, sel)),
-        Step::PushSelf => Some(push_self(code, core, at)),
-        Step::PushOuter(level) => Some(push_outer(code, core, at, level)),
-        Step::PushLocal { hops, index } => Some(push_local(code, core, at, hops, index)),
-        Step::StoreLocal { hops, index } => Some(store_local(code, core, at, hops, index)),
-        Step::PushBlock(block) => push_block(code, core, at, block),
-        Step::Pop => Some(pop(code, core, at)),
-        Step::Pick(number) => Some(pick(code, core, at, number)),
+        Step::PushNil => Led::Straight(push_nil(code, core, at)),
+        Step::PushTrue => Led::Straight(push_true(code, core, at)),
+        Step::PushFalse => Led::Straight(push_false(code, core, at)),
+        Step::PushInt(number) => Led::Straight(push_int(code, core, at, number)),
+        Step::PushSym(sel) => Led::Straight(push_sym(code, core, at, sel)),
+        Step::PushSelf => Led::Straight(push_self(code, core, at)),
+        Step::PushOuter(level) => Led::Straight(push_outer(code, core, at, level)),
+        Step::PushLocal { hops, index } => Led::Straight(push_local_of(
+            code, core, at, top, hops, index,
+        )),
+        Step::StoreLocal { hops, index } => Led::Straight(store_local_of(
+            code, core, at, top, hops, index,
+        )),
+        Step::PushBlock(block) => led_straight(push_block(code, core, at, block)),
+        Step::Pop => Led::Straight(pop(code, core, at)),
+        Step::Pick(number) => Led::Straight(pick(code, core, at, number)),
+        Step::StoreSlot(slot) => Led::Straight(store_slot(code, core, at, slot)),
+        Step::Jump(target) => jump(code, core, at, target),
+        Step::JumpFalse(target) => jump_false(code, core, at, target),
+        Step::JumpTrue(target) => jump_true(code, core, at, target),
         Step::Send {
             sel,
             argc,
             kind,
             place,
-        } => send_as(code, core, at, sel, argc, kind, place),
+            row,
+        } => led_on(send_as(code, core, at, sel, argc, kind, place, row)),
         Step::SendPrivate {
             level,
             sel,
             argc,
             place,
             member,
-        } => send_private(code, core, at, level, sel, argc, place, member),
-        Step::StoreSlot(slot) => Some(store_slot(code, core, at, slot)),
-        Step::Return => return_value(code, core, at),
-        Step::ReturnSelf => return_self(code, core, at),
-        Step::ReturnHome => return_home(code, core, at),
-        Step::Jump(target) => jump(code, core, at, target),
-        Step::JumpFalse(target) => jump_false(code, core, at, target),
-        Step::JumpTrue(target) => jump_true(code, core, at, target),
-        _ => None,
+        } => led_on(send_private(code, core, at, level, sel, argc, place, member)),
+        Step::Return => led_on(return_value(code, core, at)),
+        Step::ReturnSelf => led_on(return_self(code, core, at)),
+        Step::ReturnHome => led_on(return_home(code, core, at)),
+        _ => Led::Nowhere,
+    }
+}
+
+/// Sends to the operand below the arguments: to an Integer by the row that its step has, else by what is found.
+#[inline(always)]
+fn send_as(
+    code: &CodeProgram,
+    core: &mut Core,
+    at: Registers,
+    sel: Sel,
+    argc: u8,
+    kind: Sending,
+    place: u32,
+    row: Option<IntRow>,
+) -> Option<Registers>
+    requires can { CanDo code.now core.old at (send_instr kind sel argc) }
+    requires row { row ≡ row_of_send code.now sel }
+    ensures { DoesOrNot code.now (send_instr kind sel argc) (slice_get core.old.places place) core.old at core.new result }
+{
+    match send_integer(code, core, at, sel, argc, kind, place, row) {
+        Some(to) => Some(to),
+        None => send_found(code, core, at, sel, argc, kind, place),
     }
 }
 
 /// Sends to the operand below the arguments, from its own start or from inside.
 #[inline(always)]
-fn send_as(
+fn send_found(
     code: &CodeProgram,
     core: &mut Core,
     at: Registers,

@@ -20,11 +20,11 @@ use Rattle.ns_world.specs.World.{World, made, stepped, entered, left}
 use Rattle.ns_classes.specs.declared.apply.MakeFault.{MakeFault}
 use Rattle.ns_classes.specs.Apply.{class_fault}
 use Rattle.ns_classes.specs.Nested.{kept_in, kept_class, nested_entry}
-use Rattle.ns_send.specs.Control.{Progress, in_world, Activation, Exit, FromMethod, FromBody, FromClause, After, Gives, Halts, Enter, Skip, Stop, EnterPart, halts, charged}
+use Rattle.ns_send.specs.Control.{Progress, in_world, Activation, Exit, FromMethod, FromBody, FromClause, After, Gives, Halts, Enter, Skip, Stop, EnterPart, halts, charged, frame_left}
 use Rattle.ns_send.specs.Site.{make_fault, error}
 use Rattle.ns_send.specs.declared.site.Site.{Site}
 use Rattle.ns_send.specs.Bodies.{no_home, first_locals, opened, has_environment, locals_of, parameters_of, initialiser_of, clause_of}
-use Rattle.ns_send.specs.Classes.{class_made, mixed, keeping, newly_kept, kept_or, class_over, head, nested, instance, super_selector, factory_selector, declared_part, object_part, part_of, super_part, slot_filled, body_ended, part_ended}
+use Rattle.ns_send.specs.Classes.{class_made, mixed, keeping, newly_kept, kept_or, class_over, head, nested, instance, super_selector, factory_selector, declared_part, object_part, part_of, super_part, slot_filled, body_ended}
 use Rattle.ns_reach.specs.Within.{HasLater, In, AllIn, NumberIn, CellIn, Kept, ActivationIn, ExitIn, AfterIn, ControlIn, PartIn}
 use Rattle.ns_reach.proofs.Cells.{all_append, all_nil}
 use Rattle.ns_reach.proofs.Keeping.{NoFacet, faulted, charged_so, stepped_is, entered_is, stepped_kept, entered_kept, left_kept, made_kept, written_kept}
@@ -195,5 +195,5 @@ module _ (Has : ℕ → Type 0) (first : Progress) where
   body_ended_in code (FromClause object holder class) activation value now later kept x i =
       class_over_in code object holder class value activation.site (in_world now (left now.world)) later (left_kept Has first now kept) x.0 x.1 i
 
-  pub part_ended_in : (now : Progress) → Kept Has first now → Kept Has first (part_ended now)
+  pub part_ended_in : (now : Progress) → Kept Has first now → Kept Has first (frame_left now)
   part_ended_in now kept = left_kept Has first now kept

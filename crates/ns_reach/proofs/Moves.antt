@@ -22,17 +22,18 @@ use Rattle.ns_mirror.specs.Mirror.{cell_number}
 use Rattle.ns_find.specs.declared.found.Sending.TheVariants.{Inner}
 use Rattle.ns_send.specs.declared.site.Site.{Site}
 use Rattle.ns_send.specs.Site.{error}
-use Rattle.ns_send.specs.Control.{Progress, in_world, Activation, After, Gives, Halts, Control, Now, Enter, Evaluate, Begin, Perform, Part, Skip, Stop, EnterPart, Waiting, Waits, Finishes, charged}
+use Rattle.ns_send.specs.Control.{Progress, in_world, Activation, After, Gives, Halts, Control, Now, Enter, Evaluate, Begin, Perform, Part, Skip, Stop, EnterPart, Waiting, Waits, Finishes, charged, frame_left}
 use Rattle.ns_send.specs.Bodies.{Place, enclosing_place, lexical, enclosing, parent_in, environment_out, is_beside, has_environment, environment_at, local_at, locals_with, local_stored}
 use Rattle.ns_send.specs.Blocks.{new_text, new_block, new_array, evaluated, method_next}
-use Rattle.ns_send.specs.Classes.{super_part, slot_filled, body_ended, part_ended}
+use Rattle.ns_world.specs.Booleans.{is_boolean}
+use Rattle.ns_send.specs.Classes.{super_part, slot_filled, body_ended}
 use Rattle.ns_send.specs.Sends.{To, ToPrivate, ToSuper, to_value, sent}
 use Rattle.ns_moves.specs.State.{Leaving, Loud, Silent, Frame, Running, Looping, Pending, Sending, Performing, Evaluating, Phase, Start, First, Second, Hosted, State, Unbegun, Going, Pends, Ended, Stuck}
 use Rattle.ns_moves.specs.Steps.{Step, steps_from, literal}
 use Rattle.ns_moves.specs.Operands.{on_top, taken_off, picked}
 use Rattle.ns_moves.specs.Returns.{concluded, delivered, settled, returned, is_home, has_home, unwound, returned_home}
 use Rattle.ns_moves.specs.Arrivals.{arrived, part_arrived, acted_on}
-use Rattle.ns_moves.specs.Jumps.{goes_back, jumped, takes_jump, is_boolean, jumped_on}
+use Rattle.ns_moves.specs.Jumps.{goes_back, jumped, takes_jump, jumped_on}
 use Rattle.ns_moves.specs.Instructions.{on_with, stored_local, executed}
 use Rattle.ns_moves.specs.Move.{sent_on, resumed, move}
 use Rattle.ns_reach.specs.Within.{HasLater, In, AllIn, Kept, ActivationIn, AfterIn, ControlIn, PartIn, WaitingIn, LeavingIn, FramesIn, PendingIn, PhaseIn, StateIn}
@@ -214,10 +215,10 @@ module _ (Has : ℕ → Type 0) (first : Progress) where
     unwound_in : (home : ℕ) (value : Value) (frames : List Frame) (now : Progress) → Kept Has first now → In Has value → FramesIn Has frames → StateIn Has first (unwound code phase home value frames now)
     unwound_in home value [] now kept i all = kept
     unwound_in home value (frame ∷ frames) now kept i all =
-        by (is_home home frame) (delivered_in value frames (part_ended now) (part_ended_in Has first now kept) i all.1) (unwound_in home value frames (part_ended now) (part_ended_in Has first now kept) i all.1)
+        by (is_home home frame) (delivered_in value frames (frame_left now) (part_ended_in Has first now kept) i all.1) (unwound_in home value frames (frame_left now) (part_ended_in Has first now kept) i all.1)
       where
-        by : (b : Bool) → StateIn Has first (delivered code phase value frames (part_ended now)) → StateIn Has first (unwound code phase home value frames (part_ended now))
-            → StateIn Has first (cond b (delivered code phase value frames (part_ended now)) (unwound code phase home value frames (part_ended now)))
+        by : (b : Bool) → StateIn Has first (delivered code phase value frames (frame_left now)) → StateIn Has first (unwound code phase home value frames (frame_left now))
+            → StateIn Has first (cond b (delivered code phase value frames (frame_left now)) (unwound code phase home value frames (frame_left now)))
         by true one two = one
         by false one two = two
 

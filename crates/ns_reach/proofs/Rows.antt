@@ -14,7 +14,8 @@ use Rattle.ns_world.specs.Heap.{Heap, heap_size, no_class}
 use Rattle.ns_world.specs.World.{World, made}
 use Rattle.ns_kdata.specs.Outcome.{Outcome, Answers, Fails, making, made_as, unchanged, wrong_kind, out_of_range}
 use Rattle.ns_kdata.specs.declared.arguments.Part.{Part}
-use Rattle.ns_kdata.specs.Arguments.{truth, items_of, shape_of_value, is_text, bytes_of, symbol_text, number_of, place_in, part_in}
+use Rattle.ns_kdata.specs.Arguments.{items_of, shape_of_value, is_text, bytes_of, symbol_text, number_of, place_in, part_in}
+use Rattle.ns_world.specs.Booleans.{truth}
 use Rattle.ns_kdata.specs.Rows as rows
 use Rattle.ns_kdata.specs.Texts as texts
 use Rattle.ns_kdata.specs.Datum.{row_outcome}
@@ -25,6 +26,7 @@ use Rattle.ns_reach.specs.Within.{HasLater, In, AllIn, CellIn, Kept}
 use Rattle.ns_reach.proofs.Cells.{at_index, all_nil}
 use Rattle.ns_reach.proofs.Keeping.{NoFacet, made_kept, written_kept}
 use Rattle.ns_reach.proofs.Reading.{ShapeIn, value_shape_in, items_in}
+use Rattle.ns_base.specs.Quoted.{quoted}
 
 module _ (Has : ℕ → Type 0) (first : Progress) where
   -- A row's answer is in the set, and so is what it made and wrote.
@@ -213,7 +215,7 @@ module _ (Has : ℕ → Type 0) (first : Progress) where
   data_in code now row.TextJoin receiver one two later kept r a b = join_in now receiver one later kept
   data_in code now row.TextEqual receiver one two later kept r a b = (equal_in now.world.cells receiver one, kept)
   data_in code now row.TextLess receiver one two later kept r a b = unchanged_in now (texts.text_less now.world.cells receiver one) kept (less_in now.world.cells receiver one)
-  data_in code now row.TextPrint receiver one two later kept r a b = text_in now (texts.quoted (bytes_of now.world.cells receiver)) later kept
+  data_in code now row.TextPrint receiver one two later kept r a b = text_in now (quoted (bytes_of now.world.cells receiver)) later kept
   data_in code now row.SymbolSize receiver one two later kept r a b = (tt, kept)
   data_in code now row.SymbolText receiver one two later kept r a b = text_in now (symbol_text code receiver) later kept
   data_in code now row.SymbolPrint receiver one two later kept r a b = text_in now (codes "#" ++ symbol_text code receiver) later kept

@@ -3,7 +3,6 @@
 ghost use Rattle.std.specs.Prelude.{◌≡◌, ◌+◌, ◌++◌, ◌∷◌, [], length, OnOk, IfOk};
 ghost use Rattle.ns_tree.specs.PlainOf.{bars_of, slots_of, init_of, what_of, members_of, side_of, class_side_of, class_of, method_of};
 ghost use Rattle.ns_scope.specs.Bodies as b;
-ghost use Rattle.ns_scope.specs.Names.{access_or};
 ghost use Rattle.ns_meant.specs.Classes as c;
 ghost use Rattle.ns_write.specs.Standing.{around_of};
 
@@ -11,7 +10,7 @@ use crate::counted::count_method;
 use crate::declaration::{MethodOf, NestedOf, SlotOf};
 use ns_base::no_memory::NoMemory;
 use ns_base::text::Text;
-use ns_scope::names::selector;
+use ns_scope::names::{access_or, selector};
 use ns_scope::scope::CodeSide;
 use ns_tree::tree::{Access, Class, Member, Method, Side, Slot, SlotInit, What};
 use ns_write::around::{Around, advance};
@@ -58,15 +57,6 @@ fn is_mutable(init: &SlotInit) -> bool
         SlotInit::Bare { stop: _ } => true,
         SlotInit::Fixed(_) => false,
         SlotInit::Mutable(_) => true,
-    }
-}
-
-fn access_or(other: Access, access: Option<Access>) -> Access
-    ensures { result ≡ access_or other access }
-{
-    match access {
-        None => other,
-        Some(access) => access,
     }
 }
 

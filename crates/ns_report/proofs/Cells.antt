@@ -10,7 +10,7 @@ use Rattle.ns_world.specs.Heap.{Heap, find_cell, is_class, bytes_at}
 use Rattle.ns_world.specs.Layout.{declaration_of}
 use Rattle.ns_world.specs.Starts.{declaration_in}
 use Rattle.ns_kdata.specs.Arguments.{is_text, is_text_shape}
-use Rattle.ns_kdata.specs.Texts.{quoted}
+use Rattle.ns_base.specs.Quoted.{quoted}
 use Rattle.ns_mirror.specs.Naming.{declared_text}
 use Rattle.ns_send.specs.Report.{cell_text}
 

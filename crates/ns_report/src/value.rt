@@ -5,7 +5,7 @@ ghost use Rattle.ns_world.specs.declared.value.Value.TheVariants.{Ref, Sym};
 ghost use Rattle.ns_world.specs.Lawful.{IsLawful, IsLiveValue};
 ghost use Rattle.ns_world.specs.Starts.{is_receiver, has_class, start_of, class_name_of};
 ghost use Rattle.ns_kdata.specs.Arguments.{IsThere, bytes_of};
-ghost use Rattle.ns_kdata.specs.Texts.{quoted, doubled};
+ghost use Rattle.ns_base.specs.Quoted.{doubled, quoted};
 ghost use Rattle.ns_mirror.specs.Naming.{class_text, declared_text};
 ghost use Rattle.ns_send.specs.Report as spec;
 

@@ -23,7 +23,8 @@ use Rattle.ns_frames.specs.laws.Room.{within_more}
 use Rattle.ns_engine.specs.declared.state.Core.{Core}
 use Rattle.ns_engine.specs.declared.state.Next.TheVariants as next
 use Rattle.ns_engine.specs.Shown.{phase_shown, progress_in}
-use Rattle.ns_engine.specs.Standing.{height_in, greatest_of, Stands}
+use Rattle.ns_engine.specs.Standing.{Stands}
+use Rattle.ns_send.specs.Bodies.{height_in, greatest_of}
 use Rattle.ns_returns.specs.Acting.{Awaits}
 
 -- a method on top needs no values above its floor

@@ -13,7 +13,8 @@ use Rattle.ns_send.specs.Start.{platform}
 use Rattle.ns_moves.specs.State as state
 use Rattle.ns_moves.specs.State.{State, Pends, Ended, Sending}
 use Rattle.ns_moves.specs.Steps.{opening_place}
-use Rattle.ns_moves.specs.Returns.{concluded, delivered, own_sel}
+use Rattle.ns_moves.specs.Returns.{concluded, delivered}
+use Rattle.ns_send.specs.Sends.{own_sel}
 use Rattle.ns_frames.specs.declared.frame.Frame.{Frame}
 use Rattle.ns_frames.specs.declared.frame.Pending.TheVariants as pending
 use Rattle.ns_frames.specs.declared.registers.Registers.{Registers}

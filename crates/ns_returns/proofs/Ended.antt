@@ -4,8 +4,7 @@ use Rattle.ns_code.specs.declared.program.CodeProgram.{CodeProgram}
 use Rattle.ns_world.specs.declared.value.Value.{Value}
 use Rattle.ns_world.specs.Lawful.{IsLawful, IsLiveValue}
 use Rattle.ns_world.specs.World.{World, WorldView, left}
-use Rattle.ns_send.specs.Control.{Progress, in_world}
-use Rattle.ns_send.specs.Classes.{part_ended}
+use Rattle.ns_send.specs.Control.{Progress, in_world, frame_left}
 use Rattle.ns_moves.specs.State.{Going}
 use Rattle.ns_moves.specs.Returns.{delivered, returned}
 use Rattle.ns_frames.specs.declared.frame.Frame.{Frame}
@@ -54,24 +53,24 @@ body_room code core at frame value can is = room_below code core at frame value 
 -- ---- a frame that was given back
 
 -- the world without it
-pub given_back : (core : Core) (world : WorldView) → ((rest : Progress) → in_world rest world.world ≡ part_ended (in_world rest core.run.world.world))
+pub given_back : (core : Core) (world : WorldView) → ((rest : Progress) → in_world rest world.world ≡ frame_left (in_world rest core.run.world.world))
     → world.world ≡ left core.run.world.world
 given_back core world ended = ap (λ (p : Progress). p.world) (ended (progress_in core))
 
 pub still_lawful : ((world : World) (code : CodeProgram) → IsLawful world code → IsLawful (left world) code)
     → (code : CodeProgram) (core : Core) (world : WorldView) → IsLawful core.run.world.world code
-    → ((rest : Progress) → in_world rest world.world ≡ part_ended (in_world rest core.run.world.world)) → IsLawful world.world code
+    → ((rest : Progress) → in_world rest world.world ≡ frame_left (in_world rest core.run.world.world)) → IsLawful world.world code
 still_lawful law code core world lawful ended =
     subst (λ (w : World). IsLawful w code) (sym (given_back core world ended)) (law core.run.world.world code lawful)
 
 pub still_live : (code : CodeProgram) (core : Core) (world : WorldView) (value : Value) → IsLiveValue core.run.world.world.cells code value
-    → ((rest : Progress) → in_world rest world.world ≡ part_ended (in_world rest core.run.world.world)) → IsLiveValue world.world.cells code value
+    → ((rest : Progress) → in_world rest world.world ≡ frame_left (in_world rest core.run.world.world)) → IsLiveValue world.world.cells code value
 still_live code core world value live ended =
     subst (λ (w : World). IsLiveValue w.cells code value) (sym (given_back core world ended)) live
 
 pub answered : (code : CodeProgram) (core new : Core) (at here : Registers) (world : WorldView) (stack : Stack) (frame : RunningFrame) (value : Value) (n : Next)
     → CanEnd code core at frame value → IsLeft core at world stack here
-    → ((rest : Progress) → in_world rest world.world ≡ part_ended (in_world rest core.run.world.world))
+    → ((rest : Progress) → in_world rest world.world ≡ frame_left (in_world rest core.run.world.world))
     → IsHanded code (over core world stack) here value new n → IsAnswered code core at value new n
 answered code core new at here world stack frame value n can is ended handed = record {
   state = handed.state
@@ -107,7 +106,7 @@ body_ended_so code old new at frame value n is answered = record {
 -- a superclass part
 pub part_over : (code : CodeProgram) (core : Core) (at here : Registers) (world : WorldView) (stack : Stack) (frame : RunningFrame) (value : Value)
     → CanEnd code core at frame value → frame.leaving ≡ leaving.Part → IsLeft core at world stack here
-    → ((rest : Progress) → in_world rest world.world ≡ part_ended (in_world rest core.run.world.world))
+    → ((rest : Progress) → in_world rest world.world ≡ frame_left (in_world rest core.run.world.world))
     → IsEnded code core at frame value (over core world stack) (next.On here)
 part_over code core at here world stack frame value can is left ended = record {
   state = ap (λ (s : List Stood). Going (phase_shown core.phase) (frames_shown code core.places s) (progress_in (over core world stack))) left.stood

@@ -24,7 +24,7 @@ use Rattle.ns_engine.specs.declared.state.Core.{Core}
 use Rattle.ns_engine.specs.declared.state.Next.{Next}
 use Rattle.ns_engine.specs.declared.state.Next.TheVariants as next
 use Rattle.ns_engine.specs.Shown.{phase_shown, progress_in}
-use Rattle.ns_engine.specs.Standing.{height_in, greatest_of}
+use Rattle.ns_send.specs.Bodies.{height_in, greatest_of}
 use Rattle.ns_engine.specs.Framed.{HasRoomOnTop}
 use Rattle.ns_engine.specs.Doing.{IsSettled}
 use Rattle.ns_engine.specs.laws.Pushed.{stack_stays, ended_stays, operands_count}

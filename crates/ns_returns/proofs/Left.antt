@@ -12,7 +12,8 @@ use Rattle.ns_frames.specs.Stack.{stood, IsLaid}
 use Rattle.ns_frames.specs.Room.{AreWithin}
 use Rattle.ns_frames.specs.laws.Room.{within_below}
 use Rattle.ns_engine.specs.declared.state.Core.{Core}
-use Rattle.ns_engine.specs.Standing.{height_in, greatest_of, HasRooms, AreStanding, Stands, Stays}
+use Rattle.ns_engine.specs.Standing.{HasRooms, AreStanding, Stands, Stays}
+use Rattle.ns_send.specs.Bodies.{height_in, greatest_of}
 use Rattle.ns_engine.specs.Framed.{HasRoomOnTop}
 use Rattle.ns_returns.specs.Handing.{CanTake}
 

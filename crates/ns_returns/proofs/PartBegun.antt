@@ -18,7 +18,7 @@ use Rattle.ns_frames.specs.View.{frames_shown}
 use Rattle.ns_engine.specs.declared.state.Core.{Core}
 use Rattle.ns_engine.specs.declared.state.Next.TheVariants as next
 use Rattle.ns_engine.specs.Shown.{phase_shown, progress_in}
-use Rattle.ns_engine.specs.Standing.{height_in, greatest_of}
+use Rattle.ns_send.specs.Bodies.{height_in, greatest_of}
 use Rattle.ns_engine.specs.Arriving.{shape_of, CanEnter}
 use Rattle.ns_engine.specs.laws.Sizes.{size_fits, frame_floor, frame_base, frame_size}
 use Rattle.ns_engine.specs.laws.Pushed.{stack_stays}

@@ -32,7 +32,7 @@ use Rattle.ns_frames.specs.View.{site_shown, activation_shown}
 use Rattle.ns_frames.specs.laws.Counts.{many_stand, many_next}
 use Rattle.ns_engine.specs.declared.state.Core.{Core}
 use Rattle.ns_engine.specs.Shown.{progress_in}
-use Rattle.ns_engine.specs.Standing.{height_in, greatest_of}
+use Rattle.ns_send.specs.Bodies.{height_in, greatest_of}
 use Rattle.ns_engine.specs.Arriving.{CanEnter}
 use Rattle.ns_engine.specs.Entering.{WhatIsReachedIsEntered}
 use Rattle.ns_engine.specs.Doing.{CanDo}

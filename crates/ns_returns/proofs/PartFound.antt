@@ -30,7 +30,7 @@ use Rattle.ns_frames.specs.Stack.{stood, with_top}
 use Rattle.ns_frames.specs.View.{activation_shown}
 use Rattle.ns_engine.specs.declared.state.Core.{Core}
 use Rattle.ns_engine.specs.Shown.{progress_in}
-use Rattle.ns_engine.specs.Standing.{height_in}
+use Rattle.ns_send.specs.Bodies.{height_in}
 use Rattle.ns_engine.specs.Doing.{Finds, FindsIn, CanDo}
 use Rattle.ns_engine.specs.laws.Pushed.{top_stands}
 

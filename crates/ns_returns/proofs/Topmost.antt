@@ -19,7 +19,7 @@ use Rattle.ns_frames.specs.laws.Counts.{many_stand}
 use Rattle.ns_engine.specs.declared.state.Core.{Core}
 use Rattle.ns_engine.specs.declared.state.Next.TheVariants as next
 use Rattle.ns_engine.specs.Shown.{phase_shown, progress_in}
-use Rattle.ns_engine.specs.Standing.{height_in, greatest_of}
+use Rattle.ns_send.specs.Bodies.{height_in, greatest_of}
 use Rattle.ns_engine.specs.Framed.{HasRoomOnTop, AreFramed}
 use Rattle.ns_engine.specs.Ready.{IsReady}
 use Rattle.ns_returns.specs.Acting.{IsActing, IsLooping, CanAct}

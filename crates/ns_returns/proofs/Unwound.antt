@@ -23,7 +23,8 @@ use Rattle.ns_frames.specs.laws.Counts.{next_apart}
 use Rattle.ns_engine.specs.declared.state.Core.{Core}
 use Rattle.ns_engine.specs.declared.state.Next.{Next}
 use Rattle.ns_engine.specs.Shown.{phase_shown, progress_in}
-use Rattle.ns_engine.specs.Standing.{height_in, greatest_of, Stays}
+use Rattle.ns_engine.specs.Standing.{Stays}
+use Rattle.ns_send.specs.Bodies.{height_in, greatest_of}
 use Rattle.ns_engine.specs.Framed.{HasRoomOnTop}
 use Rattle.ns_engine.specs.laws.Kept.{rooms_stay, stays_on}
 use Rattle.ns_returns.specs.Handing.{CanTake, IsHanded}

@@ -6,12 +6,16 @@ use Rattle.ns_world.specs.declared.value.Value.{Value}
 use Rattle.ns_world.specs.Heap.{Heap}
 use Rattle.ns_world.specs.Lawful.{IsLawful}
 use Rattle.ns_kcode.specs.declared.state.KState.{KState}
-use Rattle.ns_send.specs.Blocks.{listed}
+use Rattle.ns_send.specs.Blocks.{listed, method_next}
 use Rattle.ns_send.specs.Lawful.{LiveState}
 use Rattle.ns_moves.specs.State.{Pends, Evaluating}
+use Rattle.ns_act.specs.declared.methods.Waited.{Waited}
+use Rattle.ns_act.specs.Room.{SameRest}
+use Rattle.ns_act.specs.Stated.{WaitsAs}
 use Rattle.ns_frames.specs.declared.frame.Frame.{Frame}
 use Rattle.ns_frames.specs.declared.frame.Frame.TheVariants.{Running, Looping}
 use Rattle.ns_frames.specs.declared.frame.LoopingFrame.{LoopingFrame}
+use Rattle.ns_frames.specs.declared.frame.Pending.TheVariants as pending
 use Rattle.ns_frames.specs.declared.registers.Registers.{Registers}
 use Rattle.ns_frames.specs.Leaving.{turned}
 use Rattle.ns_frames.specs.Standing.{below}
@@ -24,6 +28,7 @@ use Rattle.ns_engine.specs.Shown.{phase_shown, progress_in, shown}
 use Rattle.ns_engine.specs.Standing.{Stands, StandAt, Stays, KeepsRightIn}
 use Rattle.ns_engine.specs.Framed.{AreFramed}
 use Rattle.ns_engine.specs.Ready.{IsReady}
+use Rattle.ns_engine.specs.laws.Worlds.{in_other}
 
 -- The topmost frame is that of a method of the kernel, whose values are live.
 abbrev pub IsActing : Heap → CodeProgram → List Frame → Type 0
@@ -50,6 +55,19 @@ abbrev pub ReadyCanAct : CodeProgram → Grants → Type 0
 ReadyCanAct code grants =
     (core : Core) (at : Registers) (looping : LoopingFrame) → IsReady code grants core (On at)
     → core.stack.frames.items ≡ Looping looping ∷ below core.stack.frames.items → CanAct code core at
+
+-- The method of the kernel that is topmost was asked what it does next: nothing but the world has changed, in which a step is
+-- charged where a turn begins.
+pub record IsAsked (code : CodeProgram) (old : Core) (at : Registers) (looping : LoopingFrame) (new : Core) (waited : Waited) : Type 0 where
+  pub can : CanAct code old at
+  pub top : old.stack.frames.items ≡ Looping looping ∷ below old.stack.frames.items
+  pub same : new ≡ in_other old new.run.world
+  pub rest : SameRest old.run.world new.run.world
+  pub is : WaitsAs waited old.run.world new.run.world (method_next looping.method looping.state)
+
+-- a machine in which the evaluation of a block waits, on the values from the floor of a method of the kernel on
+abbrev pub awaiting : LoopingFrame → Value → Core → Core
+awaiting looping block core = record core { waiting = pending.Evaluating block looping.site looping.floor looping.floor }
 
 -- The evaluation of a block waits, for which the topmost method of the kernel waits in a state.
 pub record Awaits (code : CodeProgram) (old : Core) (at : Registers) (looping : LoopingFrame) (block : Value) (argument : Option Value) (state : KState)

@@ -3,7 +3,6 @@ use Rattle.std.specs.Prelude.{◌≡◌, ◌∷◌}
 use Rattle.ns_code.specs.declared.program.CodeProgram.{CodeProgram}
 use Rattle.ns_world.specs.declared.value.Value.{Value}
 use Rattle.ns_world.specs.Lawful.{IsLawful, IsLiveValue}
-use Rattle.ns_send.specs.Classes.{part_ended}
 use Rattle.ns_moves.specs.Returns.{delivered, returned}
 use Rattle.ns_moves.specs.WorldAsks.{CanLeave}
 use Rattle.ns_frames.specs.declared.frame.Frame.TheVariants.{Running}
@@ -17,6 +16,7 @@ use Rattle.ns_engine.specs.declared.state.Next.{Next}
 use Rattle.ns_engine.specs.Shown.{phase_shown, progress_in, shown}
 use Rattle.ns_engine.specs.Standing.{Stands, StandAt, Stays, KeepsRightIn}
 use Rattle.ns_engine.specs.Framed.{AreFramed}
+use Rattle.ns_send.specs.Control.{frame_left}
 
 -- The frame of a body, on top, can end with a live value.
 pub record CanEnd (code : CodeProgram) (core : Core) (at : Registers) (frame : RunningFrame) (value : Value) : Type 0 where
@@ -40,7 +40,7 @@ pub record IsEnded (code : CodeProgram) (old : Core) (at : Registers) (frame : R
 -- The frame was given back, and the value is its answer.
 pub record IsAnswered (code : CodeProgram) (old : Core) (at : Registers) (value : Value) (new : Core) (next : Next) : Type 0 where
   pub state : shown code new next ≡
-      delivered code (phase_shown old.phase) value (frames_shown code old.places (below (stood old.stack at))) (part_ended (progress_in old))
+      delivered code (phase_shown old.phase) value (frames_shown code old.places (below (stood old.stack at))) (frame_left (progress_in old))
   pub stand : StandAt code new next
   pub stays : Stays old new
   pub kept : KeepsRightIn code old new

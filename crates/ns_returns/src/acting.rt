@@ -1,15 +1,16 @@
 //! Actions of a method of the kernel that evaluates blocks, where its frame is topmost.
 
-ghost use Rattle.std.specs.Prelude.{◌≡◌, ◌+◌, ◌≤◌, ◌∷◌, ◌++◌, length};
+ghost use Rattle.std.specs.Prelude.{◌≡◌, ◌+◌, ◌<◌, ◌≤◌, ◌∷◌, ◌++◌, length};
 ghost use Rattle.ns_send.specs.Blocks.{listed};
+ghost use Rattle.ns_act.specs.declared.methods.Waited.TheVariants as waited;
 ghost use Rattle.ns_frames.specs.declared.frame.Frame.TheVariants.{Looping};
 ghost use Rattle.ns_frames.specs.Standing.{below};
 ghost use Rattle.ns_frames.specs.Stack.{in_use, IsLaid, KeepsRoom};
+ghost use Rattle.ns_engine.specs.declared.state.Core.{Core as AnyCore};
 ghost use Rattle.ns_engine.specs.declared.state.Next.TheVariants as next;
 ghost use Rattle.ns_engine.specs.Own.{AreOwn};
 ghost use Rattle.ns_engine.specs.Ready.{Moves};
-ghost use Rattle.ns_engine.specs.Standing.{Stands};
-ghost use Rattle.ns_returns.specs.Acting.{IsLooping, CanAct, Awaits};
+ghost use Rattle.ns_returns.specs.Acting.{IsLooping, CanAct, IsAsked, awaiting};
 
 use crate::handing::bring;
 use ns_act::methods::{Waited, method_next};
@@ -21,6 +22,7 @@ use ns_frames::laws::frames_have_room;
 use ns_frames::registers::Registers;
 use ns_frames::stack::Stack;
 use ns_kcode::state::KState;
+use ns_send::control::Answer;
 use ns_send::laws::actions_keep_lawful;
 use ns_world::value::Value;
 
@@ -33,20 +35,84 @@ pub fn act(code: &CodeProgram, core: &mut Core, at: Registers, own: OwnSends) ->
     requires own { AreOwn code.now core.old.places own }
     ensures { Moves code.now core.old (next.On at) core.new result }
 {
-    frames_have_room();
-    actions_keep_lawful();
     let method = looping(&core.stack);
-    match method_next(&mut core.run.world, method.method, method.state) {
+    match ask(code, core, at, method) {
         Waited::Evaluates {
             block,
             argument,
             state,
-        } => evaluate(code, core, at, method, block, argument, state),
-        Waited::Ends(answer) => {
-            let here = core.stack.leave(at);
-            bring(code, core, here, own, method.site, answer)
+        } => {
+            let above = prepare(code, core, at, method, block, argument, state);
+            core.waiting = Pending::Evaluating {
+                block,
+                site: method.site,
+                floor: method.floor,
+                first: method.floor,
+            };
+            Next::Waits(above)
         }
+        Waited::Ends(answer) => end_method(code, core, at, own, method, answer),
     }
+}
+
+/// Asks the method of the kernel that is topmost what it does next, with the step of a turn where one begins.
+#[inline(always)]
+pub fn ask(code: &CodeProgram, core: &mut Core, at: Registers, looping: LoopingFrame) -> Waited
+    requires can { CanAct code.now core.old at }
+    requires top { core.old.stack.frames.items ≡ Looping looping ∷ below core.old.stack.frames.items }
+    ensures { IsAsked code.now core.old at looping core.new result }
+{
+    let _code = code;
+    let _at = at;
+    method_next(&mut core.run.world, looping.method, looping.state)
+}
+
+/// Puts the argument of an evaluation, if there is one, where the values of the method of the kernel begin, which waits for the
+/// block's value in a state, and has a place for it. Which evaluation waits then isn't written: the clause tells it.
+#[inline(always)]
+pub fn prepare(
+    code: &CodeProgram,
+    core: &mut Core,
+    at: Registers,
+    looping: LoopingFrame,
+    block: Value,
+    argument: Option<Value>,
+    state: KState,
+) -> Registers
+    requires { (first : AnyCore) × IsAsked code.now first at looping core.old (waited.Evaluates block argument state) }
+    ensures moves { (first : AnyCore) → IsAsked code.now first at looping core.old (waited.Evaluates block argument state)
+        → Moves code.now first (next.On at) (awaiting looping block core.new) (next.Waits result) }
+    ensures place { looping.floor < length core.new.stack.values.items }
+{
+    frames_have_room();
+    let _code = code;
+    let _block = block;
+    core.stack.set_count(at, state.count);
+    let here = Registers {
+        top: looping.floor,
+        ..at
+    };
+    core.stack.make_room(here, 1);
+    push_argument(&mut core.stack, here, argument)
+}
+
+/// Ends the method of the kernel that is topmost.
+#[inline(always)]
+pub fn end_method(
+    code: &CodeProgram,
+    core: &mut Core,
+    at: Registers,
+    own: OwnSends,
+    looping: LoopingFrame,
+    answer: Answer,
+) -> Next
+    requires asked { (first : AnyCore) × IsAsked code.now first at looping core.old (waited.Ends answer) }
+    requires own { AreOwn code.now core.old.places own }
+    ensures { (first : AnyCore) → IsAsked code.now first at looping core.old (waited.Ends answer) → Moves code.now first (next.On at) core.new result }
+{
+    actions_keep_lawful();
+    let here = core.stack.leave(at);
+    bring(code, core, here, own, looping.site, answer)
 }
 
 /// The frame of the method of the kernel that is topmost.
@@ -59,39 +125,6 @@ pub fn looping(stack: &Stack) -> LoopingFrame
         Frame::Looping(looping) => looping,
         Frame::Running(_) => unreachable!(),
     }
-}
-
-/// Lets the evaluation of a block wait, and the method of the kernel wait for its value in a state.
-#[inline(always)]
-fn evaluate(
-    code: &CodeProgram,
-    core: &mut Core,
-    at: Registers,
-    looping: LoopingFrame,
-    block: Value,
-    argument: Option<Value>,
-    state: KState,
-) -> Next
-    requires stands { Stands code.now core.old at }
-    requires top { core.old.stack.frames.items ≡ Looping looping ∷ below core.old.stack.frames.items }
-    requires room { looping.floor + 1 ≤ core.old.stack.values.room }
-    ensures { Awaits code.now core.old at looping block argument state core.new result }
-{
-    let _code = code;
-    core.stack.set_state(at, state);
-    let here = Registers {
-        top: looping.floor,
-        ..at
-    };
-    core.stack.make_room(here, 1);
-    let above = push_argument(&mut core.stack, here, argument);
-    core.waiting = Pending::Evaluating {
-        block,
-        site: looping.site,
-        floor: looping.floor,
-        first: looping.floor,
-    };
-    Next::Waits(above)
 }
 
 /// Puts the argument of an evaluation, if there is one, behind the values in use.

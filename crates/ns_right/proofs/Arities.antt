@@ -5,7 +5,7 @@ use Rattle.std.specs.List.{list_any, list_all}
 use Rattle.std.specs.Str.{bytes_eq}
 use Rattle.std.proofs.lemmas.Bool.{eqb-true}
 use Rattle.std.proofs.lemmas.Slice.Eq.{bytes_eq-Decides}
-use Rattle.ns_tree.specs.Bytes as t
+use Rattle.ns_base.specs.Spelling.{begins_name, starts_name, is_operator_byte, is_operator}
 use Rattle.ns_tree.specs.Flat.{flat_bin, flat_keys}
 use Rattle.ns_tree.specs.Plain as p
 use Rattle.ns_tree.specs.Tree.{AllHaveText}
@@ -22,24 +22,24 @@ use Rattle.ns_right.proofs.Differ.{not_past, and_left, and_right, not_true}
 
 -- ---- operators
 
-none_of : (byte : ℕ) (bytes : List ℕ) → list_any (nat_eq byte) bytes ≡ true → list_all (λ b. not (t.begins_name b)) bytes ≡ true → t.begins_name byte ≡ false
+none_of : (byte : ℕ) (bytes : List ℕ) → list_any (nat_eq byte) bytes ≡ true → list_all (λ b. not (begins_name b)) bytes ≡ true → begins_name byte ≡ false
 none_of byte [] h all = absurd (let f : false ≡ true = h in cc)
 none_of byte (first ∷ bytes) h all = by (nat_eq byte first) refl h (none_of byte bytes) where
   by : (same : Bool) → nat_eq byte first ≡ same → (same || list_any (nat_eq byte) bytes) ≡ true →
-      (list_any (nat_eq byte) bytes ≡ true → list_all (λ b. not (t.begins_name b)) bytes ≡ true → t.begins_name byte ≡ false) → t.begins_name byte ≡ false
+      (list_any (nat_eq byte) bytes ≡ true → list_all (λ b. not (begins_name b)) bytes ≡ true → begins_name byte ≡ false) → begins_name byte ≡ false
   by true e h further =
-      subst (λ b. t.begins_name b ≡ false) (sym (eqb-true byte first e))
-      (not_true (t.begins_name first) (and_left (not (t.begins_name first)) (list_all (λ b. not (t.begins_name b)) bytes) all))
-  by false e h further = further h (and_right (not (t.begins_name first)) (list_all (λ b. not (t.begins_name b)) bytes) all)
+      subst (λ b. begins_name b ≡ false) (sym (eqb-true byte first e))
+      (not_true (begins_name first) (and_left (not (begins_name first)) (list_all (λ b. not (begins_name b)) bytes) all))
+  by false e h further = further h (and_right (not (begins_name first)) (list_all (λ b. not (begins_name b)) bytes) all)
 
-operator_starts : (text : List ℕ) → t.is_operator text ≡ true → t.starts_name text ≡ false
+operator_starts : (text : List ℕ) → is_operator text ≡ true → starts_name text ≡ false
 operator_starts [] o = refl
-operator_starts (byte ∷ bytes) o = by (list_all t.is_operator_byte (byte ∷ bytes)) refl o where
-  by : (all : Bool) → list_all t.is_operator_byte (byte ∷ bytes) ≡ all → (all || bytes_eq (byte ∷ bytes) (codes "<:")) ≡ true → t.begins_name byte ≡ false
-  by true e o = none_of byte (codes "+-*/\\~<>=@%|&?,!") (and_left (t.is_operator_byte byte) (list_all t.is_operator_byte bytes) e) refl
-  by false e o = ap t.starts_name ((bytes_eq-Decides (byte ∷ bytes) (codes "<:")).0 o)
+operator_starts (byte ∷ bytes) o = by (list_all is_operator_byte (byte ∷ bytes)) refl o where
+  by : (all : Bool) → list_all is_operator_byte (byte ∷ bytes) ≡ all → (all || bytes_eq (byte ∷ bytes) (codes "<:")) ≡ true → begins_name byte ≡ false
+  by true e o = none_of byte (codes "+-*/\\~<>=@%|&?,!") (and_left (is_operator_byte byte) (list_all is_operator_byte bytes) e) refl
+  by false e o = ap starts_name ((bytes_eq-Decides (byte ∷ bytes) (codes "<:")).0 o)
 
-pub oper_arity : (text : List ℕ) → t.is_operator text ≡ true → 1 ≡ text_arity text
+pub oper_arity : (text : List ℕ) → is_operator text ≡ true → 1 ≡ text_arity text
 oper_arity text o = sym (operator_arity text o (operator_starts text o))
 
 joined_colons : (keys : p.Keys) (here : Standing) (next : ℕ) → AllHaveText (flat_keys keys) → how_many (keys_nodes here next keys) ≡ colons (joined keys)

@@ -1,13 +1,13 @@
 -- Each declaration of a tree closes the brackets that it opens.
 use Rattle.std.proofs.Common.{◌≡◌, ℕ, List, [], ◌∷◌, ◌++◌, refl}
 use Rattle.std.specs.Prelude.{Bool, true, false, Option, Some, None, map, flat_map, zip, if◌then◌else◌}
+use Rattle.ns_base.specs.Spelling.{starts_name}
 use Rattle.ns_tree.specs.declared.token.Kind.{Kind}
 use Rattle.ns_tree.specs.declared.token.Kind.TheVariants as k
 use Rattle.ns_tree.specs.declared.tree.Named.{Named}
 use Rattle.ns_tree.specs.declared.tree.Base.{Base}
 use Rattle.ns_tree.specs.declared.tree.Origin.{Origin}
 use Rattle.ns_tree.specs.declared.tree.Origin.TheVariants as o
-use Rattle.ns_tree.specs.Bytes.{starts_name}
 use Rattle.ns_tree.specs.Flat as f
 use Rattle.ns_tree.specs.Plain as p
 use Rattle.ns_right.proofs.Balance.{nothing, idents, access_balanced, message_balanced, bars_balanced, statements_balanced}

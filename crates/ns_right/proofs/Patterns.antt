@@ -3,10 +3,10 @@ use Rattle.std.proofs.Common.{◌≡◌, ℕ, suc, List, [], ◌∷◌, ◌++◌
 use Rattle.std.specs.Prelude.{Bool, true, false, ◌⊎◌, Option, Some, None, option_map, flat_map, zip, if◌then◌else◌}
 use Rattle.std.proofs.Common.{inr}
 use Rattle.std.proofs.lemmas.List.{append-nil}
+use Rattle.ns_base.specs.Spelling.{starts_name, is_operator}
 use Rattle.ns_tree.specs.declared.token.Kind.{Kind}
 use Rattle.ns_tree.specs.declared.token.Kind.TheVariants as k
 use Rattle.ns_tree.specs.declared.tree.Named.{Named}
-use Rattle.ns_tree.specs.Bytes as t
 use Rattle.ns_tree.specs.Flat.{ident, part_before, flat_pattern}
 use Rattle.ns_tree.specs.Forms.{ParamsForm, paired, operator_form, params_form, pattern_form, factory_by}
 use Rattle.ns_tree.specs.Plain as p
@@ -54,7 +54,7 @@ paired_keys : (parts params : List Named) → IsThere (paired parts params) → 
 paired_keys [] [] h texts = (tt, refl)
 paired_keys [] (param ∷ params) h texts = absurd h
 paired_keys (part ∷ parts) [] h texts = absurd h
-paired_keys (part ∷ parts) (param ∷ params) h texts = by (t.starts_name part.text) (paired_keys parts params) h texts where
+paired_keys (part ∷ parts) (param ∷ params) h texts = by (starts_name part.text) (paired_keys parts params) h texts where
   by : (starts : Bool) → (IsThere (paired parts params) → AllHaveText (turns parts params) → AreKeys parts × (length params ≡ length parts)) →
       IsThere (if starts then option_map (λ pairs. (part, param) ∷ pairs) (paired parts params) else None) →
       AllHaveText ((if starts then k.Key part.text else k.Oper part.text) ∷ ident param ∷ turns parts params) →
@@ -67,15 +67,15 @@ paired_keys (part ∷ parts) (param ∷ params) h texts = by (t.starts_name part
 params_take : (parts : List Named) (param : Named) (params : List Named) → IsThere (params_form parts param params) → AllHaveText (turns parts (param ∷ params)) →
     length (param ∷ params) ≡ text_arity (flat_map (λ part. part.text) parts)
 params_take [] param params h texts = absurd h
-params_take (part ∷ parts) param params h texts = by (t.starts_name part.text) refl h texts where
-  operator : (parts params : List Named) → t.starts_name part.text ≡ false → IsThere (operator_form part param parts params) → t.is_operator part.text ≡ true →
+params_take (part ∷ parts) param params h texts = by (starts_name part.text) refl h texts where
+  operator : (parts params : List Named) → starts_name part.text ≡ false → IsThere (operator_form part param parts params) → is_operator part.text ≡ true →
       length (param ∷ params) ≡ text_arity (flat_map (λ part. part.text) (part ∷ parts))
   operator [] [] starts h o = sym (ap text_arity (append-nil part.text) ∙ operator_arity part.text o starts)
   operator [] (other ∷ params) starts h o = absurd h
   operator (other ∷ parts) [] starts h o = absurd h
   operator (other ∷ parts) (more ∷ params) starts h o = absurd h
 
-  by : (starts : Bool) → t.starts_name part.text ≡ starts →
+  by : (starts : Bool) → starts_name part.text ≡ starts →
       IsThere (if starts then option_map (λ pairs. inr (inr ((part, param), pairs))) (paired parts params) else operator_form part param parts params) →
       AllHaveText ((if starts then k.Key part.text else k.Oper part.text) ∷ ident param ∷ turns parts params) →
       length (param ∷ params) ≡ text_arity (flat_map (λ part. part.text) (part ∷ parts))

@@ -1,8 +1,8 @@
 -- What a message, a name and a value that is set use.
 use Rattle.std.proofs.Common.{◌≡◌, ℕ, List, [], ◌∷◌, ◌++◌, sym, arith}
 use Rattle.std.specs.Prelude.{true, map, codes}
+use Rattle.ns_base.specs.Spelling.{is_identifier}
 use Rattle.ns_tree.specs.declared.tree.Named.{Named}
-use Rattle.ns_tree.specs.Bytes as t
 use Rattle.ns_tree.specs.Flat.{ident, set_key}
 use Rattle.ns_tree.specs.Plain as p
 use Rattle.ns_tree.specs.Tree.{AllHaveText}
@@ -60,7 +60,7 @@ module _ (Has : Use → Type 0) (here : Standing) (reaches : Reaches Has here.sc
   as_value_has last h = value_has (as_receiver here last) (receiver_has last h)
 
   -- a name takes no arguments
-  pub name_good : (text : List ℕ) → t.is_name text ≡ true → Has (a_message text 0)
+  pub name_good : (text : List ℕ) → is_identifier text ≡ true → Has (a_message text 0)
   name_good text h = reaches.message text 0 (sym (identifier_arity text h)) (omega arith)
 
   pub names_have : (names : List Named) (last : Said) → AllHaveText (map ident names) → SaidHas last → SaidHas (names_said here last names)
@@ -100,11 +100,11 @@ module _ (Has : Use → Type 0) (here : Standing) (reaches : Reaches Has here.sc
   by_target (target.Member level private) sent l r a = (r, tt, a)
   by_target target.SelfSend sent l r a = (r, tt, a)
 
-  pub named_has : (sent : m.Sent) → t.is_name sent.selector ≡ true → NodeHas Has (named (resolve here.scope sent.selector) sent)
+  pub named_has : (sent : m.Sent) → is_identifier sent.selector ≡ true → NodeHas Has (named (resolve here.scope sent.selector) sent)
   named_has sent h =
       by_target (resolve here.scope sent.selector) sent (reaches.local sent.selector) (reaches.send sent.selector) (name_good sent.selector h)
 
-  set_has : (name : Named) (what : Target) (value : m.Node) → t.is_name name.text ≡ true → LocalHas Has what → NodeHas Has value →
+  set_has : (name : Named) (what : Target) (value : m.Node) → is_identifier name.text ≡ true → LocalHas Has what → NodeHas Has value →
       NodeHas Has (set here name what value)
   set_has name (target.Local hops index) value n l h = (h, l)
   set_has name (target.Member level private) value n l h =

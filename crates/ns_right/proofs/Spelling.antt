@@ -16,11 +16,10 @@ use Rattle.ns_tree.specs.Tree.{AllHaveText, Tree}
 use Rattle.ns_scope.specs.declared.scope.ClassScope.{ClassScope}
 use Rattle.ns_scope.specs.Scopes.{class_scope}
 use Rattle.ns_scope.specs.Whole.{AreWholeUnits}
-use Rattle.ns_meant.specs.Classes.{unit_class}
+use Rattle.ns_tree.specs.Parts.{unit_class}
 use Rattle.ns_right.specs.Each.{EachClass, EachSide, EachMember, EachWhat, EachUnit}
 use Rattle.ns_right.specs.Named.{SpelledIn}
 use Rattle.ns_right.specs.Spelled.{IsSpelled, FactoryTakes, MethodTakes, MembersTake, SideTakes, ClassSideTakes, AreMethods, HasMethodsAlone, SlotsNamed, BarsNamed}
-use Rattle.ns_right.specs.laws.Texts.{name_is}
 use Rattle.ns_right.proofs.Patterns.{texts_left, texts_right, form_there, factory_there, pattern_takes}
 
 -- ---- slots
@@ -30,7 +29,7 @@ slots_named p.no_slots texts = tt
 slots_named (p.more_slots (p.slot_with access name init) rest) texts =
     let here = texts_left (flat_access access ++ ident name ∷ flat_init init) (flat_slots rest) texts in
     let named = texts_right (flat_access access) (ident name ∷ flat_init init) here in
-    (name_is name.text named.0.0, slots_named rest (texts_right (flat_access access ++ ident name ∷ flat_init init) (flat_slots rest) texts))
+    (named.0.0, slots_named rest (texts_right (flat_access access ++ ident name ∷ flat_init init) (flat_slots rest) texts))
 
 bars_named : (bars : p.Bars) → AllHaveText (flat_bars bars) → BarsNamed bars
 bars_named p.no_bars texts = tt
@@ -103,7 +102,7 @@ module _ (primary : Rule p.Primary) where
       let heads = texts_left (head class) sides texts in
       let further = texts_right (head class) sides texts in
       let inner = texts_right (flat_super clause) (k.Open ∷ block) (texts_right (flat_factory factory) behind heads.1.1).1 in (
-        name_is name.text heads.1.0.0,
+        heads.1.0.0,
         factory_takes factory _ good.1.1.0 (texts_left (flat_factory factory) behind heads.1.1),
         bars_named bars (texts_left (flat_bars bars) (flat_statements body ++ k.Close ∷ []) inner.1),
         side_takes depth members _ good.1.1.1.1.1.1.0 (texts_left (flat_side members) (flat_class_side others) further),

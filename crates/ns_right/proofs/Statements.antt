@@ -12,7 +12,8 @@ use Rattle.ns_rules.specs.Faults as f
 use Rattle.ns_meant.specs.Program as m
 use Rattle.ns_meant.specs.Uses.{Use, a_local, a_slot, a_return_home, NodeHas, LocalsHave, SlotsHave, MethodHas, BlockHas, ExpressionsHave}
 use Rattle.ns_meant.specs.Expressions.{Standing, expr_node}
-use Rattle.ns_meant.specs.Statements.{first_values, slots_values, bars_values, list_steps, statements_steps, expression_of}
+use Rattle.ns_meant.specs.Statements.{first_values, slots_values, bars_values, list_steps, statements_steps}
+use Rattle.ns_meant.specs.Tables.{step_node}
 use Rattle.ns_right.specs.Reaching.{Reaches}
 use Rattle.ns_right.proofs.Faults.{empty_left, empty_right}
 use Rattle.ns_right.proofs.Patterns.{texts_left, texts_right}
@@ -122,7 +123,7 @@ module _ (Has : Use → Type 0) (here : Standing) (reaches : Reaches Has here.sc
       )
 
   list_expressions : (list : p.StatementList) (next : ℕ) → f.list_faults here.scope list ≡ [] → AllHaveText (flat_list list) →
-      ExpressionsHave Has (map expression_of (list_steps here next list))
+      ExpressionsHave Has (map step_node (list_steps here next list))
   list_expressions p.no_statements next e texts = tt
   list_expressions (p.more_statements (p.statement_with None expr) rest) next e texts =
       let first = p.statement_with None expr in (
@@ -146,5 +147,5 @@ module _ (Has : Use → Type 0) (here : Standing) (reaches : Reaches Has here.sc
   statements_block (p.statements_with list stop) next home e texts = list_block list next home e (texts_left (flat_list list) (stop_if stop) texts)
 
   pub statements_expressions : (body : p.Statements) (next : ℕ) → f.statements_faults here.scope body ≡ [] → AllHaveText (flat_statements body) →
-      ExpressionsHave Has (map expression_of (statements_steps here next body))
+      ExpressionsHave Has (map step_node (statements_steps here next body))
   statements_expressions (p.statements_with list stop) next e texts = list_expressions list next e (texts_left (flat_list list) (stop_if stop) texts)

@@ -1,22 +1,19 @@
 -- What the texts of tokens are: identifiers, and how many arguments a text takes.
-use Rattle.std.proofs.Common.{◌≡◌, ℕ, ◌+◌, List, [], ◌∷◌, length, refl, sym, ap, ◌∙◌, arith}
+use Rattle.std.proofs.Common.{◌≡◌, ℕ, ◌+◌, List, [], ◌∷◌, length, refl, ap, ◌∙◌, arith}
 use Rattle.std.specs.Prelude.{true, false, flat_map, if◌then◌else◌}
+use Rattle.ns_base.specs.Spelling.{starts_name, is_identifier, is_operator}
 use Rattle.ns_tree.specs.declared.tree.Named.{Named}
-use Rattle.ns_tree.specs.Bytes as t
 use Rattle.ns_tree.specs.Tree.{IsKey}
-use Rattle.ns_code.specs.Spelling.{begins_name}
 use Rattle.ns_code.specs.Selector.{text_arity}
-use Rattle.ns_right.specs.laws.Texts.{begins_same, name_is, colons, none_in_identifier, colons_both, starts_arity, name_starts, key_colons, starts_left, key_starts}
+use Rattle.ns_right.specs.laws.Texts.{colons, none_in_identifier, colons_both, starts_arity, name_starts, key_colons, starts_left, key_starts}
 
 -- a text that doesn't takes one
-pub operator_arity : (text : List ℕ) → t.is_operator text ≡ true → t.starts_name text ≡ false → text_arity text ≡ 1
+pub operator_arity : (text : List ℕ) → is_operator text ≡ true → starts_name text ≡ false → text_arity text ≡ 1
 operator_arity [] o h = absurd (let f : false ≡ true = o in cc)
-operator_arity (byte ∷ bytes) o h =
-    let begins : begins_name byte ≡ false = sym (begins_same byte) ∙ h in
-    ap (λ b. if b then colons (byte ∷ bytes) else 1) begins
+operator_arity (byte ∷ bytes) o h = ap (λ b. if b then colons (byte ∷ bytes) else 1) h
 
-pub identifier_arity : (text : List ℕ) → t.is_name text ≡ true → text_arity text ≡ 0
-identifier_arity text h = starts_arity text (name_starts text h) ∙ none_in_identifier text (name_is text h)
+pub identifier_arity : (text : List ℕ) → is_identifier text ≡ true → text_arity text ≡ 0
+identifier_arity text h = starts_arity text (name_starts text h) ∙ none_in_identifier text h
 
 -- ---- keys
 

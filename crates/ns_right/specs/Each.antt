@@ -3,7 +3,7 @@ use Rattle.std.specs.Prelude.{List, [], ◌∷◌}
 use Rattle.ns_tree.specs.Plain as p
 use Rattle.ns_scope.specs.declared.scope.ClassScope.{ClassScope}
 use Rattle.ns_scope.specs.Scopes.{class_scope}
-use Rattle.ns_meant.specs.Classes.{unit_class}
+use Rattle.ns_tree.specs.Parts.{unit_class}
 
 module _ (Has : List ClassScope → p.Class → Type 0) where
   abbrev mutual

@@ -1,10 +1,10 @@
 -- What a class's record names is there.
 use Rattle.std.specs.Prelude.{◌≡◌, true, ℕ, List}
+use Rattle.ns_base.specs.Spelling.{is_identifier}
 use Rattle.ns_tree.specs.Plain as p
 use Rattle.ns_scope.specs.declared.scope.ClassScope.{ClassScope}
 use Rattle.ns_scope.specs.declared.scope.CodeSide.TheVariants as side
 use Rattle.ns_code.specs.Selector.{text_arity}
-use Rattle.ns_code.specs.Spelling.{is_identifier}
 use Rattle.ns_meant.specs.Program as m
 use Rattle.ns_meant.specs.Right.{HasInitialiser, HasClause, HaveMethods, AreIdentifiers}
 use Rattle.ns_right.specs.Spelled.{IsSpelled}

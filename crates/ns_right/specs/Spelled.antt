@@ -1,9 +1,9 @@
 -- What the spelling of a class's names gives: identifiers, and patterns with as many parameters as their selectors take.
 use Rattle.std.specs.Prelude.{◌≡◌, true, length, Option, Some, None}
+use Rattle.ns_base.specs.Spelling.{is_identifier}
 use Rattle.ns_tree.specs.Plain as p
 use Rattle.ns_scope.specs.Names.{selector_of}
 use Rattle.ns_code.specs.Selector.{text_arity}
-use Rattle.ns_code.specs.Spelling.{is_identifier}
 
 -- A pattern has as many parameters as its selector takes arguments.
 abbrev pub Takes : p.Pattern → Type 0

@@ -6,7 +6,6 @@ ghost use Rattle.ns_world.specs.declared.value.Value.{Value};
 ghost use Rattle.ns_world.specs.World.{SameRoom};
 ghost use Rattle.ns_world.specs.Lawful.{IsLawful, IsLiveValue};
 ghost use Rattle.ns_world.specs.Heap.{Heap};
-ghost use Rattle.ns_send.specs.Site as site;
 ghost use Rattle.ns_rows.specs.Asked.{HasRoom};
 ghost use Rattle.ns_rows.specs.Plain.{IsOfRow};
 ghost use Rattle.ns_rows.specs.Reaching.{ReachesAlone, class_answered};
@@ -17,8 +16,9 @@ use ns_classes::apply::{MakeFault, apply};
 use ns_code::program::CodeProgram;
 use ns_kdata::arguments::shape_of_value;
 use ns_send::control::Reached;
+use ns_send::site::make_fault;
 use ns_world::cell::NewCell;
-use ns_world::ending::{Fault, Kind, LimitKind};
+use ns_world::ending::Kind;
 use ns_world::value::Value;
 use ns_world::world::World;
 
@@ -55,18 +55,5 @@ fn made(class: Result<u32, MakeFault>) -> Reached
     match class {
         Ok(number) => Reached::Gives(Value::Ref(number)),
         Err(fault) => Reached::Fails(make_fault(fault)),
-    }
-}
-
-/// The fault of a class that can't be made, as that of a row.
-#[inline(never)]
-pub fn make_fault(fault: MakeFault) -> Fault
-    ensures { result ≡ site.make_fault fault }
-{
-    match fault {
-        MakeFault::NotAClass => Fault::Kind(Kind::NotAClass),
-        MakeFault::KernelSuper => Fault::Kind(Kind::KernelSuper),
-        MakeFault::ChainLimit => Fault::Kind(Kind::ChainLimit),
-        MakeFault::CellLimit => Fault::Limit(LimitKind::Cells),
     }
 }

@@ -3,7 +3,6 @@
 ghost use Rattle.std.specs.Prelude.{◌≡◌, true};
 ghost use Rattle.ns_world.specs.World.{SameRoom};
 ghost use Rattle.ns_kdata.specs.Arguments.{IsThere};
-ghost use Rattle.ns_mirror.specs.Mirror as mirrors;
 ghost use Rattle.ns_world.specs.Heap.{Heap};
 ghost use Rattle.ns_send.specs.Kernel as spec;
 ghost use Rattle.ns_send.specs.Suiting.{RowSuits, is_reference};
@@ -24,7 +23,7 @@ use ns_kdata::arguments::{argument, number_of, shape_of_value};
 use ns_kdata::datum::datum;
 use ns_kdata::row::DataRow;
 use ns_kint::integer::integer;
-use ns_mirror::mirror::mirror;
+use ns_mirror::mirror::{cell_number, mirror};
 use ns_mirror::row::{MirrorRow, Mirrored};
 use ns_send::control::{Given, Reached};
 use ns_send::row::Row;
@@ -172,15 +171,5 @@ fn mirrored(answer: Result<Mirrored, Fault>) -> Reached
             array,
         },
         Err(fault) => Reached::Fails(fault),
-    }
-}
-
-/// The number of the cell that a value refers to, 0 where it refers to none.
-fn cell_number(value: Value) -> u32
-    ensures { result ≡ mirrors.cell_number value }
-{
-    match value {
-        Value::Ref(at) => at,
-        _ => 0,
     }
 }

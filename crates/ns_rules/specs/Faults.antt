@@ -5,6 +5,7 @@ use Rattle.ns_tree.specs.declared.tree.Base.{Base}
 use Rattle.ns_tree.specs.declared.tree.Origin.{Origin}
 use Rattle.ns_tree.specs.declared.tree.Origin.TheVariants as o
 use Rattle.ns_tree.specs.Plain as p
+use Rattle.ns_tree.specs.Parts.{first_key}
 use Rattle.ns_scope.specs.declared.scope.ClassScope.{ClassScope}
 use Rattle.ns_scope.specs.declared.scope.Scope.{Scope}
 use Rattle.ns_scope.specs.declared.scope.CodeSide.{CodeSide}
@@ -36,13 +37,9 @@ keywords_found keys = found_past 63 many.Parameters (key_places keys)
 abbrev pub bin_start : p.BinExpr → ℕ
 bin_start (p.bin_with (p.un_with at primary names) opers) = at
 
-abbrev pub keys_start : p.Keys → ℕ
-keys_start p.no_keys = 0
-keys_start (p.more_keys name argument rest) = name.at
-
 abbrev pub key_expr_start : p.KeyExpr → ℕ
 key_expr_start (p.sent receiver keys) = bin_start receiver
-key_expr_start (p.implicit keys) = keys_start keys
+key_expr_start (p.implicit keys) = first_key keys
 
 -- the number of an expression's first token
 abbrev pub expr_start : p.Expr → ℕ
@@ -253,9 +250,6 @@ classes_found before (at ∷ rest) = found_if (nat_eq before 4096) at (c.TooMany
 
 abbrev pub class_name : p.Class → Named
 class_name (p.class_with name factory clause bars body members others) = name
-
-abbrev pub unit_class : p.SourceUnit → p.Class
-unit_class (p.unit_with marker category class) = class
 
 -- the faults of a unit, behind units whose classes have the names in the table, and behind so many classes
 abbrev pub unit_faults : TableOf ℕ → ℕ → p.Class → List Found

@@ -10,7 +10,8 @@ use Rattle.ns_rules.specs.declared.fault.Many.{Many}
 use Rattle.ns_rules.specs.declared.fault.Many.TheVariants as many
 use Rattle.ns_rules.specs.declared.fault.Placed.{Placed}
 use Rattle.ns_rules.specs.Rules.{Found}
-use Rattle.ns_rules.specs.Faults.{unit_faults, unit_class, class_name, class_names}
+use Rattle.ns_rules.specs.Faults.{unit_faults, class_name, class_names}
+use Rattle.ns_tree.specs.Parts.{unit_class}
 
 -- the number of a cause in the list of causes; the kinds of TooMany follow one another
 abbrev pub kind_number : Many → ℕ

@@ -7,7 +7,7 @@ ghost use Rattle.ns_tree.specs.PlainOf.{expr_of, key_expr_of, keys_of, bin_of, o
 ghost use Rattle.ns_scope.specs.Resolve.{innermost};
 ghost use Rattle.ns_rules.specs.Rules.{set_found, return_found, bare_found, outer_found, number_found, cascade_found};
 ghost use Rattle.ns_rules.specs.Rules.{setting_is_fixed, is_fixed, is_bare, unary_sends, is_written, un_sends, opers_send, bin_sends, written_bin, sends_to_written, has_names, has_opers, has_keys};
-ghost use Rattle.ns_rules.specs.Faults.{receiver_if, key_places, expr_starts, keywords_found, elements_found, expr_start, key_expr_start, bin_start, keys_start};
+ghost use Rattle.ns_rules.specs.Faults.{receiver_if, key_places, expr_starts, keywords_found, elements_found, expr_start, key_expr_start, bin_start};
 ghost use Rattle.ns_rules.specs.Walk.{with_found};
 ghost use Rattle.ns_rules.specs.declared.fault.Role.TheVariants as r;
 
@@ -16,6 +16,7 @@ use crate::fault::{Many, Role, StaticCause};
 use ns_scope::chain::{Chain, Link};
 use ns_scope::names::Setting;
 use ns_scope::scope::{ClassScope, Scope};
+use ns_tree::parts::first_key;
 use ns_tree::tree::{BinExpr, Expr, KeyExpr, Message, Named, Primary, UnExpr};
 
 /// FixedLocal, at `x::`, where x can't be set.
@@ -286,7 +287,7 @@ fn key_expr_start(expr: &KeyExpr) -> u32
     ensures { result ≡ key_expr_start (key_expr_of expr.now) }
 {
     match &expr.receiver {
-        None => keys_start(&expr.keys),
+        None => first_key(&expr.keys),
         Some(receiver) => bin_start(receiver),
     }
 }
@@ -295,13 +296,4 @@ fn bin_start(expr: &BinExpr) -> u32
     ensures { result ≡ bin_start (bin_of expr.now) }
 {
     expr.first.at
-}
-
-fn keys_start(keys: &[(Named, BinExpr)]) -> u32
-    ensures { result ≡ keys_start (keys_of keys.now) }
-{
-    match keys {
-        [] => 0,
-        [key, ..] => key.0.at,
-    }
 }

@@ -9,11 +9,12 @@ use Rattle.ns_load.specs.declared.fault.LoadFault.{LoadFault}
 use Rattle.ns_load.specs.declared.fault.LoadFault.TheVariants.{At, Memory}
 use Rattle.ns_run.proofs.ReportLaws.{file_plain, spelling_ends, text_plain, told_plain}
 use Rattle.ns_run.specs.Meaning.{name_of, of_cause, of_fault, of_files, of_loading}
-use Rattle.ns_run.specs.Outcome.{IsEnding, IsMissing, IsReadFault, IsRefusal, SomeOf}
+use Rattle.ns_run.specs.Outcome.{IsEnding, IsMissing, IsReadFault, IsRefusal}
 use Rattle.ns_run.specs.Report.{spelling_name}
 use Rattle.ns_run.specs.declared.report.Report.{Report}
 use Rattle.ns_run.specs.declared.stop.Stop.{Stop}
 use Rattle.ns_run.specs.Task.{Task}
+use Rattle.ns_joint.specs.Answer.{OfSomeName}
 
 -- A refusal that is told is what the files are loaded as.
 pub refusal_is : (names : List (List ℕ)) (lib : Bool) (files : Files) (fault : LoadFault) → IsRefusal fault → TellsFault names lib files fault → loaded names lib files ≡ stopped fault
@@ -55,7 +56,7 @@ read_fault_at (At cause k) i f = f k (ap (λ why. At why k) i)
 read_fault_at Memory i f = absurd i
 
 -- A file that couldn't be read is there.
-pub read_fault_there : (names : List (List ℕ)) (lib : Bool) (files : Files) (fault : LoadFault) → IsReadFault fault → TellsFault names lib files fault → SomeOf names (λ file. IsSome (files file))
+pub read_fault_there : (names : List (List ℕ)) (lib : Bool) (files : Files) (fault : LoadFault) → IsReadFault fault → TellsFault names lib files fault → OfSomeName names (λ file. IsSome (files file))
 read_fault_there names lib files (At Missing k) i t = absurd (cc (i))
 read_fault_there names lib files (At TooLong k) i t = absurd (cc (i))
 read_fault_there names lib files (At ReadFault k) i t = (k, t.0)

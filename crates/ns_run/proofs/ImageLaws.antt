@@ -18,7 +18,7 @@ use Rattle.ns_model.specs.Whole.{status_of}
 use Rattle.ns_moves.specs.State.{ending_of}
 use Rattle.ns_run.proofs.ReportLaws.{ending_plain, stop_keeps}
 use Rattle.ns_run.specs.Image.{ImageWork, Executes, Lists, image_cause, of_executed, of_image_bytes, of_image_file, of_image, of_listed, of_short, place_text, unsound, verify_name}
-use Rattle.ns_run.specs.Outcome.{IsEnding, IsMissing, OfSomeText, SomeTexts}
+use Rattle.ns_run.specs.Outcome.{IsEnding, IsMissing, OfSomeText}
 use Rattle.ns_run.specs.declared.stop.Stop.{Stop}
 use Rattle.ns_run.specs.declared.stop.Stop.TheVariants as stop
 use Rattle.ns_base.specs.declared.no_memory.NoMemory.{NoMemory}
@@ -30,6 +30,7 @@ use Rattle.ns_verify.specs.declared.fault.Fault.{Fault}
 use Rattle.ns_verify.specs.declared.fault.VerifyCause.{VerifyCause}
 use Rattle.ns_verify.specs.declared.fault.VerifyCause.TheVariants as cause
 use Rattle.ns_verify.specs.declared.fault.Where.{Where}
+use Rattle.ns_joint.specs.Answer.{OfSomeTexts}
 
 -- ---- the bytes that were loaded
 
@@ -153,7 +154,7 @@ whole_image bytes l = ap Some (take_all 134217729 bytes l)
 
 -- The text of the one name.
 pub one_text : {A : Type 0} (shown : A → List ℕ) (names : List A) (name : A) (work : ImageWork) (result : Result Report Stop) → length names ≡ 1 → name ≡ get_or names 0 name
-    → OfSomeText (λ text. IfOk result (λ r. r ≡ of_image_file work (shown name) text)) → SomeTexts (map shown names) (λ texts. IfOk result (λ r. r ≡ of_image work (map shown names) texts))
+    → OfSomeText (λ text. IfOk result (λ r. r ≡ of_image_file work (shown name) text)) → OfSomeTexts (map shown names) (λ texts. IfOk result (λ r. r ≡ of_image work (map shown names) texts))
 one_text shown [] name work result one e (text, h) = absurd (omega (arith, one))
 one_text shown (x ∷ []) name work result one e (text, h) = (text ∷ [], refl, subst (λ n. IfOk result (λ r. r ≡ of_image_file work (shown n) text)) e h)
 one_text shown (x ∷ y ∷ ys) name work result one e (text, h) = absurd (omega (arith, one))

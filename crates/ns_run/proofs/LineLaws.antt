@@ -5,7 +5,6 @@ use Rattle.ns_base.specs.declared.limits.Limits.{Limits}
 use Rattle.ns_run.proofs.TextLaws.{whatever_texts}
 use Rattle.ns_run.specs.Image.{Executes, of_image}
 use Rattle.ns_run.specs.Meaning.{files_of, of_files, of_line, of_session}
-use Rattle.ns_run.specs.Outcome.{SomeTexts}
 use Rattle.ns_run.specs.Report.{told}
 use Rattle.ns_run.specs.Task.{Runs}
 use Rattle.ns_run.specs.declared.report.Report.{Report}
@@ -18,6 +17,7 @@ use Rattle.ns_words.specs.Table.{form_of}
 use Rattle.ns_words.specs.Words.{Line, limits_of, quantum_of}
 use Rattle.ns_words.specs.declared.form.Verb.{Verb}
 use Rattle.ns_words.specs.declared.form.Verb.TheVariants.{Check, Show, Run, Build, Exec, Listing, Session, Sample, Help, Version}
+use Rattle.ns_joint.specs.Answer.{OfSomeTexts}
 
 -- The command works on files.
 abbrev pub TakesFiles : Verb → Type 0
@@ -75,11 +75,11 @@ session_told line limits quantum files result e l q h =
     (subst (λ l. IfOk result (λ r. r ≡ of_session line.given.lib l quantum line.names (map files (files_of Session line.names)))) l h))
 
 pub session_texts : (line : Line) (limits : Limits) (quantum : ℕ) (result : Result Report Stop) → line.verb ≡ Session → limits ≡ limits_of line.given → quantum ≡ quantum_of line.given
-    → SomeTexts (files_of Session line.names) (λ texts. IfOk result (λ r. r ≡ of_session line.given.lib limits quantum line.names texts)) → SomeTexts (files_of line.verb line.names) (λ texts. IfOk result (λ r. r ≡ of_line line.verb line texts))
+    → OfSomeTexts (files_of Session line.names) (λ texts. IfOk result (λ r. r ≡ of_session line.given.lib limits quantum line.names texts)) → OfSomeTexts (files_of line.verb line.names) (λ texts. IfOk result (λ r. r ≡ of_line line.verb line texts))
 session_texts line limits quantum result e l q h =
-    subst (λ v. SomeTexts (files_of v line.names) (λ texts. IfOk result (λ r. r ≡ of_line v line texts))) (sym e)
-    (subst (λ n. SomeTexts (files_of Session line.names) (λ texts. IfOk result (λ r. r ≡ of_session line.given.lib (limits_of line.given) n line.names texts))) q
-    (subst (λ l. SomeTexts (files_of Session line.names) (λ texts. IfOk result (λ r. r ≡ of_session line.given.lib l quantum line.names texts))) l h))
+    subst (λ v. OfSomeTexts (files_of v line.names) (λ texts. IfOk result (λ r. r ≡ of_line v line texts))) (sym e)
+    (subst (λ n. OfSomeTexts (files_of Session line.names) (λ texts. IfOk result (λ r. r ≡ of_session line.given.lib (limits_of line.given) n line.names texts))) q
+    (subst (λ l. OfSomeTexts (files_of Session line.names) (λ texts. IfOk result (λ r. r ≡ of_session line.given.lib l quantum line.names texts))) l h))
 
 pub run_told : (line : Line) (limits : Limits) (files : Files) (result : Result Report Stop) → line.verb ≡ Run → limits ≡ limits_of line.given
     → IfOk result (λ r. r ≡ of_files (Runs limits line.arguments None) line.names line.given.lib files) → IfOk result (λ r. r ≡ of_line line.verb line (map files (files_of line.verb line.names)))
@@ -93,12 +93,12 @@ exec_told line limits files result e l h =
     subst (λ v. IfOk result (λ r. r ≡ of_line v line (map files (files_of v line.names)))) (sym e)
     (subst (λ l. IfOk result (λ r. r ≡ of_image (Executes l line.arguments) line.names (map files line.names))) l h)
 
-pub help_texts : (line : Line) (result : Result Report Stop) → line.verb ≡ Help → IfOk result (λ r. r ≡ told HELP.now) → SomeTexts (files_of line.verb line.names) (λ texts. IfOk result (λ r. r ≡ of_line line.verb line texts))
+pub help_texts : (line : Line) (result : Result Report Stop) → line.verb ≡ Help → IfOk result (λ r. r ≡ told HELP.now) → OfSomeTexts (files_of line.verb line.names) (λ texts. IfOk result (λ r. r ≡ of_line line.verb line texts))
 help_texts line result e h =
-    subst (λ v. SomeTexts (files_of v line.names) (λ texts. IfOk result (λ r. r ≡ of_line v line texts))) (sym e)
+    subst (λ v. OfSomeTexts (files_of v line.names) (λ texts. IfOk result (λ r. r ≡ of_line v line texts))) (sym e)
     (whatever_texts [] (IfOk result (λ r. r ≡ told HELP.now)) h)
 
-pub version_texts : (line : Line) (result : Result Report Stop) → line.verb ≡ Version → IfOk result (λ r. r ≡ told VERSION.now) → SomeTexts (files_of line.verb line.names) (λ texts. IfOk result (λ r. r ≡ of_line line.verb line texts))
+pub version_texts : (line : Line) (result : Result Report Stop) → line.verb ≡ Version → IfOk result (λ r. r ≡ told VERSION.now) → OfSomeTexts (files_of line.verb line.names) (λ texts. IfOk result (λ r. r ≡ of_line line.verb line texts))
 version_texts line result e h =
-    subst (λ v. SomeTexts (files_of v line.names) (λ texts. IfOk result (λ r. r ≡ of_line v line texts))) (sym e)
+    subst (λ v. OfSomeTexts (files_of v line.names) (λ texts. IfOk result (λ r. r ≡ of_line v line texts))) (sym e)
     (whatever_texts [] (IfOk result (λ r. r ≡ told VERSION.now)) h)

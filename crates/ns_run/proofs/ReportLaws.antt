@@ -14,7 +14,7 @@ use Rattle.ns_base.specs.declared.status.Status.TheVariants.{Done, ProgramError,
 use Rattle.ns_run.specs.Meaning.{files_read, name_of, of_build, of_built, of_check, of_run, of_show, of_sized, of_units}
 use Rattle.ns_run.specs.Run.{run_report}
 use Rattle.ns_exec.specs.Build.{Built, built_of, image, image_too_large, too_large}
-use Rattle.ns_run.specs.Outcome.{IsDelivered, IsEnding, IsMissing, LeavesStreams, NamesMissing, SomeOf, TellsMissing, Wrote, missing_line}
+use Rattle.ns_run.specs.Outcome.{IsDelivered, IsEnding, IsMissing, LeavesStreams, NamesMissing, TellsMissing, Wrote, missing_line}
 use Rattle.ns_run.specs.Report.{many_name, refused_file, refused_text, spelling_name, size_name, static_name, told}
 use Rattle.ns_launch.specs.Run.{granted, meant_run}
 use Rattle.ns_run.specs.Task.{Task, Checks, Shows, Builds, Runs}
@@ -38,6 +38,7 @@ use Rattle.ns_tree.specs.Plain as p
 use Rattle.ns_words.specs.Words.{Reading}
 use Rattle.ns_world.specs.declared.ending.Ending.{Ending}
 use Rattle.ns_world.specs.declared.ending.Ending.TheVariants as ending
+use Rattle.ns_joint.specs.Answer.{OfSomeName}
 
 -- What holds of a report holds of it behind `or_stop`.
 pub stop_keeps : (made : Result Report NoMemory) (res : Result Report Stop) (P : Report → Type 0) → MatchResult made (λ r. res ≡ Ok r) (λ _. res ≡ Err stop.Memory) → IfOk made P → IfOk res P
@@ -213,14 +214,14 @@ names_file file r old new s d (before, o, n) =
     (s, append_cancel_left before r.err line f)
 
 -- What holds of some name of a list.
-pub some_of : {X : Type 0} (names : List (List ℕ)) (P : List ℕ → Type 0) → SomeOf names P → ((name : List ℕ) → P name → X) → X
+pub some_of : {X : Type 0} (names : List (List ℕ)) (P : List ℕ → Type 0) → OfSomeName names P → ((name : List ℕ) → P name → X) → X
 some_of {X = X} names P (k, s) f = some_at (slice_get names k) s
   where
     some_at : (o : Option (List ℕ)) → IsSomeAnd o P → X
     some_at None s = absurd s
     some_at (Some name) s = f name s
 
-pub some_other : (names : List (List ℕ)) (P Q : List ℕ → Type 0) → ((name : List ℕ) → P name → Q name) → SomeOf names P → SomeOf names Q
+pub some_other : (names : List (List ℕ)) (P Q : List ℕ → Type 0) → ((name : List ℕ) → P name → Q name) → OfSomeName names P → OfSomeName names Q
 some_other names P Q f (k, s) = (k, some_at (slice_get names k) s)
   where
     some_at : (o : Option (List ℕ)) → IsSomeAnd o P → IsSomeAnd o Q

@@ -3,18 +3,18 @@ use Rattle.std.proofs.Common.{◌≡◌, ◌≤◌, ℕ, List, Result, Ok, Err, 
 use Rattle.ns_base.specs.declared.limits.Limits.{Limits}
 use Rattle.ns_base.specs.declared.status.Status.{Status}
 use Rattle.ns_base.specs.declared.status.Status.TheVariants.{Done, ProgramError, Refused, Limit, ReadFault, WriteFault, Memory}
-use Rattle.ns_joint.specs.Answer.{IsMissingFile, IsRefusal, RefusesAs, Tells}
+use Rattle.ns_joint.specs.Answer.{IsMissingFile, IsRefusal, RefusesAs, Tells, OfSomeName}
 use Rattle.ns_joint.specs.Joint.{Joint, stopped_for, has_run}
 use Rattle.ns_joint.specs.Making.{Refusal}
-use Rattle.ns_joint.specs.Stood.{IsRunStatus}
 use Rattle.ns_joint.specs.declared.fault.JointFault.{JointFault}
 use Rattle.ns_joint.specs.declared.fault.JointFault.TheVariants as fault
 use Rattle.ns_joint.specs.declared.joint.Told.{Told}
+use Rattle.ns_launch.specs.Running.{IsRunStatus}
 use Rattle.ns_load.specs.declared.fault.LoadCause.TheVariants.{Missing}
 use Rattle.ns_run.proofs.FaultLaws.{cause_ends, cause_says}
 use Rattle.ns_run.proofs.ReportLaws.{IsPlain, check_plain, file_plain, size_ends, some_of}
 use Rattle.ns_run.specs.Meaning.{name_of, of_check, of_joint, of_refusal}
-use Rattle.ns_run.specs.Outcome.{IsEnding, IsMissing, SomeOf}
+use Rattle.ns_run.specs.Outcome.{IsEnding, IsMissing}
 use Rattle.ns_run.specs.Report.{size_name, told_jointly}
 use Rattle.ns_run.specs.declared.report.Report.{Report}
 use Rattle.ns_run.specs.declared.stop.Stop.{Stop}
@@ -56,7 +56,7 @@ refusal_says (fault.Unchecked names place cause) report r name m =
 refusal_says (fault.TooLarge kind) report r name m = absurd ((file_plain (codes "nspk") (size_name kind) (size_ends kind)).says name (subst (IsMissing name) r m))
 refusal_says fault.Memory report r name m = absurd r
 
-pub refusals_say : {X : Type 0} (why : JointFault) (result : Result Report Stop) (names : List (List ℕ)) → IfOk result (λ r. RefusesAs (λ refusal. r ≡ of_refusal refusal) why) → (IsMissingFile why → X) → IfOk result (λ r. SomeOf names (λ file. IsMissing file r) → X)
+pub refusals_say : {X : Type 0} (why : JointFault) (result : Result Report Stop) (names : List (List ℕ)) → IfOk result (λ r. RefusesAs (λ refusal. r ≡ of_refusal refusal) why) → (IsMissingFile why → X) → IfOk result (λ r. OfSomeName names (λ file. IsMissing file r) → X)
 refusals_say why (Ok r) names h missing = λ some. some_of names (λ file. IsMissing file r) some (λ name m. missing (refusal_says why r h name m))
 refusals_say why (Err e) names h missing = tt
 

@@ -12,7 +12,7 @@ use Rattle.ns_load.specs.declared.fault.LoadCause.TheVariants.{Missing, TooLong,
 use Rattle.ns_load.specs.declared.fault.LoadFault.{LoadFault}
 use Rattle.ns_load.specs.declared.fault.LoadFault.TheVariants.{At, Memory}
 use Rattle.ns_run.specs.Meaning.{files_read, meaning, of_fault, of_loading, of_reading, of_texts, of_units}
-use Rattle.ns_run.specs.Outcome.{IsRefusal, NamesMissing, OverTexts, SomeTexts}
+use Rattle.ns_run.specs.Outcome.{IsRefusal, NamesMissing, OverTexts}
 use Rattle.ns_run.specs.Task.{Task}
 use Rattle.ns_run.specs.declared.report.Report.{Report}
 use Rattle.ns_run.specs.declared.stop.Stop.{Stop}
@@ -24,6 +24,7 @@ use Rattle.ns_words.specs.Forms.{AreNames}
 use Rattle.ns_words.specs.declared.form.Item.TheVariants.{File}
 use Rattle.ns_words.specs.FileName.{is_file_name}
 use Rattle.ns_words.specs.Words.{Reading, reading_of}
+use Rattle.ns_joint.specs.Answer.{OfSomeTexts}
 
 -- A word that can name a file does so.
 name_is_file : (name : List ℕ) → IsUtf8 name → is_file_name name ≡ true → IsFileName name
@@ -52,18 +53,18 @@ refusal_of_texts t names lib texts fault (Err e) tells i h = tt
 -- ---- the command's texts
 
 -- No text for each name.
-pub empty_texts : (names : List (List ℕ)) → SomeTexts names (λ texts. Unit {0})
+pub empty_texts : (names : List (List ℕ)) → OfSomeTexts names (λ texts. Unit {0})
 empty_texts [] = ([], refl, tt)
-empty_texts (name ∷ names) = let t : SomeTexts names (λ texts. Unit {0}) = empty_texts names in (None ∷ t.0, omega (arith, t.1), tt)
+empty_texts (name ∷ names) = let t : OfSomeTexts names (λ texts. Unit {0}) = empty_texts names in (None ∷ t.0, omega (arith, t.1), tt)
 
 -- Texts of the files of the command that is read.
 pub over_reading : (reading : Reading) (words : List (List ℕ)) (result : Result Report Stop) → reading ≡ reading_of words
-    → SomeTexts (files_read reading) (λ texts. IfOk result (λ r. r ≡ of_reading reading texts)) → OverTexts words (λ report. IfOk result (λ r. r ≡ report))
-over_reading reading words result e h = subst (λ k. SomeTexts (files_read k) (λ texts. IfOk result (λ r. r ≡ of_reading k texts))) e h
+    → OfSomeTexts (files_read reading) (λ texts. IfOk result (λ r. r ≡ of_reading reading texts)) → OverTexts words (λ report. IfOk result (λ r. r ≡ report))
+over_reading reading words result e h = subst (λ k. OfSomeTexts (files_read k) (λ texts. IfOk result (λ r. r ≡ of_reading k texts))) e h
 
 -- Where the texts decide nothing, none need be there.
-pub whatever_texts : (names : List (List ℕ)) (P : Type 0) → P → SomeTexts names (λ texts. P)
-whatever_texts names P h = let t : SomeTexts names (λ texts. Unit {0}) = empty_texts names in (t.0, t.1, h)
+pub whatever_texts : (names : List (List ℕ)) (P : Type 0) → P → OfSomeTexts names (λ texts. P)
+whatever_texts names P h = let t : OfSomeTexts names (λ texts. Unit {0}) = empty_texts names in (t.0, t.1, h)
 
 -- The report of a command that was read is what its words mean.
 pub told_reading : (reading : Reading) (words : List (List ℕ)) (files : Files) (result : Result Report Stop) → reading ≡ reading_of words → IfOk result (λ r. r ≡ of_reading reading (map files (files_read reading)))

@@ -1,5 +1,5 @@
 -- What the files and the streams are after a command.
-use Rattle.std.specs.Prelude.{◌≡◌, ◌⊎◌, ℕ, List, Option, Some, None, ◌++◌, codes, length, slice_get, IsNone, IsSome, IsSomeAnd, MatchOption}
+use Rattle.std.specs.Prelude.{◌≡◌, ◌⊎◌, ℕ, List, Option, Some, None, ◌++◌, codes, IsNone, IsSome, IsSomeAnd, MatchOption}
 use Rattle.ns_base.specs.Files.{AllStand, Files, OthersStand}
 use Rattle.ns_base.specs.Sink.{WrotePrefix, with_bytes}
 use Rattle.ns_base.specs.declared.status.Status.{Status}
@@ -15,6 +15,7 @@ use Rattle.ns_run.specs.declared.report.Report.{Report}
 use Rattle.ns_words.specs.Words.{Reading, says, bad, reading_of}
 use Rattle.ns_words.specs.declared.form.Verb.{Verb}
 use Rattle.ns_words.specs.declared.form.Verb.TheVariants as verb
+use Rattle.ns_joint.specs.Answer.{OfSomeTexts, OfSomeName}
 
 -- The status is the report's, and both streams have all of its bytes.
 pub record IsDelivered (report : Report) (status : Status) (out out' err err' : Option (List ℕ)) : Type 0 where
@@ -102,25 +103,17 @@ IsEnding Memory = ⊥
 abbrev pub IsWritten : (reported status : Status) → Type 0
 IsWritten reported status = (status ≡ reported) ⊎ (status ≡ WriteFault)
 
--- Some of these names is such.
-abbrev pub SomeOf : List (List ℕ) → (List ℕ → Type 0) → Type 0
-SomeOf names P = (k : ℕ) × IsSomeAnd (slice_get names k) P
-
--- There is a text, or none, for each of these names, and of these this is so.
-abbrev pub SomeTexts : List (List ℕ) → (List (Option (List ℕ)) → Type 0) → Type 0
-SomeTexts names P = (texts : List (Option (List ℕ))) × (length texts ≡ length names) × P texts
-
 -- There is a text, or none, of which this is so.
 abbrev pub OfSomeText : (Option (List ℕ) → Type 0) → Type 0
 OfSomeText P = (text : Option (List ℕ)) × P text
 
 -- There is a text, or none, for each file of the command of these words, and over these its meaning is so.
 abbrev pub OverTexts : List (List ℕ) → (Report → Type 0) → Type 0
-OverTexts words P = SomeTexts (files_read (reading_of words)) (λ texts. P (meaning_of_texts words texts))
+OverTexts words P = OfSomeTexts (files_read (reading_of words)) (λ texts. P (meaning_of_texts words texts))
 
 -- Some file of the command is there.
 abbrev pub HasAFile : Reading → Files → Type 0
-HasAFile reading files = SomeOf (files_read reading) (λ file. IsSome (files file))
+HasAFile reading files = OfSomeName (files_read reading) (λ file. IsSome (files file))
 
 -- These bytes were written, to a stream that tells its bytes.
 abbrev pub Wrote : List ℕ → (old new : Option (List ℕ)) → Type 0
@@ -136,11 +129,11 @@ IsMissing file report = (report.status ≡ Refused) × (report.err ≡ missing_l
 
 -- The report refuses some file of the command as one that isn't there.
 abbrev pub NamesMissing : Reading → Report → Type 0
-NamesMissing reading report = SomeOf (files_read reading) (λ file. IsMissing file report)
+NamesMissing reading report = OfSomeName (files_read reading) (λ file. IsMissing file report)
 
 -- The line was written that tells of some file of the command that it isn't there.
 abbrev pub TellsMissing : Reading → (err err' : Option (List ℕ)) → Type 0
-TellsMissing reading err err' = SomeOf (files_read reading) (λ file. Wrote (missing_line file) err err')
+TellsMissing reading err err' = OfSomeName (files_read reading) (λ file. Wrote (missing_line file) err err')
 
 -- The cause refuses a file: it isn't that the file couldn't be read.
 abbrev pub IsRefusedFor : LoadCause → Type 0

@@ -8,11 +8,11 @@ use Rattle.std.proofs.lemmas.Bool.{ltb-true, leb-true, not-true}
 use Rattle.std.proofs.lemmas.Slice.Eq.{bytes_eq-Decides}
 use Rattle.std.proofs.lemmas.List.Elements.{All-nil, All-cons}
 use Rattle.std.proofs.lemmas.List.Kept.{AllPairs-cons}
+use Rattle.ns_base.specs.Spelling.{is_selector}
 use Rattle.ns_code.specs.declared.class.ClassCode.{ClassCode}
 use Rattle.ns_code.specs.declared.class.SlotCode.{SlotCode}
 use Rattle.ns_code.specs.declared.class.NestedCode.{NestedCode}
 use Rattle.ns_code.specs.declared.class.MethodCode.{MethodCode}
-use Rattle.ns_code.specs.Spelling.{is_selector}
 use Rattle.ns_code.specs.Fits.{IsFileName, IsShort, IsName, IsLocalName, InstrFits, PlaceFits, SlotFits, NestedFits, MethodFits, ClassFits, BodyFits, Fits}
 use Rattle.ns_world.specs.laws.Chains.{both_of}
 use Rattle.ns_run_tests.specs.Program.{body_of, program_code, program_names, program_classes, class_base, class_part, class_sub, class_other}

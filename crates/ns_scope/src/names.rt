@@ -195,7 +195,8 @@ fn put_slot_members(all: &mut Vec<Declared<Access>>, slots: &[Slot]) -> Result<(
     Ok(())
 }
 
-fn access_or(other: Access, access: Option<Access>) -> Access
+/// The access of a member: its own, or another where it is written without one.
+pub fn access_or(other: Access, access: Option<Access>) -> Access
     ensures { result ≡ access_or other access }
 {
     match access {

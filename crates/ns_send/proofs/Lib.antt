@@ -13,3 +13,4 @@ pub mod SitesStay
 pub mod PartsStay
 pub mod LocalsFit
 pub mod BlocksFit
+pub mod Tabled

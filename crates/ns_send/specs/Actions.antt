@@ -7,8 +7,8 @@ use Rattle.ns_world.specs.declared.value.Value.{Value}
 use Rattle.ns_kcode.specs.declared.state.KMethod.{KMethod}
 use Rattle.ns_kcode.specs.declared.state.KState.{KState}
 use Rattle.ns_send.specs.declared.site.Site.{Site}
-use Rattle.ns_send.specs.Control.{Progress, Activation, Exit}
-use Rattle.ns_send.specs.Classes.{super_part, body_ended, part_ended, slot_filled}
+use Rattle.ns_send.specs.Control.{Progress, Activation, Exit, frame_left}
+use Rattle.ns_send.specs.Classes.{super_part, body_ended, slot_filled}
 use Rattle.ns_send.specs.Bodies.{local_stored}
 use Rattle.ns_send.specs.Blocks.{new_block, new_text, new_array, evaluated, method_next}
 use Rattle.ns_send.specs.Sends.{Target, sent, sent_plain, performed}
@@ -40,7 +40,7 @@ progress_after code (Performs receiver sel array site) progress = reached (perfo
 progress_after code (Evaluates block arguments site) progress = reached (evaluated code block arguments site progress)
 progress_after code (Continues method state site) progress = waiting_reached (method_next method state site progress)
 progress_after code (BeginsPart activation arguments) progress = part_reached (super_part code activation arguments progress)
-progress_after code EndsPart progress = part_ended progress
+progress_after code EndsPart progress = frame_left progress
 progress_after code (EndsBody exit activation value) progress = after_reached (body_ended code exit activation value progress)
 progress_after code (MakesBlock activation body) progress = after_reached (new_block activation body progress)
 progress_after code (MakesText bytes) progress = after_reached (new_text bytes progress)

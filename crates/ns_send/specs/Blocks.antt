@@ -10,7 +10,7 @@ use Rattle.ns_world.specs.declared.ending.Kind.TheVariants.{WrongArity, WrongKin
 use Rattle.ns_world.specs.declared.ending.LimitKind.TheVariants.{Steps, Depth, Cells}
 use Rattle.ns_world.specs.Cell.{Cell, BlockCell, ArrayCell, TextCell}
 use Rattle.ns_world.specs.Heap.{Heap, heap_size}
-use Rattle.ns_world.specs.World.{made, stepped, entered, left}
+use Rattle.ns_world.specs.World.{made, stepped, entered}
 use Rattle.ns_kdata.specs.Arguments.{items_of, is_array, shape_of_value}
 use Rattle.ns_kcode.specs.declared.state.KMethod.{KMethod}
 use Rattle.ns_kcode.specs.declared.state.KMethod.TheVariants as method
@@ -21,7 +21,7 @@ use Rattle.ns_kcode.specs.Next.{next}
 use Rattle.ns_kcode.specs.Rows.{beginning, answered}
 use Rattle.ns_send.specs.declared.site.Site.{Site}
 use Rattle.ns_send.specs.Site.{error}
-use Rattle.ns_send.specs.Control.{Progress, in_world, Activation, FromBody, After, Gives, Halts, Control, Enter, Evaluate, Begin, Waiting, Waits, Finishes, halts, fails, charged}
+use Rattle.ns_send.specs.Control.{Progress, Activation, FromBody, After, Gives, Halts, Control, Enter, Evaluate, Begin, Waiting, Waits, Finishes, halts, fails, charged, frame_left}
 use Rattle.ns_send.specs.Bodies.{parameters_of, opened}
 
 -- ---- new cells
@@ -137,7 +137,7 @@ abbrev pub acted : KAction → KState → Site → Progress → Waiting
 acted (action.Evaluate block argument turn count) state site progress = turned turn progress (Waits block (listed argument) (waiting state count))
 acted (action.EvaluateItem block item count) state site progress =
     turned true progress (λ progress. Waits block (item_at progress.world.cells state.receiver item ∷ []) (waiting state count) progress)
-acted (action.Answer value) state site progress = Finishes (Gives value (in_world progress (left progress.world)))
+acted (action.Answer value) state site progress = Finishes (Gives value (frame_left progress))
 acted (action.Fail kind) state site progress = Finishes (Halts (error kind site) progress)
 
 -- the next action of a method

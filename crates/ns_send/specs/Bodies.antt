@@ -1,5 +1,5 @@
 -- How a body is begun, and its locals and environments.
-use Rattle.std.specs.Prelude.{ℕ, zero, suc, ◌-◌, List, [], ◌++◌, replicate, slice_set, slice_get, Option, None, Bool, true, false, ◌==◌, if◌then◌else◌}
+use Rattle.std.specs.Prelude.{ℕ, zero, suc, ◌+◌, ◌-◌, max, List, [], ◌∷◌, ◌++◌, replicate, slice_set, slice_get, Option, None, Bool, true, false, ◌==◌, if◌then◌else◌}
 use Rattle.std.specs.Option.{option_map_or}
 use Rattle.std.specs.List.{slice_index_or}
 use Rattle.ns_code.specs.declared.program.CodeProgram.{CodeProgram}
@@ -37,6 +37,15 @@ has_environment code body = option_map_or (λ (b : BodyCode). b.environment) (sl
 -- the side that it stands on
 abbrev pub side_of_body : CodeProgram → ℕ → Side
 side_of_body code body = side_of (option_map_or (λ (b : BodyCode). b.side == class_side) (slice_get code.bodies body) false)
+
+-- how many operands it has at most
+abbrev pub height_in : CodeProgram → ℕ → ℕ
+height_in code body = option_map_or (λ (b : BodyCode). b.height) (slice_get code.bodies body) 0
+
+-- the most locals and operands that a frame of one of these bodies has
+abbrev pub greatest_of : List BodyCode → ℕ
+greatest_of [] = 0
+greatest_of (body ∷ bodies) = max (body.locals + body.height) (greatest_of bodies)
 
 -- the initialiser of a declaration
 abbrev pub initialiser_of : CodeProgram → ℕ → ℕ

@@ -14,7 +14,7 @@ use Rattle.ns_world.specs.declared.ending.Kind.TheVariants.{InitMismatch, NotACl
 use Rattle.ns_world.specs.declared.ending.LimitKind.TheVariants.{Cells, Depth}
 use Rattle.ns_world.specs.Cell.{Cell, ObjectCell, ClassCell}
 use Rattle.ns_world.specs.Heap.{Heap, heap_size, find_cell, superclass_in}
-use Rattle.ns_world.specs.World.{World, made, entered, left, written}
+use Rattle.ns_world.specs.World.{World, made, entered, written}
 use Rattle.ns_world.specs.Layout.{declaration_of, layout_of, entry_word}
 use Rattle.ns_classes.specs.declared.apply.MakeFault.{MakeFault}
 use Rattle.ns_classes.specs.Apply.{class_fault}
@@ -22,7 +22,7 @@ use Rattle.ns_classes.specs.Nested.{kept_class, nested_entry}
 use Rattle.ns_kdata.specs.Rows.{stored}
 use Rattle.ns_send.specs.declared.site.Site.{Site}
 use Rattle.ns_send.specs.Site.{error, fault_ending, make_fault}
-use Rattle.ns_send.specs.Control.{Progress, in_world, Activation, Exit, FromMethod, FromBody, FromClause, After, Gives, Halts, Control, Now, Enter, Part, Skip, Stop, EnterPart, halts, charged}
+use Rattle.ns_send.specs.Control.{Progress, in_world, Activation, Exit, FromMethod, FromBody, FromClause, After, Gives, Halts, Control, Now, Enter, Part, Skip, Stop, EnterPart, halts, charged, frame_left}
 use Rattle.ns_send.specs.Bodies.{initialiser_of, clause_of, no_home, opened}
 
 -- ---- making a class
@@ -134,14 +134,10 @@ slot_filled code activation slot value progress =
 
 -- what the value of a body comes to when its frame is given back
 abbrev pub body_ended : CodeProgram → Exit → Activation → Value → Progress → After
-body_ended code FromMethod activation value progress = Gives value (in_world progress (left progress.world))
-body_ended code FromBody activation value progress = Gives value (in_world progress (left progress.world))
+body_ended code FromMethod activation value progress = Gives value (frame_left progress)
+body_ended code FromBody activation value progress = Gives value (frame_left progress)
 body_ended code (FromClause object holder class) activation value progress =
-    class_over code object holder class value activation.site (in_world progress (left progress.world))
-
--- the end of a superclass part, whose value is dropped
-abbrev pub part_ended : Progress → Progress
-part_ended progress = in_world progress (left progress.world)
+    class_over code object holder class value activation.site (frame_left progress)
 
 -- the object that keeps a class when a clause's head has ended
 abbrev pub kept_by : Exit → List Value

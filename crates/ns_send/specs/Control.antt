@@ -6,7 +6,7 @@ use Rattle.ns_world.specs.declared.ending.LimitKind.{LimitKind}
 use Rattle.ns_world.specs.declared.ending.Kind.{Kind}
 use Rattle.ns_world.specs.declared.ending.Ending.{Ending}
 use Rattle.ns_world.specs.declared.ending.Ending.TheVariants.{Limit}
-use Rattle.ns_world.specs.World.{World}
+use Rattle.ns_world.specs.World.{World, left}
 use Rattle.ns_facets.specs.declared.board.Board.{Board}
 use Rattle.ns_kcode.specs.declared.state.KMethod.{KMethod}
 use Rattle.ns_kcode.specs.declared.state.KState.{KState}
@@ -22,6 +22,10 @@ pub record Progress : Type 0 where
 -- the same with another world
 abbrev pub in_world : Progress → World → Progress
 in_world progress world = record progress { world = world }
+
+-- what it has done when a frame is given back
+abbrev pub frame_left : Progress → Progress
+frame_left progress = in_world progress (left progress.world)
 
 -- Running code, as far as it doesn't change while its body runs: self, the holder of its declaration, its
 -- body, the home to which a block returns, the environment one body out or its own where the body has one,

@@ -1,5 +1,5 @@
 -- What an action hands on is what the next one asks for.
-use Rattle.std.specs.Prelude.{◌≡◌, ◌≢◌, ℕ, pos, int_le, suc, ◌+◌, ◌<◌, ◌≤◌, nat_lt, List, length, slice_get, Option, Some, None, IsTrue, All, Bool, true, false, ◌==◌, ◌&&◌, if◌then◌else◌}
+use Rattle.std.specs.Prelude.{◌≡◌, ◌≢◌, ℕ, pos, int_le, suc, ◌+◌, ◌<◌, ◌≤◌, nat_lt, List, length, slice_get, Option, Some, None, IsTrue, All, Bool, true, ◌==◌, ◌&&◌, if◌then◌else◌}
 use Rattle.std.specs.Option.{option_map_or, ForSome}
 use Rattle.std.specs.Ordering.{int_eq}
 use Rattle.ns_base.specs.declared.place.Place.{Place as SourcePlace}
@@ -8,7 +8,7 @@ use Rattle.ns_code.specs.declared.body.BodyCode.{BodyCode}
 use Rattle.ns_code.specs.Selector.{is_selector_number, selector_arity}
 use Rattle.ns_code.specs.Soundness.{method_kind, block_kind, initialiser_kind, clause_kind}
 use Rattle.ns_world.specs.declared.value.Value.{Value}
-use Rattle.ns_world.specs.declared.value.Value.TheVariants.{True, False, Ref}
+use Rattle.ns_world.specs.declared.value.Value.TheVariants.{Ref}
 use Rattle.ns_world.specs.declared.cell.NewCell.{NewCell}
 use Rattle.ns_world.specs.declared.cell.NewCell.TheVariants as new
 use Rattle.ns_world.specs.declared.kernel.ClassName.{ClassName}
@@ -25,15 +25,10 @@ use Rattle.ns_send.specs.Control.{Progress, Activation, Exit, FromMethod, FromBo
 use Rattle.ns_send.specs.Bodies.{parameters_of, locals_of, has_environment, clause_of, no_home}
 use Rattle.ns_send.specs.Classes.{super_selector, super_part}
 use Rattle.ns_send.specs.Blocks.{is_block, is_integer, has_arguments, evaluated, method_next}
+use Rattle.ns_world.specs.Booleans.{is_boolean}
 use Rattle.ns_send.specs.Sends.{sent, sent_plain, performed}
 use Rattle.ns_send.specs.Lawful.{FitsActivation, FitsExit, FitsSelector, FitsTarget}
 use Rattle.ns_send.specs.Actions.{Action, Sends, SendsPlain, Performs, Evaluates, Continues, BeginsPart}
-
--- whether a value is a boolean
-abbrev pub is_boolean : Value → Bool
-is_boolean True = true
-is_boolean False = true
-is_boolean value = false
 
 -- whether a receiver is of the kind to which a method of the kernel belongs
 abbrev pub belongs_to : Heap → Value → KMethod → Bool

@@ -5,6 +5,7 @@ pub mod Bodies
 pub mod Classes
 pub mod Blocks
 pub mod Rows
+pub mod Tabled
 pub mod Kernel
 pub mod Sends
 pub mod Report

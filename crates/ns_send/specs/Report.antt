@@ -18,7 +18,7 @@ use Rattle.ns_world.specs.declared.ending.Ending.TheVariants.{Done, Error, Limit
 use Rattle.ns_world.specs.Cell.{Cell, ClassCell, TextCell}
 use Rattle.ns_world.specs.Heap.{Heap, find_cell}
 use Rattle.ns_world.specs.Starts.{class_name_of}
-use Rattle.ns_kdata.specs.Texts.{quoted}
+use Rattle.ns_base.specs.Quoted.{quoted}
 use Rattle.ns_mirror.specs.Naming.{declared_text, class_text}
 
 -- ---- the text of a value

@@ -4,6 +4,7 @@ use Rattle.std.specs.Prelude.{ℕ, suc, List, [], ◌∷◌, Option}
 use Rattle.ns_base.specs.declared.place.Place.{Place as SourcePlace}
 use Rattle.ns_base.specs.declared.selector.Sel.{Sel}
 use Rattle.ns_code.specs.declared.program.CodeProgram.{CodeProgram}
+use Rattle.ns_code.specs.declared.own.Own.{Own}
 use Rattle.ns_code.specs.declared.own.Own.TheVariants.{DoesNotUnderstand}
 use Rattle.ns_code.specs.Selector.{own_number}
 use Rattle.ns_world.specs.declared.value.Value.{Value}
@@ -136,9 +137,13 @@ done_with code (found.Kernel number) sel receiver arguments site progress = row_
 done_with code found.NotPublic sel receiver arguments site progress = fails kind.NotPublic site progress
 done_with code found.Absent sel receiver arguments site progress = fails kind.NotUnderstood site progress
 
+-- a selector that the machine sends by itself
+abbrev pub own_sel : CodeProgram → Own → Sel
+own_sel code own = record { 0 = own_number code own }
+
 -- the selector that a send goes on as where it finds nothing
 abbrev pub message_sel : CodeProgram → Sel
-message_sel code = record { 0 = own_number code DoesNotUnderstand }
+message_sel code = own_sel code DoesNotUnderstand
 
 -- A send that found nothing goes on as `doesNotUnderstand:`, with a Message; it isn't understood where that is
 -- the kernel's row (what goes on so is this profile's).

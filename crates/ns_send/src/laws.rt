@@ -7,6 +7,7 @@ ghost use Rattle.ns_code.specs.declared.own.Own.{Own};
 ghost use Rattle.ns_code.specs.Own.{own_text};
 ghost use Rattle.ns_code.specs.Selector.{is_selector_number, selector_arity, text_arity, own_number};
 ghost use Rattle.ns_code.specs.Soundness.{initialiser_kind};
+ghost use Rattle.ns_world.specs.declared.kernel.KernelRow.{KernelRow};
 ghost use Rattle.ns_world.specs.declared.value.Value.{Value};
 ghost use Rattle.ns_world.specs.Cell.{Cell};
 ghost use Rattle.ns_world.specs.Heap.{Heap};
@@ -33,6 +34,7 @@ ghost use Rattle.ns_send.specs.Ending.{HasSite, EndsFitly};
 ghost use Rattle.ns_send.specs.Spending.{Spends, ControlSpends};
 ghost use Rattle.ns_send.specs.Fitting.{FitsMethod, Asks, HandsOn};
 ghost use Rattle.ns_send.specs.Suiting.{FoundSuits};
+ghost use Rattle.ns_send.specs.Tabled.{RowsAreTabled, RowsAnswer};
 ghost use Rattle.ns_send.specs.Stated.{WaitedIsLawful, WaitedFits, WaitedStays, WaitedLeadsOn, WaitedSpends, EnclosingIsLive, LocalStands, LocalIsLive, BlockMayBeMade, BlockIsEntered, PartStays};
 ghost use Rattle.ns_send.specs.StatedSends.{SentGoesOnward, PlainGoesOnward, PerformedGoesOnward, SentKeepsLawful, PlainKeepsLawful, PerformedKeepsLawful, EvaluatedKeepsLawful, SiteFits, SentStays, PlainStays, EvaluatedStays};
 ghost use Rattle.ns_send.specs.StatedActions.{EvaluatedGoesOnward, PartGoesOnward, EndGoesOnward, SlotGoesOnward, LocalGoesOnward, PartKeepsLawful, EndKeepsLawful, MethodKeepsLawful, ArrayKeepsLawful, BlockKeepsLawful, SlotKeepsLawful, LocalKeepsLawful};
@@ -212,4 +214,12 @@ pub fn rows_that_are_found_suit()
         FoundSuits heap receiver (found_from heap code (super_start heap holder side) sel Inner) }
     ensures own { (heap : Heap) (code : CodeProgram) (receiver : Value) (holder : ℕ) (side : Side) (sel : ℕ) →
         FoundSuits heap receiver (found_private heap code holder side sel) }
+{}
+
+/// The rows of the kernel's classes that a lookup looks through are those of the kernel's table, under the
+/// numbers that they have there, and what answers a number is what the table says.
+#[tactic(auto, using(crate::proofs::Tabled::rows_are_tabled, crate::proofs::Tabled::rows_answer))]
+pub fn rows_are_those_of_the_table()
+    ensures found { (heap : Heap) (code : CodeProgram) (class : KernelRow) → RowsAreTabled heap code class }
+    ensures answers { RowsAnswer }
 {}

@@ -1,5 +1,5 @@
 -- What waits goes on: the evaluation of a block.
-use Rattle.std.proofs.Common.{◌≡◌, ◌+◌, ◌-◌, ◌≤◌, ℕ, List, [], length, take, ap, sym, ◌∙◌, refl, subst, arith, Option, Some, None, Bool, true, false, cond, length-take-le}
+use Rattle.std.proofs.Common.{◌≡◌, ◌+◌, ◌-◌, ◌<◌, ◌≤◌, ℕ, List, [], length, take, ap, sym, ◌∙◌, refl, subst, arith, Option, Some, None, Bool, true, false, cond, length-take-le}
 use Rattle.std.specs.Prelude.{IsTrue, IsSome, ◌==◌, All}
 use Rattle.std.specs.Option.{option_map_or}
 use Rattle.std.proofs.lemmas.List.{take-take, length-drop}
@@ -22,7 +22,7 @@ use Rattle.ns_send.specs.declared.site.Site.{Site}
 use Rattle.ns_send.specs.declared.control.Reached.{Reached}
 use Rattle.ns_send.specs.declared.control.Reached.TheVariants as reached
 use Rattle.ns_send.specs.Control.{Progress, in_world, Activation, Control, Now, Enter, FromBody, Evaluate, Begin, Perform, Gives, Halts, halts, fails, charged}
-use Rattle.ns_send.specs.Bodies.{parameters_of, has_environment, first_locals, opened}
+use Rattle.ns_send.specs.Bodies.{parameters_of, has_environment, first_locals, opened, height_in, greatest_of}
 use Rattle.ns_send.specs.Shown.{reached_shown}
 use Rattle.ns_send.specs.Blocks.{is_block_shape, is_block, evaluated, block_entered}
 use Rattle.ns_frames.specs.declared.frame.Frame.{Frame}
@@ -56,70 +56,70 @@ use Rattle.ns_frames.specs.Standing.{standing, at_next, AreLaid}
 use Rattle.ns_frames.specs.Stack.{in_use, stood, with_top, IsLaid, KeepsRoom}
 use Rattle.ns_frames.specs.View.{frames_shown, state_shown}
 use Rattle.ns_engine.specs.declared.state.Core.{Core}
-use Rattle.ns_engine.specs.Standing.{height_in, greatest_of, AreStanding, ArgumentsWait, Wait}
+use Rattle.ns_engine.specs.Standing.{AreStanding, ArgumentsWait, Wait}
 use Rattle.ns_engine.specs.laws.Pushed.{stack_stays}
 use Rattle.ns_sends.specs.declared.sent.Sent.{Sent}
-use Rattle.ns_sends.specs.Going.{arguments_in, control_at, ComesToBody, GoesOn, IsLeft, Leads}
-use Rattle.ns_sends.specs.Waiting.{BlockWaits, HasMadePlace, IsWaiting, evaluated_at}
+use Rattle.ns_sends.specs.Going.{arguments_in, control_at, GoesOn, IsLeft, Leads}
+use Rattle.ns_sends.specs.Waiting.{BlockWaits, EntersOrEnds, HasMadePlace, IsWaiting, evaluated_at, with_block}
 use Rattle.ns_frames.specs.laws.Room.{reach_all, within_more}
 use Rattle.ns_frames.specs.laws.Counts.{many_stand, many_next, many_shown}
 
--- ---- an evaluation gives no value by itself
+-- ---- an evaluation enters a body or halts
 
-abbrev pub GivesNone : Control → Type 0
-GivesNone (Now (Gives value progress)) = ⊥
-GivesNone (Now (Halts ending progress)) = Unit {0}
-GivesNone (Enter exit activation locals progress) = Unit {0}
-GivesNone (Evaluate block arguments site progress) = Unit {0}
-GivesNone (Begin method state site progress) = Unit {0}
-GivesNone (Perform receiver sel array site progress) = Unit {0}
+abbrev pub EntersOrHalts : Control → Type 0
+EntersOrHalts (Now (Gives value progress)) = ⊥
+EntersOrHalts (Now (Halts ending progress)) = Unit {0}
+EntersOrHalts (Enter exit activation locals progress) = Unit {0}
+EntersOrHalts (Evaluate block arguments site progress) = ⊥
+EntersOrHalts (Begin method state site progress) = ⊥
+EntersOrHalts (Perform receiver sel array site progress) = ⊥
 
-none_charged : (limit : LimitKind) (o : Option World) (progress : Progress) (go : Progress → Control) → ((p : Progress) → GivesNone (go p))
-    → GivesNone (charged halts limit o progress go)
-none_charged limit (Some world) progress go goes = goes (in_world progress world)
-none_charged limit None progress go goes = tt
+charged_enters : (limit : LimitKind) (o : Option World) (progress : Progress) (go : Progress → Control) → ((p : Progress) → EntersOrHalts (go p))
+    → EntersOrHalts (charged halts limit o progress go)
+charged_enters limit (Some world) progress go goes = goes (in_world progress world)
+charged_enters limit None progress go goes = tt
 
-none_opened : (code : CodeProgram) (activation : Activation) (arguments : List Value) (progress : Progress)
-    → GivesNone (opened code halts (Enter FromBody) activation arguments progress)
-none_opened code activation arguments progress = tested (has_environment code activation.body)
+opened_enters : (code : CodeProgram) (activation : Activation) (arguments : List Value) (progress : Progress)
+    → EntersOrHalts (opened code halts (Enter FromBody) activation arguments progress)
+opened_enters code activation arguments progress = tested (has_environment code activation.body)
   where
-    tested : (b : Bool) → GivesNone (cond b
+    tested : (b : Bool) → EntersOrHalts (cond b
         (charged halts Cells (made progress.world (EnvironmentCell activation.env (first_locals code activation.body arguments))) progress
         (Enter FromBody (record activation { env = Ref (heap_size progress.world.cells) }) []))
         (Enter FromBody activation (first_locals code activation.body arguments) progress))
-    tested true = none_charged Cells (made progress.world (EnvironmentCell activation.env (first_locals code activation.body arguments))) progress
+    tested true = charged_enters Cells (made progress.world (EnvironmentCell activation.env (first_locals code activation.body arguments))) progress
         (Enter FromBody (record activation { env = Ref (heap_size progress.world.cells) }) []) (λ p. tt)
     tested false = tt
 
-none_entered : (code : CodeProgram) (cell : NewCell) (arguments : List Value) (site : Site) (progress : Progress) → GivesNone (block_entered code cell arguments site progress)
-none_entered code (new.Block body env home receiver holder) arguments site progress = tested (length arguments == parameters_of code body)
+entered_enters : (code : CodeProgram) (cell : NewCell) (arguments : List Value) (site : Site) (progress : Progress) → EntersOrHalts (block_entered code cell arguments site progress)
+entered_enters code (new.Block body env home receiver holder) arguments site progress = tested (length arguments == parameters_of code body)
   where
     inner : Activation
     inner = record { self = receiver; holder = holder; body = body; home = home; env = env; site = site }
 
-    tested : (b : Bool) → GivesNone (cond b
+    tested : (b : Bool) → EntersOrHalts (cond b
         (charged halts Steps (stepped progress.world) progress (λ progress. charged halts Depth (entered progress.world) progress
         (opened code halts (Enter FromBody) inner arguments)))
         (fails WrongArity site progress))
-    tested true = none_charged Steps (stepped progress.world) progress
+    tested true = charged_enters Steps (stepped progress.world) progress
         (λ progress. charged halts Depth (entered progress.world) progress (opened code halts (Enter FromBody) inner arguments))
-        (λ p. none_charged Depth (entered p.world) p (opened code halts (Enter FromBody) inner arguments) (none_opened code inner arguments))
+        (λ p. charged_enters Depth (entered p.world) p (opened code halts (Enter FromBody) inner arguments) (opened_enters code inner arguments))
     tested false = tt
-none_entered code _ arguments site progress = tt
+entered_enters code _ arguments site progress = tt
 
-pub none_evaluated : (code : CodeProgram) (block : Value) (arguments : List Value) (site : Site) (progress : Progress) → GivesNone (evaluated code block arguments site progress)
-none_evaluated code block arguments site progress = none_entered code (shape_of_value progress.world.cells block) arguments site progress
+pub evaluated_enters : (code : CodeProgram) (block : Value) (arguments : List Value) (site : Site) (progress : Progress) → EntersOrHalts (evaluated code block arguments site progress)
+evaluated_enters code block arguments site progress = entered_enters code (shape_of_value progress.world.cells block) arguments site progress
 
--- so no value comes to a body
-pub comes_none : (code : CodeProgram) (site : Site) (values : List Value) (r : Reached) (progress : Progress) (frames : List Frame)
-    → GivesNone (reached_shown code site values r progress) → ComesToBody r frames
-comes_none code site values (reached.Gives value) progress frames none = absurd none
-comes_none code site values (reached.Fails fault) progress frames none = tt
-comes_none code site values (reached.Refused sel) progress frames none = tt
-comes_none code site values (reached.Enters exit entered) progress frames none = tt
-comes_none code site values (reached.Evaluates block given) progress frames none = tt
-comes_none code site values (reached.Begins method state) progress frames none = tt
-comes_none code site values (reached.Performs receiver sel array) progress frames none = tt
+-- so that is what it has reached
+pub enters_or_ends : (code : CodeProgram) (site : Site) (values : List Value) (r : Reached) (progress : Progress)
+    → EntersOrHalts (reached_shown code site values r progress) → EntersOrEnds r
+enters_or_ends code site values (reached.Gives value) progress none = absurd none
+enters_or_ends code site values (reached.Fails fault) progress none = tt
+enters_or_ends code site values (reached.Refused sel) progress none = tt
+enters_or_ends code site values (reached.Enters exit entered) progress none = tt
+enters_or_ends code site values (reached.Evaluates block given) progress none = absurd none
+enters_or_ends code site values (reached.Begins method state) progress none = absurd none
+enters_or_ends code site values (reached.Performs receiver sel array) progress none = absurd none
 
 -- what the machine shows, and where its arguments stand
 valid_there : (code : CodeProgram) (grants : Grants) (core : Core) (at : Registers) (sent : Sent) (block : Value) → BlockWaits code grants core at sent block
@@ -256,11 +256,11 @@ pub evaluation_goes : (code : CodeProgram) (core : Core) (at : Registers) (sent 
     → GoesOn code (length core.stack.frames.items) (control_at code (in_other core world) at sent r)
 evaluation_goes code core at sent block world r same goes = subst (λ (c : Control). GoesOn code (length core.stack.frames.items) c) (sym same) goes
 
-pub evaluation_body : (code : CodeProgram) (core : Core) (at : Registers) (sent : Sent) (block : Value) (world : WorldView) (r : Reached)
-    → control_at code (in_other core world) at sent r ≡ evaluated_at code core at sent block → ComesToBody r core.stack.frames.items
-evaluation_body code core at sent block world r same =
-    comes_none code (site_shown core.places sent.site) (arguments_in core at sent) r (progress_in (in_other core world)) core.stack.frames.items
-    (subst GivesNone (sym same) (none_evaluated code block (arguments_in core at sent) (site_shown core.places sent.site) (progress_in core)))
+pub evaluation_enters : (code : CodeProgram) (core : Core) (at : Registers) (sent : Sent) (block : Value) (world : WorldView) (r : Reached)
+    → control_at code (in_other core world) at sent r ≡ evaluated_at code core at sent block → EntersOrEnds r
+evaluation_enters code core at sent block world r same =
+    enters_or_ends code (site_shown core.places sent.site) (arguments_in core at sent) r (progress_in (in_other core world))
+    (subst EntersOrHalts (sym same) (evaluated_enters code block (arguments_in core at sent) (site_shown core.places sent.site) (progress_in core)))
 
 pub evaluation_leads : (code : CodeProgram) (core new : Core) (at : Registers) (sent : Sent) (block : Value) (world : WorldView) (r : Reached) (next : Next)
     → control_at code (in_other core world) at sent r ≡ evaluated_at code core at sent block → SameRest core.run.world world
@@ -337,3 +337,41 @@ evaluation_moves code grants core mid new at sent block n waits made is = record
     same : arrived code (phase_shown mid.phase) (evaluated_at code mid at sent block) (frames_shown code mid.places (stood mid.stack (with_top sent.floor at)))
         ≡ arrived code (phase_shown core.phase) (evaluated_at code core at sent block) (frames_shown code core.places (stood core.stack (with_top sent.floor at)))
     same = rw (made.used, made.below, made.phase, made.run, made.stays.places) refl
+
+-- ---- at once
+
+-- The evaluation of a block, as if it waited, with a place for its answer.
+module _ (code : CodeProgram) (grants : Grants) (core : Core) (at : Registers) (sent : Sent) (block : Value)
+    (waits : BlockWaits code grants (with_block sent block core) at sent block) where
+  pub once_left : sent.floor < length core.stack.values.items → IsLeft code core at sent
+  once_left place =
+      let is = waiting code grants (with_block sent block core) at sent block waits in
+      let stand = stand_there code grants (with_block sent block core) at sent block waits in
+      record {
+        sound = is.sound;
+        rooms = record {
+          cells = waits.ready.rooms.cells;
+          out = waits.ready.rooms.out;
+          frames = waits.ready.rooms.frames;
+          values = waits.ready.rooms.values;
+          sends = waits.ready.rooms.sends;
+        };
+        depth = let depth = is.depth in let within = is.lawful.within.depth in omega (arith, depth, within);
+        stands = stand.0;
+        waits = stand.1;
+        place = place;
+      }
+
+  pub once_waiting : IsWaiting code core at sent block
+  once_waiting =
+      let is = waiting code grants (with_block sent block core) at sent block waits in
+      record { sound = is.sound; lawful = is.lawful; depth = is.depth; block_is = is.block_is; few = is.few; live = is.live }
+
+  pub once_moves : (new : Core) (n : Next) → Leads code core at sent.floor (evaluated_at code core at sent block) new n
+      → Moves code (with_block sent block core) (next.Waits at) new n
+  once_moves new n is = record {
+    state = is.state;
+    stand = is.stand;
+    stays = record { world = is.stays.world; values = is.stays.values; frames = is.stays.frames; places = is.stays.places };
+    kept = subst (λ (memo : List (Option Kept)). All (IsRight core.run.world.world.cells code) memo) (sym is.memo) waits.ready.kept;
+  }

@@ -17,7 +17,7 @@ use Rattle.ns_frames.specs.Stack.{in_use, stood, with_top, IsLaid}
 use Rattle.ns_frames.specs.laws.Taking.{taken_laid}
 use Rattle.ns_engine.specs.declared.state.Core.{Core}
 use Rattle.ns_engine.specs.Shown.{progress_in}
-use Rattle.ns_engine.specs.Standing.{height_in, greatest_of}
+use Rattle.ns_send.specs.Bodies.{height_in, greatest_of}
 use Rattle.ns_engine.specs.Doing.{Finds, CanDo}
 use Rattle.ns_engine.specs.laws.Pushed.{one_more, operands_count}
 use Rattle.ns_engine.specs.laws.Taken.{some_operand}

@@ -19,7 +19,7 @@ use Rattle.ns_frames.specs.View.{site_shown, frames_shown}
 use Rattle.ns_engine.specs.declared.state.Core.{Core}
 use Rattle.ns_engine.specs.declared.state.Next.{Next}
 use Rattle.ns_engine.specs.Shown.{phase_shown, progress_in}
-use Rattle.ns_engine.specs.Standing.{height_in, greatest_of}
+use Rattle.ns_send.specs.Bodies.{height_in, greatest_of}
 use Rattle.ns_engine.specs.Arriving.{Arrives, reached_at}
 use Rattle.ns_engine.specs.laws.Pushed.{stack_stays}
 use Rattle.ns_sends.specs.declared.sent.Sent.{Sent}

@@ -12,6 +12,7 @@ use Rattle.ns_world.specs.Lawful.{IsLawful, IsLiveValue}
 use Rattle.ns_world.specs.Starts.{class_name_of}
 use Rattle.ns_find.specs.declared.found.Sending.{Sending}
 use Rattle.ns_find.specs.declared.found.Sending.TheVariants.{Plain, Inner}
+use Rattle.ns_plan.specs.Steps.{send_instr}
 use Rattle.ns_send.specs.Control.{Activation}
 use Rattle.ns_send.specs.Sends.{To, sent}
 use Rattle.ns_moves.specs.Arrivals.{arrived}
@@ -143,6 +144,11 @@ inner_operands code core at sel argc can = record {
     by_stood (Loops frame ∷ s) finds = absurd finds
     by_stood (Runs frame locals stack ∷ s) finds = finds.asks
 
+pub kind_operands : (code : CodeProgram) (core : Core) (at : Registers) (sel : Sel) (argc : ℕ) (kind : Sending) → CanDo code core at (send_instr kind sel argc)
+    → SendsOperands code core at sel argc (argc + 1)
+kind_operands code core at sel argc Plain can = send_operands code core at sel argc can
+kind_operands code core at sel argc Inner can = inner_operands code core at sel argc can
+
 -- What such a send leads to is what the instruction does, whatever the frame.
 abbrev DoesSend : CodeProgram → Core → Instr → Option SourcePlace → Sel → List Value → Value → Sending → Type 0
 DoesSend code old instr place sel values receiver kind =
@@ -196,3 +202,9 @@ inner_does taken code old new at sel argc place next can is =
     ≡ done code old.places (phase_shown old.phase) (instr.SendInner sel n) (slice_get old.places place)
     (pushed_all (topmost old at argc) (pushed is.receiver (Runs frame locals stack ∷ others))) (progress_in old)) is.many
     (sym (taken (Stuck (progress_in old)) (topmost old at argc) (is.receiver ∷ stack) _)))
+
+pub kind_does : ((missing : State) → AreTaken missing) → (code : CodeProgram) (old new : Core) (at : Registers) (sel : Sel) (argc place : ℕ) (kind : Sending) (next : Next)
+    → CanDo code old at (send_instr kind sel argc) → SendsToTop code old at sel argc place kind new next
+    → Does code (send_instr kind sel argc) (slice_get old.places place) old at new next
+kind_does taken code old new at sel argc place Plain next can is = send_does taken code old new at sel argc place next can is
+kind_does taken code old new at sel argc place Inner next can is = inner_does taken code old new at sel argc place next can is

@@ -1,5 +1,6 @@
 pub mod Going
 pub mod Given
+pub mod Integers
 pub mod Looping
 pub mod Opening
 pub mod Rows

@@ -5,6 +5,8 @@ use Rattle.ns_world.specs.Lawful.{IsLawful, IsLiveValue}
 use Rattle.ns_world.specs.Starts.{start_of}
 use Rattle.ns_find.specs.declared.found.Sending.TheVariants.{Plain}
 use Rattle.ns_find.specs.Find.{found_from}
+use Rattle.ns_send.specs.declared.control.Reached.{Reached}
+use Rattle.ns_send.specs.declared.control.Reached.TheVariants as reached
 use Rattle.ns_send.specs.Control.{Control, gives}
 use Rattle.ns_send.specs.Lawful.{FitsSelector}
 use Rattle.ns_send.specs.Sends.{answered_by, sent_from}
@@ -26,6 +28,10 @@ use Rattle.ns_sends.specs.declared.led.Led.{Led}
 use Rattle.ns_sends.specs.declared.led.Led.TheVariants as led
 use Rattle.ns_sends.specs.Going.{arguments_in, IsLeft, Leads}
 use Rattle.ns_sends.specs.Sending.{Sends}
+
+-- a machine in which the evaluation of a block waits
+abbrev pub with_block : Sent → Value → Core → Core
+with_block sent block core = record core { waiting = pending.Evaluating block sent.site sent.floor sent.first }
 
 -- The evaluation of a block waits in a machine that is ready.
 pub record BlockWaits (code : CodeProgram) (grants : Grants) (core : Core) (at : Registers) (sent : Sent) (block : Value) : Type 0 where
@@ -52,6 +58,16 @@ pub record IsWaiting (code : CodeProgram) (core : Core) (at : Registers) (sent :
   pub block_is : IsTrue (is_block core.run.world.world.cells block)
   pub few : length (arguments_in core at sent) ≤ 255
   pub live : All (IsLiveValue core.run.world.world.cells code) (arguments_in core at sent)
+
+-- What an evaluation has reached: a body is entered, or the run ends.
+abbrev pub EntersOrEnds : Reached → Type 0
+EntersOrEnds (reached.Gives value) = ⊥
+EntersOrEnds (reached.Fails fault) = Unit {0}
+EntersOrEnds (reached.Refused sel) = Unit {0}
+EntersOrEnds (reached.Enters exit entered) = Unit {0}
+EntersOrEnds (reached.Evaluates block given) = ⊥
+EntersOrEnds (reached.Begins method state) = ⊥
+EntersOrEnds (reached.Performs receiver sel array) = ⊥
 
 -- where its evaluation leads
 abbrev pub evaluated_at : CodeProgram → Core → Registers → Sent → Value → Control

@@ -8,6 +8,7 @@ mod entering;
 mod evaluating;
 pub mod giving;
 mod going;
+pub mod integers;
 pub mod led;
 mod looping;
 mod opening;

@@ -7,8 +7,9 @@ ghost use Rattle.ns_send.specs.Rows.{row_at};
 ghost use Rattle.ns_send.specs.Sends.{To};
 ghost use Rattle.ns_engine.specs.declared.state.Next.TheVariants as next;
 ghost use Rattle.ns_sends.specs.Given.{SendsOrNot};
-ghost use Rattle.ns_sends.specs.Looping.{CanLoop, FindsRow};
+ghost use Rattle.ns_sends.specs.Looping.{CanLoop};
 ghost use Rattle.ns_sends.specs.Sending.{CanSend, looked_up, Sends};
+ghost use Rattle.ns_sends.specs.Opening.{FindsKernel};
 
 use crate::going::row_numbered;
 use crate::sent::Sent;
@@ -43,7 +44,7 @@ pub fn send_looping(
     number: u32,
 ) -> Option<Registers>
     requires can { CanSend code.now core.old at sent receiver }
-    requires finds { FindsRow code.now core.old sent receiver kind number }
+    requires finds { FindsKernel code.now core.old sent receiver kind number }
     ensures { SendsOrNot code.now core.old at sent receiver kind core.new result }
 {
     match row_numbered(number) {
@@ -66,7 +67,7 @@ fn send_method(
     method: KMethod,
 ) -> Option<Registers>
     requires can { CanSend code.now core.old at sent receiver }
-    requires finds { FindsRow code.now core.old sent receiver kind number }
+    requires finds { FindsKernel code.now core.old sent receiver kind number }
     requires row { row_at number ≡ row_is.Method method }
     ensures { SendsOrNot code.now core.old at sent receiver kind core.new result }
 {
@@ -120,7 +121,7 @@ fn begin(
     method: KMethod,
 ) -> Registers
     requires can { CanSend code.now core.old at sent receiver }
-    requires finds { FindsRow code.now core.old sent receiver kind number }
+    requires finds { FindsKernel code.now core.old sent receiver kind number }
     requires row { row_at number ≡ row_is.Method method }
     requires loops { CanLoop core.old at sent method }
     ensures { (activation : Activation) → Sends code.now core.old at sent.floor (looked_up code.now core.old at sent activation (To receiver kind)) core.new (next.On result) }

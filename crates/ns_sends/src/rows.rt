@@ -103,7 +103,12 @@ fn value_of(
 /// The value that a row of Integer gives, where it has no fault.
 #[inline(always)]
 #[tactic(auto, using(crate::proofs::Valued::integer_gives))]
-fn value_of_integer(code: &CodeProgram, row: IntRow, receiver: Value, right: Value) -> Option<Value>
+pub fn value_of_integer(
+    code: &CodeProgram,
+    row: IntRow,
+    receiver: Value,
+    right: Value,
+) -> Option<Value>
     ensures { (heap : Heap) → IfSome result (λ value. RowGives code.now heap (Integer row) receiver right value) }
 {
     let _code = code;
@@ -140,7 +145,7 @@ fn charge(
 
 /// Brings the value of a row to the body that runs.
 #[inline(always)]
-fn give(
+pub fn give(
     code: &CodeProgram,
     core: &mut Core,
     at: Registers,

@@ -9,13 +9,13 @@ ghost use Rattle.ns_sends.specs.Sending.{CanSend, Sends};
 
 use crate::sent::Sent;
 use ns_act::laws::a_send_is_its_step_and_its_answer;
-use ns_act::slots::{store, word_of_object};
 use ns_code::program::CodeProgram;
 use ns_engine::giving::give;
 use ns_engine::state::Core;
 use ns_find::found::Sending;
 use ns_frames::registers::Registers;
 use ns_kdata::arguments::argument;
+use ns_mirror::slots::{store, word_of_object};
 use ns_send::finding::{entries_are_inside, what_is_found_suits};
 use ns_world::lawful::charging_keeps_lawful;
 use ns_world::value::Value;

@@ -11,14 +11,15 @@ use Rattle.ns_world.specs.World.{World, stepped}
 use Rattle.ns_kcode.specs.declared.state.KMethod.{KMethod}
 use Rattle.ns_send.specs.declared.site.Site.{Site}
 use Rattle.ns_send.specs.Site.{error}
-use Rattle.ns_send.specs.Control.{Progress, Activation, After, Gives, Halts, Control, Now, Enter, Evaluate, Begin, Perform, Part, Skip, Stop, EnterPart, Waiting, Waits, Finishes, charged}
-use Rattle.ns_send.specs.Classes.{body_ended, part_ended}
+use Rattle.ns_send.specs.Control.{Progress, Activation, After, Gives, Halts, Control, Now, Enter, Evaluate, Begin, Perform, Part, Skip, Stop, EnterPart, Waiting, Waits, Finishes, charged, frame_left}
+use Rattle.ns_send.specs.Classes.{body_ended}
 use Rattle.ns_moves.specs.State.{Leaving, Loud, Silent, Frame, Running, Looping, Sending, Performing, Evaluating, Phase, Start, First, Second, Hosted, State, Unbegun, Going, Pends, Ended, Stuck}
 use Rattle.ns_moves.specs.Steps.{Step, steps_from}
 use Rattle.ns_moves.specs.Operands.{on_top, taken_off, picked}
 use Rattle.ns_moves.specs.Returns.{concluded, delivered, settled, returned, is_home, has_home, unwound, returned_home}
 use Rattle.ns_moves.specs.Arrivals.{arrived, part_arrived, acted_on}
-use Rattle.ns_moves.specs.Jumps.{goes_back, jumped, takes_jump, is_boolean, jumped_on}
+use Rattle.ns_moves.specs.Jumps.{goes_back, jumped, takes_jump, jumped_on}
+use Rattle.ns_world.specs.Booleans.{is_boolean}
 use Rattle.ns_moves.specs.Instructions.{executed}
 use Rattle.ns_moves.specs.Move.{move, moves}
 use Rattle.ns_moves.specs.Starts.{unbegun, started}
@@ -84,7 +85,7 @@ module _ (code : CodeProgram) (phase : Phase) where
   unwound_begun : (home : ℕ) (answer : Value) (frames : List Frame) (p : Progress) → HasBegun (unwound code phase home answer frames p)
   unwound_begun home answer [] p = tt
   unwound_begun home answer (frame ∷ frames) p =
-      cond_begun (is_home home frame) _ _ (delivered_begun answer frames (part_ended p)) (unwound_begun home answer frames (part_ended p))
+      cond_begun (is_home home frame) _ _ (delivered_begun answer frames (frame_left p)) (unwound_begun home answer frames (frame_left p))
 
   returned_begun : (how : Leaving) (a : Activation) (answer : Value) (frames : List Frame) (p : Progress) → HasBegun (returned code phase how a answer frames p)
   returned_begun (Loud exit) a answer frames p = settled_begun (body_ended code exit a answer p) frames

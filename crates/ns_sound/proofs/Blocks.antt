@@ -18,7 +18,8 @@ use Rattle.ns_scope.specs.Names.{numbered, param_settings, bars_settings, slot_s
 use Rattle.ns_code.specs.Fits.{IsLocalName}
 use Rattle.ns_meant.specs.Program as m
 use Rattle.ns_meant.specs.Expressions.{Standing}
-use Rattle.ns_meant.specs.Statements.{first_values, slots_values, bars_values, list_steps, statements_steps, expression_of, local_names}
+use Rattle.ns_meant.specs.Statements.{first_values, slots_values, bars_values, list_steps, statements_steps, local_names}
+use Rattle.ns_meant.specs.Tables.{step_node}
 use Rattle.ns_sound.proofs.Held.{Told, Held, AllHeld, both, behind, before, all_held, listed_held}
 use Rattle.ns_sound.proofs.Says.{FirstsSay, StepsSay, ExpressionsSay}
 use Rattle.ns_sound.proofs.Expressions.{expr_says}
@@ -179,11 +180,11 @@ module _ (Fine : Place → Type 0) (here : Standing) where
   pub statements_say : (body : p.Statements) (depth next : ℕ) → Held Fine here.marks (g.stmts (g.primary depth)) body → StepsSay Fine (statements_steps here next body)
   statements_say (p.statements_with list stop) depth next h = steps_say list depth next (statements_held Fine here.marks depth list stop h)
 
-  steps_expressions : (steps : List m.Step) → StepsSay Fine steps → ExpressionsSay Fine (map expression_of steps)
+  steps_expressions : (steps : List m.Step) → StepsSay Fine steps → ExpressionsSay Fine (map step_node steps)
   steps_expressions [] h = tt
   steps_expressions (m.evaluate node ∷ steps) h = (h.0, steps_expressions steps h.1)
   steps_expressions (m.return node ∷ steps) h = (h.0, steps_expressions steps h.1)
 
   pub expressions_say : (body : p.Statements) (depth next : ℕ) → Held Fine here.marks (g.stmts (g.primary depth)) body →
-      ExpressionsSay Fine (map expression_of (statements_steps here next body))
+      ExpressionsSay Fine (map step_node (statements_steps here next body))
   expressions_say body depth next h = steps_expressions (statements_steps here next body) (statements_say body depth next h)

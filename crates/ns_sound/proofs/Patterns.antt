@@ -5,13 +5,13 @@ use Rattle.std.proofs.lemmas.List.{append-nil}
 use Rattle.std.proofs.lemmas.List.Elements.{All-nil, All-cons}
 use Rattle.std.proofs.lemmas.Option.{same_Some}
 use Rattle.ns_base.specs.declared.place.Place.{Place}
+use Rattle.ns_base.specs.Spelling.{starts_name}
 use Rattle.ns_tree.specs.declared.token.Kind.TheVariants as k
 use Rattle.ns_tree.specs.declared.token.Reserved.TheVariants as r
 use Rattle.ns_tree.specs.declared.tree.Named.{Named}
 use Rattle.ns_tree.specs.declared.tree.Base.{Base}
 use Rattle.ns_tree.specs.declared.tree.Origin.{Origin}
 use Rattle.ns_tree.specs.declared.tree.Origin.TheVariants as o
-use Rattle.ns_tree.specs.Bytes as t
 use Rattle.ns_tree.specs.Flat.{over_sign}
 use Rattle.ns_tree.specs.Forms as f
 use Rattle.ns_tree.specs.Grammar as g
@@ -68,7 +68,7 @@ module _ (Fine : Place → Type 0) (marks : List Place) where
   pairs_held [] [] pairs e h = (tt, All-nil IsLocal)
   pairs_held [] (param ∷ params) pairs e h = absurd (cc (e))
   pairs_held (part ∷ parts) [] pairs e h = absurd (cc (e))
-  pairs_held (part ∷ parts) (param ∷ params) pairs e h = by (t.starts_name part.text) (f.paired parts params) refl e (pairs_held parts params) where
+  pairs_held (part ∷ parts) (param ∷ params) pairs e h = by (starts_name part.text) (f.paired parts params) refl e (pairs_held parts params) where
     by : (starts : Bool) (l : Option (List (Named × Named))) → f.paired parts params ≡ l →
         (if starts then option_map (λ others. (part, param) ∷ others) l else None) ≡ Some pairs →
         ((others : List (Named × Named)) → f.paired parts params ≡ Some others → AllHeld Fine marks (g.part_key & g.ident) others →
@@ -115,7 +115,7 @@ module _ (Fine : Place → Type 0) (marks : List Place) where
   form_says (part ∷ []) [] h = let name = ident_held Fine marks part h in (alone part (spoken_name part.text name.0.0 name.1), All-nil IsLocal)
   form_says (part ∷ other ∷ parts) [] h = absurd h.1
   form_says [] (param ∷ params) h = absurd h.1
-  form_says (part ∷ parts) (param ∷ params) h = params_held part param parts params (t.starts_name part.text) (f.paired parts params) refl h
+  form_says (part ∷ parts) (param ∷ params) h = params_held part param parts params (starts_name part.text) (f.paired parts params) refl h
 
   pub pattern_says : (parts params : List Named) → H g.pattern (p.pattern_with parts params) → PatternSays parts params
   pattern_says parts params h = form_says parts params h

@@ -16,7 +16,8 @@ use Rattle.ns_tree.specs.laws.FileFlats.{file_same}
 use Rattle.ns_scope.specs.Whole.{most_bytes, AllWithin, ArePlacesOf, IsPlaceOf, IsWholeUnit, AreWholeUnits}
 use Rattle.ns_code.specs.Fits.{IsName}
 use Rattle.ns_meant.specs.Expressions.{place_at}
-use Rattle.ns_meant.specs.Classes.{in_file, class_bodies, class_declared, unit_class, units_bodies, units_declared}
+use Rattle.ns_meant.specs.Classes.{in_file, class_bodies, class_declared, units_bodies, units_declared}
+use Rattle.ns_tree.specs.Parts.{unit_class}
 use Rattle.ns_meant.specs.Tables.{put_all}
 use Rattle.ns_sound.proofs.Held.{Told, Held, both}
 use Rattle.ns_sound.proofs.Says.{BodySays, ClassSays}

@@ -4,9 +4,9 @@ use Rattle.std.specs.Prelude.{Bool, true, false, IsTrue, Some, None, codes, if�
 use Rattle.std.specs.Str.{bytes_eq}
 use Rattle.std.proofs.lemmas.Option.{same_Some}
 use Rattle.ns_base.specs.declared.place.Place.{Place}
+use Rattle.ns_base.specs.Spelling.{starts_name, is_identifier, is_operator}
 use Rattle.ns_tree.specs.declared.token.Kind.TheVariants as k
 use Rattle.ns_tree.specs.declared.tree.Named.{Named}
-use Rattle.ns_tree.specs.Bytes as t
 use Rattle.ns_tree.specs.Grammar as g
 use Rattle.ns_tree.specs.Rule.{Rule}
 use Rattle.ns_tree.specs.Tree.{IsKey, HasText}
@@ -42,14 +42,14 @@ module _ (Fine : Place → Type 0) (marks : List Place) where
   pub key_held : (name : Named) → Held Fine marks g.key name → IsNamed IsKey name
   key_held name h = (h.2.0, h.2.1, at_name h.0 name h.1 h.2.2)
 
-  pub set_key_held : (name : Named) → Held Fine marks g.set_key name → IsNamed (λ text. IsTrue (t.is_name text)) name
+  pub set_key_held : (name : Named) → Held Fine marks g.set_key name → IsNamed (λ text. IsTrue (is_identifier text)) name
   set_key_held name h = (h.2.0, h.2.1, at_name h.0 name h.1 h.2.2)
 
   pub part_key_held : (name : Named) → Held Fine marks g.part_key name → IsNamed IsKey name
-  part_key_held name h = (h.2.0, h.2.1, at_name_if h.0 name (t.starts_name name.text) h.1 h.2.2)
+  part_key_held name h = (h.2.0, h.2.1, at_name_if h.0 name (starts_name name.text) h.1 h.2.2)
 
-  pub part_oper_held : (name : Named) → Held Fine marks g.part_oper name → IsNamed (λ text. IsTrue (t.is_operator text)) name
-  part_oper_held name h = (h.2.0, h.2.1, at_name_unless h.0 name (t.starts_name name.text) h.1 h.2.2)
+  pub part_oper_held : (name : Named) → Held Fine marks g.part_oper name → IsNamed (λ text. IsTrue (is_operator text)) name
+  part_oper_held name h = (h.2.0, h.2.1, at_name_unless h.0 name (starts_name name.text) h.1 h.2.2)
 
   pub oper_gives : Gives g.oper
   oper_gives name h = (spoken_operator name.text h.2.0 h.2.1, at_name h.0 name h.1 h.2.2)

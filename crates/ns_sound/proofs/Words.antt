@@ -5,13 +5,12 @@ use Rattle.std.proofs.lemmas.Bool.{eqb-true}
 use Rattle.std.specs.Prelude.{Bool, true, false, ◌&&◌, ◌||◌, ◌==◌, ◌≢◌, not, flat_map, codes, if◌then◌else◌}
 use Rattle.std.proofs.Common.{inl, inr}
 use Rattle.std.specs.List.{list_all}
+use Rattle.ns_base.specs.Spelling.{begins_name, starts_name, goes_on_name, is_identifier, are_keys, is_keyword, is_operator, is_selector, is_reserved}
 use Rattle.ns_tree.specs.declared.token.Kind.TheVariants as k
-use Rattle.ns_tree.specs.Bytes as t
 use Rattle.ns_tree.specs.Tree.{IsKey, HasText}
 use Rattle.ns_code.specs.Fits.{IsName, IsLocalName, IsShort}
 use Rattle.ns_code.specs.Selector.{text_arity}
-use Rattle.ns_code.specs.Spelling.{begins_name, goes_on_name, is_identifier, are_keys, is_keyword, is_operator, is_selector, is_reserved}
-use Rattle.ns_right.specs.laws.Texts.{name_is, colons, colons_both, key_colons, key_starts, starts_left, starts_arity}
+use Rattle.ns_right.specs.laws.Texts.{colons, colons_both, key_colons, key_starts, starts_left, starts_arity}
 use Rattle.ns_right.specs.laws.Setters.{setter_arity}
 
 -- A selector, each of whose keys is no longer than a source.
@@ -37,10 +36,6 @@ operator_spelled text h = or_left (is_identifier text || is_operator text) (is_k
 
 keyword_spelled : (text : List ℕ) → is_keyword text ≡ true → is_selector text ≡ true
 keyword_spelled text h = or_right (is_identifier text || is_operator text) (is_keyword text) h
-
-operator_same : (text : List ℕ) → t.is_operator text ≡ true → is_operator text ≡ true
-operator_same [] h = absurd (let f : false ≡ true = h in cc)
-operator_same (byte ∷ bytes) h = h
 
 and_left : (x y : Bool) → (x && y) ≡ true → x ≡ true
 and_left true y h = refl
@@ -83,29 +78,29 @@ some_keyword (byte ∷ bytes) h some = h
 pub key_and : (text rest : List ℕ) → IsKey text → are_keys false rest ≡ true → are_keys false (text ++ rest) ≡ true
 key_and text rest key r =
     subst (λ x. are_keys false (x ++ rest) ≡ true) (sym key.2)
-    (subst (λ x. are_keys false x ≡ true) (sym (append_assoc key.0 (58 ∷ []) rest)) (key_before key.0 rest (name_is key.0 key.1) r))
+    (subst (λ x. are_keys false x ≡ true) (sym (append_assoc key.0 (58 ∷ []) rest)) (key_before key.0 rest key.1 r))
 
-keys_are : (names : List (List ℕ)) → list_all t.is_name names ≡ true → are_keys false (flat_map (λ name. name ++ 58 ∷ []) names) ≡ true
+keys_are : (names : List (List ℕ)) → list_all is_identifier names ≡ true → are_keys false (flat_map (λ name. name ++ 58 ∷ []) names) ≡ true
 keys_are [] h = refl
 keys_are (name ∷ names) h =
-    key_and (name ++ 58 ∷ []) (flat_map (λ name. name ++ 58 ∷ []) names) (name, and_left (t.is_name name) (list_all t.is_name names) h, refl)
-    (keys_are names (and_right (t.is_name name) (list_all t.is_name names) h))
+    key_and (name ++ 58 ∷ []) (flat_map (λ name. name ++ 58 ∷ []) names) (name, and_left (is_identifier name) (list_all is_identifier names) h, refl)
+    (keys_are names (and_right (is_identifier name) (list_all is_identifier names) h))
 
 some_more : (text rest : List ℕ) → IsKey text → (text ++ rest) ≢ []
 some_more text rest key e = by (text ++ rest) (starts_left text rest (key_starts text key)) e where
-  by : (x : List ℕ) → t.starts_name x ≡ true → x ≢ []
+  by : (x : List ℕ) → starts_name x ≡ true → x ≢ []
   by [] h e = absurd (let f : false ≡ true = h in cc)
   by (byte ∷ bytes) h e = absurd (let f : byte ∷ bytes ≡ [] = e in cc)
 
-keys_some : (names : List (List ℕ)) → list_all t.is_name names ≡ true → names ≢ [] → flat_map (λ name. name ++ 58 ∷ []) names ≢ []
+keys_some : (names : List (List ℕ)) → list_all is_identifier names ≡ true → names ≢ [] → flat_map (λ name. name ++ 58 ∷ []) names ≢ []
 keys_some [] h some e = some refl
 keys_some (name ∷ names) h some e =
-    some_more (name ++ 58 ∷ []) (flat_map (λ name. name ++ 58 ∷ []) names) (name, and_left (t.is_name name) (list_all t.is_name names) h, refl) e
+    some_more (name ++ 58 ∷ []) (flat_map (λ name. name ++ 58 ∷ []) names) (name, and_left (is_identifier name) (list_all is_identifier names) h, refl) e
 
 -- a symbol's text
 pub symbol_spelled : (text : List ℕ) → HasText (k.Symbol text) → is_selector text ≡ true
-symbol_spelled text (inl name) = identifier_spelled text (name_is text name)
-symbol_spelled text (inr (inl oper)) = operator_spelled text (operator_same text oper)
+symbol_spelled text (inl name) = identifier_spelled text name
+symbol_spelled text (inr (inl oper)) = operator_spelled text oper
 symbol_spelled text (inr (inr keys)) =
     subst (λ x. is_selector x ≡ true) (sym keys.3)
     (keyword_spelled (flat_map (λ name. name ++ 58 ∷ []) keys.0)
@@ -119,32 +114,32 @@ short text h = omega (h, arith)
 pub text_short : (text : List ℕ) → length text ≤ 1048576 → IsShort text
 text_short text h = short text h
 
-pub spoken_name : (text : List ℕ) → t.is_name text ≡ true → length text ≤ 1048576 → Spoken text
-spoken_name text h few = record { spelled = identifier_spelled text (name_is text h); within = omega (few, arith) }
+pub spoken_name : (text : List ℕ) → is_identifier text ≡ true → length text ≤ 1048576 → Spoken text
+spoken_name text h few = record { spelled = identifier_spelled text h; within = omega (few, arith) }
 
-pub spoken_operator : (text : List ℕ) → t.is_operator text ≡ true → length text ≤ 1048576 → Spoken text
-spoken_operator text h few = record { spelled = operator_spelled text (operator_same text h); within = omega (few, arith) }
+pub spoken_operator : (text : List ℕ) → is_operator text ≡ true → length text ≤ 1048576 → Spoken text
+spoken_operator text h few = record { spelled = operator_spelled text h; within = omega (few, arith) }
 
-pub spoken_setter : (text : List ℕ) → t.is_name text ≡ true → length text ≤ 1048576 → Spoken (text ++ codes ":")
+pub spoken_setter : (text : List ℕ) → is_identifier text ≡ true → length text ≤ 1048576 → Spoken (text ++ codes ":")
 spoken_setter text h few =
     let key : IsKey (text ++ codes ":") = (text, h, refl) in
     let one = setter_arity text h in
     let longer = length-append text (codes ":") in
     record {
-      spelled = keyword_spelled (text ++ codes ":") (some_keyword (text ++ codes ":") (key_before text [] (name_is text h) refl)
+      spelled = keyword_spelled (text ++ codes ":") (some_keyword (text ++ codes ":") (key_before text [] h refl)
           (λ e. some_more (text ++ codes ":") [] key (append-nil (text ++ codes ":") ∙ e)));
       within = omega (few, one, longer, arith);
     }
 
-pub named_there : (text : List ℕ) → t.is_name text ≡ true → length text ≤ 1048576 → IsName text
-named_there text h few = record { short = short text few; spelled = identifier_spelled text (name_is text h) }
+pub named_there : (text : List ℕ) → is_identifier text ≡ true → length text ≤ 1048576 → IsName text
+named_there text h few = record { short = short text few; spelled = identifier_spelled text h }
 
 pub symbol_named : (text : List ℕ) → HasText (k.Symbol text) → length text ≤ 1048576 → IsName text
 symbol_named text h few = record { short = short text few; spelled = symbol_spelled text h }
 
 pub local_named : (text : List ℕ) → HasText (k.Ident text) → length text ≤ 1048576 → IsLocalName text
 local_named text h few =
-    record { short = short text few; spelled = and_both (is_identifier text) (not (is_reserved text)) (name_is text h.0) (ap not h.1) }
+    record { short = short text few; spelled = and_both (is_identifier text) (not (is_reserved text)) h.0 (ap not h.1) }
 
 -- ---- keys
 

@@ -3,9 +3,9 @@
 ghost use Rattle.std.specs.Prelude.{◌≡◌, false, ◌||◌, codes};
 ghost use Rattle.std.specs.List.{list_all};
 ghost use Rattle.std.specs.Str.{bytes_eq};
-ghost use Rattle.ns_code.specs.Spelling.{goes_on_name, is_identifier, are_keys, is_keyword, is_operator_byte, is_operator, is_selector, is_reserved};
+ghost use Rattle.ns_base.specs.Spelling.{goes_on_name, is_identifier, are_keys, is_keyword, is_operator_byte, is_operator, is_selector, is_reserved};
 
-use ns_code::selector::begins_name;
+use ns_base::spelling::{begins_name, goes_on_name, is_operator_byte};
 
 /// Whether this can be a selector: an identifier, an operator or keys.
 pub fn is_selector(text: &[u8]) -> bool
@@ -28,12 +28,6 @@ fn all_go_on(bytes: &[u8]) -> bool
     ensures { result ≡ list_all goes_on_name bytes.now }
 {
     bytes.iter().all(|byte| goes_on_name(*byte))
-}
-
-fn goes_on_name(byte: u8) -> bool
-    ensures { result ≡ goes_on_name byte }
-{
-    begins_name(byte) || (byte >= b'0' && byte <= b'9')
 }
 
 /// One or more identifiers, each with a colon behind it.
@@ -74,14 +68,6 @@ fn all_are_operator_bytes(text: &[u8]) -> bool
     ensures { result ≡ list_all is_operator_byte text.now }
 {
     text.iter().all(|byte| is_operator_byte(*byte))
-}
-
-fn is_operator_byte(byte: u8) -> bool
-    ensures { result ≡ is_operator_byte byte }
-{
-    b"+-*/\\~<>=@%|&?,!"
-        .iter()
-        .any(|operator| byte == *operator)
 }
 
 /// Whether this word isn't an identifier.

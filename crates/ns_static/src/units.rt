@@ -3,7 +3,8 @@
 ghost use Rattle.std.specs.Prelude.{◌≡◌, ◌+◌, length, IfOk, OnOk};
 ghost use Rattle.ns_tree.specs.PlainOf.{class_of, unit_of};
 ghost use Rattle.ns_rules.specs.Rules.{top_name_found};
-ghost use Rattle.ns_rules.specs.Faults.{unit_faults, unit_class, class_name, class_names};
+ghost use Rattle.ns_rules.specs.Faults.{unit_faults, class_name, class_names};
+ghost use Rattle.ns_tree.specs.Parts.{unit_class};
 ghost use Rattle.ns_rules.specs.Least.{with_top};
 ghost use Rattle.ns_rules.specs.Walk.{with_found, least_after};
 

@@ -2,11 +2,9 @@
 use Rattle.std.specs.Prelude.{ℕ, List, Option, Some, None, Bool, true, false, ◌||◌}
 use Rattle.ns_tree.specs.declared.token.Kind.{Kind}
 use Rattle.ns_tree.specs.declared.token.Kind.TheVariants as k
-use Rattle.ns_tree.specs.declared.token.Reserved.{Reserved}
-use Rattle.ns_tree.specs.declared.token.Reserved.TheVariants as r
 use Rattle.ns_tree.specs.declared.tree.Access.{Access}
-use Rattle.ns_tree.specs.declared.tree.Access.TheVariants as a
 use Rattle.ns_tree.specs.Plain as p
+use Rattle.ns_tree.specs.Grammar.{word_access, word_primary, make_number}
 use Rattle.ns_terminal.specs.declared.mark.Mark.TheVariants as m
 use Rattle.ns_terminal.specs.declared.name.Sort.TheVariants as s
 use Rattle.ns_terminal.specs.Read.{Reader, read_one, read_many, read_mapped, read_after, read_or, read_maybe}
@@ -18,10 +16,6 @@ is_some (Some a) = true
 is_some None = false
 
 -- ---- numbers and strings
-
-abbrev pub make_number : ℕ → Kind → Option ℕ
-make_number n (k.Number size) = Some size
-make_number n _ = None
 
 abbrev pub number : Reader ℕ
 number = read_one make_number
@@ -45,12 +39,6 @@ strings = read_many is_string string
 
 -- ---- access words
 
-abbrev pub word_access : Reserved → Option Access
-word_access r.Public = Some a.Public
-word_access r.Protected = Some a.Protected
-word_access r.Private = Some a.Private
-word_access _ = None
-
 abbrev pub kind_access : Kind → Option Access
 kind_access (k.Word word) = word_access word
 kind_access _ = None
@@ -69,14 +57,6 @@ abbrev pub maybe_access : Reader (Option Access)
 maybe_access = read_maybe is_access access
 
 -- ---- primaries without brackets
-
-abbrev pub word_primary : Reserved → Option p.Primary
-word_primary r.Nil = Some p.nil_word
-word_primary r.True = Some p.true_word
-word_primary r.False = Some p.false_word
-word_primary r.SelfWord = Some p.self_word
-word_primary r.Super = Some p.super_word
-word_primary _ = None
 
 -- the primary of one token
 abbrev pub kind_primary : Kind → Option p.Primary

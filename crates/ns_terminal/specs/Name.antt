@@ -4,6 +4,7 @@ use Rattle.std.specs.Str.{bytes_eq}
 use Rattle.ns_tree.specs.declared.token.Kind.{Kind}
 use Rattle.ns_tree.specs.declared.token.Kind.TheVariants as k
 use Rattle.ns_tree.specs.declared.tree.Named.{Named}
+use Rattle.ns_tree.specs.Grammar.{named}
 use Rattle.ns_terminal.specs.declared.name.Sort.{Sort}
 use Rattle.ns_terminal.specs.declared.name.Sort.TheVariants as s
 use Rattle.ns_terminal.specs.declared.name.Operators.TheVariants as o
@@ -42,9 +43,6 @@ text_of (k.Key text) = text
 text_of (k.SetKey text) = text
 text_of (k.Oper text) = text
 text_of _ = []
-
-abbrev pub named : ℕ → List ℕ → Named
-named n text = record { text = text; at = n }
 
 -- a token of that sort, with its number
 abbrev pub make_name : Sort → ℕ → Kind → Option Named

@@ -105,12 +105,6 @@ module _ {A : Type 0} (first separates : Kind → Bool) (p : Reader A) where
   abbrev pub read_listed : Reader (Listed A)
   read_listed n ts = read_list_turns (length ts) n ts
 
--- the items of a list with separators
-abbrev pub items : {A : Type 0} → Listed A → List A
-items none = []
-items (last a) = a ∷ []
-items (next a rest) = a ∷ items rest
-
 -- whether a separator ends the list behind a separator
 abbrev pub ends_there : {A : Type 0} → Listed A → Bool
 ends_there none = true

@@ -2,6 +2,7 @@
 
 ghost use Rattle.std.specs.Prelude.{◌≡◌, Some, None, MatchOption, IfOk};
 ghost use Rattle.ns_tree.specs.PlainOf.{primary_of};
+ghost use Rattle.ns_tree.specs.Grammar.{word_access, word_primary};
 ghost use Rattle.ns_terminal.specs.Leaf as spec;
 ghost use Rattle.ns_terminal.specs.Reads.{Gives, Reads, next_is};
 
@@ -80,7 +81,7 @@ pub fn strings(alloc: Global, tokens: &mut Tokens<'_>) -> Result<Vec<Text>, Pars
 
 /// The access of a reserved word.
 fn word_access(word: Reserved) -> Option<Access>
-    ensures { result ≡ spec.word_access word }
+    ensures { result ≡ word_access word }
 {
     match word {
         Reserved::Public => Some(Access::Public),
@@ -126,7 +127,7 @@ pub fn access(tokens: &mut Tokens<'_>) -> Option<Access>
 }
 
 fn word_primary(word: Reserved) -> Option<Primary>
-    ensures { MatchOption result (spec.word_primary word ≡ None) (λ primary. spec.word_primary word ≡ Some (primary_of primary)) }
+    ensures { MatchOption result (word_primary word ≡ None) (λ primary. word_primary word ≡ Some (primary_of primary)) }
 {
     match word {
         Reserved::Nil => Some(Primary::Nil),

@@ -1,5 +1,6 @@
 -- The token kinds of a tree, in the order in which they stand in its source.
 use Rattle.std.specs.Prelude.{ℕ, Bool, if◌then◌else◌, List, [], ◌∷◌, ◌++◌, map, flat_map, zip, Option, Some, None, codes}
+use Rattle.ns_base.specs.Spelling.{starts_name}
 use Rattle.ns_tree.specs.declared.token.Kind.{Kind}
 use Rattle.ns_tree.specs.declared.token.Kind.TheVariants as k
 use Rattle.ns_tree.specs.declared.token.Reserved.TheVariants as r
@@ -10,7 +11,6 @@ use Rattle.ns_tree.specs.declared.tree.Base.{Base}
 use Rattle.ns_tree.specs.declared.tree.Origin.{Origin}
 use Rattle.ns_tree.specs.declared.tree.Origin.TheVariants as o
 use Rattle.ns_tree.specs.Plain as p
-use Rattle.ns_tree.specs.Bytes.{starts_name}
 
 -- ---- tokens
 

@@ -2,12 +2,12 @@
 -- grammar has no such node.
 use Rattle.std.specs.Prelude.{ℕ, ◌⊎◌, List, [], ◌∷◌, Option, Some, None, option_map, Bool, true, false, if◌then◌else◌}
 use Rattle.std.proofs.Common.{inl, inr}
+use Rattle.ns_base.specs.Spelling.{starts_name}
 use Rattle.ns_tree.specs.declared.tree.Named.{Named}
 use Rattle.ns_tree.specs.declared.tree.Access.{Access}
 use Rattle.ns_tree.specs.declared.tree.Base.{Base}
 use Rattle.ns_tree.specs.declared.tree.Origin.{Origin}
 use Rattle.ns_tree.specs.declared.tree.Origin.TheVariants as o
-use Rattle.ns_tree.specs.Bytes.{starts_name}
 use Rattle.ns_tree.specs.Lists.{key_list, oper_list, message_list, expr_list, slot_list, statement_list, member_list}
 use Rattle.ns_tree.specs.Plain as p
 use Rattle.ns_tree.specs.Rule.{Listed, none, last, next}

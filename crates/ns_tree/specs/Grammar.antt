@@ -2,6 +2,7 @@
 -- within brackets is handed in, so that brackets, and classes within classes, nest by a depth.
 use Rattle.std.specs.Prelude.{ℕ, zero, suc, List, Option, Some, None, false, if◌then◌else◌, codes}
 use Rattle.std.specs.Str.{bytes_eq}
+use Rattle.ns_base.specs.Spelling.{starts_name}
 use Rattle.ns_tree.specs.declared.token.Kind.{Kind}
 use Rattle.ns_tree.specs.declared.token.Kind.TheVariants as k
 use Rattle.ns_tree.specs.declared.token.Reserved.{Reserved}
@@ -10,7 +11,6 @@ use Rattle.ns_tree.specs.declared.tree.Named.{Named}
 use Rattle.ns_tree.specs.declared.tree.Access.{Access}
 use Rattle.ns_tree.specs.declared.tree.Access.TheVariants as a
 use Rattle.ns_tree.specs.declared.tree.Base.{Base}
-use Rattle.ns_tree.specs.Bytes.{starts_name}
 use Rattle.ns_tree.specs.Flat.{bar, equals, over_sign, access_word}
 use Rattle.ns_tree.specs.Forms.{Leaf, leaf_of, Bracketed, KeysForm}
 use Rattle.ns_tree.specs.Forms.{primary_form, block_form, un_form, bin_form, key_expr_form, message_form, expr_form}

@@ -1,10 +1,10 @@
-pub mod Bytes
 pub mod Deep
 pub mod Flat
 pub mod Forms
 pub mod Grammar
 pub mod Lists
 pub mod Made
+pub mod Parts
 pub mod Plain
 pub mod PlainOf
 pub mod Rule

@@ -4,5 +4,6 @@
 pub mod deep;
 pub mod laws;
 pub mod make;
+pub mod parts;
 pub mod token;
 pub mod tree;

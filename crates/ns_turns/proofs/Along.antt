@@ -96,6 +96,14 @@ module _ (code : CodeProgram) (plan : Plan) (sends : OwnSends) (left : ℕ) (old
     falls = let a = along.lower in let b = gone.falls in omega (arith, a, b);
   }
 
+-- The same, where so many were left.
+pub gone_since : (code : CodeProgram) (plan : Plan) (sends : OwnSends) (left some : ℕ) (old now new : Core) (from here next : Next)
+    → GoesAlong code plan sends left old from now here → is_still (shown code old from) ≡ false
+    → some ≡ left - (now.run.world.world.steps - old.run.world.world.steps) → HasGone code plan sends some now here new next
+    → HasGone code plan sends left old from new next
+gone_since code plan sends left some old now new from here next along goes e gone =
+    gone_far code plan sends left old now new from here next along goes (subst (λ n. HasGone code plan sends n now here new next) e gone)
+
 -- A run in which something waits goes on.
 pub waits_goes : (code : CodeProgram) (core : Core) (at : Registers) → is_still (shown code core (Waits at)) ≡ false
 waits_goes code core at = by_pending core.waiting

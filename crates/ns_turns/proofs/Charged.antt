@@ -63,8 +63,8 @@ module _ (code : CodeProgram) (body next : ℕ) (inside : next < length (steps_o
   step_told (step.MakeArray count) stack lands = refl
   step_told step.Pop stack lands = refl
   step_told (step.Pick number) stack lands = refl
-  step_told (step.Send sel argc Plain place) stack lands = refl
-  step_told (step.Send sel argc Inner place) stack lands = refl
+  step_told (step.Send sel argc Plain place row) stack lands = refl
+  step_told (step.Send sel argc Inner place row) stack lands = refl
   step_told (step.SendPrivate level sel argc place member) stack lands = refl
   step_told (step.SendSuper sel argc place) stack lands = refl
   step_told (step.InitSuper argc place) stack lands = refl

@@ -40,7 +40,8 @@ use Rattle.ns_engine.specs.declared.own.OwnSends.{OwnSends}
 use Rattle.ns_engine.specs.Own.{AreOwn}
 use Rattle.ns_engine.specs.Ready.{IsReady, Moves}
 use Rattle.ns_engine.specs.Framed.{HasRoomOnTop, WaitingHasRoom, ArgumentsAreFew}
-use Rattle.ns_engine.specs.Standing.{greatest_of, AreStanding, ArgumentsWait, SendWaits, Wait}
+use Rattle.ns_engine.specs.Standing.{AreStanding, ArgumentsWait, SendWaits, Wait}
+use Rattle.ns_send.specs.Bodies.{greatest_of}
 use Rattle.ns_engine.specs.laws.Kept.{rooms_stay}
 use Rattle.ns_returns.specs.Handing.{CanTake, IsHanded}
 use Rattle.ns_sends.specs.declared.sent.Sent.{Sent}

@@ -12,7 +12,7 @@ takes_on_top wanted (value ∷ stack) = takes_jump wanted value
 
 -- each send does, and each jump that is taken and goes to itself or back
 abbrev pub step_charges : ℕ → List Value → Step → Bool
-step_charges next stack (Send sel argc kind place) = true
+step_charges next stack (Send sel argc kind place row) = true
 step_charges next stack (SendPrivate level sel argc place member) = true
 step_charges next stack (SendSuper sel argc place) = true
 step_charges next stack (Jump to) = nat_le to next

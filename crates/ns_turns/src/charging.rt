@@ -57,7 +57,7 @@ fn frame_charges(plan: &Plan, code: &CodeProgram, core: &Core, at: Registers) ->
     steps_lead_to_steps();
     match *core.stack.topmost() {
         Frame::Running(frame) => {
-            let step = fetch(plan, code, core, at, frame);
+            let step = fetch(plan, code, core, at, frame.activation.body);
             step_charges(&core.stack, at, step)
         }
         Frame::Looping(looping) => action_charges(next_action(looping.method, looping.state)),

@@ -2,6 +2,7 @@
 //! moves as the steps of a turn allow.
 #![tactic(auto)]
 
+pub mod acting;
 pub mod charging;
 pub mod fetching;
 pub mod laws;

@@ -52,14 +52,20 @@ pub fn go_on(plan: &Plan, code: &CodeProgram, core: &mut Core, at: Registers, ow
 /// Does the next step of a body, which runs in the topmost frame. Its code stands once, and apart from that of methods of the
 /// kernel.
 #[inline(never)]
-fn run_on(plan: &Plan, code: &CodeProgram, core: &mut Core, at: Registers, own: OwnSends) -> Next
+pub fn run_on(
+    plan: &Plan,
+    code: &CodeProgram,
+    core: &mut Core,
+    at: Registers,
+    own: OwnSends,
+) -> Next
     requires runs { RunsBy code.now plan.now own core.old (next.On at) }
     requires running { IsRunning core.old.stack.frames.items }
     ensures { Moves code.now core.old (next.On at) core.new result }
 {
     moves_keep_machines_ready();
     let frame = running(&core.stack);
-    let step = fetch(plan, code, core, at, frame);
+    let step = fetch(plan, code, core, at, frame.activation.body);
     let behind = Registers {
         next: at.next + 1,
         ..at
@@ -94,6 +100,7 @@ fn perform(code: &CodeProgram, core: &mut Core, at: Registers, step: Step, own: 
             argc,
             kind,
             place,
+            ..
         } => send_as(code, core, at, sel, argc, kind, place, own),
         Step::SendPrivate {
             level,

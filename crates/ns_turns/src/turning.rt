@@ -5,25 +5,32 @@ ghost use Rattle.ns_code.specs.declared.program.CodeProgram.{CodeProgram};
 ghost use Rattle.ns_facets.specs.declared.row.Grants.{Grants};
 ghost use Rattle.ns_moves.specs.Turn.{is_still, Turns};
 ghost use Rattle.ns_engine.specs.declared.state.Core.{Core as AnyCore};
+ghost use Rattle.ns_engine.specs.Doing.{IsRunning};
 ghost use Rattle.ns_engine.specs.Shown.{shown};
 ghost use Rattle.ns_engine.specs.Ready.{IsReady, Moves};
 ghost use Rattle.ns_engine.specs.Standing.{Stays};
+ghost use Rattle.ns_engine.specs.Straight.{RunsBody};
 ghost use Rattle.ns_engine.specs.declared.state.Next.TheVariants as next;
 ghost use Rattle.ns_turns.specs.Turning.{RunsBy, HasGone};
 
+use crate::acting::act_along;
 use crate::charging::charges;
 use crate::laws::moves_go_along;
 use crate::moving::{step, take_up};
 use crate::quickly::go_quickly;
-use crate::stepping::go_on;
+use crate::stepping::run_on;
 use ns_code::program::CodeProgram;
 use ns_engine::laws::{moves_keep_machines_ready, turns_go_by_moves};
+use ns_engine::led::Led;
+use ns_engine::on_top::OnTop;
 use ns_engine::own::OwnSends;
 use ns_engine::state::{Core, Next};
 use ns_falling::laws::moves_lower;
+use ns_frames::frame::Frame;
 use ns_frames::registers::Registers;
 use ns_moves::laws::{moves_charge_as_told, moves_go_onward};
 use ns_moves::valid_frames::moves_keep_valid;
+use ns_plan::laws::running_bodies_have_steps;
 use ns_plan::plan::Plan;
 
 /// A turn of so many steps: moves up to the end of the run, or up to the first that would charge a step more.
@@ -94,8 +101,8 @@ fn go_along(
     }
 }
 
-/// Moves with so many steps left, for as long as the topmost frame goes on, by the quick way where that does it. The registers
-/// stay in local variables: no other way on is carried from one move to the next.
+/// Moves with so many steps left, for as long as the topmost frame goes on. The registers stay in local variables: no other way
+/// on is carried from one move to the next.
 #[inline(always)]
 fn run_along(
     plan: &Plan,
@@ -113,33 +120,85 @@ fn run_along(
     let begun = core.run.world.counters().steps;
     let mut here = at;
     'along: loop {
-        match go_quickly(plan, code, core, here) {
-            Some(to) => {
+        let used = core.run.world.counters().steps - begun;
+        let moved = advance(plan, code, core, here, left - used, own);
+        match moved {
+            Next::On(to) => {
                 if left <= core.run.world.counters().steps - begun {
-                    return Next::On(to);
+                    return moved;
                 }
                 here = to;
             }
-            None => {
-                let used = core.run.world.counters().steps - begun;
-                let moved = go_apart(plan, code, core, here, left - used, own);
-                match moved {
-                    Next::On(to) => {
-                        if left <= core.run.world.counters().steps - begun {
-                            return moved;
-                        }
-                        here = to;
-                    }
-                    Next::Waits(_) | Next::Ended => return moved,
-                }
-            }
+            Next::Waits(_) | Next::Ended => return moved,
         }
     }
 }
 
-/// Goes on with the topmost frame, apart from the loop in which that is done where the quick way doesn't do it; and then
-/// with what waits, as the block that a method of the kernel evaluates, where a step is left.
-#[inline(never)]
+/// Goes on with the topmost frame: straight on in a body, as far as that goes, and one move more; or with a method of the kernel.
+#[inline(always)]
+fn advance(
+    plan: &Plan,
+    code: &CodeProgram,
+    core: &mut Core,
+    at: Registers,
+    left: u64,
+    own: OwnSends,
+) -> Next
+    requires runs { RunsBy code.now plan.now own core.old (next.On at) }
+    requires some { 1 ≤ left }
+    ensures { HasGone code.now plan.now own left core.old (next.On at) core.new result }
+{
+    match *core.stack.topmost() {
+        Frame::Running(frame) => go_straight(
+            plan,
+            code,
+            core,
+            at,
+            frame.activation.body,
+            left,
+            own,
+        ),
+        Frame::Looping(_) => as_value(go_apart(plan, code, core, at, left, own)),
+    }
+}
+
+/// Goes straight on in the body that runs in the topmost frame, and makes one move more, by the quick way where that does it.
+/// Up to there no step is charged and the body stays on top, so neither the steps left nor the frame are looked at.
+#[inline(always)]
+fn go_straight(
+    plan: &Plan,
+    code: &CodeProgram,
+    core: &mut Core,
+    at: Registers,
+    body: u32,
+    left: u64,
+    own: OwnSends,
+) -> Next
+    requires runs { RunsBy code.now plan.now own core.old (next.On at) }
+    requires body { RunsBody body core.old.stack.frames.items }
+    requires some { 1 ≤ left }
+    ensures { HasGone code.now plan.now own left core.old (next.On at) core.new result }
+{
+    moves_go_along();
+    running_bodies_have_steps();
+    let row = plan.row(code, body);
+    let entry = row.entry;
+    let top = OnTop {
+        body,
+        environment: row.environment,
+    };
+    let mut here = at;
+    'straight: loop {
+        match go_quickly(plan, code, core, here, top, entry) {
+            Led::Straight(to) => here = to,
+            Led::On(to) => return Next::On(to),
+            Led::Nowhere => return as_value(go_apart(plan, code, core, here, left, own)),
+        }
+    }
+}
+
+/// Goes on with the topmost frame, where the quick way doesn't do it: a method of the kernel, or a body.
+#[inline(always)]
 fn go_apart(
     plan: &Plan,
     code: &CodeProgram,
@@ -153,14 +212,48 @@ fn go_apart(
     ensures { HasGone code.now plan.now own left core.old (next.On at) core.new result }
 {
     moves_go_along();
+    match *core.stack.topmost() {
+        Frame::Looping(_) => act_along(plan, code, core, at, left, own),
+        Frame::Running(_) => run_apart(plan, code, core, at, left, own),
+    }
+}
+
+/// Does the next step of a body, and then what waits, where a step is left.
+#[inline(never)]
+fn run_apart(
+    plan: &Plan,
+    code: &CodeProgram,
+    core: &mut Core,
+    at: Registers,
+    left: u64,
+    own: OwnSends,
+) -> Next
+    requires runs { RunsBy code.now plan.now own core.old (next.On at) }
+    requires running { IsRunning core.old.stack.frames.items }
+    requires some { 1 ≤ left }
+    ensures { HasGone code.now plan.now own left core.old (next.On at) core.new result }
+{
+    moves_go_along();
     let begun = core.run.world.counters().steps;
-    let moved = go_on(plan, code, core, at, own);
+    let moved = run_on(plan, code, core, at, own);
     if left <= core.run.world.counters().steps - begun {
         return moved;
     }
     match moved {
         Next::Waits(to) => take_up(plan, code, core, to, own),
         Next::On(_) | Next::Ended => moved,
+    }
+}
+
+/// The same, read once from where a call has written it, so that no other way on goes through memory.
+#[inline(always)]
+fn as_value(next: Next) -> Next
+    ensures { result ≡ next }
+{
+    match next {
+        Next::On(at) => Next::On(at),
+        Next::Waits(at) => Next::Waits(at),
+        Next::Ended => Next::Ended,
     }
 }
 

@@ -2,7 +2,8 @@
 use Rattle.std.proofs.Common.{◌≡◌, ℕ, ◌+◌, ◌-◌, ◌*◌, ◌<◌, List, [], ◌∷◌, true, false, None, cond, refl, arith}
 use Rattle.std.specs.Prelude.{option_and_then}
 use Rattle.std.proofs.lemmas.Bool.Decides.{nat_tests}
-use Rattle.ns_words.specs.Words.{in_range, is_digit, value_from}
+use Rattle.ns_base.specs.Spelling.{is_digit}
+use Rattle.ns_words.specs.Words.{in_range, value_from}
 
 -- Further digits never make a number smaller.
 pub too_big : (greatest n : ℕ) (ds : List ℕ) → greatest < n → option_and_then (in_range greatest) (value_from n ds) ≡ None

@@ -2,6 +2,7 @@
 use Rattle.std.specs.Prelude.{ℕ, ◌+◌, ◌-◌, ◌*◌, ◌&&◌, nat_le, nat_lt, not, List, [], ◌∷◌, ◌++◌, Bool, true, false, Option, Some, None, option_and_then, take, drop, length, codes, nat_eq, if◌then◌else◌}
 use Rattle.std.specs.Option.{is_some, unwrap_or}
 use Rattle.std.specs.Str.{bytes_eq}
+use Rattle.ns_base.specs.Spelling.{is_digit}
 use Rattle.ns_base.specs.declared.limits.Limits.{Limits}
 use Rattle.ns_words.specs.Application.{is_application}
 use Rattle.ns_words.specs.FileName.{is_file_name}
@@ -31,9 +32,6 @@ pub data Part : Type 0 where
   Arguments : (given : Given) (names arguments : List (List ℕ)) → Part
 
 -- ---- numbers
-
-abbrev pub is_digit : ℕ → Bool
-is_digit b = nat_le 48 b && nat_le b 57
 
 -- the number whose first digits are n, and whose others follow
 abbrev pub value_from : ℕ → List ℕ → Option ℕ

@@ -11,6 +11,7 @@ ghost use Rattle.ns_words.specs.Words as spec;
 use crate::application::application_of;
 use crate::form::{Form, Item, Verb, form_of, verb_of};
 use ns_base::limits::Limits;
+use ns_base::spelling::is_digit;
 
 /// What the options of a command line give.
 #[derive(Clone, Copy, Debug, PartialEq, Eq)]
@@ -383,10 +384,4 @@ fn value(greatest: u64, text: &[u8]) -> Option<u64>
     } else {
         None
     }
-}
-
-fn is_digit(b: u8) -> bool
-    ensures { result ≡ spec.is_digit b }
-{
-    b'0' <= b && b <= b'9'
 }

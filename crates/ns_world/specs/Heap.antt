@@ -118,7 +118,7 @@ no_class = 4294967295
 abbrev pub is_chain_start : Heap → ℕ → Bool
 is_chain_start heap class = is_class (find_cell heap class) || class == no_class
 
--- the number of a superclass that is declared, and that of no class otherwise
+-- the number of the class that a value refers to, and that of no class where it refers to none
 abbrev pub declared_class : Value → ℕ
 declared_class (Ref class) = class
 declared_class _ = no_class

@@ -1,3 +1,4 @@
+pub mod Booleans
 pub mod Cell
 pub mod Heap
 pub mod Words

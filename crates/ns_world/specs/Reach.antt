@@ -4,7 +4,7 @@ use Rattle.ns_world.specs.declared.value.Value.{Value}
 use Rattle.ns_world.specs.declared.value.Value.TheVariants.{Nil, Ref}
 use Rattle.ns_world.specs.declared.cell.FacetKind.TheVariants.{Manifest, Platform, Console, Mirrors, Kernel as KernelFacet, Board}
 use Rattle.ns_world.specs.Cell.{Cell, ObjectCell, ClassCell, BlockCell, EnvironmentCell, ArrayCell, TextCell, FacetCell, MirrorCell, MessageCell}
-use Rattle.ns_world.specs.Heap.{Heap, heap_size, find_cell, no_class}
+use Rattle.ns_world.specs.Heap.{Heap, heap_size, find_cell, no_class, declared_class}
 use Rattle.ns_world.specs.Seek.{is_nil, first_such, is_facet, is_top}
 
 -- the enclosing object and the enclosing holder of a class
@@ -12,16 +12,11 @@ abbrev pub enclosing_in : Option Cell → Value × Value
 enclosing_in (Some (ClassCell decl encl holder over)) = (encl, holder)
 enclosing_in _ = (Nil, Nil)
 
--- the number of the class that a value refers to
-abbrev pub class_of_value : Value → ℕ
-class_of_value (Ref class) = class
-class_of_value _ = no_class
-
 -- self and holder, seen from so many levels further out
 abbrev pub lexical : Heap → ℕ → Value → Value → Value × Value
 lexical heap zero self holder = (self, holder)
 lexical heap (suc level) self holder =
-    let out = enclosing_in (find_cell heap (class_of_value holder)) in lexical heap level out.0 out.1
+    let out = enclosing_in (find_cell heap (declared_class holder)) in lexical heap level out.0 out.1
 
 -- the first class of each declaration whose enclosing object is nil, which Manifest holds
 abbrev pub tops_of : Heap → List ℕ

@@ -1,5 +1,8 @@
 //! Values.
 
+ghost use Rattle.std.specs.Prelude.{◌≡◌};
+ghost use Rattle.ns_world.specs.Booleans as booleans;
+
 use ns_base::selector::Sel;
 
 /// What a name, a slot or an operand holds. A reference is the number of a cell.
@@ -19,4 +22,12 @@ pub enum Value {
 pub enum KClass {
     Object,
     Array,
+}
+
+/// A test as a boolean of the language.
+#[inline(always)]
+pub fn truth(test: bool) -> Value
+    ensures { result ≡ booleans.truth test }
+{
+    if test { Value::True } else { Value::False }
 }

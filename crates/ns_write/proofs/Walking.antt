@@ -7,6 +7,7 @@ use Rattle.ns_tree.specs.declared.tree.Expr.{Expr}
 use Rattle.ns_tree.specs.declared.tree.BinExpr.{BinExpr}
 use Rattle.ns_tree.specs.PlainOf.{expr_of, exprs_of, bin_of, keys_of}
 use Rattle.ns_tree.specs.Plain as p
+use Rattle.ns_tree.specs.Parts.{first_key}
 use Rattle.ns_scope.specs.Resolve.{resolve}
 use Rattle.ns_scope.specs.Bodies as b
 use Rattle.ns_meant.specs.Program as m
@@ -58,7 +59,7 @@ bin_kept here next un opers receiver behind is rest =
 -- ---- keyword messages
 
 pub keywords_whole : (here : e.Standing) (next : ℕ) (receiver : Receiver) (keys : p.Keys) (selector : List ℕ) (place : Place) (way : SendWay) (count : ℕ) (w0 w1 w2 w3 : Written) →
-    selector ≡ e.joined keys → place ≡ e.place_at here.marks (e.first_key keys) → count ≡ keys_count keys →
+    selector ≡ e.joined keys → place ≡ e.place_at here.marks (first_key keys) → count ≡ keys_count keys →
     way_of way ≡ begin_way here.scope receiver selector →
     w1 ≡ with_lines (begin_lines here.scope receiver selector []) w0 → w2 ≡ with_nodes (e.keys_nodes here next keys) w1 →
     w3 ≡ with_line (with_name w2 selector) (code.sends (way_of way) (record { selector = selector; place = place }) count) →
@@ -67,13 +68,13 @@ keywords_whole here next receiver keys selector place way count w0 w1 w2 w3 text
     let nodes = e.keys_nodes here next keys in
     three
     ∙ ap (λ (x : Place). with_line (with_name w2 selector) (code.sends (way_of way) (record { selector = selector; place = x }) count)) at
-    ∙ ap (λ (s : List ℕ). with_line (with_name w2 s) (code.sends (way_of way) (e.sent_at here s (e.first_key keys)) count)) text
+    ∙ ap (λ (s : List ℕ). with_line (with_name w2 s) (code.sends (way_of way) (e.sent_at here s (first_key keys)) count)) text
     ∙ ap (λ w. with_line (with_name w (e.joined keys)) (code.sends (way_of way) (e.keys_sent here keys) count))
     (two ∙ ap (with_nodes nodes) (one ∙ ap (λ s. with_lines (begin_lines here.scope receiver s []) w0) text))
     ∙ keywords_put here next receiver keys (way_of way) count w0 (finds ∙ ap (begin_way here.scope receiver) text) many
 
 pub implicit_whole : (here : e.Standing) (next : ℕ) (reach : Reach) (keys : p.Keys) (selector : List ℕ) (place : Place) (way : SendWay) (count : ℕ) (w0 w1 w2 w3 : Written) →
-    selector ≡ e.joined keys → place ≡ e.place_at here.marks (e.first_key keys) → count ≡ keys_count keys →
+    selector ≡ e.joined keys → place ≡ e.place_at here.marks (first_key keys) → count ≡ keys_count keys →
     meant_reach reach ≡ e.reach_of (resolve here.scope selector) → way_of way ≡ code.way_of (meant_reach reach) →
     w1 ≡ with_lines (code.object_lines (meant_reach reach) []) w0 → w2 ≡ with_nodes (e.keys_nodes here next keys) w1 →
     w3 ≡ with_line (with_name w2 selector) (code.sends (way_of way) (record { selector = selector; place = place }) count) →
@@ -82,7 +83,7 @@ implicit_whole here next reach keys selector place way count w0 w1 w2 w3 text at
     let nodes = e.keys_nodes here next keys in
     three
     ∙ ap (λ (x : Place). with_line (with_name w2 selector) (code.sends (way_of way) (record { selector = selector; place = x }) count)) at
-    ∙ ap (λ (s : List ℕ). with_line (with_name w2 s) (code.sends (way_of way) (e.sent_at here s (e.first_key keys)) count)) text
+    ∙ ap (λ (s : List ℕ). with_line (with_name w2 s) (code.sends (way_of way) (e.sent_at here s (first_key keys)) count)) text
     ∙ ap (λ w. with_line (with_name w (e.joined keys)) (code.sends (way_of way) (e.keys_sent here keys) count)) (two ∙ ap (with_nodes nodes) one)
     ∙ implicit_put here next (meant_reach reach) keys (way_of way) count w0 (reaches ∙ ap (λ s. e.reach_of (resolve here.scope s)) text) finds many
 

@@ -10,7 +10,7 @@ ghost use Rattle.ns_write.specs.Cascading.{unset_node, with_rest, with_first, sa
 ghost use Rattle.ns_write.specs.Sending.{standing, with_node, with_nodes, with_receiver, with_message, with_one_message, with_opers, with_keywords, with_value, opers_left, keys_left, kept};
 
 use crate::here::Here;
-use crate::keys::{count, first_key, joined, keys_count};
+use crate::keys::{count, joined, keys_count};
 use crate::primaries::{put_alone, put_block};
 use crate::reach::reach_of;
 use crate::receiver::{
@@ -21,6 +21,7 @@ use crate::sets::put_sets;
 use crate::writer::Writer;
 use ns_base::no_memory::NoMemory;
 use ns_code::instruction::Instr;
+use ns_tree::parts::first_key;
 use ns_tree::tree::{BinExpr, Expr, KeyExpr, Message, Named, Primary, UnExpr};
 
 /// A primary with its unary messages, as a receiver.

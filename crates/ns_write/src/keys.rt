@@ -2,7 +2,7 @@
 
 ghost use Rattle.std.specs.Prelude.{◌≡◌, ◌++◌, length, codes, IfOk};
 ghost use Rattle.ns_tree.specs.PlainOf.{keys_of};
-ghost use Rattle.ns_meant.specs.Expressions.{joined, first_key};
+ghost use Rattle.ns_meant.specs.Expressions.{joined};
 ghost use Rattle.ns_write.specs.Sending.{keys_count};
 
 use crate::reach::byte;
@@ -31,16 +31,6 @@ pub fn joined(alloc: Global, keys: &[(Named, BinExpr)]) -> Result<Text, NoMemory
         bytes.extend_from_slice(key.0.text.bytes())?;
     }
     Ok(Text::from_vec(bytes))
-}
-
-/// The number of the first key's token.
-pub fn first_key(keys: &[(Named, BinExpr)]) -> u32
-    ensures { result ≡ first_key (keys_of keys.now) }
-{
-    match keys {
-        [] => 0,
-        [first, ..] => first.0.at,
-    }
 }
 
 /// How many keys there are, as a byte.

@@ -17,7 +17,8 @@ use Rattle.ns_frames.specs.declared.frame.Pending.{Pending}
 use Rattle.ns_world.specs.declared.ending.Ending.{Ending}
 use Rattle.ns_engine.specs.declared.state.Core.{Core}
 use Rattle.ns_engine.specs.Shown.{progress_in}
-use Rattle.ns_engine.specs.Standing.{height_in, greatest_of, Stays}
+use Rattle.ns_engine.specs.Standing.{Stays}
+use Rattle.ns_send.specs.Bodies.{height_in, greatest_of}
 use Rattle.ns_engine.specs.Doing.{Finds, CanDo, IsRunning}
 
 -- what stays where the stack alone has changed

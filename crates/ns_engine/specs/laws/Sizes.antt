@@ -11,7 +11,7 @@ use Rattle.ns_send.specs.Bodies as bodies
 use Rattle.ns_frames.specs.declared.calls.BodyShape.{BodyShape}
 use Rattle.ns_frames.specs.declared.calls.Call.{Call}
 use Rattle.ns_frames.specs.Calls.{frame_for}
-use Rattle.ns_engine.specs.Standing.{height_in, greatest_of}
+use Rattle.ns_send.specs.Bodies.{height_in, greatest_of}
 
 -- a body's frame is no greater than the greatest
 greatest_is : (bodies : List BodyCode) (number : ℕ) (body : BodyCode) → slice_get bodies number ≡ Some body → body.locals + body.height ≤ greatest_of bodies

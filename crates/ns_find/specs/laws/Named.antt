@@ -21,7 +21,8 @@ use Rattle.ns_find.specs.declared.members.Wanted.{Wanted}
 use Rattle.ns_find.specs.declared.members.Wanted.TheVariants.{Visible, Private}
 use Rattle.ns_find.specs.declared.members.Side.{Side}
 use Rattle.ns_find.specs.declared.members.Side.TheVariants.{Instance as InstanceSide, Class as ClassSide}
-use Rattle.ns_find.specs.Members.{Member, Numbered, is_named, allowed, search, public_access, slots_members, nested_members, method_members, side_members, holder_members, members_along, factory_member}
+use Rattle.ns_find.specs.Members.{Member, Numbered, is_named, allowed, search, slots_members, nested_members, method_members, side_members, holder_members, members_along, factory_member}
+use Rattle.ns_code.specs.Access.{public_access}
 use Rattle.ns_find.specs.Rows.{open_rows, top_rows, kernel_rows, object_class_texts, array_class_texts, class_texts, undefined_object_texts, boolean_texts, integer_texts, string_texts, symbol_texts, array_texts, block_texts, kernel_texts, console_texts, board_texts, mirrors_texts, mirror_texts, message_texts}
 use Rattle.ns_find.specs.Find.{members_from, found_from, found_private}
 use Rattle.ns_find.specs.Belonging.{methods_on}

@@ -9,7 +9,8 @@ use Rattle.ns_world.specs.Lawful.{IsLawful, IsLiveValue}
 use Rattle.ns_kdata.specs.declared.row.DataRow.{DataRow}
 use Rattle.ns_kdata.specs.declared.row.DataRow.TheVariants as row
 use Rattle.ns_kdata.specs.Arguments.{bytes_of, is_text, part_in, symbol_text, number_of}
-use Rattle.ns_kdata.specs.Texts.{text_at, text_less, quoted}
+use Rattle.ns_kdata.specs.Texts.{text_at, text_less}
+use Rattle.ns_base.specs.Quoted.{quoted}
 use Rattle.ns_kdata.specs.Rows.{conjunction, disjunction, symbol_less, boolean_text, array_at}
 use Rattle.ns_kdata.specs.Datum.{row_outcome}
 use Rattle.ns_kdata.specs.Lawful.{LeavesLawful}

@@ -13,7 +13,8 @@ use Rattle.ns_kdata.specs.declared.row.DataRow.TheVariants as row
 use Rattle.ns_kdata.specs.declared.arguments.Part.{Part}
 use Rattle.ns_kdata.specs.Outcome.{Fails, made_as, making, unchanged, wrong_kind, out_of_range}
 use Rattle.ns_kdata.specs.Arguments.{is_text, bytes_of, items_of, place_in, part_in, symbol_text, number_of}
-use Rattle.ns_kdata.specs.Texts.{copied, bytes_in, byte_at_place, text_less, quoted}
+use Rattle.ns_kdata.specs.Texts.{copied, bytes_in, byte_at_place, text_less}
+use Rattle.ns_base.specs.Quoted.{quoted}
 use Rattle.ns_kdata.specs.Rows.{stored, put_at_place, new_array, conjunction, disjunction, item_at_place, symbol_less, boolean_text}
 use Rattle.ns_kdata.specs.Datum.{row_outcome}
 use Rattle.ns_world.specs.Seek.{may_be_first}

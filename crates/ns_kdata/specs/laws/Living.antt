@@ -12,7 +12,8 @@ use Rattle.ns_world.specs.Lawful.{IsLawful, IsLiveValue}
 use Rattle.ns_kdata.specs.declared.row.DataRow.{DataRow}
 use Rattle.ns_kdata.specs.declared.row.DataRow.TheVariants as row
 use Rattle.ns_kdata.specs.Arguments.{items_of, bytes_of, is_text, place_in, part_in, symbol_text, number_of}
-use Rattle.ns_kdata.specs.Texts.{byte_at_place, text_less, is_before, quoted}
+use Rattle.ns_kdata.specs.Texts.{byte_at_place, text_less, is_before}
+use Rattle.ns_base.specs.Quoted.{quoted}
 use Rattle.ns_kdata.specs.Rows.{conjunction, disjunction, item_at_place, same_value, is_nil, symbol_less, boolean_text}
 use Rattle.ns_kdata.specs.Datum.{row_outcome}
 use Rattle.ns_kdata.specs.Living.{AnswersLive}

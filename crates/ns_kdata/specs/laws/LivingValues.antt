@@ -13,7 +13,8 @@ use Rattle.ns_world.specs.Lawful.{IsLiveValue}
 use Rattle.ns_world.specs.laws.Changing.{found_new}
 use Rattle.ns_kdata.specs.declared.arguments.Part.{Part}
 use Rattle.ns_kdata.specs.Outcome.{making, made_as, unchanged, Fails, wrong_kind, out_of_range}
-use Rattle.ns_kdata.specs.Arguments.{truth, symbol_text}
+use Rattle.ns_kdata.specs.Arguments.{symbol_text}
+use Rattle.ns_world.specs.Booleans.{truth}
 use Rattle.ns_kdata.specs.Texts.{byte_at_place, copied, bytes_in, is_before}
 use Rattle.ns_kdata.specs.Rows.{negation, only_true, conjunction, disjunction, new_array, symbol_less}
 use Rattle.ns_kdata.specs.Living.{AnswersLive}

@@ -7,13 +7,13 @@ use Rattle.std.proofs.lemmas.Bool.{and_parts, or_parts, or_left, not-true, not-f
 use Rattle.std.proofs.lemmas.List.Elements.{All-nil, All-cons, All-append}
 use Rattle.std.proofs.lemmas.Option.{slice_get_within}
 use Rattle.ns_base.specs.declared.selector.Sel.{Sel}
+use Rattle.ns_base.specs.Spelling.{is_identifier}
 use Rattle.ns_code.specs.declared.program.CodeProgram.{CodeProgram}
 use Rattle.ns_code.specs.declared.class.ClassCode.{ClassCode}
 use Rattle.ns_code.specs.declared.class.SlotCode.{SlotCode}
 use Rattle.ns_code.specs.declared.class.MethodCode.{MethodCode}
 use Rattle.ns_code.specs.Selector.{own_text_at, has_name}
 use Rattle.ns_code.specs.Own.{own_texts}
-use Rattle.ns_code.specs.Spelling.{is_identifier}
 use Rattle.ns_code.specs.Soundness.{is_name, is_identifier_name, has_bad_literal, has_bad_scope, are_classes_sound, has_sound_classes}
 use Rattle.ns_world.specs.declared.value.Value.TheVariants.{Sym}
 use Rattle.ns_world.specs.declared.cell.NewCell.{NewCell}

@@ -9,6 +9,7 @@ use Rattle.ns_tree.specs.Grammar as g
 use Rattle.ns_tree.specs.Lists.{key_list, member_list}
 use Rattle.ns_tree.specs.Plain as p
 use Rattle.ns_tree.specs.Rule.{Rule, ◌&◌, many, flat_all, GoodAll, maybe, flat_option, either, mapped, ◌▸◌, ◌◂◌}
+use Rattle.ns_tree.specs.Made.{made_clause, made_unit, made_method}
 use Rattle.ns_parse.specs.declared.classes.SideOf.{SideOf}
 use Rattle.ns_parse.specs.declared.classes.SideOf.TheVariants as sides
 use Rattle.ns_phrase.specs.declared.expressions.Holder.{Holder}
@@ -55,7 +56,7 @@ module _ (primary : Reader p.Primary) (rule : Rule p.Primary) (P : Sound primary
 
   sound_clause : Sound (x.clause primary) (g.clause rule)
   unfolding x.clause
-  sound_clause = sound_mapped x.clause_from (g.clause rule) (sound_both sound_base (sound_both sound_over sound_super_message)) (λ n a good. (good, refl))
+  sound_clause = sound_mapped made_clause (g.clause rule) (sound_both sound_base (sound_both sound_over sound_super_message)) (λ n a good. (good, refl))
 
   -- slots and statements between parentheses
   abbrev body_rule : Holder → Rule (p.Bars × p.Statements)
@@ -69,7 +70,7 @@ module _ (primary : Reader p.Primary) (rule : Rule p.Primary) (P : Sound primary
 
   sound_method : Sound (x.method primary) (g.method rule)
   unfolding x.method
-  sound_method = sound_mapped x.method_from (g.method rule) (sound_both sound_pattern (sound_after (sound_skip m.Equals) (sound_body h.Code))) (λ n a good. (good, refl))
+  sound_method = sound_mapped made_method (g.method rule) (sound_both sound_pattern (sound_after (sound_skip m.Equals) (sound_body h.Code))) (λ n a good. (good, refl))
 
   sound_method_member : Sound (x.method_member primary) (g.method_member rule)
   sound_method_member = sound_mapped p.method_member (g.method_member rule) sound_method (λ n a good. (good, refl))
@@ -210,6 +211,6 @@ module _ (primary : Reader p.Primary) (rule : Rule p.Primary) (P : Sound primary
 -- a file in which so many brackets, and so many classes, nest
 pub sound_file : (depth : ℕ) → Sound (x.file depth) (g.file depth)
 unfolding x.file
-sound_file depth = sound_mapped x.unit_from (g.file depth)
+sound_file depth = sound_mapped made_unit (g.file depth)
     (sound_both (sound_flag m.Newspeak3) (sound_both sound_category (sound_class (exprs.primary depth) (g.primary depth) (sound_primary depth) (x.what (exprs.primary depth) depth) (g.what (g.primary depth) depth) (sound_what (exprs.primary depth) (g.primary depth) (sound_primary depth) depth))))
     (λ n a good. (good, refl))

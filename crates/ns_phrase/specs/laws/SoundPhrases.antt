@@ -9,13 +9,14 @@ use Rattle.ns_tree.specs.Lists.{key_list, oper_list, message_list, expr_list, sl
 use Rattle.ns_tree.specs.Plain as p
 use Rattle.ns_tree.specs.Rule.{Rule, ◌&◌, many, either, mapped, flat_from, GoodFrom, Listed, listed, ◌▸◌, ◌◂◌}
 use Rattle.ns_tree.specs.laws.Made.{keys_back, opers_back, messages_back, exprs_back, slots_back, statements_back}
+use Rattle.ns_tree.specs.Made.{made_un, made_slot, made_statement, listed_items}
 use Rattle.ns_phrase.specs.declared.expressions.Holder.{Holder}
 use Rattle.ns_phrase.specs.declared.expressions.Holder.TheVariants as h
 use Rattle.ns_terminal.specs.declared.mark.Mark.TheVariants as m
 use Rattle.ns_terminal.specs.declared.name.Sort.TheVariants as s
 use Rattle.ns_terminal.specs.declared.name.Operators.{Operators}
 use Rattle.ns_terminal.specs.declared.name.Operators.TheVariants as o
-use Rattle.ns_terminal.specs.Read.{Reader, items, ends_separated}
+use Rattle.ns_terminal.specs.Read.{Reader, ends_separated}
 use Rattle.ns_terminal.specs.Mark as marks
 use Rattle.ns_terminal.specs.Name as names
 use Rattle.ns_terminal.specs.Leaf as leaves
@@ -38,7 +39,7 @@ module _ {A B C D : Type 0} (to : A → B) (r : Rule A) (s : Rule B) (good : (n 
 module _ (primary : Reader p.Primary) (rule : Rule p.Primary) (P : Sound primary rule) where
   sound_un : Sound (x.un primary) (g.un rule)
   unfolding x.un
-  sound_un = sound_mapped x.un_from (g.un rule) (sound_both (sound_placed P) (sound_names s.Ident sound_ident)) (λ n a good. (good, refl))
+  sound_un = sound_mapped made_un (g.un rule) (sound_both (sound_placed P) (sound_names s.Ident sound_ident)) (λ n a good. (good, refl))
 
   module _ (operators : Operators) (operator : Rule Named) (O : Sound (names.name (s.Operator operators)) operator) where
     sound_opers : Sound (x.opers primary operators) (mapped (λ more. Some (oper_list more)) (many (operator & g.un rule)))
@@ -136,14 +137,14 @@ module _ (primary : Reader p.Primary) (rule : Rule p.Primary) (P : Sound primary
   no_access (None, init) = Some init
   no_access (Some access, init) = None
 
-  local_becomes : Becomes (mapped no_access (g.ident & g.init rule)) (g.local rule) x.slot_from
+  local_becomes : Becomes (mapped no_access (g.ident & g.init rule)) (g.local rule) made_slot
   local_becomes n (None, init) good = (good, refl)
   local_becomes n (Some access, init) good = absurd good
 
   sound_slot : (holder : Holder) → Sound (x.slot primary holder) (slot_rule holder)
   unfolding x.slot
-  sound_slot h.Object = sound_mapped x.slot_from (g.slot rule) (sound_both sound_access (sound_both sound_ident sound_init)) (λ n a good. (good, refl))
-  sound_slot h.Code = sound_mapped x.slot_from (g.local rule) (sound_mapped (λ init. (None, init)) (mapped no_access (g.ident & g.init rule))
+  sound_slot h.Object = sound_mapped made_slot (g.slot rule) (sound_both sound_access (sound_both sound_ident sound_init)) (λ n a good. (good, refl))
+  sound_slot h.Code = sound_mapped made_slot (g.local rule) (sound_mapped (λ init. (None, init)) (mapped no_access (g.ident & g.init rule))
       (sound_both sound_ident sound_init) (λ n a good. (good, refl))) local_becomes
 
   sound_slots : (holder : Holder) → Sound (x.slots primary holder) (mapped (λ slots. Some (slot_list slots)) (many (slot_rule holder)))
@@ -160,13 +161,13 @@ module _ (primary : Reader p.Primary) (rule : Rule p.Primary) (P : Sound primary
 
   sound_statement : Sound (x.statement primary) (g.stmt rule)
   unfolding x.statement
-  sound_statement = sound_mapped x.statement_from (g.stmt rule) (sound_both sound_caret any_expr) (λ n a good. (good, refl))
+  sound_statement = sound_mapped made_statement (g.stmt rule) (sound_both sound_caret any_expr) (λ n a good. (good, refl))
 
   pub sound_statements : Sound (x.statements primary) (g.stmts rule)
   sound_statements = sound_mapped x.statements_from (g.stmts rule)
       (sound_listed x.starts_statement (marks.is_mark m.Stop) k.Stop (mark_is m.Stop) sound_statement)
       (by_form (listed (g.stmt rule) k.Stop) p.Statements f.statements_form x.statements_from
-      (λ n l good. ap (λ list. f.listed_of list (ends_separated l)) (statements_back (items l)) ∙ listed_read l))
+      (λ n l good. ap (λ list. f.listed_of list (ends_separated l)) (statements_back (listed_items l)) ∙ listed_read l))
 
   -- ---- brackets
 
@@ -179,7 +180,7 @@ module _ (primary : Reader p.Primary) (rule : Rule p.Primary) (P : Sound primary
   sound_tuple = sound_mapped x.tuple_from (mapped tuple_form (listed (g.expr rule g.oper) k.Stop))
       (sound_listed x.starts_expr (marks.is_mark m.Stop) k.Stop (mark_is m.Stop) any_expr)
       (by_form (listed (g.expr rule g.oper) k.Stop) p.Primary tuple_form x.tuple_from
-      (λ n l good. ap (λ list. f.listed_of list (ends_separated l)) (exprs_back (items l)) ∙ listed_read l))
+      (λ n l good. ap (λ list. f.listed_of list (ends_separated l)) (exprs_back (listed_items l)) ∙ listed_read l))
 
   abbrev block_parts : p.Block → List Named × (p.Bars × p.Statements)
   block_parts (p.block_with names bars body) = (names, (bars, body))

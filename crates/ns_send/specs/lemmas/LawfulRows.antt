@@ -17,7 +17,8 @@ use Rattle.ns_world.specs.Lawful.{IsLawful, IsLiveValue}
 use Rattle.ns_kint.specs.declared.row.IntRow.{IntRow}
 use Rattle.ns_kint.specs.declared.row.IntRow.TheVariants as int
 use Rattle.ns_kint.specs.Division.{floored_quotient, floored_remainder}
-use Rattle.ns_kint.specs.Integer.{is_integer, integer_of, divisor_of, fitting, truth, given, on_bits, integer, same_integer}
+use Rattle.ns_kint.specs.Integer.{is_integer, integer_of, divisor_of, fitting, given, on_bits, integer, same_integer}
+use Rattle.ns_world.specs.Booleans.{truth}
 use Rattle.ns_kdata.specs.declared.row.DataRow.{DataRow}
 use Rattle.ns_kdata.specs.declared.row.DataRow.TheVariants as values
 use Rattle.ns_kdata.specs.Outcome.{Outcome, Answers, Fails}

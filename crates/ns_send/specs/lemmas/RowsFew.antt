@@ -19,7 +19,8 @@ use Rattle.ns_find.specs.declared.members.Wanted.{Wanted}
 use Rattle.ns_find.specs.declared.members.Wanted.TheVariants.{Visible}
 use Rattle.ns_find.specs.declared.members.Side.{Side}
 use Rattle.ns_find.specs.declared.members.Side.TheVariants.{Instance as InstanceSide, Class as ClassSide}
-use Rattle.ns_find.specs.Members.{Numbered, public_access, slots_members, nested_members, method_members, side_members, holder_members, members_along, factory_member}
+use Rattle.ns_find.specs.Members.{Numbered, slots_members, nested_members, method_members, side_members, holder_members, members_along, factory_member}
+use Rattle.ns_code.specs.Access.{public_access}
 use Rattle.ns_find.specs.Rows.{top_rows, kernel_rows}
 use Rattle.ns_find.specs.Find.{members_from, found_from}
 use Rattle.ns_find.specs.laws.Named.{EachNamed, named_append, search_named}

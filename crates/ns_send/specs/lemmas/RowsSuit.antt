@@ -28,13 +28,14 @@ use Rattle.ns_find.specs.declared.members.Wanted.{Wanted}
 use Rattle.ns_find.specs.declared.members.Wanted.TheVariants.{Visible, Private}
 use Rattle.ns_find.specs.declared.members.Side.{Side}
 use Rattle.ns_find.specs.declared.members.Side.TheVariants.{Instance as InstanceSide, Class as ClassSide}
-use Rattle.ns_find.specs.Members.{Numbered, public_access, slots_members, nested_members, method_members, side_members, holder_members, members_along, factory_member}
+use Rattle.ns_find.specs.Members.{Numbered, slots_members, nested_members, method_members, side_members, holder_members, members_along, factory_member}
+use Rattle.ns_code.specs.Access.{public_access}
 use Rattle.ns_find.specs.Rows.{top_rows, kernel_rows}
 use Rattle.ns_find.specs.Find.{members_from, found_from, found_private, super_start}
 use Rattle.ns_find.specs.laws.Named.{EachNamed, named_append, search_named}
 use Rattle.ns_kdata.specs.Arguments.{is_array}
 use Rattle.ns_send.specs.Blocks.{is_block, is_integer}
-use Rattle.ns_send.specs.Fitting.{is_boolean}
+use Rattle.ns_world.specs.Booleans.{is_boolean}
 use Rattle.ns_send.specs.Suiting.{is_reference, facet_in, facet_at, FoundSuits}
 
 -- What is known of a receiver by the class of the kernel at which its lookups start.

@@ -4,7 +4,8 @@ use Rattle.ns_tree.specs.declared.token.Kind.{Kind}
 use Rattle.ns_tree.specs.Forms.{once_or_more_of, listed_of}
 use Rattle.ns_tree.specs.Rule.{Rule, ◌&◌, many, mapped, Listed, none, last, next, listed, flat_listed, GoodListed, once_or_more}
 use Rattle.ns_tree.specs.Tree.{AllHaveText}
-use Rattle.ns_terminal.specs.Read.{Outcome, Reader, got, fault, and_then, begins, read_many, read_turns, put, read_listed, read_list_turns, behind, put_next, items, ends_separated, Labelled, tail, item, read_labelled, read_label_turns, put_item}
+use Rattle.ns_tree.specs.Made.{listed_items}
+use Rattle.ns_terminal.specs.Read.{Outcome, Reader, got, fault, and_then, begins, read_many, read_turns, put, read_listed, read_list_turns, behind, put_next, ends_separated, Labelled, tail, item, read_labelled, read_label_turns, put_item}
 use Rattle.ns_terminal.specs.laws.Sound.{Took, Spelled, Sound, SoundIf, left_told, nothing, took_both, by_test}
 
 -- ---- any number of times
@@ -101,7 +102,7 @@ pub sound_listed : {A : Type 0} {p : Reader A} {r : Rule A} (first separates : K
 sound_listed {p = p} {r = r} first separates kind S P = record { reads = list_spelled first separates p r kind S P }
 
 -- a list that was read is what its items are with or without a separator behind them
-pub listed_read : {A : Type 0} (l : Listed A) → listed_of (items l) (ends_separated l) ≡ Some l
+pub listed_read : {A : Type 0} (l : Listed A) → listed_of (listed_items l) (ends_separated l) ≡ Some l
 listed_read none = refl
 listed_read (last a) = refl
 listed_read (next a none) = refl

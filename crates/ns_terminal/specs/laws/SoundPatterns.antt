@@ -4,10 +4,10 @@ use Rattle.std.specs.Prelude.{codes, ◌&&◌, ◌||◌, not, nat_eq, IsTrue}
 use Rattle.std.specs.List.{list_all, list_any}
 use Rattle.std.specs.Str.{bytes_eq}
 use Rattle.std.proofs.lemmas.Slice.Eq.{bytes_eq-Decides}
+use Rattle.ns_base.specs.Spelling.{begins_name, starts_name, goes_on_name, is_identifier, is_operator_byte, is_operator}
 use Rattle.ns_tree.specs.declared.token.Kind.TheVariants as k
 use Rattle.ns_tree.specs.declared.tree.Named.{Named}
 use Rattle.ns_tree.specs.declared.tree.Origin.TheVariants as from
-use Rattle.ns_tree.specs.Bytes.{starts_name, begins_name, is_digit, is_name, is_operator, is_operator_byte}
 use Rattle.ns_tree.specs.Flat.{bar}
 use Rattle.ns_tree.specs.Forms as f
 use Rattle.ns_tree.specs.Grammar as g
@@ -31,9 +31,9 @@ both_hold true b h = (refl, h)
 both_hold false b h = absurd cc
 
 -- a key's text begins as a name does
-key_starts : (name text : List ℕ) → IsTrue (is_name name) → text ≡ name ++ 58 ∷ [] → starts_name text ≡ true
+key_starts : (name text : List ℕ) → IsTrue (is_identifier name) → text ≡ name ++ 58 ∷ [] → starts_name text ≡ true
 key_starts [] text h e = absurd cc
-key_starts (b ∷ rest) text h e = ap starts_name e ∙ (both_hold (begins_name b) (list_all (λ c. begins_name c || is_digit c) rest) h).0
+key_starts (b ∷ rest) text h e = ap starts_name e ∙ (both_hold (begins_name b) (list_all goes_on_name rest) h).0
 
 fails : (v : Bool) → not v ≡ true → v ≡ false
 fails true e = absurd cc
@@ -72,10 +72,10 @@ if_not true name h = absurd cc
 if_not false name h = refl
 
 sound_part_key : Sound (names.name s.Key) g.part_key
-sound_part_key = sound_name s.Key g.part_key (λ n text h e. if_yes (starts_name text) (names.named n text) (key_starts h.0 text h.1 h.2)) (λ name. refl)
+sound_part_key = sound_name s.Key g.part_key (λ n text h e. if_yes (starts_name text) (g.named n text) (key_starts h.0 text h.1 h.2)) (λ name. refl)
 
 sound_part_oper : Sound (names.name (s.Operator o.All)) g.part_oper
-sound_part_oper = sound_name (s.Operator o.All) g.part_oper (λ n text h e. if_not (starts_name text) (names.named n text) (operator_starts text h))
+sound_part_oper = sound_name (s.Operator o.All) g.part_oper (λ n text h e. if_not (starts_name text) (g.named n text) (operator_starts text h))
     (λ name. refl)
 
 -- ---- patterns

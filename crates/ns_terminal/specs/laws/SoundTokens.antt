@@ -64,15 +64,15 @@ if_some false x a h = absurd cc
 
 -- A rule of names, whose tokens are those of a sort.
 module _ (sort : Sort) (r : Rule Named)
-    (good : (n : ℕ) (text : List ℕ) → HasText (kind_named sort text) → names.is_name sort (kind_named sort text) ≡ true → r.Good n (names.named n text))
+    (good : (n : ℕ) (text : List ℕ) → HasText (kind_named sort text) → names.is_name sort (kind_named sort text) ≡ true → r.Good n (g.named n text))
     (flat : (name : Named) → r.flat name ≡ kind_named sort name.text ∷ []) where
   name_made : (n : ℕ) (kind : Kind) (name : Named) → HasText kind → names.make_name sort n kind ≡ Some name → r.Good n name × (r.flat name ≡ kind ∷ [])
   name_made n kind name h e =
       let text : List ℕ = names.text_of kind in
-      let x : (names.is_name sort kind ≡ true) × (names.named n text ≡ name) = if_some (names.is_name sort kind) (names.named n text) name e in
+      let x : (names.is_name sort kind ≡ true) × (g.named n text ≡ name) = if_some (names.is_name sort kind) (g.named n text) name e in
       let same : kind ≡ kind_named sort text = name_is sort kind x.0 in
-      let made : r.Good n (names.named n text) = good n text (subst HasText same h) (ap (names.is_name sort) (sym same) ∙ x.0) in
-      (subst (r.Good n) x.1 made, ap r.flat (sym x.1) ∙ flat (names.named n text) ∙ ap (λ j. j ∷ []) (sym same))
+      let made : r.Good n (g.named n text) = good n text (subst HasText same h) (ap (names.is_name sort) (sym same) ∙ x.0) in
+      (subst (r.Good n) x.1 made, ap r.flat (sym x.1) ∙ flat (g.named n text) ∙ ap (λ j. j ∷ []) (sym same))
 
   pub sound_name : Sound (names.name sort) r
   sound_name = sound_one (names.make_name sort) r name_made
@@ -94,7 +94,7 @@ no_bar true name h = absurd cc
 no_bar false name h = refl
 
 pub sound_slot_oper : Sound (names.name (s.Operator o.ButBar)) g.slot_oper
-sound_slot_oper = sound_name (s.Operator o.ButBar) g.slot_oper (λ n text h e. no_bar (bytes_eq text (codes "|")) (names.named n text) e) (λ name. refl)
+sound_slot_oper = sound_name (s.Operator o.ButBar) g.slot_oper (λ n text h e. no_bar (bytes_eq text (codes "|")) (g.named n text) e) (λ name. refl)
 
 -- names of a sort, any number of them
 pub sound_names : {r : Rule Named} (sort : Sort) → Sound (names.name sort) r → Sound (names.names sort) (many r)
@@ -105,12 +105,12 @@ sound_names sort N = sound_many (names.is_name sort) N
 of_some : {A : Type 0} (P : A → Type 0) (x a : A) → Some x ≡ Some a → P x → P a
 of_some P x a e h = let same : x ≡ a = cc in subst P same h
 
-number_made : (n : ℕ) (kind : Kind) (a : ℕ) → HasText kind → leaves.make_number n kind ≡ Some a → g.number.Good n a × (g.number.flat a ≡ kind ∷ [])
+number_made : (n : ℕ) (kind : Kind) (a : ℕ) → HasText kind → g.make_number n kind ≡ Some a → g.number.Good n a × (g.number.flat a ≡ kind ∷ [])
 number_made n (k.Number size) a h e = of_some (λ a. g.number.Good n a × (g.number.flat a ≡ k.Number size ∷ [])) size a e (refl, refl)
 number_made n _ a h e = absurd cc
 
 pub sound_number : Sound leaves.number g.number
-sound_number = sound_one leaves.make_number g.number number_made
+sound_number = sound_one g.make_number g.number number_made
 
 string_made : (n : ℕ) (kind : Kind) (a : List ℕ) → HasText kind → leaves.make_string n kind ≡ Some a → g.string.Good n a × (g.string.flat a ≡ kind ∷ [])
 string_made n (k.Str text) a h e = of_some (λ a. g.string.Good n a × (g.string.flat a ≡ k.Str text ∷ [])) text a e (refl, refl)

@@ -1,6 +1,7 @@
 -- How many tokens the readers of single tokens and of patterns take at least.
 use Rattle.std.proofs.Common.{ℕ, ◌+◌, List, [], ◌∷◌, Bool, true, false, cond, None, arith}
 use Rattle.ns_tree.specs.declared.token.Kind.{Kind}
+use Rattle.ns_tree.specs.Grammar.{make_number}
 use Rattle.ns_terminal.specs.declared.mark.Mark.{Mark}
 use Rattle.ns_terminal.specs.declared.mark.Mark.TheVariants as m
 use Rattle.ns_terminal.specs.declared.name.Sort.{Sort}
@@ -60,7 +61,7 @@ pub takes_leaf : Takes 1 leaves.leaf
 unfolding leaves.leaf
 takes_leaf =
     takes_or leaves.is_simple (takes_one leaves.make_simple)
-    (takes_or (is_mark m.Minus) (takes_some (takes_mapped _ (takes_after (takes_skip m.Minus) (takes_one leaves.make_number))))
+    (takes_or (is_mark m.Minus) (takes_some (takes_mapped _ (takes_after (takes_skip m.Minus) (takes_one make_number))))
     (takes_some (takes_mapped _ (takes_after (takes_skip m.OuterWord) (takes_name s.Ident)))))
 
 -- ---- patterns

@@ -1,7 +1,7 @@
 -- The form of a node that was made of some parts is these parts.
 use Rattle.std.proofs.Common.{◌≡◌, refl, ap, ◌∙◌, ℕ, ◌+◌, length, ◌⊎◌, inl, inr, Bool, true, false, List, [], ◌∷◌, Option, Some, None, option_map, if◌then◌else◌}
+use Rattle.ns_base.specs.Spelling.{starts_name}
 use Rattle.ns_tree.specs.declared.tree.Named.{Named}
-use Rattle.ns_tree.specs.Bytes.{starts_name}
 use Rattle.ns_tree.specs.Forms as f
 use Rattle.ns_tree.specs.Grammar as g
 use Rattle.ns_tree.specs.Lists.{key_list, oper_list, message_list, expr_list, slot_list, statement_list, member_list}

@@ -1,7 +1,7 @@
 use Rattle.std.proofs.Common.{◌≡◌, [], ◌∷◌, length, ap, ◌∙◌, arith}
 use Rattle.ns_world.specs.Heap.{bytes_at}
 use Rattle.ns_world.specs.World.{WorldView}
-use Rattle.ns_kdata.specs.Texts.{doubled}
+use Rattle.ns_base.specs.Quoted.{doubled}
 use Rattle.ns_kdata.proofs.Writing.{sizes_stay}
 use Rattle.ns_kdata.proofs.making.put_doubled.Goals as goal
 

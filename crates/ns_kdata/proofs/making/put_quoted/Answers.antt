@@ -2,11 +2,13 @@ use Rattle.std.proofs.Common.{◌≡◌, ℕ, ◌+◌, ◌<◌, List, [], ◌∷
 use Rattle.ns_world.specs.Heap.{bytes_at}
 use Rattle.ns_world.specs.World.{WorldView}
 use Rattle.ns_kdata.specs.Arguments.{bytes_of}
-use Rattle.ns_kdata.specs.Texts.{filled, doubled}
+use Rattle.ns_kdata.specs.Texts.{filled}
+use Rattle.ns_base.specs.Quoted.{doubled}
+use Rattle.ns_base.specs.laws.Quoted.{doubled_step}
 use Rattle.ns_kdata.proofs.Writing.{sizes_stay}
 use Rattle.ns_kdata.proofs.Filling.{filled_append, filled_sizes}
 use Rattle.ns_kdata.proofs.Parts.{text_elsewhere, text_unfilled}
-use Rattle.ns_kdata.proofs.Quoted.{doubled_step, doubled_step_size}
+use Rattle.ns_kdata.proofs.Quoted.{doubled_step_size}
 use Rattle.ns_kdata.proofs.making.put_quoted.Goals as goal
 
 pub bytes-init : goal.bytes-init

@@ -1,7 +1,8 @@
 use Rattle.std.proofs.Common.{◌≡◌, ◌+◌, [], ◌∷◌, ◌++◌, length, drop}
 use Rattle.ns_world.specs.Heap.{bytes_at}
 use Rattle.ns_kdata.specs.Arguments.{bytes_of}
-use Rattle.ns_kdata.specs.Texts.{filled, doubled, quoted}
+use Rattle.ns_kdata.specs.Texts.{filled}
+use Rattle.ns_base.specs.Quoted.{doubled, quoted}
 use Rattle.ns_kdata.proofs.making.put_quoted.Given as goal
 
 abbrev pub invariant-bytes : goal.invariant-bytes

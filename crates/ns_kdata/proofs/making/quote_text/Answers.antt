@@ -1,6 +1,7 @@
 use Rattle.std.proofs.Common.{length, ap, sym, ◌∙◌}
 use Rattle.ns_kdata.specs.Arguments.{bytes_of}
-use Rattle.ns_kdata.specs.Texts.{filled, quoted}
+use Rattle.ns_kdata.specs.Texts.{filled}
+use Rattle.ns_base.specs.Quoted.{quoted}
 use Rattle.ns_kdata.proofs.Finished.{new_text_is, text_kept, text_apart, text_finished}
 use Rattle.ns_kdata.proofs.making.quote_text.Goals as goal
 

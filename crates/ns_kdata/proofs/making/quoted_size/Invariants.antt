@@ -1,6 +1,6 @@
 use Rattle.std.proofs.Common.{◌≡◌, ◌+◌, ◌*◌, ◌≤◌, length, drop}
 use Rattle.ns_kdata.specs.Arguments.{bytes_of}
-use Rattle.ns_kdata.specs.Texts.{doubled}
+use Rattle.ns_base.specs.Quoted.{doubled}
 use Rattle.ns_kdata.proofs.making.quoted_size.Given as goal
 
 abbrev pub invariant-bytes : goal.invariant-bytes

@@ -1,5 +1,5 @@
 use Rattle.std.proofs.Common.{◌≡◌, ◌++◌, drop}
-use Rattle.ns_listing.specs.Listing.{doubled}
+use Rattle.ns_base.specs.Quoted.{doubled}
 use Rattle.ns_listing.proofs.output.put_doubled.Given as goal
 
 abbrev pub invariant-bytes : goal.invariant-bytes

@@ -1,5 +1,5 @@
 use Rattle.std.proofs.Common.{◌≡◌, ◌++◌, drop, map}
-use Rattle.ns_code.specs.Spelling.{is_identifier}
+use Rattle.ns_base.specs.Spelling.{is_identifier}
 use Rattle.ns_members.proofs.names.identifiers_of.Given as goal
 
 abbrev pub invariant-names : goal.invariant-names

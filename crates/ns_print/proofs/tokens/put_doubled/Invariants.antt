@@ -1,5 +1,5 @@
 use Rattle.std.proofs.Common.{◌≡◌, ◌++◌, drop}
-use Rattle.ns_print.specs.Printed.{doubled}
+use Rattle.ns_base.specs.Quoted.{doubled}
 use Rattle.ns_print.proofs.tokens.put_doubled.Given as goal
 
 abbrev pub invariant-loop-byte : goal.invariant-loop-byte

@@ -1,6 +1,6 @@
 use Rattle.std.proofs.Common.{◌≡◌, ◌++◌, drop}
 use Rattle.ns_kdata.specs.Arguments.{bytes_of}
-use Rattle.ns_kdata.specs.Texts.{doubled}
+use Rattle.ns_base.specs.Quoted.{doubled}
 use Rattle.ns_report.proofs.value.put_doubled.Given as goal
 
 abbrev pub invariant-bytes : goal.invariant-bytes

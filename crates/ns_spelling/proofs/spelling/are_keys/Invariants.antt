@@ -1,5 +1,5 @@
 use Rattle.std.proofs.Common.{◌≡◌, false, drop}
-use Rattle.ns_code.specs.Spelling.{are_keys}
+use Rattle.ns_base.specs.Spelling.{are_keys}
 use Rattle.ns_spelling.proofs.spelling.are_keys.Given as goal
 
 abbrev pub invariant-bytes : goal.invariant-bytes

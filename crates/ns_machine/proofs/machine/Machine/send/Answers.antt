@@ -11,7 +11,8 @@ use Rattle.ns_engine.specs.declared.state.Phase.TheVariants.{Hosted}
 use Rattle.ns_engine.specs.Ready.{IsReady}
 use Rattle.ns_engine.specs.Shown.{shown}
 use Rattle.ns_turns.specs.Turning.{RunsBy}
-use Rattle.ns_machine.specs.Machine.{MachineView, IsMachine}
+use Rattle.ns_reach.specs.Reached.{StaysInReach}
+use Rattle.ns_machine.specs.Machine.{MachineView, IsMachine, stage_shown}
 use Rattle.ns_machine.specs.Turning.{Ran}
 use Rattle.ns_machine.specs.Waiting.{SendWaits}
 use Rattle.ns_machine.proofs.Standing.{stage_lawful, with_phase, host_shown, host_machine, machine_runs, machine_ready, machine_on}
@@ -64,3 +65,23 @@ returns-clause-ran c =
     c.code.ensures.code c.wait_for_send-next.ensures))
     (subst (λ (code : CodeProgram). Ran code (shown code c.wait_for_send-next.new.core c.wait_for_send-next.result) c.run_out-ending.result
     (shown code c.run_out-ending.new.core next.Ended)) c.code-2.ensures.code c.run_out-ending.ensures.ran))
+
+pub returns-clause-reach : goal.returns-clause-reach
+returns-clause-reach c =
+    let m = c.self.inside in
+    let idle = stage_shown m.code m.core m.stage in
+    let last = shown m.code c.run_out-ending.new.core next.Ended in
+    let may : MayBegin m.code c.args.receiver c.args.sel c.args.arguments.now idle =
+    subst (λ (view : MachineView). MayBegin view.code c.args.receiver c.args.sel c.args.arguments.now view.state) (sym c.self.view_is) c.requires in
+    let ran : Ran m.code (begun c.args.receiver c.args.sel c.args.arguments.now idle) c.run_out-ending.result last =
+    subst (λ (s : State). Ran m.code s c.run_out-ending.result last)
+    (host_shown m.code m.grants m.plan m.core c.wait_for_send-next.new.core m.own m.stage c.wait_for_send-next.result c.args.receiver c.args.sel c.args.arguments.now
+    c.self.invariant may
+    (subst (λ (code : CodeProgram). SendWaits code (with_phase m.core Hosted) c.args.receiver c.args.sel (slice_get m.core.places no_place) c.args.arguments.now
+    c.wait_for_send-next.new.core c.wait_for_send-next.result)
+    c.code.ensures.code c.wait_for_send-next.ensures))
+    (subst (λ (code : CodeProgram). Ran code (shown code c.wait_for_send-next.new.core c.wait_for_send-next.result) c.run_out-ending.result
+    (shown code c.run_out-ending.new.core next.Ended)) c.code-2.ensures.code c.run_out-ending.ensures.ran) in
+    subst (λ (view : MachineView). StaysInReach (begun c.args.receiver c.args.sel c.args.arguments.now view.state) last) c.self.view_is
+    (subst (λ (s : State). StaysInReach (begun c.args.receiver c.args.sel c.args.arguments.now idle) s) ran.is
+    (c.sends_stay_in_reach.ensures m.code m.grants c.args.receiver c.args.sel c.args.arguments.now ran.count idle c.self.invariant.valid may))

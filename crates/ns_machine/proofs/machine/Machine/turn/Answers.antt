@@ -1,6 +1,9 @@
-use Rattle.std.proofs.Common.{◌≡◌, ◌+◌, zero, true, refl, arith, subst, sym, inr}
+use Rattle.std.proofs.Common.{◌≡◌, ◌+◌, zero, true, false, refl, arith, subst, sym, inr}
 use Rattle.ns_code.specs.declared.program.CodeProgram.{CodeProgram}
 use Rattle.ns_moves.specs.Turn.{is_still, Turns}
+use Rattle.ns_moves.specs.Valid.{Valid}
+use Rattle.ns_reach.specs.Reached.{StaysInReach}
+use Rattle.ns_engine.specs.Shown.{shown}
 use Rattle.ns_engine.specs.Ready.{IsReady}
 use Rattle.ns_turns.specs.Turning.{RunsBy}
 use Rattle.ns_machine.specs.Machine.{MachineView, IsMachine, stage_shown}
@@ -36,3 +39,14 @@ returns-in-Unbegun-clause-turns c =
       charged = all;
       still = subst (λ (shown : MachineView). is_still shown.state ≡ true) c.self.view_is still;
     })
+
+pub returns-in-Begun-clause-reach : goal.returns-in-Begun-clause-reach
+returns-in-Begun-clause-reach c =
+    let m = c.self.inside in
+    let last = shown m.code c.turn-next.new.core c.turn-next.result in
+    let valid = subst (λ (s : Stage). Valid m.code m.grants (stage_shown m.code m.core s)) c.in-Begun.is c.self.invariant.valid in
+    let turns = subst (λ (code : CodeProgram). Turns code c.args.steps (shown code m.core c.in-Begun.from) (shown code c.turn-next.new.core c.turn-next.result))
+    c.code.ensures.code c.turn-next.ensures.turns in
+    subst (λ (view : MachineView). is_still view.state ≡ false → StaysInReach view.state last) c.self.view_is
+    (subst (λ (s : Stage). is_still (stage_shown m.code m.core s) ≡ false → StaysInReach (stage_shown m.code m.core s) last) (sym c.in-Begun.is)
+    (λ going. c.turns_stay_in_reach.ensures m.code m.grants c.args.steps (shown m.code m.core c.in-Begun.from) last valid going turns))

@@ -1,7 +1,7 @@
 use Rattle.std.proofs.Common.{◌∙◌, ap, map}
 use Rattle.std.proofs.lemmas.Map.Made.{IsDistinct-from_AllPairs}
 use Rattle.std.proofs.lemmas.Slice.Eq.{bytes_eq-Decides}
-use Rattle.ns_code.specs.Spelling.{is_identifier}
+use Rattle.ns_base.specs.Spelling.{is_identifier}
 use Rattle.ns_members.specs.Numbers.{with_colon}
 use Rattle.ns_members.proofs.names.NameTable.new.Goals as goal
 

@@ -1,0 +1,37 @@
+//! Where a step by the quick way leads.
+
+ghost use Rattle.std.specs.Prelude.{◌≡◌};
+ghost use Rattle.ns_engine.specs.Tried as spec;
+
+use ns_frames::registers::Registers;
+
+/// Straight on: the body that runs stays on top, and no step was charged. On, with the frame that is topmost then. Or
+/// nowhere: nothing was done.
+#[derive(Clone, Copy)]
+pub enum Led {
+    Straight(Registers),
+    On(Registers),
+    Nowhere,
+}
+
+/// Where a step leads that goes straight on, if it was done.
+#[inline(always)]
+pub fn led_straight(done: Option<Registers>) -> Led
+    ensures { result ≡ spec.led_straight done }
+{
+    match done {
+        Some(to) => Led::Straight(to),
+        None => Led::Nowhere,
+    }
+}
+
+/// Where a step leads that goes on with the topmost frame, if it was done.
+#[inline(always)]
+pub fn led_on(done: Option<Registers>) -> Led
+    ensures { result ≡ spec.led_on done }
+{
+    match done {
+        Some(to) => Led::On(to),
+        None => Led::Nowhere,
+    }
+}

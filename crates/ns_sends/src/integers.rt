@@ -1,0 +1,173 @@
+//! Sends to Integers by the row that their step has, by the quick way: nothing is looked up, and registers alone come back.
+
+ghost use Rattle.std.specs.Prelude.{◌≡◌, ◌+◌, Some, IsTrue, slice_get};
+ghost use Rattle.ns_kdata.specs.Arguments.{argument as argument_at};
+ghost use Rattle.ns_send.specs.declared.row.Row.TheVariants.{Integer};
+ghost use Rattle.ns_plan.specs.Integers.{row_of_send};
+ghost use Rattle.ns_plan.specs.Steps.{send_instr};
+ghost use Rattle.ns_engine.specs.Doing.{CanDo};
+ghost use Rattle.ns_sends.specs.Going.{arguments_in};
+ghost use Rattle.ns_sends.specs.Integers.{is_integer, SendsOrNothing, ToTopOrNothing, DoesOrNothing};
+ghost use Rattle.ns_sends.specs.Operands.{SendsOperands};
+ghost use Rattle.ns_sends.specs.Rows.{FindsRow, RowGives};
+ghost use Rattle.ns_sends.specs.Sending.{CanSend};
+
+use crate::rows::{give, value_of_integer};
+use crate::sent::Sent;
+use ns_act::laws::a_send_is_its_step_and_its_answer;
+use ns_base::selector::Sel;
+use ns_code::program::CodeProgram;
+use ns_engine::state::Core;
+use ns_find::found::Sending;
+use ns_frames::frame::KeptSite;
+use ns_frames::laws::operands_are_taken;
+use ns_frames::registers::Registers;
+use ns_kdata::arguments::argument;
+use ns_kint::row::IntRow;
+use ns_plan::laws::integers_find_rows;
+use ns_send::row::Row;
+use ns_world::kernel::{ClassName, KernelRow};
+use ns_world::lawful::charging_keeps_lawful;
+use ns_world::value::Value;
+
+/// Sends to a value, where its selector names a row of Integer, it is an Integer to which that row gives a value, and a
+/// step is left; else nothing has changed.
+#[inline(always)]
+pub fn send_integer(
+    code: &CodeProgram,
+    core: &mut Core,
+    at: Registers,
+    sel: Sel,
+    argc: u8,
+    kind: Sending,
+    place: u32,
+    row: Option<IntRow>,
+) -> Option<Registers>
+    requires can { CanDo code.now core.old at (send_instr kind sel argc) }
+    requires row { row ≡ row_of_send code.now sel }
+    ensures { DoesOrNothing code.now (send_instr kind sel argc) (slice_get core.old.places place) core.old at core.new result }
+{
+    match row {
+        Some(row) => send_row(code, core, at, sel, argc, kind, place, row),
+        None => None,
+    }
+}
+
+/// Sends to a value by the row of Integer that its selector names.
+#[inline(always)]
+#[tactic(auto, using(crate::proofs::Received::kind_operands))]
+fn send_row(
+    code: &CodeProgram,
+    core: &mut Core,
+    at: Registers,
+    sel: Sel,
+    argc: u8,
+    kind: Sending,
+    place: u32,
+    row: IntRow,
+) -> Option<Registers>
+    requires can { CanDo code.now core.old at (send_instr kind sel argc) }
+    requires row { row_of_send code.now sel ≡ Some row }
+    ensures { DoesOrNothing code.now (send_instr kind sel argc) (slice_get core.old.places place) core.old at core.new result }
+{
+    operands_are_taken();
+    match send_operands(code, core, at, sel, argc, place, kind, row) {
+        Some(to) => Some(to),
+        None => None,
+    }
+}
+
+/// Sends so many topmost operands to the value below them, where that is an Integer.
+#[inline(always)]
+fn send_operands(
+    code: &CodeProgram,
+    core: &mut Core,
+    at: Registers,
+    sel: Sel,
+    argc: u8,
+    place: u32,
+    kind: Sending,
+    row: IntRow,
+) -> Option<Registers>
+    requires operands { SendsOperands code.now core.old at sel argc (argc + 1) }
+    requires row { row_of_send code.now sel ≡ Some row }
+    ensures { ToTopOrNothing code.now core.old at sel argc place kind core.new result }
+{
+    let first = at.top - u32::from(argc);
+    let above = Registers { top: first, ..at };
+    let (receiver, below) = core.stack.pop(above);
+    if !is_integer(receiver) {
+        return None;
+    }
+    let class = ClassName::Kernel(KernelRow::Integer);
+    let sent = Sent {
+        site: KeptSite { place, class, sel },
+        floor: below.top,
+        first,
+    };
+    match send_to(code, core, at, sent, receiver, kind, row) {
+        Some(to) => Some(to),
+        None => None,
+    }
+}
+
+/// Whether a value is an Integer.
+#[inline(always)]
+fn is_integer(value: Value) -> bool
+    ensures { result ≡ is_integer value }
+{
+    match value {
+        Value::Int(_) => true,
+        _ => false,
+    }
+}
+
+/// Sends to an Integer, where the row gives a value.
+#[inline(always)]
+fn send_to(
+    code: &CodeProgram,
+    core: &mut Core,
+    at: Registers,
+    sent: Sent,
+    receiver: Value,
+    kind: Sending,
+    row: IntRow,
+) -> Option<Registers>
+    requires can { CanSend code.now core.old at sent receiver }
+    requires integer { IsTrue (is_integer receiver) }
+    requires row { row_of_send code.now sent.site.sel ≡ Some row }
+    ensures { SendsOrNothing code.now core.old at sent receiver kind core.new result }
+{
+    integers_find_rows();
+    let right = argument(core.stack.from(at, sent.first), 0);
+    match value_of_integer(code, row, receiver, right) {
+        Some(value) => charge(code, core, at, sent, receiver, kind, row, value),
+        None => None,
+    }
+}
+
+/// Charges the step of a send and brings the value of a row to the body that runs, unless no step is left.
+#[inline(always)]
+fn charge(
+    code: &CodeProgram,
+    core: &mut Core,
+    at: Registers,
+    sent: Sent,
+    receiver: Value,
+    kind: Sending,
+    row: IntRow,
+    value: Value,
+) -> Option<Registers>
+    requires can { CanSend code.now core.old at sent receiver }
+    requires finds { FindsRow code.now core.old sent receiver kind (Integer row) }
+    requires gives { RowGives code.now core.old.run.world.world.cells (Integer row) receiver (argument_at (arguments_in core.old at sent) 0) value }
+    ensures { SendsOrNothing code.now core.old at sent receiver kind core.new result }
+{
+    a_send_is_its_step_and_its_answer();
+    charging_keeps_lawful();
+    let row = Row::Integer(row);
+    match core.run.world.step() {
+        Ok(()) => Some(give(code, core, at, sent, receiver, kind, row, value)),
+        Err(_) => None,
+    }
+}

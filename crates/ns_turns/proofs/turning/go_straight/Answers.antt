@@ -1,0 +1,67 @@
+use Rattle.std.proofs.Common.{◌-◌, ◌<◌, ◌∙◌, refl, arith, sym, subst}
+use Rattle.ns_engine.specs.declared.state.Next.{Next}
+use Rattle.ns_engine.specs.declared.state.Next.TheVariants.{On}
+use Rattle.ns_turns.specs.Turning.{HasGone}
+use Rattle.ns_turns.proofs.Along.{none_gone}
+use Rattle.ns_turns.proofs.Untouched.{untouched_along, untouched_far, untouched_steps}
+use Rattle.ns_turns.proofs.Fetched.{body_has_step}
+use Rattle.ns_turns.proofs.turning.go_straight.Goals as goal
+
+pub row-row-requires-clause-there : goal.row-row-requires-clause-there
+row-row-requires-clause-there c =
+    (body_has_step c.args.code.now c.requires.runs.can.grants c.args.core.now c.args.at c.args.body c.requires.runs.can.ready.valid c.requires.body
+    (c.running_bodies_have_steps.ensures c.args.code.now)).body_there
+
+pub straight-init : goal.straight-init
+straight-init c = record {
+  along = none_gone c.args.code.now c.args.plan.now c.args.own c.args.left c.args.core.now (On c.args.at) c.requires.runs;
+  steps = refl;
+  runs = c.requires.body;
+}
+
+-- ---- straight on
+
+pub straight-smaller : goal.straight-smaller
+straight-smaller c =
+    let some = c.requires.some in
+    let few : c.straight.core.run.world.world.steps - c.straight.core.run.world.world.steps < c.args.left = omega (arith, some) in
+    (c.moves_go_along.ensures c.args.code.now c.args.plan.now c.args.own c.args.left c.straight.core c.straight.core c.go_quickly.new.core
+    (On c.straight.here) (On c.straight.here) (On c.in-Straight.to)
+    (none_gone c.args.code.now c.args.plan.now c.args.own c.args.left c.straight.core (On c.straight.here) c.straight.invariant.along.runs)
+    refl refl few c.in-Straight.ensures.moves).falls
+
+pub straight-preserved : goal.straight-preserved
+straight-preserved c =
+    let some = c.requires.some in
+    let same = c.straight.invariant.steps in
+    let few : c.straight.core.run.world.world.steps - c.args.core.now.run.world.world.steps < c.args.left = omega (arith, some, same) in
+    let gone : HasGone c.args.code.now c.args.plan.now c.args.own c.args.left c.args.core.now (On c.args.at) c.go_quickly.new.core (On c.in-Straight.to) =
+    c.moves_go_along.ensures c.args.code.now c.args.plan.now c.args.own c.args.left c.args.core.now c.straight.core c.go_quickly.new.core
+    (On c.args.at) (On c.straight.here) (On c.in-Straight.to) c.straight.invariant.along refl refl few c.in-Straight.ensures.moves in
+    let stays = c.in-Straight.ensures.stays c.args.body c.straight.invariant.runs in
+    record { along = gone.along; steps = stays.steps ∙ same; runs = stays.runs }
+
+-- ---- one move more
+
+pub returns-in-On : goal.returns-in-On
+returns-in-On c =
+    let some = c.requires.some in
+    let same = c.straight.invariant.steps in
+    let few : c.straight.core.run.world.world.steps - c.args.core.now.run.world.world.steps < c.args.left = omega (arith, some, same) in
+    c.moves_go_along.ensures c.args.code.now c.args.plan.now c.args.own c.args.left c.args.core.now c.straight.core c.go_quickly.new.core
+    (On c.args.at) (On c.straight.here) (On c.in-On.to) c.straight.invariant.along refl refl few c.in-On.ensures
+
+pub go_apart-requires-clause-runs : goal.go_apart-requires-clause-runs
+go_apart-requires-clause-runs c =
+    (untouched_along c.args.code.now c.args.plan.now c.args.own c.args.left c.args.core.now (On c.args.at) c.straight.core c.go_quickly.new.core
+    c.straight.here c.straight.invariant.along c.in-Nowhere.ensures).runs
+
+pub returns-in-Nowhere : goal.returns-in-Nowhere
+returns-in-Nowhere c =
+    let same = c.straight.invariant.steps in
+    let untouched = untouched_steps c.args.code.now c.straight.core c.go_quickly.new.core c.in-Nowhere.ensures in
+    subst (λ (next : Next). HasGone c.args.code.now c.args.plan.now c.args.own c.args.left c.args.core.now (On c.args.at) c.go_apart.new.core next)
+    (sym c.as_value.ensures)
+    (untouched_far c.args.code.now c.args.plan.now c.args.own c.args.left c.args.left c.args.core.now c.straight.core c.go_quickly.new.core
+    c.go_apart.new.core (On c.args.at) c.straight.here c.go_apart.result c.straight.invariant.along refl c.in-Nowhere.ensures
+    (omega (arith, same, untouched)) c.go_apart.ensures)

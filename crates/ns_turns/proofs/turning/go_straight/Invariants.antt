@@ -1,0 +1,17 @@
+use Rattle.std.proofs.Common.{◌≡◌}
+use Rattle.ns_engine.specs.declared.state.Next.TheVariants.{On}
+use Rattle.ns_engine.specs.Shown.{shown}
+use Rattle.ns_engine.specs.Straight.{RunsBody}
+use Rattle.ns_falling.specs.Falling.{run_left}
+use Rattle.ns_turns.specs.Turning.{GoesAlong}
+use Rattle.ns_turns.proofs.turning.go_straight.Given as goal
+
+abbrev pub invariant-straight : goal.invariant-straight
+invariant-straight l = record {
+  along : GoesAlong l.code l.plan l.own l.left l.fn.core (On l.fn.at) l.core (On l.here);
+  steps : l.core.run.world.world.steps ≡ l.fn.core.run.world.world.steps;
+  runs : RunsBody l.body l.core.stack.frames.items;
+}
+
+abbrev pub decreases-straight : goal.decreases-straight
+decreases-straight l = run_left l.code (shown l.code l.core (On l.here))
