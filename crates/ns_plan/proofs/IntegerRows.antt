@@ -1,9 +1,8 @@
 -- The rows of Integer that selectors name.
-use Rattle.std.proofs.Common.{◌≡◌, ℕ, ◌-◌, ◌≤◌, List, [], length, get_or, refl, ap, sym, ◌∙◌, Option, Some, None, cond}
+use Rattle.std.proofs.Common.{◌≡◌, ℕ, ◌-◌, List, [], length, get_or, refl, ap, ◌∙◌, Option, Some, None, cond}
 use Rattle.std.specs.Prelude.{slice_get}
 use Rattle.std.specs.Option.{option_map_or}
 use Rattle.std.proofs.lemmas.Bool.{lt-ltb}
-use Rattle.std.proofs.lemmas.List.{get_or_past}
 use Rattle.std.proofs.lemmas.Option.{none-some, same_Some, slice_get_within, get_or_from_slice_get}
 use Rattle.ns_base.specs.declared.selector.Sel.{Sel}
 use Rattle.ns_code.specs.declared.program.CodeProgram.{CodeProgram}
@@ -17,12 +16,8 @@ use Rattle.ns_find.specs.Stated.{IntegersFind}
 use Rattle.ns_kint.specs.declared.row.IntRow.{IntRow}
 use Rattle.ns_send.specs.declared.row.Row.{Row}
 use Rattle.ns_send.specs.declared.row.Row.TheVariants.{Data, Integer, Top, Facet, Mirror, Method as MethodRow, Apply, Value, ValueWithArguments, NumArgs}
-use Rattle.ns_send.specs.Rows.{all_rows, row_at}
-use Rattle.ns_plan.specs.Integers.{integer_of, row_numbered, row_found, row_of_text, row_of_send, FindsInteger}
-
--- numbers past the last are no row of Integer
-pub past_rows : (number : ℕ) → 81 ≤ number → None ≡ row_numbered number
-past_rows number past = sym (ap integer_of (get_or_past all_rows number Apply past))
+use Rattle.ns_send.specs.Rows.{row_at}
+use Rattle.ns_plan.specs.Integers.{integer_of, row_found, row_of_text, row_of_send, FindsInteger}
 
 integer_is : (r : Row) (row : IntRow) → integer_of r ≡ Some row → r ≡ Integer row
 integer_is (Integer one) row is = ap Integer (same_Some one row is)

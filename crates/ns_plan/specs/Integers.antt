@@ -22,13 +22,9 @@ abbrev pub integer_of : Row → Option IntRow
 integer_of (Integer row) = Some row
 integer_of other = None
 
--- that of a number
-abbrev pub row_numbered : ℕ → Option IntRow
-row_numbered number = integer_of (row_at number)
-
 -- that of what is found
 abbrev pub row_found : Option Found → Option IntRow
-row_found (Some (Kernel number)) = row_numbered number
+row_found (Some (Kernel number)) = integer_of (row_at number)
 row_found other = None
 
 -- the row of Integer that a text spells

@@ -14,9 +14,6 @@ use ns_kint::row::IntRow;
 use ns_send::row::{Row, row_of};
 use std::alloc::Global;
 
-/// How many rows the kernel has.
-const ROWS: u32 = 81;
-
 /// For each name the row of Integer that it spells, if it spells one.
 #[derive(Drop)]
 pub struct IntegerRows {
@@ -58,24 +55,13 @@ fn rows_of(alloc: Global, names: &[Text]) -> Result<Vec<Option<IntRow>>, NoMemor
     Ok(rows)
 }
 
-/// The row of Integer that a text spells, where something comes of Integers alone.
+/// The row of Integer that a text spells, if it spells one.
 fn row_of_text(text: &[u8]) -> Option<IntRow>
     ensures { result ≡ spec.row_of_text text.now }
 {
     match integer_row(text) {
-        Some(Found::Kernel(number)) => row_numbered(number),
+        Some(Found::Kernel(number)) => integer_of(row_of(number)),
         _ => None,
-    }
-}
-
-/// The row of Integer of that number.
-fn row_numbered(number: u32) -> Option<IntRow>
-    ensures { result ≡ spec.row_numbered number }
-{
-    if number < ROWS {
-        integer_of(row_of(number))
-    } else {
-        None
     }
 }
 

@@ -303,16 +303,8 @@ fn row_asked(w: &Setting, receiver: Value, sel: u32) -> Option<Row>
     requires ready { IsReady w.now.world }
 {
     match ask_lookup(w, receiver, sel, INNER) {
-        Some(Found::Kernel(number)) => row_numbered(number),
+        Some(Found::Kernel(number)) => Some(row_of(number)),
         _ => None,
-    }
-}
-
-fn row_numbered(number: u32) -> Option<Row> {
-    if number < 81 {
-        Some(row_of(number))
-    } else {
-        None
     }
 }
 

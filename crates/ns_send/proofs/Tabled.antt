@@ -1,7 +1,8 @@
 -- Lookups look through the rows of the kernel's table.
-use Rattle.std.proofs.Common.{ℕ, ◌+◌, List, [], ◌∷◌, refl, ap, ◌∙◌, map, slice_get}
+use Rattle.std.proofs.Common.{◌≡◌, ◌≤◌, ℕ, ◌+◌, List, [], ◌∷◌, refl, ap, sym, ◌∙◌, map, slice_get}
 use Rattle.std.specs.Option.{option_map}
 use Rattle.std.specs.List.{AllByRecursion}
+use Rattle.std.proofs.lemmas.List.{get_or_past}
 use Rattle.std.proofs.lemmas.Option.{slice_get-map, get_or_from_slice_get}
 use Rattle.ns_code.specs.declared.program.CodeProgram.{CodeProgram}
 use Rattle.ns_code.specs.declared.class.ClassCode.{ClassCode}
@@ -10,7 +11,7 @@ use Rattle.ns_world.specs.declared.kernel.KernelRow.TheVariants as row
 use Rattle.ns_world.specs.Heap.{Heap}
 use Rattle.ns_find.specs.Rows.{top_rows}
 use Rattle.ns_send.specs.declared.row.Row.TheVariants.{Apply}
-use Rattle.ns_send.specs.Rows.{Entry, kernel_table, all_rows}
+use Rattle.ns_send.specs.Rows.{Entry, kernel_table, all_rows, row_at}
 use Rattle.ns_send.specs.Tabled.{IsTopRow, RowsAreTabled, RowsAnswer}
 
 tops_are : (heap : Heap) (number : ℕ) (classes : List ClassCode) → AllByRecursion IsTopRow (top_rows heap number classes)
@@ -42,3 +43,7 @@ pub rows_answer : RowsAnswer
 rows_answer number entry is =
     get_or_from_slice_get all_rows number entry.answer Apply
     (slice_get-map (λ (one : Entry). one.answer) kernel_table number ∙ ap (option_map (λ (one : Entry). one.answer)) is)
+
+-- numbers that no row has
+pub past_rows : (number : ℕ) → 81 ≤ number → Apply ≡ row_at number
+past_rows number past = sym (get_or_past all_rows number Apply past)

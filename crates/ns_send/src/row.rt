@@ -127,11 +127,14 @@ static ROWS: [Row; 81] = [
     Row::Data(DataRow::MessageArguments),
 ];
 
-/// The row of a number, counted from 0 in the order of the kernel's table.
+/// The row of a number, counted from 0 in the order of the kernel's table, and `Apply` for a number that no row has.
 #[inline(always)]
+#[tactic(auto, using(crate::proofs::Tabled::past_rows))]
 pub fn row_of(number: u32) -> Row
-    requires { number < 81 }
     ensures { result ≡ row_at number }
 {
-    ROWS[number as usize]
+    if number < 81 {
+        return ROWS[number as usize];
+    }
+    Row::Apply
 }

@@ -3,7 +3,6 @@ pub mod Arrived
 pub mod Entered
 pub mod Placed
 pub mod Leads
-pub mod Numbered
 pub mod Goes
 pub mod Stepped
 pub mod Looked

@@ -56,7 +56,7 @@ fn ask(
     requires runs { IsRunning core.old.stack.frames.items }
     ensures { Leads code.now core.old at sent.floor (answered_at code.now core.old at sent receiver (answers.Row number)) core.new result }
 {
-    let row = row_numbered(number);
+    let row = row_of(number);
     match row {
         Row::Integer(_) => ask_row(code, core, at, sent, receiver, number, row),
         Row::Value => ask_row(code, core, at, sent, receiver, number, row),
@@ -115,16 +115,4 @@ fn ask_row(
         arguments,
     );
     arrive(code, core, at, sent, reached)
-}
-
-/// The row of a number.
-#[inline(always)]
-#[tactic(auto, using(crate::proofs::Numbered::past_rows))]
-pub fn row_numbered(number: u32) -> Row
-    ensures { result ≡ row_at number }
-{
-    if number < 81 {
-        return row_of(number);
-    }
-    Row::Apply
 }

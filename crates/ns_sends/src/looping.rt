@@ -7,11 +7,10 @@ ghost use Rattle.ns_send.specs.Rows.{row_at};
 ghost use Rattle.ns_send.specs.Sends.{To};
 ghost use Rattle.ns_engine.specs.declared.state.Next.TheVariants as next;
 ghost use Rattle.ns_sends.specs.Given.{SendsOrNot};
-ghost use Rattle.ns_sends.specs.Looping.{CanLoop};
+ghost use Rattle.ns_sends.specs.Looping.{CanLoop, loops};
 ghost use Rattle.ns_sends.specs.Sending.{CanSend, looked_up, Sends};
 ghost use Rattle.ns_sends.specs.Opening.{FindsKernel};
 
-use crate::going::row_numbered;
 use crate::sent::Sent;
 use ns_act::laws::{a_send_is_its_step_and_its_answer, live_values_are_there};
 use ns_code::program::CodeProgram;
@@ -22,14 +21,16 @@ use ns_frames::registers::Registers;
 use ns_kcode::state::KMethod;
 use ns_kdata::arguments::argument;
 use ns_send::begin::{beginning, has_arguments};
-use ns_send::row::Row;
+use ns_send::row::{Row, row_of};
 use ns_world::lawful::charging_keeps_lawful;
 use ns_world::value::Value;
 
 /// Whether the row of that number is a method that evaluates blocks.
 #[inline(always)]
-pub fn loops(number: u32) -> bool {
-    matches!(row_numbered(number), Row::Method(_))
+pub fn loops(number: u32) -> bool
+    ensures { result ≡ loops (row_at number) }
+{
+    matches!(row_of(number), Row::Method(_))
 }
 
 /// Sends to a value that finds the row of that number, where that is a method which evaluates blocks and can begin.
@@ -47,7 +48,7 @@ pub fn send_looping(
     requires finds { FindsKernel code.now core.old sent receiver kind number }
     ensures { SendsOrNot code.now core.old at sent receiver kind core.new result }
 {
-    match row_numbered(number) {
+    match row_of(number) {
         Row::Method(method) => { send_method(code, core, at, sent, receiver, kind, number, method) }
         _ => None,
     }

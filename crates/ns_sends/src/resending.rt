@@ -9,7 +9,6 @@ ghost use Rattle.ns_sends.specs.Going.{control_at, GoesOn, IsLeft, IsGiven, answ
 ghost use Rattle.ns_sends.specs.Waiting.{CanSendOn, sent_on_at, looked_on, LeadsTo, LeadsKept};
 
 use crate::arriving::arrive;
-use crate::going::row_numbered;
 use crate::led::Led;
 use crate::sent::Sent;
 use ns_act::sends::Answered;
@@ -21,6 +20,7 @@ use ns_frames::registers::Registers;
 use ns_rows::row::row_reached;
 use ns_send::control::Reached;
 use ns_send::laws::{actions_spend_exactly, rows_that_are_found_suit, sends_that_waited_go_on};
+use ns_send::row::row_of;
 use ns_world::ending::Ending;
 use ns_world::lawful::charging_keeps_lawful;
 use ns_world::value::Value;
@@ -114,7 +114,7 @@ fn ask_on(
     requires can { CanAsk code.now core.old at sent receiver number }
     ensures { LeadsKept code.now core.old at sent.floor (answered_at code.now core.old at sent receiver (answers.Row number)) core.new result }
 {
-    let row = row_numbered(number);
+    let row = row_of(number);
     let arguments = core.stack.from(at, sent.first);
     let reached = row_reached(
         &mut core.run.world,

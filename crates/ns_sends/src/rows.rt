@@ -14,7 +14,6 @@ ghost use Rattle.ns_sends.specs.Opening.{FindsKernel};
 ghost use Rattle.ns_sends.specs.Rows.{FindsRow, RowGives, NamesPlace};
 ghost use Rattle.ns_sends.specs.Sending.{CanSend, looked_up, Sends};
 
-use crate::going::row_numbered;
 use crate::sent::Sent;
 use ns_act::laws::a_send_is_its_step_and_its_answer;
 use ns_code::program::CodeProgram;
@@ -27,7 +26,7 @@ use ns_kdata::giving::value_at_once;
 use ns_kdata::row::DataRow;
 use ns_kint::integer::integer;
 use ns_kint::row::IntRow;
-use ns_send::row::Row;
+use ns_send::row::{Row, row_of};
 use ns_world::lawful::charging_keeps_lawful;
 use ns_world::value::Value;
 use ns_world::world::World;
@@ -47,7 +46,7 @@ pub fn send_row(
     requires finds { FindsKernel code.now core.old sent receiver kind number }
     ensures { SendsOrNot code.now core.old at sent receiver kind core.new result }
 {
-    let row = row_numbered(number);
+    let row = row_of(number);
     match row {
         Row::Data(DataRow::ArrayPut) => send_put(code, core, at, sent, receiver, kind),
         _ => send_to_row(code, core, at, sent, receiver, kind, row),
