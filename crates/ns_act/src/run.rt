@@ -1,8 +1,5 @@
 //! What a machine keeps of a run beside its frames.
 
-ghost use Rattle.std.specs.Prelude.{◌≡◌};
-ghost use Rattle.ns_world.specs.World.{Charges, stepped, entered, left};
-
 use ns_facets::board::Board;
 use ns_find::memo::Memo;
 use ns_world::world::World;

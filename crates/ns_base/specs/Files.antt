@@ -1,5 +1,5 @@
 -- Files by name.
-use Rattle.std.specs.Prelude.{◌≡◌, ◌≢◌, ℕ, List, Option, Some}
+use Rattle.std.specs.Prelude.{◌≡◌, ◌≢◌, ℕ, List, Option}
 
 -- the bytes of each file that is there
 abbrev pub Files : Type 0

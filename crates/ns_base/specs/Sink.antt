@@ -1,5 +1,5 @@
 -- What is written to a sink.
-use Rattle.std.specs.Prelude.{◌≡◌, ℕ, ◌≤◌, List, ◌++◌, length, take, Option, option_map}
+use Rattle.std.specs.Prelude.{◌≡◌, ℕ, List, ◌++◌, take, Option, option_map}
 
 -- what was written with these bytes after it, where the sink tells it
 abbrev pub with_bytes : List ℕ → Option (List ℕ) → Option (List ℕ)

@@ -1,6 +1,6 @@
 //! The limits of a run.
 
-ghost use Rattle.std.specs.Prelude.{◌≡◌, ◌↔◌, IsTrue};
+ghost use Rattle.std.specs.Prelude.{◌↔◌, IsTrue};
 ghost use Rattle.ns_base.specs.Limits.{InRange, IsFrom1To};
 
 /// How much a run may use: steps, heap cells, live frames, and bytes of output. A function that

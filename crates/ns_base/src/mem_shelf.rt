@@ -1,6 +1,6 @@
 //! A shelf over memory on which listed calls fail.
 
-ghost use Rattle.std.specs.Prelude.{◌≡◌, ◌+◌, ◌≤◌, [], length, IfOk, IfSome, IsErrOf, IsNone, IsSomeAnd, MatchOption, Some};
+ghost use Rattle.std.specs.Prelude.{◌≡◌, ◌+◌, ◌≤◌, [], length, IfOk, IsErrOf, Some};
 ghost use Rattle.ns_base.specs.Count.{Rose, one_more};
 ghost use Rattle.ns_base.specs.MemShelf.{Loads, Stores, after_load, held, will_fail};
 ghost use Rattle.ns_base.specs.Shelf.{AnswersLoad, AnswersStore};

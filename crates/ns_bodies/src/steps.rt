@@ -1,8 +1,8 @@
 //! What methods and blocks do: values that their locals get, and steps.
 
-ghost use Rattle.std.specs.Prelude.{◌≡◌, ◌+◌, ◌++◌, false, length, IfOk, OnOk};
+ghost use Rattle.std.specs.Prelude.{◌≡◌, ◌+◌, false, length, IfOk, OnOk};
 ghost use Rattle.ns_tree.specs.PlainOf.{expr_of, slots_of, init_of, bars_of, statement_of, statement_list_of, statements_of};
-ghost use Rattle.ns_scope.specs.Bodies.{routine_blocks, expr_blocks, init_blocks, slots_blocks, bars_blocks, statement_blocks, list_blocks, statements_blocks};
+ghost use Rattle.ns_scope.specs.Bodies.{routine_blocks, expr_blocks, init_blocks, slots_blocks, bars_blocks, statement_blocks, list_blocks};
 ghost use Rattle.ns_meant.specs.Program.{as_method, as_block};
 ghost use Rattle.ns_meant.specs.Expressions.{expr_node};
 ghost use Rattle.ns_meant.specs.Statements.{first_values, slots_values, bars_values, step_of, list_steps};

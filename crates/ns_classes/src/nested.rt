@@ -3,7 +3,7 @@
 ghost use Rattle.std.specs.Prelude.{◌≡◌, ◌<◌, ◌≤◌, ◌^◌, length, IsTrue};
 ghost use Rattle.ns_world.specs.Heap.{find_cell, is_class};
 ghost use Rattle.ns_world.specs.Lawful.{IsLawful, HasHolder};
-ghost use Rattle.ns_world.specs.Layout.{declaration_of, entries_of, entry_word};
+ghost use Rattle.ns_world.specs.Layout.{declaration_of, entry_word};
 ghost use Rattle.ns_code.specs.Fits.{Fits};
 ghost use Rattle.ns_world.specs.declared.value.Value.TheVariants.{Ref};
 ghost use Rattle.ns_classes.specs.Nested.{place_of, has_nested, nested_entry, kept_in, kept_class};

@@ -1,7 +1,6 @@
 //! The board that applications share, and its rows.
 
 ghost use Rattle.std.specs.Prelude.{◌≡◌, ◌<◌, replicate};
-ghost use Rattle.std.specs.List.{slice_index_or};
 ghost use Rattle.ns_facets.specs.Board as spec;
 ghost use Rattle.ns_facets.specs.declared.board.Plain.TheVariants as plain_is;
 

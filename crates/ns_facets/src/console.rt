@@ -6,7 +6,6 @@ ghost use Rattle.ns_kdata.specs.Arguments.{IsThere, bytes_of};
 ghost use Rattle.ns_kdata.specs.Outcome.{Gives};
 ghost use Rattle.ns_facets.specs.Console as spec;
 ghost use Rattle.ns_facets.specs.Console.{appended, fits};
-ghost use Rattle.std.specs.Prelude.{IsTrue};
 
 use ns_code::program::CodeProgram;
 use ns_kdata::arguments::{is_text, text_byte, text_row, text_size, wrong_kind};

@@ -1,6 +1,6 @@
 //! The rows of Manifest and of Platform.
 
-ghost use Rattle.std.specs.Prelude.{◌≡◌, ◌<◌, ◌≤◌, ◌^◌, length};
+ghost use Rattle.std.specs.Prelude.{◌≡◌, ◌<◌, ◌≤◌, length};
 ghost use Rattle.ns_facets.specs.Platform as spec;
 
 use ns_base::selector::Sel;

@@ -6,10 +6,8 @@ ghost use Rattle.ns_world.specs.Lawful.{IsLawful};
 ghost use Rattle.ns_world.specs.Layout.{declaration_of};
 ghost use Rattle.ns_find.specs.Members as spec;
 ghost use Rattle.ns_find.specs.Find.{found_from, found_private, class_side_members, members_from, is_start, side_of, super_start};
-ghost use Rattle.ns_find.specs.Rows.{kernel_rows};
 ghost use Rattle.ns_find.specs.declared.members.Wanted.TheVariants.{Visible};
 ghost use Rattle.ns_find.specs.declared.members.Side.TheVariants as side_is;
-ghost use Rattle.ns_world.specs.declared.kernel.KernelRow.TheVariants as row_is;
 ghost use Rattle.ns_world.specs.declared.kernel.Start.TheVariants as start_is;
 
 use crate::found::{Found, Sending};

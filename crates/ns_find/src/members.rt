@@ -1,6 +1,6 @@
 //! The members of a declaration that a selector names.
 
-ghost use Rattle.std.specs.Prelude.{◌≡◌, ℕ, ◌+◌, ◌<◌, ◌≤◌, [], ◌∷◌, ◌++◌, length, IsTrue, slice_get, Some};
+ghost use Rattle.std.specs.Prelude.{◌≡◌, ◌+◌, ◌<◌, ◌≤◌, [], ◌∷◌, ◌++◌, length, IsTrue, Some};
 ghost use Rattle.ns_world.specs.Heap.{find_cell, is_class};
 ghost use Rattle.ns_world.specs.Lawful.{IsLawful};
 ghost use Rattle.ns_world.specs.Layout.{declaration_of, entries_of};

@@ -1,7 +1,7 @@
 //! The frames, of which only the topmost is changed.
 
 ghost use Rattle.std.specs.Prelude.{◌≡◌, ◌<◌, ◌≤◌, [], ◌∷◌, length, reverse, OnOk, OnErr};
-ghost use Rattle.ns_frames.specs.Standing.{at_next, with_next, below};
+ghost use Rattle.ns_frames.specs.Standing.{at_next, below};
 ghost use Rattle.ns_frames.specs.Leaving.{is_home, frames_to, with_answer, with_count};
 
 use crate::frame::{Frame, Leaving, LoopingFrame, RunningFrame};

@@ -1,6 +1,6 @@
 //! The bodies of declarations, each with the blocks in it, in the order of their numbers.
 
-ghost use Rattle.std.specs.Prelude.{◌≡◌, ◌+◌, ◌++◌, true, false, Some, length, OnOk, option_map};
+ghost use Rattle.std.specs.Prelude.{◌≡◌, ◌+◌, true, false, Some, length, OnOk, option_map};
 ghost use Rattle.ns_tree.specs.PlainOf.{bars_of, statements_of, clause_of, method_of, class_of, class_side_of, side_of, members_of, member_of, what_of};
 ghost use Rattle.ns_scope.specs.Scopes.{is_outside};
 ghost use Rattle.ns_scope.specs.Bodies as b;

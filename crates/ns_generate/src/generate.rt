@@ -1,9 +1,8 @@
 //! The generator: a whole program to its code.
 
-ghost use Rattle.std.specs.Prelude.{◌≡◌, length, map, Some, None, IfOk, OnOk, IsErrOf};
+ghost use Rattle.std.specs.Prelude.{◌≡◌, length, Some, None, IfOk, OnOk, IsErrOf};
 ghost use Rattle.ns_gen.specs.declared.size.SizeKind.{SizeKind};
 ghost use Rattle.ns_meant.specs.Classes.{meant};
-ghost use Rattle.ns_meant.specs.Tables.{class_code};
 ghost use Rattle.ns_gen.specs.Code.{code_of};
 ghost use Rattle.ns_gen.specs.Sizes.{size_fault};
 ghost use Rattle.ns_generate.specs.Whole.{named, coded_program, first_fault};

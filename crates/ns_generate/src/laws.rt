@@ -1,9 +1,8 @@
 //! What was generated is the code of the program. The function does nothing, and its contract is the
 //! law.
 
-ghost use Rattle.std.specs.Prelude.{◌≡◌, ℕ, length, map, None};
+ghost use Rattle.std.specs.Prelude.{◌≡◌, ℕ, length, None};
 ghost use Rattle.ns_meant.specs.Program.{Meant};
-ghost use Rattle.ns_meant.specs.Tables.{class_code};
 ghost use Rattle.ns_gen.specs.Code.{code_of};
 ghost use Rattle.ns_gen.specs.Sizes.{size_fault};
 ghost use Rattle.ns_bodies.specs.Coding.{Coded, with_bodies};

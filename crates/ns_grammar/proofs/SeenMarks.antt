@@ -11,7 +11,7 @@ use Rattle.ns_terminal.specs.declared.mark.Mark.{Mark}
 use Rattle.ns_terminal.specs.declared.mark.Mark.TheVariants as m
 use Rattle.ns_terminal.specs.Mark.{is_mark, is_sign_of}
 use Rattle.ns_grammar.proofs.Seen as v
-use Rattle.ns_grammar.proofs.Seen.{Seen, Sees, shows, among, place, sign_seen, sees_or}
+use Rattle.ns_grammar.proofs.Seen.{Seen, Sees, shows, among, place, sign_seen}
 
 -- ---- operators and names, by their texts
 

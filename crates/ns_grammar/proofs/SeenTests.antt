@@ -8,7 +8,7 @@ use Rattle.ns_terminal.specs.declared.name.Operators.TheVariants as o
 use Rattle.ns_terminal.specs.Leaf as leaves
 use Rattle.ns_terminal.specs.Name.{is_name}
 use Rattle.ns_grammar.proofs.Seen as v
-use Rattle.ns_grammar.proofs.Seen.{Seen, Sees, shows, among, place, sign_seen, sees_or}
+use Rattle.ns_grammar.proofs.Seen.{Seen, Sees, sees_or}
 use Rattle.ns_grammar.proofs.SeenMarks.{is_bar, is_equals, is_over, is_minus, each_sign, each_ident, but_bar_seen, sees_mark}
 
 -- ---- names and values

@@ -10,7 +10,7 @@ use Rattle.ns_code.specs.declared.program.CodeProgram.{CodeProgram}
 use Rattle.ns_code.specs.Fits.{Fits, IsByte}
 use Rattle.ns_image.specs.declared.fault.ImageFault.{ImageFault}
 use Rattle.ns_image.specs.declared.fault.ImageFault.TheVariants as f
-use Rattle.ns_image.specs.Bytes.{bytes_of, old_bytes_of, bare, bare_body, mark}
+use Rattle.ns_image.specs.Bytes.{bytes_of, old_bytes_of, bare, mark}
 use Rattle.ns_image.specs.Bytes as b
 use Rattle.ns_image.specs.Read.{Outcome, got, truncated, bad, half}
 use Rattle.ns_image.specs.Reading.{read_image, versioned, answer, ended, program, old_program}

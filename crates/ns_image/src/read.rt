@@ -1,6 +1,6 @@
 //! Code from the bytes of an image.
 
-ghost use Rattle.std.specs.Prelude.{◌≡◌, IfOk};
+ghost use Rattle.std.specs.Prelude.{IfOk};
 ghost use Rattle.ns_code.specs.Fits.{Fits};
 ghost use Rattle.ns_image.specs.Read.{half};
 ghost use Rattle.ns_image.specs.Reading as spec;

@@ -1,6 +1,6 @@
 -- Applications that are made one after another.
-use Rattle.std.proofs.Common.{◌≡◌, ℕ, zero, suc, ◌+◌, ◌≤◌, ◌-◌, ◌^◌, ◌&&◌, List, [], ◌∷◌, ◌++◌, length, map, take, drop, refl, ap, sym, subst, ◌∙◌, arith, Bool, true, false, Option, Some, None, Result, Ok, Err, IfOk, IfErr, IsUtf8, nat_le, append_assoc}
-use Rattle.std.specs.Prelude.{All, IsErrAnd, get_or, IsSomeAnd, min, slice_get}
+use Rattle.std.proofs.Common.{◌≡◌, ℕ, zero, suc, ◌+◌, ◌≤◌, ◌-◌, ◌&&◌, List, [], ◌∷◌, ◌++◌, length, map, take, drop, refl, ap, sym, subst, ◌∙◌, arith, Bool, true, false, Option, None, Result, Ok, Err, IfOk, IfErr, IsUtf8, nat_le, append_assoc}
+use Rattle.std.specs.Prelude.{All, IsErrAnd, get_or}
 use Rattle.std.proofs.lemmas.Bool.Decides.{nat_tests}
 use Rattle.std.proofs.lemmas.List.Elements.{All-cons, All-head, All-nil, All-tail}
 use Rattle.std.proofs.lemmas.List.{length-append, length-map, map-append, take_all}

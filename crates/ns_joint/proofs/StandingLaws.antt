@@ -1,18 +1,16 @@
 -- An application that stands alone and has ended has come to what its source means.
-use Rattle.std.proofs.Common.{◌≡◌, ℕ, List, [], ◌∷◌, refl, ap, sym, subst, ◌∙◌, Bool, true, false, Option, Some, None, IsSome, cond}
+use Rattle.std.proofs.Common.{◌≡◌, [], refl, ap, sym, subst, ◌∙◌, Bool, true, false, IsSome, cond}
 use Rattle.ns_base.specs.declared.limits.Limits.{Limits}
-use Rattle.ns_facets.specs.declared.row.Grants.{Grants}
 use Rattle.ns_gen.specs.Code.{code_of}
 use Rattle.ns_launch.specs.Machine.{told_at}
 use Rattle.ns_launch.specs.Run.{ran_of}
 use Rattle.ns_link.specs.Laws.{IsOnTheWay, ReportedAsMeant}
-use Rattle.ns_meant.specs.Program.{Meant}
 use Rattle.ns_meant.specs.Tables.{tables}
 use Rattle.ns_model.specs.Whole.{RunEnd, meaning_of_run, ran}
 use Rattle.ns_moves.specs.State.{State, Ended, Unbegun, Going, Pends, Stuck, ending_of}
 use Rattle.ns_moves.specs.Turn.{is_still}
 use Rattle.ns_session.specs.Laws.{SourceLeads}
-use Rattle.ns_session.specs.Member.{IsAlone, KeepsAlone, MemberView}
+use Rattle.ns_session.specs.Member.{KeepsAlone, MemberView}
 use Rattle.ns_joint.specs.Joint.{run_of}
 use Rattle.ns_joint.specs.Laws.{HasStood}
 use Rattle.ns_joint.specs.Making.{Source, application_of}

@@ -1,5 +1,5 @@
 -- What is told of applications one after another.
-use Rattle.std.proofs.Common.{◌≡◌, ℕ, zero, suc, ◌+◌, ◌<◌, ◌≤◌, List, [], ◌∷◌, ◌++◌, drop, length, map, refl, ap, sym, subst, ◌∙◌, arith, Bool, true, false, Option, Some, None, IsSome, append_assoc}
+use Rattle.std.proofs.Common.{◌≡◌, ℕ, zero, suc, ◌+◌, ◌<◌, ◌≤◌, List, [], ◌∷◌, ◌++◌, drop, length, map, refl, ap, sym, subst, ◌∙◌, arith, Some, IsSome, append_assoc}
 use Rattle.std.specs.Prelude.{slice_get}
 use Rattle.std.proofs.lemmas.List.{append-nil}
 use Rattle.std.proofs.lemmas.Option.{same_Some}
@@ -7,9 +7,8 @@ use Rattle.ns_base.specs.Limits.{InRange}
 use Rattle.ns_base.specs.declared.limits.Limits.{Limits}
 use Rattle.ns_base.specs.declared.status.Status.{Status}
 use Rattle.ns_base.specs.declared.status.Status.TheVariants.{Done, ProgramError, Refused, Limit, ReadFault, WriteFault, Memory}
-use Rattle.ns_launch.specs.declared.run.Ran.{Ran}
 use Rattle.ns_moves.specs.State.{ending_of}
-use Rattle.ns_session.specs.Member.{Application, MayStart, MemberView, StandsAlone}
+use Rattle.ns_session.specs.Member.{MayStart, MemberView, StandsAlone}
 use Rattle.ns_session.specs.Rounds.{HaveEnded}
 use Rattle.ns_session.specs.Session.{SessionView, ending_in}
 use Rattle.ns_rounds.specs.Laws.{MayAllStart}

@@ -11,7 +11,6 @@ use Rattle.ns_load.specs.declared.fault.LoadCause.{LoadCause}
 use Rattle.ns_load.specs.declared.fault.LoadCause.TheVariants.{Missing, TooLong, ReadFault, Spelling}
 use Rattle.ns_load.specs.declared.fault.LoadFault.{LoadFault}
 use Rattle.ns_load.specs.declared.fault.LoadFault.TheVariants.{At, Memory}
-use Rattle.ns_meant.specs.Program.{Meant}
 use Rattle.ns_session.specs.Member.{starting}
 use Rattle.ns_session.specs.Session.{SessionView}
 use Rattle.ns_verify.specs.Verify.{IsSound}

@@ -1,5 +1,5 @@
 -- How applications stand at the end, and what is told of them so.
-use Rattle.std.specs.Prelude.{ℕ, List, [], ◌∷◌, ◌++◌, map}
+use Rattle.std.specs.Prelude.{ℕ, List, [], ◌∷◌, ◌++◌}
 use Rattle.ns_launch.specs.Machine.{told_at}
 use Rattle.ns_launch.specs.declared.run.Ran.{Ran}
 use Rattle.ns_session.specs.Member.{MemberView, StandsAlone}

@@ -1,6 +1,6 @@
 //! What is told of applications that have ended.
 
-ghost use Rattle.std.specs.Prelude.{◌≡◌, ◌≤◌, ◌<◌, ◌++◌, drop, IfOk, Some, OnOk, length, slice_get};
+ghost use Rattle.std.specs.Prelude.{◌≡◌, ◌<◌, ◌++◌, drop, IfOk, Some, OnOk, length, slice_get};
 ghost use Rattle.ns_launch.specs.Machine.{told_at};
 ghost use Rattle.ns_launch.specs.Running.{IsRunStatus};
 ghost use Rattle.ns_joint.specs.Joint.{status_of_all, status_then as status_then_lem, text_from, text_of};

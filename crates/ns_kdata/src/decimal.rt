@@ -1,6 +1,6 @@
 //! Integers in decimal, without taking memory.
 
-ghost use Rattle.std.specs.Prelude.{◌≡◌, ◌+◌, ◌<◌, ◌≤◌, ◌^◌, ◌++◌, length, drop};
+ghost use Rattle.std.specs.Prelude.{◌≡◌, ◌+◌, ◌≤◌, length, drop};
 ghost use Rattle.std.specs.Fmt.{decimal, signed_decimal};
 
 /// The text of an Integer, which has at most a sign and 19 digits, written at the end of that room.

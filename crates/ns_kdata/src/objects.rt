@@ -1,6 +1,6 @@
 //! The rows of all values, and those of the class objects Object and Array.
 
-ghost use Rattle.std.specs.Prelude.{◌≡◌, ℤ, ◌≤◌};
+ghost use Rattle.std.specs.Prelude.{◌≡◌, ◌≤◌};
 ghost use Rattle.ns_kdata.specs.Arguments.{IsThere};
 ghost use Rattle.ns_kdata.specs.Outcome.{Gives};
 ghost use Rattle.ns_kdata.specs.Rows as spec;

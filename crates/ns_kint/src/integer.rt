@@ -1,6 +1,6 @@
 //! What the rows of Integer answer. Faults come in the order WrongKind, ZeroDivide, Overflow.
 
-ghost use Rattle.std.specs.Prelude.{◌≡◌, ◌≢◌, ℤ, pos, SomeIff, FitsSigned, Ok};
+ghost use Rattle.std.specs.Prelude.{◌≡◌, ℤ, SomeIff, FitsSigned, Ok};
 ghost use Rattle.std.specs.Int.{w64};
 ghost use Rattle.ns_kint.specs.Integer.{integer, integer_of, divisor_of, fitting, same_integer};
 

@@ -12,7 +12,7 @@ use Rattle.ns_lex.specs.Word.{word, word_by, name_len}
 use Rattle.ns_lex.specs.Number.{number, sized, at_most_greatest, value}
 use Rattle.ns_lex.specs.Quoted.{quoted, quoted_from}
 use Rattle.ns_lex.specs.Quoted as strings
-use Rattle.ns_lex.specs.Comment.{comment, comment_from, remark, remark_len}
+use Rattle.ns_lex.specs.Comment.{comment, remark, remark_len}
 use Rattle.ns_lex.specs.Comment as comments
 use Rattle.ns_lex.specs.Operator.{operator}
 use Rattle.ns_lex.specs.Symbol.{symbol, symbol_of, selector_len}

@@ -12,7 +12,7 @@ use Rattle.ns_model.specs.Run.{does_at}
 use Rattle.ns_model.specs.Whole.{place_in, opening_place}
 use Rattle.ns_gen.specs.Code.{Line, does, sends, starts, plain, inner, private_at, super, how_many, node_lines, nodes_lines, messages_lines}
 use Rattle.ns_gen.specs.Code.{body_lines, slots_lines, expressions_lines, code_of}
-use Rattle.ns_moves.specs.Steps.{Step, super_place, steps_of}
+use Rattle.ns_moves.specs.Steps.{super_place, steps_of}
 use Rattle.ns_moves.specs.Steps as steps
 use Rattle.ns_link.specs.Shown.{shown}
 use Rattle.ns_link.proofs.Coded.{coded}

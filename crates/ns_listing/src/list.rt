@@ -1,6 +1,6 @@
 //! The lines of the listing.
 
-ghost use Rattle.std.specs.Prelude.{◌≡◌, ◌++◌, ◌∷◌, OnOk, IfOk};
+ghost use Rattle.std.specs.Prelude.{◌≡◌, ◌++◌, OnOk, IfOk};
 ghost use Rattle.ns_listing.specs.Listing as spec;
 
 use crate::instruction::put_instruction;

@@ -1,6 +1,6 @@
 //! Loading one file.
 
-ghost use Rattle.std.specs.Prelude.{◌≡◌, ◌≢◌, ◌≤◌, IfOk, IfErr, IsErrOf, IsUtf8, length, MatchResult, ℕ, List, Some};
+ghost use Rattle.std.specs.Prelude.{◌≡◌, IfOk, IfErr, IsErrOf, IsUtf8, ℕ, Some};
 ghost use Rattle.ns_base.specs.Count.{Rose};
 ghost use Rattle.ns_base.specs.Files.{Files};
 ghost use Rattle.ns_base.specs.Shelf.{OnlyRead};

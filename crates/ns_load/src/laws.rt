@@ -1,13 +1,11 @@
 //! Laws over the definitions. Each is the contract of a function that does nothing but name the laws on which it rests.
 
-ghost use Rattle.std.specs.Prelude.{◌≡◌, ◌≤◌, ℕ, Bool, List, All, length, map};
+ghost use Rattle.std.specs.Prelude.{ℕ, List};
 ghost use Rattle.ns_base.specs.declared.place.Place.{Place};
 ghost use Rattle.ns_load.specs.Answer.{AreRead};
 ghost use Rattle.ns_load.specs.Stated.{LoadedIsWhole};
-ghost use Rattle.ns_scope.specs.Whole.{AreWholeUnits, IsFileName, IsWhole};
-ghost use Rattle.ns_scope.specs.declared.program.Program.{Program};
+ghost use Rattle.ns_scope.specs.Whole.{AreWholeUnits};
 ghost use Rattle.ns_tree.specs.Plain as p;
-ghost use Rattle.ns_tree.specs.PlainOf.{unit_of};
 
 /// What was read of files are whole units: each is a tree of the grammar that the tokens of its
 /// source spell, each token and the end have a place, and each place is of that file, with lines and

@@ -1,6 +1,6 @@
 //! Loading the files of a program.
 
-ghost use Rattle.std.specs.Prelude.{◌≡◌, ◌≢◌, ◌≤◌, ◌+◌, ◌++◌, ◌∷◌, All, IfErr, IfOk, IsErrOf, length, map, OnOk, OnErr, ℕ, List, Some, [], MatchResult};
+ghost use Rattle.std.specs.Prelude.{◌≡◌, ◌≤◌, ◌+◌, ◌++◌, ◌∷◌, All, IfErr, IfOk, IsErrOf, length, map, OnOk, ℕ, Some, []};
 ghost use Rattle.ns_base.specs.Count.{Rose};
 ghost use Rattle.ns_base.specs.Files.{Files};
 ghost use Rattle.ns_base.specs.Shelf.{OnlyRead};
@@ -9,7 +9,7 @@ ghost use Rattle.ns_load.specs.Loaded as spec;
 ghost use Rattle.ns_load.specs.Source as source_lem;
 ghost use Rattle.ns_load.specs.Stated.{IsLoading};
 ghost use Rattle.ns_load.specs.declared.fault.LoadCause.TheVariants.{Missing, ReadFault};
-ghost use Rattle.ns_load.specs.declared.fault.LoadFault.TheVariants.{At, Memory};
+ghost use Rattle.ns_load.specs.declared.fault.LoadFault.TheVariants.{At};
 ghost use Rattle.ns_scope.specs.Whole.{IsFileName, IsWhole};
 ghost use Rattle.ns_tree.specs.PlainOf.{unit_of};
 

@@ -1,13 +1,12 @@
 //! Reading the text of a file as a tree.
 
-ghost use Rattle.std.specs.Prelude.{◌≡◌, ◌≢◌, ◌≤◌, IfErr, IfOk, length, MatchResult};
+ghost use Rattle.std.specs.Prelude.{◌≡◌, ◌≤◌, IfErr, length};
 ghost use Rattle.ns_lex.specs.Scan.{InOrder};
 ghost use Rattle.ns_load.specs.Answer.{IsSpelling};
 ghost use Rattle.ns_load.specs.Place as places;
 ghost use Rattle.ns_load.specs.Source as spec;
 ghost use Rattle.ns_load.specs.Stated.{IsReading};
 ghost use Rattle.ns_load.specs.declared.fault.LoadFault.TheVariants.{Memory};
-ghost use Rattle.ns_tree.specs.PlainOf.{unit_of};
 
 use crate::fault::{LoadCause, LoadFault};
 use crate::place::{marks, place_of};

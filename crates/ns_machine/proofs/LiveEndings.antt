@@ -1,5 +1,4 @@
 -- What a run of a valid state ended with can be reported.
-use Rattle.std.proofs.Common.{◌≡◌, ap, sym, subst}
 use Rattle.ns_code.specs.declared.program.CodeProgram.{CodeProgram}
 use Rattle.ns_facets.specs.declared.row.Grants.{Grants}
 use Rattle.ns_world.specs.declared.ending.Ending.{Ending}

@@ -4,7 +4,6 @@ use Rattle.ns_base.specs.declared.limits.Limits.{Limits}
 use Rattle.ns_code.specs.declared.program.CodeProgram.{CodeProgram}
 use Rattle.ns_facets.specs.declared.row.Grants.{Grants}
 use Rattle.ns_world.specs.declared.value.Value.{Value}
-use Rattle.ns_world.specs.declared.value.Value.TheVariants as value
 use Rattle.ns_world.specs.declared.cell.CellLimit.{CellLimit}
 use Rattle.ns_world.specs.World.{WorldView}
 use Rattle.ns_world.specs.Lawful.{IsLawful}

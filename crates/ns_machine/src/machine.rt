@@ -1,6 +1,6 @@
 //! A run of code from its start on, as a host sees it.
 
-ghost use Rattle.std.specs.Prelude.{◌≡◌, IfOk, IfSome, IsTrue, false};
+ghost use Rattle.std.specs.Prelude.{◌≡◌, IfOk, IfSome, false};
 ghost use Rattle.ns_base.specs.Limits.{InRange};
 ghost use Rattle.ns_code.specs.Fits.{Fits};
 ghost use Rattle.ns_verify.specs.Verify.{IsSound};

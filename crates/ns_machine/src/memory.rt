@@ -1,9 +1,8 @@
 //! The memory that a machine takes when it is made, after which its run takes none.
 
-ghost use Rattle.std.specs.Prelude.{◌≡◌, ◌≤◌, ◌*◌, ◌+◌, All, IfOk};
+ghost use Rattle.std.specs.Prelude.{◌≡◌, ◌≤◌, ◌*◌, ◌+◌, IfOk};
 ghost use Rattle.ns_base.specs.Limits.{InRange};
 ghost use Rattle.ns_world.specs.World.{empty_world};
-ghost use Rattle.ns_act.specs.Room.{HasRoom};
 ghost use Rattle.ns_plan.specs.Plan.{IsPlanOf};
 ghost use Rattle.ns_plan.specs.Steps.{places_of};
 ghost use Rattle.ns_engine.specs.Standing.{most_arguments};

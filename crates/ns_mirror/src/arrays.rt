@@ -1,6 +1,6 @@
 //! New arrays, to be filled.
 
-ghost use Rattle.std.specs.Prelude.{◌≡◌, ◌≤◌};
+ghost use Rattle.std.specs.Prelude.{◌≤◌};
 ghost use Rattle.ns_mirror.specs.Arrays.{MakesArray};
 
 use ns_world::cell::NewCell;

@@ -2,16 +2,13 @@
 
 ghost use Rattle.std.specs.Prelude.{◌≡◌, ℕ, ◌+◌, ◌<◌, ◌≤◌, ◌^◌, length, IfSome, IsTrue};
 ghost use Rattle.ns_world.specs.declared.value.Value.TheVariants as value_is;
-ghost use Rattle.ns_world.specs.Cell.{ArrayCell};
 ghost use Rattle.ns_world.specs.Heap.{find_cell, is_class, is_chain_start, chain_of, words_at, open_words_at};
 ghost use Rattle.ns_world.specs.Lawful.{IsLawful};
-ghost use Rattle.ns_world.specs.Layout.{declaration_of};
 ghost use Rattle.ns_code.specs.Fits.{Fits};
 ghost use Rattle.ns_kdata.specs.Arguments.{IsThere};
-ghost use Rattle.ns_kdata.specs.Outcome.{Gives, making};
+ghost use Rattle.ns_kdata.specs.Outcome.{Gives};
 ghost use Rattle.ns_kdata.specs.Rows.{stored};
 ghost use Rattle.ns_mirror.specs.Arrays.{listed};
-ghost use Rattle.ns_mirror.specs.Looking as looking;
 ghost use Rattle.ns_mirror.specs.Slots as spec;
 
 use crate::arrays::new_array;

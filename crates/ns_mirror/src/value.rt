@@ -1,7 +1,7 @@
 //! What a mirror sees of the value that it mirrors.
 
-ghost use Rattle.std.specs.Prelude.{◌≡◌, ◌≢◌, IsSome, IsTrue};
-ghost use Rattle.ns_world.specs.Heap.{find_cell, is_class, no_class};
+ghost use Rattle.std.specs.Prelude.{◌≡◌, ◌≢◌, IsSome};
+ghost use Rattle.ns_world.specs.Heap.{find_cell, no_class};
 ghost use Rattle.ns_kdata.specs.Arguments.{IsThere};
 ghost use Rattle.ns_mirror.specs.Looking as spec;
 

@@ -12,7 +12,7 @@ use Rattle.ns_verify.specs.Verify.{IsSound}
 use Rattle.ns_verify.specs.Places.{HasNoCause, HeightsAgree}
 use Rattle.ns_verify.specs.Uses.{IsUsable}
 use Rattle.ns_moves.specs.Steps as moves
-use Rattle.ns_moves.specs.Steps.{place_in, steps_of, steps_from}
+use Rattle.ns_moves.specs.Steps.{steps_of}
 use Rattle.ns_moves.specs.ValidFrames.{Nothing, Stands, next_number}
 use Rattle.ns_plan.specs.declared.step.Step.{Step}
 use Rattle.ns_plan.specs.Steps.{instr_of}

@@ -1,7 +1,6 @@
 //! The private members of all declarations, and what stands around these, found once before any send looks for one.
 
 ghost use Rattle.std.specs.Prelude.{◌≡◌, ◌<◌, [], ◌∷◌, ◌++◌, length, IfOk, OnOk};
-ghost use Rattle.std.specs.List.{AllZip};
 ghost use Rattle.ns_code.specs.Fits.{Fits, ClassFits};
 ghost use Rattle.ns_find.specs.Find.{side_of};
 ghost use Rattle.ns_members.specs.Numbers.{IsNameTable};

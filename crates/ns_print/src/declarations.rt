@@ -1,11 +1,11 @@
 //! Classes, their sides and members, and methods.
 
-ghost use Rattle.std.specs.Prelude.{◌≡◌, ◌++◌, ◌∷◌, [], map, flat_map, zip, OnOk, option_map};
+ghost use Rattle.std.specs.Prelude.{◌≡◌, ◌++◌, ◌∷◌, [], flat_map, zip, OnOk, option_map};
 ghost use Rattle.ns_tree.specs.declared.token.Kind.TheVariants as k;
 ghost use Rattle.ns_tree.specs.Flat.{ident, part_before, flat_bars, flat_statements, flat_pattern, flat_base, flat_over, flat_clause, flat_super, flat_method, flat_factory};
-ghost use Rattle.ns_tree.specs.Flat.{flat_class, flat_class_side, flat_side, flat_members, flat_member, flat_what, flat_marker, flat_category, head, flat};
+ghost use Rattle.ns_tree.specs.Flat.{flat_class, flat_side, flat_members, flat_member, flat_what, flat_marker, flat_category, head, flat};
 ghost use Rattle.ns_tree.specs.PlainOf.{bars_of, statements_of, pattern_of, clause_of, method_of};
-ghost use Rattle.ns_tree.specs.PlainOf.{class_of, class_side_of, side_of, members_of, member_of, what_of, unit_of};
+ghost use Rattle.ns_tree.specs.PlainOf.{class_of, side_of, members_of, member_of, what_of, unit_of};
 ghost use Rattle.ns_print.specs.Printed.{lines};
 
 use crate::expressions::{put_message, put_slots, put_statements};

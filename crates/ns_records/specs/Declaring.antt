@@ -1,8 +1,7 @@
 -- Classes and their records, from where they stand.
-use Rattle.std.specs.Prelude.{ℕ, ◌+◌, List, ◌++◌, length, Option}
+use Rattle.std.specs.Prelude.{ℕ, ◌+◌, List, length, Option}
 use Rattle.ns_tree.specs.declared.tree.Access.TheVariants as a
 use Rattle.ns_tree.specs.Plain as p
-use Rattle.ns_scope.specs.declared.scope.Scope.{Scope}
 use Rattle.ns_scope.specs.declared.scope.CodeSide.TheVariants as side
 use Rattle.ns_scope.specs.Scopes.{factory_params}
 use Rattle.ns_scope.specs.Bodies as b

@@ -1,11 +1,11 @@
 //! How many blocks stand in methods and initialisers, wherever they stand.
 
-ghost use Rattle.std.specs.Prelude.{◌≡◌, ◌+◌, ◌++◌, length, List, OnOk, option_map};
-ghost use Rattle.ns_tree.specs.PlainOf.{bars_of, statements_of, clause_of, message_of, method_of};
+ghost use Rattle.std.specs.Prelude.{◌≡◌, ◌+◌, length, List, OnOk, option_map};
+ghost use Rattle.ns_tree.specs.PlainOf.{bars_of, statements_of, clause_of, method_of};
 ghost use Rattle.ns_scope.specs.declared.scope.Scope.{Scope};
 ghost use Rattle.ns_scope.specs.declared.scope.ClassScope.{ClassScope};
 ghost use Rattle.ns_scope.specs.declared.scope.CodeSide.{CodeSide};
-ghost use Rattle.ns_scope.specs.Bodies.{super_blocks, start_blocks, routine_blocks, bars_blocks, statements_blocks, method_bodies};
+ghost use Rattle.ns_scope.specs.Bodies.{super_blocks, start_blocks, routine_blocks, bars_blocks, method_bodies};
 
 use ns_base::no_memory::NoMemory;
 use ns_tree::tree::{Method, Slot, Statements, SuperClause};

@@ -3,11 +3,9 @@
 ghost use Rattle.std.specs.Prelude.{◌≡◌, Option};
 ghost use Rattle.ns_base.specs.declared.place.Place.{Place as SourcePlace};
 ghost use Rattle.ns_code.specs.declared.instruction.Instr.TheVariants as instr;
-ghost use Rattle.ns_world.specs.Lawful.{IsLiveValue};
 ghost use Rattle.ns_frames.specs.declared.frame.Leaving.TheVariants as leaving;
 ghost use Rattle.ns_frames.specs.Standing.{below};
 ghost use Rattle.ns_frames.specs.Stack.{stood};
-ghost use Rattle.ns_engine.specs.declared.state.Next.TheVariants as next;
 ghost use Rattle.ns_engine.specs.Doing.{CanDo, Does};
 ghost use Rattle.ns_engine.specs.Framed.{HasRoomOnTop};
 ghost use Rattle.ns_engine.specs.Own.{AreOwn};

@@ -1,7 +1,7 @@
 //! Values that come to what stands on top after frames were taken off: to the operands of a body, to a method of the kernel
 //! whose block has answered, or to what comes after the last frame.
 
-ghost use Rattle.std.specs.Prelude.{◌≡◌, [], ◌∷◌};
+ghost use Rattle.std.specs.Prelude.{◌≡◌, []};
 ghost use Rattle.ns_world.specs.Lawful.{IsLiveValue};
 ghost use Rattle.ns_engine.specs.declared.state.Phase.TheVariants as phase;
 ghost use Rattle.ns_engine.specs.Doing.{IsSettled};

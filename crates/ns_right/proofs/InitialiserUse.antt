@@ -33,7 +33,7 @@ use Rattle.ns_right.proofs.Reach.{reaches}
 use Rattle.ns_right.proofs.Routines.{Uses}
 use Rattle.ns_meant.specs.laws.Sits.{Sits, sits_left, sits_right, sits_first, sits_behind}
 use Rattle.ns_right.proofs.Sits.{all_both}
-use Rattle.ns_right.proofs.Statements.{bars_count, slots_count, statements_expressions}
+use Rattle.ns_right.proofs.Statements.{bars_count, statements_expressions}
 use Rattle.ns_right.proofs.Statements as statements
 use Rattle.ns_right.proofs.Tables.{has_locals}
 use Rattle.ns_right.proofs.Tokens.{Lawful, lawful_left, lawful_right, lawful_texts}

@@ -1,7 +1,6 @@
 //! What the walk over a file keeps.
 
 ghost use Rattle.std.specs.Prelude.{◌≡◌, ◌∷◌, []};
-ghost use Rattle.ns_rules.specs.Least.{placed};
 ghost use Rattle.ns_rules.specs.Rules.{found_if, found_at};
 ghost use Rattle.ns_rules.specs.Walk.{with_found};
 ghost use Rattle.ns_rules.specs.declared.fault.StaticCause.TheVariants as c;

@@ -2,12 +2,11 @@
 //! name lists.
 
 ghost use Rattle.std.specs.Prelude.{◌≡◌, ◌++◌, flat_map, OnOk};
-ghost use Rattle.ns_tree.specs.Plain as p;
 ghost use Rattle.ns_tree.specs.PlainOf.{expr_of, cascade_of, message_of, key_expr_of, keys_of, bin_of, opers_of, un_of, primary_of};
-ghost use Rattle.ns_tree.specs.PlainOf.{exprs_of, block_of, slots_of, slot_of, init_of, bars_of, statements_of, statement_list_of, statement_of};
+ghost use Rattle.ns_tree.specs.PlainOf.{exprs_of, block_of, slots_of, init_of, bars_of, statements_of, statement_list_of, statement_of};
 ghost use Rattle.ns_rules.specs.Rules.{set_found, bare_found, outer_found, number_found};
 ghost use Rattle.ns_rules.specs.Faults.{expr_faults, cascade_faults, message_faults, key_expr_faults, keys_faults, bin_faults, opers_faults, un_faults, primary_faults};
-ghost use Rattle.ns_rules.specs.Faults.{keywords_found, elements_found, items_faults, block_faults, inside_faults, bars_faults, slots_faults, slot_faults, init_faults, statements_faults, list_faults, statement_faults};
+ghost use Rattle.ns_rules.specs.Faults.{keywords_found, elements_found, items_faults, block_faults, inside_faults, bars_faults, slots_faults, init_faults, statements_faults, list_faults, statement_faults};
 ghost use Rattle.ns_rules.specs.Walk.{with_found};
 
 use crate::bodies::enter_block;

@@ -1,6 +1,6 @@
 //! The rules on the parts of expressions.
 
-ghost use Rattle.std.specs.Prelude.{◌≡◌, not, slice_get, codes};
+ghost use Rattle.std.specs.Prelude.{◌≡◌, slice_get};
 ghost use Rattle.std.specs.List.{list_any};
 ghost use Rattle.std.specs.Str.{bytes_eq};
 ghost use Rattle.ns_tree.specs.PlainOf.{expr_of, key_expr_of, keys_of, bin_of, opers_of, un_of, primary_of, cascade_of, exprs_of};
@@ -9,7 +9,6 @@ ghost use Rattle.ns_rules.specs.Rules.{set_found, return_found, bare_found, oute
 ghost use Rattle.ns_rules.specs.Rules.{setting_is_fixed, is_fixed, is_bare, unary_sends, is_written, un_sends, opers_send, bin_sends, written_bin, sends_to_written, has_names, has_opers, has_keys};
 ghost use Rattle.ns_rules.specs.Faults.{receiver_if, key_places, expr_starts, keywords_found, elements_found, expr_start, key_expr_start, bin_start};
 ghost use Rattle.ns_rules.specs.Walk.{with_found};
-ghost use Rattle.ns_rules.specs.declared.fault.Role.TheVariants as r;
 
 use crate::checker::{Checker, found, found_if, found_past};
 use crate::fault::{Many, Role, StaticCause};

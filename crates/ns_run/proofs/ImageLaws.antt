@@ -7,14 +7,13 @@ use Rattle.std.proofs.lemmas.Bool.{cases_lt, lt-ltb}
 use Rattle.std.proofs.lemmas.List.{append_cancel_left, length-take-le, take_all}
 use Rattle.ns_base.specs.declared.limits.Limits.{Limits}
 use Rattle.ns_code.specs.declared.program.CodeProgram.{CodeProgram}
-use Rattle.ns_exec.specs.Exec.{Executed, executed, has_run, of_code, of_read, refused_code, refused_image}
-use Rattle.ns_exec.specs.Listing.{Listed, listed, lines, unlisted}
+use Rattle.ns_exec.specs.Exec.{executed, of_code, of_read}
+use Rattle.ns_exec.specs.Listing.{listed}
 use Rattle.ns_exec.specs.Listing as listing
 use Rattle.ns_image.specs.Reading.{read_image}
 use Rattle.ns_image.specs.declared.fault.ImageFault.{ImageFault}
 use Rattle.ns_image.specs.declared.fault.ImageFault.TheVariants as fault
 use Rattle.ns_launch.specs.Machine.{begins_with, end_of, machine_run, rested}
-use Rattle.ns_model.specs.Whole.{status_of}
 use Rattle.ns_moves.specs.State.{ending_of}
 use Rattle.ns_run.proofs.ReportLaws.{ending_plain, stop_keeps}
 use Rattle.ns_run.specs.Image.{ImageWork, Executes, Lists, image_cause, of_executed, of_image_bytes, of_image_file, of_image, of_listed, of_short, place_text, unsound, verify_name}

@@ -1,5 +1,5 @@
 -- The run of a sample, which is the one file of its shelf.
-use Rattle.std.proofs.Common.{◌≡◌, ℕ, List, [], ◌∷◌, false, Option, Some, Result, IfOk, codes, map, subst}
+use Rattle.std.proofs.Common.{◌≡◌, ℕ, List, [], ◌∷◌, false, Option, Some, Result, IfOk, codes, subst}
 use Rattle.ns_base.specs.Files.{Files}
 use Rattle.ns_lib.specs.Sample.{sample}
 use Rattle.ns_run.specs.Meaning.{of_files, of_sample, of_texts}

@@ -1,19 +1,16 @@
 -- The report of a session.
-use Rattle.std.proofs.Common.{◌≡◌, ◌≤◌, ℕ, List, Result, Ok, Err, IfOk, IfErr, refl, ap, sym, subst, ◌∙◌, arith, codes, map}
-use Rattle.ns_base.specs.declared.limits.Limits.{Limits}
+use Rattle.std.proofs.Common.{◌≡◌, ℕ, List, Result, Ok, Err, IfOk, ap, sym, subst, ◌∙◌, codes, map}
 use Rattle.ns_base.specs.declared.status.Status.{Status}
 use Rattle.ns_base.specs.declared.status.Status.TheVariants.{Done, ProgramError, Refused, Limit, ReadFault, WriteFault, Memory}
 use Rattle.ns_joint.specs.Answer.{IsMissingFile, IsRefusal, RefusesAs, Tells, OfSomeName}
-use Rattle.ns_joint.specs.Joint.{Joint, stopped_for, has_run}
-use Rattle.ns_joint.specs.Making.{Refusal}
+use Rattle.ns_joint.specs.Joint.{Joint, stopped_for}
 use Rattle.ns_joint.specs.declared.fault.JointFault.{JointFault}
 use Rattle.ns_joint.specs.declared.fault.JointFault.TheVariants as fault
 use Rattle.ns_joint.specs.declared.joint.Told.{Told}
 use Rattle.ns_launch.specs.Running.{IsRunStatus}
-use Rattle.ns_load.specs.declared.fault.LoadCause.TheVariants.{Missing}
 use Rattle.ns_run.proofs.FaultLaws.{cause_ends, cause_says}
-use Rattle.ns_run.proofs.ReportLaws.{IsPlain, check_plain, file_plain, size_ends, some_of}
-use Rattle.ns_run.specs.Meaning.{name_of, of_check, of_joint, of_refusal}
+use Rattle.ns_run.proofs.ReportLaws.{check_plain, file_plain, size_ends, some_of}
+use Rattle.ns_run.specs.Meaning.{name_of, of_joint, of_refusal}
 use Rattle.ns_run.specs.Outcome.{IsEnding, IsMissing}
 use Rattle.ns_run.specs.Report.{size_name, told_jointly}
 use Rattle.ns_run.specs.declared.report.Report.{Report}

@@ -1,6 +1,6 @@
 //! What a command does with its files.
 
-ghost use Rattle.std.specs.Prelude.{◌≡◌, ◌≤◌, map, ℕ, List, Some, All, IfOk, IsErrOf, IsUtf8, length, string_bytes};
+ghost use Rattle.std.specs.Prelude.{◌≡◌, ◌≤◌, map, ℕ, List, Some, All, IfOk, IsErrOf, length, string_bytes};
 ghost use Rattle.ns_base.specs.Count.{Rose};
 ghost use Rattle.ns_base.specs.Shelf.{OnlyRead};
 ghost use Rattle.ns_load.specs.declared.fault.LoadCause.TheVariants.{ReadFault};

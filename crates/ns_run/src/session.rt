@@ -1,12 +1,11 @@
 //! The session of several applications, and its report.
 
-ghost use Rattle.std.specs.Prelude.{◌≡◌, ◌≤◌, map, ℕ, IfOk, IsErrOf, length, string_bytes};
+ghost use Rattle.std.specs.Prelude.{◌≡◌, ◌≤◌, map, IfOk, IsErrOf, length, string_bytes};
 ghost use Rattle.ns_base.specs.Count.{Rose};
 ghost use Rattle.ns_base.specs.Limits.{InRange};
 ghost use Rattle.ns_base.specs.Shelf.{OnlyRead};
-ghost use Rattle.ns_joint.specs.Answer.{HasRefusedFile, IsMissingFile, RefusesAs};
+ghost use Rattle.ns_joint.specs.Answer.{HasRefusedFile, RefusesAs};
 ghost use Rattle.ns_joint.specs.Making.{files_named};
-ghost use Rattle.ns_launch.specs.Running.{IsRunStatus};
 ghost use Rattle.ns_run.specs.Meaning as spec;
 ghost use Rattle.ns_run.specs.Outcome.{IsEnding};
 ghost use Rattle.ns_run.specs.Report.{told_jointly as told_jointly_lem};

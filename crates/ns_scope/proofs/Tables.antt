@@ -1,5 +1,5 @@
 -- Texts and what they stand for, as one list.
-use Rattle.std.proofs.Common.{◌≡◌, ◌≢◌, ℕ, suc, List, [], ◌∷◌, ◌++◌, ◌+◌, ◌<◌, length, Bool, true, false, not, slice_get, refl, sym, ap, ◌∙◌, arith}
+use Rattle.std.proofs.Common.{◌≡◌, ℕ, suc, List, [], ◌∷◌, ◌++◌, ◌+◌, ◌<◌, length, Bool, true, false, not, slice_get, refl, sym, ap, ◌∙◌, arith}
 use Rattle.std.specs.Prelude.{Option, None, Some, cond, nat_lt}
 use Rattle.std.specs.List.{zip, list_any, position, position_or_len}
 use Rattle.std.specs.Map.{lookup}

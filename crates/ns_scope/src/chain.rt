@@ -70,7 +70,7 @@ pub struct Link<T> {
 }
 
 impl<T> Model for Link<T> {
-    ghost use Rattle.std.specs.Prelude.{◌≡◌, ◌<◌, ◌^◌, List, ℕ, length};
+    ghost use Rattle.std.specs.Prelude.{◌≡◌, ◌<◌, ◌^◌, List, length};
     ghost use Rattle.ns_scope.specs.Chains.{items};
 
     ghost Value = { List T };

@@ -1,7 +1,7 @@
 //! What a name means in a body.
 
-ghost use Rattle.std.specs.Prelude.{◌≡◌, ◌<◌, length, map, IfSome, option_map};
-ghost use Rattle.ns_scope.specs.Resolve.{innermost, own_members, levels, is_private, member_or_self, local_or, resolve};
+ghost use Rattle.std.specs.Prelude.{◌≡◌, ◌<◌, length, map, IfSome};
+ghost use Rattle.ns_scope.specs.Resolve.{innermost};
 
 use crate::chain::Link;
 use crate::names::Local;

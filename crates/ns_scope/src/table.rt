@@ -1,6 +1,6 @@
 //! Tables of texts.
 
-ghost use Rattle.std.specs.Prelude.{◌≡◌, [], IfOk, OnOk, option_copied, not};
+ghost use Rattle.std.specs.Prelude.{◌≡◌, [], IfOk, OnOk, not};
 ghost use Rattle.ns_scope.specs.Table.{has, put_first, look_up};
 
 use ns_base::no_memory::NoMemory;

@@ -1,5 +1,5 @@
 -- What the laws say of sends: what they change, that they keep worlds lawful, and where they go on.
-use Rattle.std.specs.Prelude.{◌<◌, ◌≤◌, ℕ, [], List, length, All, Option, IsTrue}
+use Rattle.std.specs.Prelude.{◌<◌, ◌≤◌, ℕ, List, length, All, Option, IsTrue}
 use Rattle.std.specs.Option.{ForSome}
 use Rattle.ns_base.specs.declared.place.Place.{Place}
 use Rattle.ns_base.specs.declared.selector.Sel.{Sel}

@@ -1,12 +1,11 @@
 //! What holds of every action. Each function does nothing, and its contract is the law.
 
-ghost use Rattle.std.specs.Prelude.{◌≡◌, ℕ, IsSome, [], List, length, IsTrue};
+ghost use Rattle.std.specs.Prelude.{◌≡◌, ℕ, [], List, length, IsTrue};
 ghost use Rattle.ns_base.specs.declared.selector.Sel.{Sel};
 ghost use Rattle.ns_code.specs.declared.program.CodeProgram.{CodeProgram};
 ghost use Rattle.ns_code.specs.declared.own.Own.{Own};
 ghost use Rattle.ns_code.specs.Own.{own_text};
 ghost use Rattle.ns_code.specs.Selector.{is_selector_number, selector_arity, text_arity, own_number};
-ghost use Rattle.ns_code.specs.Soundness.{initialiser_kind};
 ghost use Rattle.ns_world.specs.declared.kernel.KernelRow.{KernelRow};
 ghost use Rattle.ns_world.specs.declared.value.Value.{Value};
 ghost use Rattle.ns_world.specs.Cell.{Cell};
@@ -24,14 +23,14 @@ ghost use Rattle.ns_kcode.specs.declared.state.KState.{KState};
 ghost use Rattle.ns_send.specs.declared.site.Site.{Site};
 ghost use Rattle.ns_send.specs.Control.{Progress, Activation, Exit};
 ghost use Rattle.ns_send.specs.Classes.{super_part, body_ended, slot_filled};
-ghost use Rattle.ns_send.specs.Bodies.{local_stored, local_at, enclosing};
-ghost use Rattle.ns_send.specs.Blocks.{block_body_in, new_cell, new_text, evaluated, method_next, is_block};
-ghost use Rattle.ns_send.specs.Sends.{Target, sent, sent_from, performed};
-ghost use Rattle.ns_send.specs.Lawful.{LawfulRun, LawfulAfter, LiveState, LiveActivation, FitsActivation, FitsTarget, FitsSelector, FitsExit, FitsSlot, FitsLocal, declaration_at, body_out, IsBlockIn};
+ghost use Rattle.ns_send.specs.Bodies.{local_stored, enclosing};
+ghost use Rattle.ns_send.specs.Blocks.{new_cell, new_text, evaluated, method_next, is_block};
+ghost use Rattle.ns_send.specs.Sends.{Target, sent, performed};
+ghost use Rattle.ns_send.specs.Lawful.{LawfulRun, LawfulAfter, LiveState, LiveActivation, FitsActivation, FitsTarget, FitsSelector, FitsExit, FitsSlot, FitsLocal};
 ghost use Rattle.ns_send.specs.Actions.{Action, progress_after};
 ghost use Rattle.ns_send.specs.Adding.{AddsOnly};
 ghost use Rattle.ns_send.specs.Ending.{HasSite, EndsFitly};
-ghost use Rattle.ns_send.specs.Spending.{Spends, ControlSpends};
+ghost use Rattle.ns_send.specs.Spending.{Spends};
 ghost use Rattle.ns_send.specs.Fitting.{FitsMethod, Asks, HandsOn};
 ghost use Rattle.ns_send.specs.Suiting.{FoundSuits};
 ghost use Rattle.ns_send.specs.Tabled.{RowsAreTabled, RowsAnswer};

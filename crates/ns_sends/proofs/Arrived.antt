@@ -7,7 +7,6 @@ use Rattle.ns_world.specs.declared.kernel.ClassName.{ClassName}
 use Rattle.ns_world.specs.Starts.{class_name_of}
 use Rattle.ns_send.specs.declared.control.Reached.TheVariants as reached
 use Rattle.ns_moves.specs.State.{Pends, Performing}
-use Rattle.ns_frames.specs.declared.frame.KeptSite.{KeptSite}
 use Rattle.ns_frames.specs.declared.frame.Pending.TheVariants as pending
 use Rattle.ns_frames.specs.declared.registers.Registers.{Registers}
 use Rattle.ns_frames.specs.Stack.{stood, with_top}
@@ -16,7 +15,6 @@ use Rattle.ns_engine.specs.declared.state.Core.{Core}
 use Rattle.ns_engine.specs.declared.state.Next.{Next}
 use Rattle.ns_engine.specs.declared.state.Next.TheVariants as next
 use Rattle.ns_engine.specs.Shown.{phase_shown, progress_in}
-use Rattle.ns_engine.specs.Standing.{ArgumentsWait}
 use Rattle.ns_engine.specs.Arriving.{CanBegin, Arrives}
 use Rattle.ns_engine.specs.Doing.{IsSettled}
 use Rattle.ns_engine.specs.laws.Pushed.{waiting_stays}

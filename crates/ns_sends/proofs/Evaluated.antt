@@ -25,7 +25,6 @@ use Rattle.ns_send.specs.Control.{Progress, in_world, Activation, Control, Now, 
 use Rattle.ns_send.specs.Bodies.{parameters_of, has_environment, first_locals, opened, height_in, greatest_of}
 use Rattle.ns_send.specs.Shown.{reached_shown}
 use Rattle.ns_send.specs.Blocks.{is_block_shape, is_block, evaluated, block_entered}
-use Rattle.ns_frames.specs.declared.frame.Frame.{Frame}
 use Rattle.ns_find.specs.declared.memo.Kept.{Kept}
 use Rattle.ns_find.specs.Memo.{IsRight}
 use Rattle.ns_send.specs.Actions.{Action, Evaluates}

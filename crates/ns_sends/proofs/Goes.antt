@@ -1,5 +1,5 @@
 -- Sends can go on where they lead.
-use Rattle.std.proofs.Common.{◌≡◌, ◌+◌, ◌<◌, ◌≤◌, ℕ, List, [], length, ap, sym, ◌∙◌, refl, subst, arith, Option, Some, None}
+use Rattle.std.proofs.Common.{◌≡◌, ◌≤◌, ℕ, List, length, arith, Option}
 use Rattle.ns_base.specs.declared.place.Place.{Place as SourcePlace}
 use Rattle.ns_base.specs.declared.selector.Sel.{Sel}
 use Rattle.ns_code.specs.declared.program.CodeProgram.{CodeProgram}

@@ -1,5 +1,5 @@
 -- What a send came to, and where that leads.
-use Rattle.std.proofs.Common.{◌≡◌, ◌≤◌, ℕ, List, length, ap, sym, ◌∙◌, refl, subst}
+use Rattle.std.proofs.Common.{◌≡◌, ℕ, List, length, ap, sym, ◌∙◌, subst}
 use Rattle.ns_code.specs.declared.program.CodeProgram.{CodeProgram}
 use Rattle.ns_world.specs.declared.value.Value.{Value}
 use Rattle.ns_world.specs.Heap.{Heap}
@@ -10,7 +10,6 @@ use Rattle.ns_send.specs.declared.control.Reached.{Reached}
 use Rattle.ns_send.specs.declared.control.Reached.TheVariants as reached
 use Rattle.ns_send.specs.Control.{Control}
 use Rattle.ns_send.specs.Rows.{row_at}
-use Rattle.ns_send.specs.Suiting.{RowSuits}
 use Rattle.ns_send.specs.Kernel.{row_reached}
 use Rattle.ns_moves.specs.Arrivals.{arrived}
 use Rattle.ns_act.specs.declared.sends.Answered.TheVariants as answers

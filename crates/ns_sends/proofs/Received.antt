@@ -1,14 +1,13 @@
 -- Sends to a receiver on the operands.
-use Rattle.std.proofs.Common.{◌≡◌, ◌+◌, ◌-◌, ◌≤◌, ℕ, List, [], ◌∷◌, ◌++◌, length, drop, reverse, ap, sym, ◌∙◌, refl, subst, arith, true, All, Option, slice_get}
+use Rattle.std.proofs.Common.{◌≡◌, ◌+◌, ◌-◌, ◌≤◌, ℕ, List, [], ◌∷◌, length, ap, sym, ◌∙◌, refl, subst, arith, Option, slice_get}
 use Rattle.ns_base.specs.declared.place.Place.{Place as SourcePlace}
 use Rattle.ns_base.specs.declared.selector.Sel.{Sel}
 use Rattle.ns_code.specs.declared.program.CodeProgram.{CodeProgram}
 use Rattle.ns_code.specs.declared.instruction.Instr.{Instr}
 use Rattle.ns_code.specs.declared.instruction.Instr.TheVariants as instr
-use Rattle.ns_code.specs.Table.{takes, leaves, goes_on}
 use Rattle.ns_world.specs.declared.value.Value.{Value}
 use Rattle.ns_world.specs.declared.kernel.ClassName.{ClassName}
-use Rattle.ns_world.specs.Lawful.{IsLawful, IsLiveValue}
+use Rattle.ns_world.specs.Lawful.{IsLiveValue}
 use Rattle.ns_world.specs.Starts.{class_name_of}
 use Rattle.ns_find.specs.declared.found.Sending.{Sending}
 use Rattle.ns_find.specs.declared.found.Sending.TheVariants.{Plain, Inner}
@@ -22,7 +21,7 @@ use Rattle.ns_frames.specs.Stated.{AreTaken}
 use Rattle.ns_frames.specs.declared.frame.RunningFrame.{RunningFrame}
 use Rattle.ns_frames.specs.declared.registers.Registers.{Registers}
 use Rattle.ns_frames.specs.Standing.{Stood, Runs, Loops, pushed, pushed_all, operands_in}
-use Rattle.ns_frames.specs.Stack.{in_use, stood, with_top, IsLaid}
+use Rattle.ns_frames.specs.Stack.{stood, with_top, IsLaid}
 use Rattle.ns_frames.specs.View.{activation_shown, frames_shown}
 use Rattle.ns_frames.specs.laws.Taking.{taken_stood, taken_length}
 use Rattle.ns_engine.specs.declared.state.Core.{Core}
@@ -32,7 +31,6 @@ use Rattle.ns_engine.specs.Doing.{done, Finds, CanDo, Does}
 use Rattle.ns_engine.specs.laws.Pushed.{runs, one_more}
 use Rattle.ns_engine.specs.laws.Taken.{some_operand}
 use Rattle.ns_sends.specs.declared.sent.Sent.{Sent}
-use Rattle.ns_sends.specs.Going.{arguments_in}
 use Rattle.ns_sends.specs.Sending.{CanSend, sent_at, Sends}
 use Rattle.ns_sends.specs.Operands.{topmost, SendsOperands, SendsToTop}
 use Rattle.ns_sends.proofs.Stepped.{no_one}

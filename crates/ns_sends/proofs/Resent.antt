@@ -1,5 +1,5 @@
 -- Sends that waited.
-use Rattle.std.proofs.Common.{◌≡◌, ◌+◌, ◌≤◌, ℕ, List, length, ap, sym, ◌∙◌, refl, subst, arith, Option, Some, None, All}
+use Rattle.std.proofs.Common.{◌≡◌, ◌+◌, ℕ, List, length, ap, sym, ◌∙◌, refl, subst, arith, Option, Some, None, All}
 use Rattle.ns_code.specs.declared.program.CodeProgram.{CodeProgram}
 use Rattle.ns_code.specs.Soundness.{initialiser_kind}
 use Rattle.ns_world.specs.declared.value.Value.{Value}
@@ -23,7 +23,7 @@ use Rattle.ns_send.specs.Bodies.{no_home}
 use Rattle.ns_send.specs.Kernel.{row_reached}
 use Rattle.ns_send.specs.Lawful.{FitsSelector}
 use Rattle.ns_send.specs.Rows.{row_at}
-use Rattle.ns_send.specs.Sends.{answered_by, sent_from}
+use Rattle.ns_send.specs.Sends.{answered_by}
 use Rattle.ns_send.specs.Stated.{WaitedIsLawful, WaitedFits, WaitedStays, WaitedSpends}
 use Rattle.ns_send.specs.Suiting.{FoundSuits}
 use Rattle.ns_moves.specs.Arrivals.{arrived}
@@ -38,7 +38,6 @@ use Rattle.ns_frames.specs.declared.registers.Registers.{Registers}
 use Rattle.ns_frames.specs.Stack.{stood, with_top}
 use Rattle.ns_frames.specs.View.{site_shown, frames_shown}
 use Rattle.ns_engine.specs.declared.state.Core.{Core}
-use Rattle.ns_engine.specs.declared.state.Next.{Next}
 use Rattle.ns_engine.specs.declared.state.Next.TheVariants as next
 use Rattle.ns_engine.specs.Shown.{phase_shown, progress_in}
 use Rattle.ns_engine.specs.laws.Pushed.{stack_stays, ended_stays}

@@ -1,5 +1,5 @@
 -- Sends to super and to private members, whose arguments alone are operands.
-use Rattle.std.proofs.Common.{◌≡◌, ◌+◌, ◌-◌, ◌≤◌, ℕ, List, [], ◌∷◌, ◌++◌, length, reverse, ap, sym, ◌∙◌, refl, subst, arith, Option, Some, slice_get}
+use Rattle.std.proofs.Common.{◌≡◌, ◌-◌, ◌≤◌, ℕ, List, [], ◌∷◌, length, ap, sym, ◌∙◌, refl, subst, arith, Option, Some, slice_get}
 use Rattle.std.specs.Prelude.{IsSome}
 use Rattle.ns_base.specs.declared.place.Place.{Place as SourcePlace}
 use Rattle.ns_base.specs.declared.selector.Sel.{Sel}
@@ -30,7 +30,7 @@ use Rattle.ns_frames.specs.View.{activation_shown, frames_shown}
 use Rattle.ns_frames.specs.laws.Taking.{taken_stood, taken_length}
 use Rattle.ns_engine.specs.declared.state.Core.{Core}
 use Rattle.ns_engine.specs.declared.state.Next.{Next}
-use Rattle.ns_engine.specs.Shown.{phase_shown, progress_in, shown}
+use Rattle.ns_engine.specs.Shown.{phase_shown, progress_in}
 use Rattle.ns_engine.specs.Doing.{done, Finds, CanDo, running_of, Does}
 use Rattle.ns_engine.specs.laws.Pushed.{runs, one_more, top_stands}
 use Rattle.ns_engine.specs.laws.Taken.{some_operand}

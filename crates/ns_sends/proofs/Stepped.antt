@@ -1,5 +1,5 @@
 -- Sends from their step on.
-use Rattle.std.proofs.Common.{◌≡◌, ◌+◌, ◌≤◌, ℕ, List, length, ap, sym, ◌∙◌, subst, arith, Option, Some, None, Bool, true, false, cond, All}
+use Rattle.std.proofs.Common.{◌≡◌, ◌+◌, List, length, ap, sym, ◌∙◌, subst, arith, Option, Some, None, Bool, true, false, cond, All}
 use Rattle.std.specs.Prelude.{nat_lt}
 use Rattle.ns_base.specs.declared.place.Place.{Place as SourcePlace}
 use Rattle.ns_base.specs.declared.selector.Sel.{Sel}
@@ -14,11 +14,10 @@ use Rattle.ns_world.specs.Lawful.{IsLawful}
 use Rattle.ns_world.specs.Starts.{class_name_of}
 use Rattle.ns_world.specs.World.{World, WorldView, SameRoom, stepped}
 use Rattle.ns_find.specs.declared.found.Found.{Found}
-use Rattle.ns_find.specs.declared.found.Found.TheVariants as found
 use Rattle.ns_find.specs.declared.memo.Kept.{Kept}
 use Rattle.ns_find.specs.Memo.{IsRight}
 use Rattle.ns_send.specs.declared.site.Site.{Site}
-use Rattle.ns_send.specs.Control.{Progress, in_world, Activation, Control, Now, Halts, halts, charged}
+use Rattle.ns_send.specs.Control.{Progress, Activation, Control, halts, charged}
 use Rattle.ns_send.specs.Lawful.{FitsTarget}
 use Rattle.ns_send.specs.Sends.{Target, receiver_of, site_at, sent}
 use Rattle.ns_send.specs.Suiting.{FoundSuits}
@@ -42,7 +41,7 @@ use Rattle.ns_engine.specs.Standing.{HasRooms}
 use Rattle.ns_engine.specs.laws.Pushed.{ended_stays}
 use Rattle.ns_engine.specs.laws.Worlds.{in_other}
 use Rattle.ns_sends.specs.declared.sent.Sent.{Sent}
-use Rattle.ns_sends.specs.Going.{arguments_in, GoesOn, IsLeft, answered_at, CanAsk, CanAnswer, Leads}
+use Rattle.ns_sends.specs.Going.{arguments_in, GoesOn, IsLeft, answered_at, CanAnswer, Leads}
 use Rattle.ns_sends.specs.Sending.{CanSend, looked_up, sent_at, Sends}
 use Rattle.ns_sends.proofs.Goes.{SendsKnown, send_goes}
 

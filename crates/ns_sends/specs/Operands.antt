@@ -1,12 +1,12 @@
 -- Sends whose arguments are operands of the body that runs.
-use Rattle.std.specs.Prelude.{◌≡◌, ◌+◌, ◌-◌, ℕ, List, length, drop, slice_get, true}
+use Rattle.std.specs.Prelude.{◌≡◌, ◌-◌, ℕ, List, length, drop, slice_get, true}
 use Rattle.ns_base.specs.declared.selector.Sel.{Sel}
 use Rattle.ns_code.specs.declared.program.CodeProgram.{CodeProgram}
 use Rattle.ns_code.specs.declared.instruction.Instr.{Instr}
 use Rattle.ns_code.specs.Table.{takes, leaves, goes_on}
 use Rattle.ns_world.specs.declared.value.Value.{Value}
 use Rattle.ns_find.specs.declared.found.Sending.{Sending}
-use Rattle.ns_send.specs.Control.{Activation, Control}
+use Rattle.ns_send.specs.Control.{Activation}
 use Rattle.ns_send.specs.Sends.{To, sent}
 use Rattle.ns_moves.specs.Arrivals.{arrived}
 use Rattle.ns_moves.specs.WorldAsks.{TakesArguments}

@@ -7,10 +7,8 @@ use Rattle.ns_world.specs.Starts.{start_of}
 use Rattle.ns_find.specs.declared.found.Found.TheVariants.{Kernel}
 use Rattle.ns_find.specs.declared.found.Sending.{Sending}
 use Rattle.ns_find.specs.Find.{found_from}
-use Rattle.ns_kdata.specs.declared.row.DataRow.TheVariants.{ArrayPut}
 use Rattle.ns_kdata.specs.Arguments.{argument, items_of, place_in}
 use Rattle.ns_send.specs.declared.row.Row.{Row}
-use Rattle.ns_send.specs.declared.row.Row.TheVariants.{Data}
 use Rattle.ns_send.specs.declared.site.Site.{Site}
 use Rattle.ns_send.specs.Control.{Progress, gives}
 use Rattle.ns_send.specs.Kernel.{row_reached}

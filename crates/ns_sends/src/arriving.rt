@@ -1,6 +1,6 @@
 //! Where what an action has reached leads to.
 
-ghost use Rattle.std.specs.Prelude.{◌≡◌, ◌<◌, length};
+ghost use Rattle.std.specs.Prelude.{◌<◌, length};
 ghost use Rattle.ns_world.specs.Lawful.{IsLawful, IsLiveValue};
 ghost use Rattle.ns_send.specs.declared.control.Reached.TheVariants as reached;
 ghost use Rattle.ns_engine.specs.Arriving.{Arrives};

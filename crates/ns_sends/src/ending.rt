@@ -1,6 +1,5 @@
 //! What ends a run at a site.
 
-ghost use Rattle.std.specs.Prelude.{◌≡◌};
 ghost use Rattle.ns_send.specs.declared.control.Reached.TheVariants as reached;
 ghost use Rattle.ns_engine.specs.Arriving.{Arrives};
 ghost use Rattle.ns_sends.specs.Going.{control_at};

@@ -1,6 +1,6 @@
 //! Sends that find a row of the kernel which gives a value at once, by the quick way: registers alone come back.
 
-ghost use Rattle.std.specs.Prelude.{◌≡◌, ◌<◌, length, IfSome};
+ghost use Rattle.std.specs.Prelude.{◌<◌, length, IfSome};
 ghost use Rattle.ns_world.specs.Heap.{Heap};
 ghost use Rattle.ns_kdata.specs.declared.row.DataRow.TheVariants.{ArrayPut};
 ghost use Rattle.ns_kdata.specs.Arguments.{argument as argument_at, IsThere, items_of};

@@ -1,6 +1,6 @@
 //! Sends to a receiver that is an operand.
 
-ghost use Rattle.std.specs.Prelude.{◌≡◌, ◌+◌, slice_get};
+ghost use Rattle.std.specs.Prelude.{◌+◌, slice_get};
 ghost use Rattle.ns_code.specs.declared.instruction.Instr.TheVariants as instr;
 ghost use Rattle.ns_engine.specs.Doing.{CanDo, Does};
 ghost use Rattle.ns_engine.specs.Own.{AreOwn};

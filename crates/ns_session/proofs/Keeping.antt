@@ -1,7 +1,6 @@
 -- What holds of an application at every moment: from its start on, and after each turn.
 use Rattle.std.proofs.Common.{◌≡◌, ℕ, refl, sym, subst, Option, Bool, true, false}
 use Rattle.ns_base.specs.declared.limits.Limits.{Limits}
-use Rattle.ns_code.specs.declared.program.CodeProgram.{CodeProgram}
 use Rattle.ns_world.specs.declared.ending.Ending.{Ending}
 use Rattle.ns_facets.specs.declared.board.Board.{Board}
 use Rattle.ns_facets.specs.declared.row.Grants.{Grants}

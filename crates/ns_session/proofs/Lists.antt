@@ -1,5 +1,5 @@
 -- One item of a list.
-use Rattle.std.proofs.Common.{◌≡◌, ℕ, zero, suc, List, [], ◌∷◌, ◌++◌, length, ◌<◌, refl, ap, arith, Some, None}
+use Rattle.std.proofs.Common.{◌≡◌, ℕ, zero, suc, List, [], ◌∷◌, ◌++◌, length, ◌<◌, refl, ap, arith, Some}
 use Rattle.std.specs.Prelude.{◌≢◌, slice_get, slice_set}
 
 -- an item that is written is there

@@ -1,17 +1,17 @@
 -- Schedules, pair by pair.
-use Rattle.std.proofs.Common.{◌≡◌, ℕ, zero, suc, ◌+◌, ◌<◌, ◌==◌, List, [], ◌∷◌, ◌++◌, length, map, refl, ap, sym, ◌∙◌, subst, inl, inr, arith}
+use Rattle.std.proofs.Common.{◌≡◌, ℕ, ◌+◌, ◌<◌, ◌==◌, List, [], ◌∷◌, ◌++◌, length, map, refl, ap, sym, ◌∙◌, subst, inl, inr, arith}
 use Rattle.std.proofs.Common.{Bool, true, false, Option, Some, None, if◌then◌else◌}
-use Rattle.std.specs.Prelude.{◌≢◌, slice_get, slice_set, option_map}
+use Rattle.std.specs.Prelude.{slice_get, slice_set, option_map}
 use Rattle.std.proofs.lemmas.Bool.{eqb-true, eqb-false}
 use Rattle.std.proofs.lemmas.List.{length-set, length-append, map-append, length-map}
-use Rattle.std.proofs.lemmas.Option.{slice_get-map, slice_get_within, slice_get_past, same_Some}
+use Rattle.std.proofs.lemmas.Option.{slice_get-map, same_Some}
 use Rattle.ns_code.specs.declared.program.CodeProgram.{CodeProgram}
 use Rattle.ns_facets.specs.declared.board.Board.{Board}
 use Rattle.ns_moves.specs.State.{State}
-use Rattle.ns_moves.specs.Turn.{is_still, charges, Turns}
+use Rattle.ns_moves.specs.Turn.{Turns}
 use Rattle.ns_moves.specs.Stated.{TurnsAdd, TurnsLeaveOne}
-use Rattle.ns_session.specs.Member.{Application, MemberView, start_of, starting, taken, IsAlone, TurnOf, OwnTurn}
-use Rattle.ns_session.specs.Session.{SessionView, Pair, HasTurn, PlaysAt, Plays, added}
+use Rattle.ns_session.specs.Member.{Application, MemberView, start_of, starting, taken, IsAlone, TurnOf}
+use Rattle.ns_session.specs.Session.{SessionView, Pair, PlaysAt, Plays, added}
 use Rattle.ns_session.specs.Play.{opened, Played, steps_for, given}
 use Rattle.ns_session.specs.Laws.{AreWithin, IsPlayed, WasGiven}
 use Rattle.ns_session.proofs.Lists.{set_here, set_there, get_before, set_before}

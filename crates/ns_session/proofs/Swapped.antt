@@ -3,7 +3,6 @@ use Rattle.std.proofs.Common.{◌≡◌, refl}
 use Rattle.ns_facets.specs.declared.board.Board.{Board}
 use Rattle.ns_moves.specs.State.{State, Unbegun, Going, Pends, Ended, Stuck, swapped}
 use Rattle.ns_machine.specs.Turning.{turn_at}
-use Rattle.ns_session.specs.Member.{board_of}
 
 -- what a turn answers is the same
 pub swapped_turn : (board : Board) (state : State) → turn_at (swapped board state) ≡ turn_at state

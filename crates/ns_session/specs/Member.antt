@@ -6,7 +6,6 @@ use Rattle.ns_verify.specs.Verify.{IsSound}
 use Rattle.ns_send.specs.Report.{report_line}
 use Rattle.ns_base.specs.declared.limits.Limits.{Limits}
 use Rattle.ns_code.specs.declared.program.CodeProgram.{CodeProgram}
-use Rattle.ns_world.specs.declared.ending.Ending.{Ending}
 use Rattle.ns_facets.specs.declared.row.Grants.{Grants}
 use Rattle.ns_facets.specs.declared.board.Board.{Board}
 use Rattle.ns_moves.specs.State.{State, progress_of, world_of, ending_of, swapped}

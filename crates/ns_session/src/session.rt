@@ -1,7 +1,7 @@
 //! Several applications that take turns.
 
 ghost use Rattle.std.specs.Prelude.{◌≡◌, ◌≤◌, ◌<◌, ◌↔◌, [], length, slice_get, option_map, IfOk, OnOk, OnErr, IsErr, IsErrOf};
-ghost use Rattle.std.specs.Option.{option_copied, is_some};
+ghost use Rattle.std.specs.Option.{option_copied};
 ghost use Rattle.ns_base.specs.Limits.{InRange};
 ghost use Rattle.ns_session.specs.Member.{transcript_of};
 ghost use Rattle.ns_session.specs.Session.{added, Plays, OthersStay, BoardStays, ending_in, report_in, line_in, Answers, IsAloneAt};

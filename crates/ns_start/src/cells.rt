@@ -1,9 +1,8 @@
 //! The cells that each run of some code has: facets, and the classes of its top-level declarations.
 
-ghost use Rattle.std.specs.Prelude.{◌≡◌, ◌∷◌, ◌≤◌, ◌++◌, [], length, IsTrue, Option};
-ghost use Rattle.ns_world.specs.Cell.{FacetCell, fresh};
+ghost use Rattle.std.specs.Prelude.{◌∷◌, ◌≤◌, [], length, IsTrue, Option};
+ghost use Rattle.ns_world.specs.Cell.{fresh};
 ghost use Rattle.ns_world.specs.Heap.{has_superclass};
-ghost use Rattle.ns_world.specs.declared.cell.FacetKind.TheVariants as facet;
 ghost use Rattle.ns_send.specs.Start.{facet_if, facets_of, top_if, tops_of, standing_cells};
 ghost use Rattle.ns_act.specs.Room.{HasRoom};
 ghost use Rattle.ns_start.specs.Making.{Makes};

@@ -1,9 +1,9 @@
 //! The heads of superclass clauses, which stand in the declarations around the class.
 
-ghost use Rattle.std.specs.Prelude.{◌≡◌, ◌++◌, option_map, codes};
+ghost use Rattle.std.specs.Prelude.{◌≡◌, option_map};
 ghost use Rattle.ns_tree.specs.PlainOf.{clause_of, message_of};
-ghost use Rattle.ns_rules.specs.Faults.{head_faults, clause_faults, base_faults, over_faults, origin_faults};
-ghost use Rattle.ns_rules.specs.Rules.{top_found, is_object, is_object_name, is_here, is_new, is_new_message, clause_start, base_start, origin_start};
+ghost use Rattle.ns_rules.specs.Faults.{head_faults, clause_faults, base_faults, over_faults};
+ghost use Rattle.ns_rules.specs.Rules.{top_found, is_object, is_object_name, is_new, is_new_message, base_start};
 ghost use Rattle.ns_rules.specs.Walk.{with_found};
 
 use ns_rules::checker::{Checker, found_if};

@@ -1,6 +1,6 @@
 //! One move of the topmost frame: the next step of the body that runs, or the next action of a method of the kernel.
 
-ghost use Rattle.std.specs.Prelude.{◌≡◌, slice_get};
+ghost use Rattle.std.specs.Prelude.{slice_get};
 ghost use Rattle.ns_plan.specs.Steps.{instr_of, place_of, send_instr};
 ghost use Rattle.ns_engine.specs.declared.state.Next.TheVariants as next;
 ghost use Rattle.ns_engine.specs.Doing.{CanDo, Does, IsRunning};

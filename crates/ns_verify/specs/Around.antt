@@ -1,5 +1,5 @@
 -- What is found once: for a whole code, and for what stands around one of its bodies.
-use Rattle.std.specs.Prelude.{◌≡◌, ℕ, zero, suc, ◌<◌, List, [], ◌∷◌, Option, Some, None, slice_get}
+use Rattle.std.specs.Prelude.{◌≡◌, ℕ, zero, suc, ◌<◌, List, [], ◌∷◌, Option, slice_get}
 use Rattle.std.specs.List.{AllZip}
 use Rattle.std.specs.Option.{option_map_or, option_and_then}
 use Rattle.ns_code.specs.declared.program.CodeProgram.{CodeProgram}

@@ -1,6 +1,6 @@
 //! What can be wrong at an instruction of a body, and with a body as a whole.
 
-ghost use Rattle.std.specs.Prelude.{◌≡◌, ◌≤◌, ◌<◌, false, IsTrue, length, option_copied};
+ghost use Rattle.std.specs.Prelude.{◌≡◌, ◌≤◌, ◌<◌, false};
 ghost use Rattle.ns_verify.specs.Causes as spec;
 ghost use Rattle.ns_verify.specs.Heights as heights;
 ghost use Rattle.ns_verify.specs.Around.{AreTablesOf, IsAround};

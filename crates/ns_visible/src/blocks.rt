@@ -2,9 +2,9 @@
 
 ghost use Rattle.std.specs.Prelude.{◌≡◌, ◌++◌, ◌∷◌, [], OnOk};
 ghost use Rattle.ns_tree.specs.PlainOf.{expr_of, cascade_of, message_of, key_expr_of, keys_of, bin_of, opers_of, un_of, primary_of};
-ghost use Rattle.ns_tree.specs.PlainOf.{exprs_of, block_of, bars_of, slots_of, slot_of, init_of, statements_of, statement_list_of, statement_of};
+ghost use Rattle.ns_tree.specs.PlainOf.{exprs_of, block_of, bars_of, slots_of, slot_of, statements_of, statement_list_of};
 ghost use Rattle.ns_scope.specs.Bodies.{expr_blocks, cascade_blocks, message_blocks, key_expr_blocks, keys_blocks, bin_blocks, opers_blocks, un_blocks, primary_blocks};
-ghost use Rattle.ns_scope.specs.Bodies.{items_blocks, block_blocks, inside_blocks, bars_blocks, slots_blocks, slot_blocks, init_blocks, statements_blocks, list_blocks, statement_blocks};
+ghost use Rattle.ns_scope.specs.Bodies.{items_blocks, block_blocks, inside_blocks, bars_blocks, slots_blocks, slot_blocks, statements_blocks, list_blocks};
 
 use ns_base::no_memory::NoMemory;
 use ns_scope::scope::Scope;

@@ -1,9 +1,9 @@
 //! The bodies of declarations, each as what is seen from it, in the order of their numbers.
 
 ghost use Rattle.std.specs.Prelude.{◌≡◌, ◌++◌, ◌∷◌, map, OnOk, IfOk, option_map};
-ghost use Rattle.ns_tree.specs.PlainOf.{bars_of, statements_of, pattern_of, clause_of, method_of, class_of, class_side_of, side_of, members_of, member_of, what_of, unit_of};
+ghost use Rattle.ns_tree.specs.PlainOf.{bars_of, statements_of, clause_of, method_of, class_of, class_side_of, side_of, members_of, member_of, what_of, unit_of};
 ghost use Rattle.ns_scope.specs.Scopes.{is_outside};
-ghost use Rattle.ns_scope.specs.Bodies.{super_blocks, start_blocks, bars_blocks, statements_blocks, clause_bodies, initialiser_bodies, method_bodies, member_methods, methods_bodies, side_bodies, class_side_bodies, own_bodies};
+ghost use Rattle.ns_scope.specs.Bodies.{super_blocks, start_blocks, clause_bodies, initialiser_bodies, method_bodies, member_methods, methods_bodies, side_bodies, class_side_bodies, own_bodies};
 ghost use Rattle.ns_scope.specs.Bodies.{class_bodies, class_inside, nested_bodies, members_bodies, member_nested, what_bodies, unit_bodies, bodies_of};
 
 use crate::blocks::{put_bars, put_message, put_scope, put_statements};

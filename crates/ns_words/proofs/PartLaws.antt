@@ -1,12 +1,12 @@
 -- What the parts of a command line are read as.
-use Rattle.std.specs.Prelude.{◌≡◌, ℕ, ◌&&◌, nat_eq, nat_le, nat_lt, not, length, List, [], ◌∷◌, ◌++◌, Bool, true, false, Option, Some, None, cond, codes, take, option_and_then, refl}
+use Rattle.std.specs.Prelude.{◌≡◌, ℕ, ◌&&◌, nat_eq, nat_le, nat_lt, not, length, List, [], ◌∷◌, ◌++◌, Bool, true, false, Option, Some, None, codes, take, option_and_then, refl}
 use Rattle.std.proofs.Common.{◌≤◌, ◌<◌, ◌+◌, arith, ap, sym, subst, ◌∙◌, append_assoc}
 use Rattle.std.proofs.lemmas.Bool.Decides.{nat_tests}
 use Rattle.std.proofs.lemmas.List.{append-nil}
 use Rattle.std.specs.Option.{is_some}
 use Rattle.std.specs.Str.{bytes_eq}
 use Rattle.ns_base.specs.declared.limits.Limits.{Limits}
-use Rattle.ns_words.specs.Application.{begins, is_application}
+use Rattle.ns_words.specs.Application.{is_application}
 use Rattle.ns_words.specs.FileName.{is_file_name}
 use Rattle.ns_words.specs.Forms.{AreNames, all_given}
 use Rattle.ns_words.specs.Table.{form_of}

@@ -1,5 +1,5 @@
 -- How the words of a command line are read, one after the other, over the form of its command (this profile).
-use Rattle.std.specs.Prelude.{ℕ, ◌+◌, ◌-◌, ◌*◌, ◌&&◌, nat_le, nat_lt, not, List, [], ◌∷◌, ◌++◌, Bool, true, false, Option, Some, None, option_and_then, take, drop, length, codes, nat_eq, if◌then◌else◌}
+use Rattle.std.specs.Prelude.{ℕ, ◌+◌, ◌-◌, ◌*◌, ◌&&◌, nat_le, nat_lt, List, [], ◌∷◌, ◌++◌, Bool, true, false, Option, Some, None, option_and_then, take, drop, length, codes, nat_eq, if◌then◌else◌}
 use Rattle.std.specs.Option.{is_some, unwrap_or}
 use Rattle.std.specs.Str.{bytes_eq}
 use Rattle.ns_base.specs.Spelling.{is_digit}

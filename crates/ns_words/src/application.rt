@@ -1,7 +1,6 @@
 //! Words that ask for an application: letters of what it is granted, `=`, and the names of its files.
 
 ghost use Rattle.std.specs.Prelude.{◌≡◌, ◌≤◌, ◌<◌, IfSome, IfOk, length, map, string_bytes};
-ghost use Rattle.std.specs.Bool.{OnTrue};
 ghost use Rattle.std.specs.Option.{is_some};
 ghost use Rattle.ns_words.specs.Application as spec;
 ghost use Rattle.ns_words.specs.Line.{asked_seen};

@@ -4,7 +4,7 @@ use Rattle.std.proofs.lemmas.Bool.{eqb-true, eq-eqb, cases_lt}
 use Rattle.ns_world.specs.declared.word.Word.{Word}
 use Rattle.ns_world.specs.Cell.{Cell, cell_size}
 use Rattle.ns_world.specs.Heap.{Heap, heap_size, find_cell, next_number}
-use Rattle.ns_world.specs.Words.{head_of, words_of, laid_out, words_behind}
+use Rattle.ns_world.specs.Words.{head_of, laid_out, words_behind}
 use Rattle.ns_world.specs.laws.Chains.{size_above}
 use Rattle.ns_world.proofs.LaidOut.{words_behind-head, length-words, length-laid_out}
 use Rattle.ns_world.specs.laws.Firsts.{found_past}

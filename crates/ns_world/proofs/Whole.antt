@@ -6,7 +6,7 @@ use Rattle.ns_world.specs.declared.value.Value.{Value}
 use Rattle.ns_world.specs.declared.value.Value.TheVariants.{Nil}
 use Rattle.ns_world.specs.declared.word.Word.{Word}
 use Rattle.ns_world.specs.declared.word.Word.TheVariants.{Nil as NilWord}
-use Rattle.ns_world.specs.Cell.{Cell, EnvironmentCell, cell_size, filled_environment}
+use Rattle.ns_world.specs.Cell.{Cell, cell_size, filled_environment}
 use Rattle.ns_world.specs.Heap.{heap_size, has_superclass}
 use Rattle.ns_world.specs.Seek.{is_facet, is_top}
 use Rattle.ns_world.specs.View.{HeapView, IsLaidOut}

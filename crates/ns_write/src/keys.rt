@@ -1,6 +1,6 @@
 //! The keys of a message.
 
-ghost use Rattle.std.specs.Prelude.{◌≡◌, ◌++◌, length, codes, IfOk};
+ghost use Rattle.std.specs.Prelude.{◌≡◌, ◌++◌, codes, IfOk};
 ghost use Rattle.ns_tree.specs.PlainOf.{keys_of};
 ghost use Rattle.ns_meant.specs.Expressions.{joined};
 ghost use Rattle.ns_write.specs.Sending.{keys_count};

@@ -1,10 +1,9 @@
 //! Literals, and names alone.
 
-ghost use Rattle.std.specs.Prelude.{◌≡◌, ◌<◌, ◌^◌, ◌∷◌, [], IfOk, OnOk};
+ghost use Rattle.std.specs.Prelude.{◌≡◌, ◌<◌, IfOk, OnOk};
 ghost use Rattle.ns_scope.specs.Resolve.{resolve};
 ghost use Rattle.ns_meant.specs.Program as m;
 ghost use Rattle.ns_meant.specs.Expressions.{integer_of, name_node, sent_at};
-ghost use Rattle.ns_gen.specs.Code.{object_lines, way_of as meant_way};
 ghost use Rattle.ns_write.specs.Sending.{standing, meant_reach, with_node};
 
 use crate::here::Here;

@@ -1,7 +1,6 @@
 //! What a send without a written receiver reaches.
 
 ghost use Rattle.std.specs.Prelude.{◌≡◌, ◌≤◌, length, map, slice_get, IfOk};
-ghost use Rattle.ns_scope.specs.Resolve.{levels};
 ghost use Rattle.ns_meant.specs.Expressions.{at_level, reach_of, private_here, private_in, private_at, level_of, reach_self, reach_outer};
 ghost use Rattle.ns_write.specs.Sending.{meant_reach};
 

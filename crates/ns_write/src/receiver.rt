@@ -1,6 +1,6 @@
 //! Receivers, and messages to them.
 
-ghost use Rattle.std.specs.Prelude.{◌≡◌, IfOk, OnOk, [], ◌∷◌};
+ghost use Rattle.std.specs.Prelude.{◌≡◌, IfOk, OnOk, []};
 ghost use Rattle.ns_meant.specs.Program.{no_nodes};
 ghost use Rattle.ns_meant.specs.Expressions.{name_sent};
 ghost use Rattle.ns_gen.specs.Code.{object_lines, way_of as meant_way};

@@ -1,6 +1,6 @@
 //! The real files, as a shelf that tells no bytes.
 
-ghost use Rattle.std.specs.Prelude.{◌≡◌, ◌≢◌, ◌⊎◌, ◌≤◌, ◌+◌, length, take, IfOk, IfSome, IsErrOf};
+ghost use Rattle.std.specs.Prelude.{◌≡◌, ◌≢◌, ◌⊎◌, ◌≤◌, ◌+◌, length, take, IfOk, IfSome};
 
 use ns_base::shelf::{Shelf, ShelfFault};
 use std::alloc::Global;

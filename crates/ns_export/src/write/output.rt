@@ -1,7 +1,7 @@
 //! Single fields, each put behind the bytes that are there.
 
 ghost use Rattle.std.specs.Prelude.{◌≡◌, ◌-◌, ◌<◌, ◌^◌, ◌++◌, List, ℕ, All, OnOk, length, flat_map};
-ghost use Rattle.std.specs.Int.{w64, to_be_bytes, cast_unsigned};
+ghost use Rattle.std.specs.Int.{to_be_bytes};
 ghost use Rattle.std.specs.Option.{ForSome};
 ghost use Rattle.ns_code.specs.Fits.{IsWord, IsHalf, IsShort};
 ghost use Rattle.ns_image.specs.Bytes as spec;

@@ -1,5 +1,5 @@
 -- Powers of two.
-use Rattle.std.proofs.Common.{◌≡◌, ℕ, suc, ◌+◌, ◌-◌, ◌^◌, arith}
+use Rattle.std.proofs.Common.{◌≡◌, ℕ, suc, ◌+◌, ◌^◌, arith}
 use Rattle.std.proofs.Math.Nat.{pow-suc}
 
 pub pow_more : (n : ℕ) → 2 ^ suc n ≡ 2 ^ n + 2 ^ n

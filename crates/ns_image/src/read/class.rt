@@ -1,6 +1,5 @@
 //! Class records.
 
-ghost use Rattle.std.specs.Prelude.{◌≡◌};
 ghost use Rattle.ns_image.specs.Reading as spec;
 ghost use Rattle.ns_image.specs.Reads.{Reads};
 

@@ -1,6 +1,5 @@
 //! Formats of what an image has many of.
 
-ghost use Rattle.std.specs.Prelude.{◌≡◌};
 ghost use Rattle.ns_image.specs.Read as spec;
 ghost use Rattle.ns_image.specs.Reading.{up_to};
 ghost use Rattle.ns_image.specs.Reads.{Reads};

@@ -1,6 +1,5 @@
 //! The bytes that are left, and the single fields that are read from them.
 
-ghost use Rattle.std.specs.Prelude.{◌≡◌};
 ghost use Rattle.ns_image.specs.Read as spec;
 ghost use Rattle.ns_image.specs.Reading.{selector};
 ghost use Rattle.ns_image.specs.Reads.{Reads, ReadsAs};

@@ -1,6 +1,5 @@
 //! Instructions: a code of one byte, and the operands.
 
-ghost use Rattle.std.specs.Prelude.{◌≡◌};
 ghost use Rattle.ns_code.specs.declared.instruction.Instr.TheVariants as i;
 ghost use Rattle.ns_image.specs.Reading as spec;
 ghost use Rattle.ns_image.specs.Reads.{Reads};

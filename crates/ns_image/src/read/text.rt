@@ -1,6 +1,6 @@
 //! Texts, each behind its length.
 
-ghost use Rattle.std.specs.Prelude.{◌≡◌, [], IfOk};
+ghost use Rattle.std.specs.Prelude.{◌≡◌, IfOk};
 ghost use Rattle.ns_image.specs.Read as fields;
 ghost use Rattle.ns_image.specs.Reading as spec;
 ghost use Rattle.ns_image.specs.Reads.{Reads, ReadsAs};

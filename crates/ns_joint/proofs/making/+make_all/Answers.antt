@@ -1,4 +1,4 @@
-use Rattle.std.proofs.Common.{◌≡◌, ◌∙◌, ◌∷◌, ◌-◌, List, Ok, drop, take, length, map, string_bytes, subst, sym, IsSome}
+use Rattle.std.proofs.Common.{◌∙◌, ◌-◌, List, Ok, drop, take, length, map, string_bytes, subst, sym, IsSome}
 use Rattle.ns_words.specs.Application.{asked_of}
 use Rattle.ns_joint.specs.Answer.{IsFaultOf, Makes, OfSomeName, OfSomeTexts}
 use Rattle.ns_joint.specs.Making.{all_made, files_asked, made_of}

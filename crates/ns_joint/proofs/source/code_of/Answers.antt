@@ -1,8 +1,6 @@
-use Rattle.std.proofs.Common.{◌≡◌, ◌∙◌, ap, map, string_bytes, subst, sym, length, arith, IsUtf8}
+use Rattle.std.proofs.Common.{◌≡◌, ◌∙◌, ap, map, string_bytes, subst, sym, IsUtf8}
 use Rattle.std.specs.Prelude.{All}
-use Rattle.std.proofs.lemmas.List.{length-map}
 use Rattle.ns_load.specs.Loaded.{loaded_texts}
-use Rattle.ns_scope.specs.Whole.{IsFileName}
 use Rattle.ns_words.specs.Application.{all_name_files, names_in}
 use Rattle.ns_words.specs.Line.{asked_seen}
 use Rattle.ns_joint.specs.Answer.{IsMadeAs, OfSomeTexts}

@@ -4,7 +4,6 @@ use Rattle.ns_run.proofs.KeepLaws.{finished, no_memory, not_read, only_read_twic
 use Rattle.ns_run.proofs.StoreLaws.{stores_nothing}
 use Rattle.ns_run.proofs.TextLaws.{over_other}
 use Rattle.ns_run.specs.Meaning.{meaning}
-use Rattle.ns_run.specs.Outcome.{Leaves}
 use Rattle.ns_run.proofs.top.nspk.Goals as goal
 
 pub returns-in-Err-ReadFault-clause-told : goal.returns-in-Err-ReadFault-clause-told

@@ -1,9 +1,9 @@
-use Rattle.std.proofs.Common.{◌≡◌, ◌-◌, ◌≤◌, ℕ, ap, sym, subst, arith}
+use Rattle.std.proofs.Common.{◌-◌, ℕ, ap, sym, subst, arith}
 use Rattle.ns_code.specs.declared.instruction.Instr.TheVariants as instr
 use Rattle.ns_world.specs.declared.value.Value.{Value}
 use Rattle.ns_world.specs.Lawful.{IsLiveValue}
 use Rattle.ns_send.specs.Bodies.{Place}
-use Rattle.ns_send.specs.Sends.{ToPrivate, receiver_of}
+use Rattle.ns_send.specs.Sends.{ToPrivate}
 use Rattle.ns_act.specs.Running.{code_of, nowhere}
 use Rattle.ns_sends.specs.Sending.{sent_at, Sends}
 use Rattle.ns_sends.specs.Operands.{SendsOperands}

@@ -1,4 +1,4 @@
-use Rattle.std.proofs.Common.{refl, sym}
+use Rattle.std.proofs.Common.{refl}
 use Rattle.ns_send.specs.Sends.{ToSuper}
 use Rattle.ns_act.specs.Running.{code_of}
 use Rattle.ns_sends.proofs.Stepped.{step_goes, step_sends}

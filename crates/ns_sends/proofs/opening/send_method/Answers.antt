@@ -4,7 +4,6 @@ use Rattle.ns_send.specs.Sends.{To}
 use Rattle.ns_engine.specs.declared.state.Next.TheVariants.{On}
 use Rattle.ns_sends.specs.Going.{GoesOn}
 use Rattle.ns_sends.specs.Sending.{Sends}
-use Rattle.ns_sends.proofs.Goes.{SendsKnown}
 use Rattle.ns_sends.proofs.Opened.{found_later, stepped_to}
 use Rattle.ns_sends.proofs.Stepped.{step_goes, step_sends, no_one}
 use Rattle.ns_sends.proofs.opening.send_method.Goals as goal

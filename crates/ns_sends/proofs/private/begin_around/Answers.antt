@@ -1,11 +1,10 @@
-use Rattle.std.proofs.Common.{length, refl, sym, subst}
+use Rattle.std.proofs.Common.{length, sym, subst}
 use Rattle.ns_send.specs.Control.{Control}
 use Rattle.ns_send.specs.Sends.{ToPrivate}
 use Rattle.ns_act.specs.Running.{code_of}
 use Rattle.ns_engine.specs.declared.state.Next.TheVariants.{On}
 use Rattle.ns_sends.specs.Going.{GoesOn}
 use Rattle.ns_sends.specs.Sending.{Sends}
-use Rattle.ns_sends.proofs.Goes.{SendsKnown}
 use Rattle.ns_sends.proofs.Opened.{found_later, stepped_to}
 use Rattle.ns_sends.proofs.Stepped.{step_goes, step_sends}
 use Rattle.ns_sends.proofs.private.begin_around.Goals as goal

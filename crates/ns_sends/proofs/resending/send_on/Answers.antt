@@ -1,4 +1,4 @@
-use Rattle.ns_sends.proofs.Resent.{step_can_on, on_goes, on_leads, no_step_leads}
+use Rattle.ns_sends.proofs.Resent.{step_can_on, on_goes, on_leads}
 use Rattle.ns_sends.proofs.resending.send_on.Goals as goal
 
 pub look_on-requires-clause-can : goal.look_on-requires-clause-can

@@ -1,13 +1,11 @@
 use Rattle.std.proofs.Common.{◌≡◌, sym, subst}
 use Rattle.ns_find.specs.declared.found.Found.{Found}
-use Rattle.ns_send.specs.Control.{Activation}
 use Rattle.ns_send.specs.Sends.{To, answered_by}
 use Rattle.ns_send.specs.Suiting.{FoundSuits}
 use Rattle.ns_act.specs.Answered.{answered_shown}
 use Rattle.ns_act.specs.Run.{progress_of}
 use Rattle.ns_frames.specs.View.{site_shown}
 use Rattle.ns_engine.specs.Shown.{progress_in}
-use Rattle.ns_sends.specs.Going.{answered_at}
 use Rattle.ns_sends.specs.Sending.{looked_up}
 use Rattle.ns_sends.proofs.Stepped.{answer_can, answer_goes, answer_sends, no_one, with_values}
 use Rattle.ns_sends.proofs.sending.do_found.Goals as goal

@@ -1,6 +1,5 @@
 use Rattle.std.proofs.Common.{refl}
 use Rattle.ns_send.specs.Sends.{To}
-use Rattle.ns_sends.proofs.Goes.{SendsKnown}
 use Rattle.ns_sends.proofs.Stepped.{step_goes, step_sends}
 use Rattle.ns_sends.proofs.sending.send_to.Goals as goal
 

@@ -1,4 +1,3 @@
-use Rattle.ns_moves.specs.State.{State}
 use Rattle.ns_session.proofs.Alone.{leads}
 use Rattle.ns_session.proofs.laws.applications_keep_to_themselves.Goals as goal
 

@@ -1,4 +1,4 @@
-use Rattle.std.proofs.Common.{◌≤◌, ◌<◌, ℕ, suc, List, length, arith}
+use Rattle.std.proofs.Common.{ℕ, List, length}
 use Rattle.std.specs.Prelude.{All}
 use Rattle.ns_base.specs.declared.place.Place.{Place}
 use Rattle.ns_code.specs.declared.program.CodeProgram.{CodeProgram}

@@ -1,6 +1,6 @@
 use Rattle.std.proofs.Common.{◌+◌, ◌-◌, [], ◌∷◌, ◌++◌, drop, ap, ◌∙◌, arith}
 use Rattle.ns_world.specs.declared.word.Word.TheVariants.{Bytes}
-use Rattle.ns_world.specs.Words.{eight, packed}
+use Rattle.ns_world.specs.Words.{packed}
 use Rattle.ns_world.proofs.Packing.{packed_step}
 use Rattle.ns_world.proofs.lay.pack.Goals as goal
 

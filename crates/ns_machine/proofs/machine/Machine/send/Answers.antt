@@ -12,7 +12,7 @@ use Rattle.ns_engine.specs.Ready.{IsReady}
 use Rattle.ns_engine.specs.Shown.{shown}
 use Rattle.ns_turns.specs.Turning.{RunsBy}
 use Rattle.ns_reach.specs.Reached.{StaysInReach}
-use Rattle.ns_machine.specs.Machine.{MachineView, IsMachine, stage_shown}
+use Rattle.ns_machine.specs.Machine.{MachineView, stage_shown}
 use Rattle.ns_machine.specs.Turning.{Ran}
 use Rattle.ns_machine.specs.Waiting.{SendWaits}
 use Rattle.ns_machine.proofs.Standing.{stage_lawful, with_phase, host_shown, host_machine, machine_runs, machine_ready, machine_on}

@@ -1,4 +1,4 @@
-use Rattle.std.proofs.Common.{◌≡◌, Some, ap, ◌∙◌}
+use Rattle.std.proofs.Common.{Some, ap, ◌∙◌}
 use Rattle.ns_verify.specs.Around.{outwards}
 use Rattle.ns_verify.proofs.Outward.{declarations_met, bodies_met}
 use Rattle.ns_verify.proofs.around.Around.of.Goals as goal

@@ -1,4 +1,4 @@
-use Rattle.std.proofs.Common.{◌≡◌, subst, sym, map, ap, ◌∙◌}
+use Rattle.std.proofs.Common.{subst, sym, map, ap, ◌∙◌}
 use Rattle.std.specs.List.{AllZip}
 use Rattle.ns_code.specs.declared.class.ClassCode.{ClassCode}
 use Rattle.ns_members.specs.Numbers.{IsPrivatesOf}

@@ -1,5 +1,4 @@
-use Rattle.std.proofs.Common.{◌≡◌, ◌+◌, ap, ◌∙◌, arith}
-use Rattle.ns_world.specs.Heap.{next_number}
+use Rattle.std.proofs.Common.{ap, ◌∙◌, arith}
 use Rattle.ns_world.specs.Words.{words_behind}
 use Rattle.ns_world.proofs.Next.{reads_next}
 use Rattle.ns_world.proofs.Kept.{seen_laid_out}
