@@ -35,9 +35,9 @@ class_place row.Message = 18
 
 -- the texts of the rows of a class in a table, each with what a lookup finds by it: the row of its number
 abbrev pub tabled : KernelRow → ℕ → List Entry → List (Option (List ℕ) × Found)
-tabled kernel number [] = []
-tabled kernel number (entry ∷ entries) =
-    if class_place entry.class == class_place kernel then (entry.text, Kernel number) ∷ tabled kernel (number + 1) entries else tabled kernel (number + 1) entries
+tabled which number [] = []
+tabled which number (entry ∷ entries) =
+    if class_place entry.class == class_place which then (entry.text, Kernel number) ∷ tabled which (number + 1) entries else tabled which (number + 1) entries
 
 -- the text by which a member is called, none where its name is one of the code
 abbrev pub text_of : Name → Option (List ℕ)
@@ -56,7 +56,7 @@ IsTopRow member = called member ∷ [] ≡ tabled row.Manifest 0 kernel_table
 -- one for each top-level class, are all its one row.
 abbrev pub RowsAreTabled : Heap → CodeProgram → KernelRow → Type 0
 RowsAreTabled heap code row.Manifest = AllByRecursion IsTopRow (kernel_rows heap code row.Manifest)
-RowsAreTabled heap code kernel = map called (kernel_rows heap code kernel) ≡ tabled kernel 0 kernel_table
+RowsAreTabled heap code which = map called (kernel_rows heap code which) ≡ tabled which 0 kernel_table
 
 -- What answers the row of a number is what the table says.
 abbrev pub RowsAnswer : Type 0

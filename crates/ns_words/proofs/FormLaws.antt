@@ -2,10 +2,10 @@
 use Rattle.std.specs.Prelude.{◌≡◌, ◌⊎◌, ℕ, nat_le, length, List, [], ◌∷◌, ◌++◌, true, Option, Some, None, codes, refl}
 use Rattle.std.proofs.Common.{◌≤◌, ◌+◌, arith, ap, sym, ◌∙◌, inl, inr, append_assoc}
 use Rattle.std.proofs.lemmas.Bool.Decides.{nat_tests}
-use Rattle.ns_words.proofs.PartLaws.{arguments_read, dashes_are_no_item, name_is_no_option, names_read, options_read}
+use Rattle.ns_words.proofs.PartLaws.{arguments_read, dashes_are_no_item, dashes_are_no_option, name_is_no_option, names_read, options_read}
 use Rattle.ns_words.specs.Forms.{AreArguments, AreNames, IsForm}
 use Rattle.ns_words.specs.Table.{form_of, word_of}
-use Rattle.ns_words.specs.Words.{Line, Options, Names, bad, says, nothing_given, option_or, part_or, read_from, reading_of, with_name, with_option}
+use Rattle.ns_words.specs.Words.{Line, Options, Names, Arguments, bad, says, nothing_given, option_or, part_or, read_from, reading_of, with_name, with_option}
 use Rattle.ns_words.specs.declared.form.Verb.{Verb}
 use Rattle.ns_words.specs.declared.form.Verb.TheVariants.{Check, Show, Run, Build, Exec, Listing, Session, Sample, Help, Version}
 use Rattle.ns_words.specs.declared.words.Given.{Given}

@@ -1,6 +1,6 @@
 -- What is read of words is what they spell, or tells the first bad word.
 use Rattle.std.specs.Prelude.{◌≡◌, ℕ, ◌&&◌, nat_le, nat_lt, length, List, [], ◌∷◌, ◌++◌, true, false, Option, Some, None, cond, codes, take, refl}
-use Rattle.std.proofs.Common.{◌≤◌, ◌+◌, ◌-◌, zero, suc, arith, ap, sym, ◌∙◌, subst, inl, append_assoc}
+use Rattle.std.proofs.Common.{◌≤◌, ◌+◌, ◌-◌, zero, suc, arith, ap, sym, ◌∙◌, subst, inl, inr, append_assoc}
 use Rattle.std.proofs.Math.Seq.{take-append-add}
 use Rattle.std.proofs.lemmas.Bool.Decides.{nat_tests}
 use Rattle.std.proofs.lemmas.List.{append-nil, length-append}
