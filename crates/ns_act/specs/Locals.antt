@@ -2,9 +2,8 @@
 use Rattle.std.specs.Prelude.{◌≡◌, ℕ, ◌-◌, ◌≤◌, ◌<◌, length, IsTrue, false, if◌then◌else◌}
 use Rattle.ns_code.specs.declared.program.CodeProgram.{CodeProgram}
 use Rattle.ns_world.specs.declared.value.Value.{Value}
-use Rattle.ns_world.specs.Heap.{Heap, find_cell, words_at}
+use Rattle.ns_world.specs.Heap.{Heap, find_cell, words_at, cell_number}
 use Rattle.ns_world.specs.Lawful.{is_environment}
-use Rattle.ns_mirror.specs.Mirror.{cell_number}
 use Rattle.ns_send.specs.Control.{Activation}
 use Rattle.ns_send.specs.Bodies.{has_environment, is_beside, environment_out, environment_at}
 

@@ -25,14 +25,13 @@ use ns_classes::apply::apply;
 use ns_classes::layout::{layout, word};
 use ns_classes::nested::{nested, nested_entry};
 use ns_code::program::CodeProgram;
-use ns_mirror::mirror::cell_number;
 use ns_send::control::{Answer, Exit, Given, PartReached, Reached};
 use ns_send::finding::{nested_classes_can_be_kept, superclasses_are_there};
 use ns_send::site::make_fault;
 use ns_world::cell::NewCell;
 use ns_world::ending::{Fault, Kind, LimitKind};
 use ns_world::lawful::charging_keeps_lawful;
-use ns_world::value::{KClass, Value};
+use ns_world::value::{KClass, Value, cell_number};
 use ns_world::world::World;
 
 /// A new object of a class, all of whose entries are nil, and then its initialiser with these

@@ -11,10 +11,9 @@ ghost use Rattle.ns_act.specs.Running.{activation_at, code_of};
 
 use crate::running::Running;
 use ns_code::program::CodeProgram;
-use ns_mirror::mirror::cell_number;
 use ns_send::finding::enclosing_objects_are_there;
 use ns_world::cell::NewCell;
-use ns_world::value::Value;
+use ns_world::value::{Value, cell_number};
 use ns_world::world::World;
 
 /// An object, and the class in its chain by which it is meant.

@@ -14,9 +14,8 @@ ghost use Rattle.ns_act.specs.Locals.{HasEnvironments, HasLocal, environments_ou
 
 use crate::running::{Running, has_environment};
 use ns_code::program::CodeProgram;
-use ns_mirror::mirror::cell_number;
 use ns_world::cell::NewCell;
-use ns_world::value::Value;
+use ns_world::value::{Value, cell_number};
 use ns_world::world::World;
 
 /// Whether a local stands beside running code: whether it is one of its own body, which has no

@@ -9,9 +9,8 @@ use Rattle.ns_world.specs.declared.value.Value.{Value}
 use Rattle.ns_world.specs.declared.value.Value.TheVariants.{Nil, True, False, Int, Sym, Kernel, Ref}
 use Rattle.ns_world.specs.declared.cell.NewCell.TheVariants as new
 use Rattle.ns_world.specs.Cell.{Cell, ObjectCell, ClassCell, BlockCell, EnvironmentCell, ArrayCell, TextCell, FacetCell, MirrorCell, MessageCell, shape_of, cell_words}
-use Rattle.ns_world.specs.Heap.{Heap, find_cell, shape_at, words_at}
+use Rattle.ns_world.specs.Heap.{Heap, find_cell, shape_at, words_at, cell_number}
 use Rattle.ns_world.specs.Lawful.{FitsEnvironment, environment_in, is_environment, parent_of}
-use Rattle.ns_mirror.specs.Mirror.{cell_number}
 use Rattle.ns_verify.specs.Chains.{body_around, body_at}
 use Rattle.ns_verify.specs.Uses.{HasLocal as NamesLocal}
 use Rattle.ns_send.specs.Control.{Activation}

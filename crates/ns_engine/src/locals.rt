@@ -22,8 +22,7 @@ use ns_act::running::Running;
 use ns_code::program::CodeProgram;
 use ns_frames::registers::Registers;
 use ns_frames::stack::Stack;
-use ns_mirror::mirror::cell_number;
-use ns_world::value::Value;
+use ns_world::value::{Value, cell_number};
 use ns_world::world::World;
 
 /// Whether a local stands beside the frame of the body that runs on top.

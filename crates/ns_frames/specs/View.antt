@@ -2,7 +2,7 @@
 use Rattle.std.specs.Prelude.{ℕ, List, [], ◌∷◌, drop, slice_get}
 use Rattle.ns_base.specs.declared.place.Place.{Place as SourcePlace}
 use Rattle.ns_code.specs.declared.program.CodeProgram.{CodeProgram}
-use Rattle.ns_mirror.specs.Mirror.{cell_number}
+use Rattle.ns_world.specs.Heap.{cell_number}
 use Rattle.ns_send.specs.declared.site.Site.{Site}
 use Rattle.ns_send.specs.Control.{Progress, Activation, FromMethod, FromBody, FromClause}
 use Rattle.ns_moves.specs.Steps.{steps_from}

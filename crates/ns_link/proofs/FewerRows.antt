@@ -17,7 +17,7 @@ use Rattle.ns_world.specs.declared.ending.Kind.TheVariants.{FixedSlot, WrongArit
 use Rattle.ns_world.specs.declared.ending.LimitKind.{LimitKind}
 use Rattle.ns_world.specs.declared.ending.LimitKind.TheVariants.{Cells, Depth}
 use Rattle.ns_world.specs.Cell.{Cell, ArrayCell, ClassCell, TextCell, MirrorCell, ObjectCell, cell_size}
-use Rattle.ns_world.specs.Heap.{heap_size, no_class, chain_of}
+use Rattle.ns_world.specs.Heap.{heap_size, no_class, chain_of, cell_number}
 use Rattle.ns_world.specs.Starts.{class_name_of}
 use Rattle.ns_world.specs.World.{World, made, entered, printed}
 use Rattle.ns_classes.specs.declared.apply.MakeFault.{MakeFault}
@@ -45,7 +45,7 @@ use Rattle.ns_mirror.specs.Slots.{slot_names_along, slot, slot_of, slot_put, wri
 use Rattle.ns_mirror.specs.Selectors.{public_selectors, methods_of_shape}
 use Rattle.ns_mirror.specs.declared.row.Mirrored.{Mirrored}
 use Rattle.ns_mirror.specs.declared.row.Mirrored.TheVariants.{Answer, Perform as MirrorPerform}
-use Rattle.ns_mirror.specs.Mirror.{Reflected, Reflects, Refuses, reflected, perform, performed, performed_with, mirror, cell_number}
+use Rattle.ns_mirror.specs.Mirror.{Reflected, Reflects, Refuses, reflected, perform, performed, performed_with, mirror}
 use Rattle.ns_send.specs.declared.row.Row.{Row}
 use Rattle.ns_send.specs.declared.row.Row.TheVariants as row
 use Rattle.ns_send.specs.declared.site.Site.{Site}

@@ -9,10 +9,9 @@ use Rattle.ns_world.specs.declared.value.Value.{Value}
 use Rattle.ns_world.specs.declared.value.Value.TheVariants.{Ref, Nil}
 use Rattle.ns_world.specs.declared.ending.LimitKind.TheVariants.{Cells}
 use Rattle.ns_world.specs.Cell.{Cell}
-use Rattle.ns_world.specs.Heap.{heap_size}
+use Rattle.ns_world.specs.Heap.{heap_size, cell_number}
 use Rattle.ns_world.specs.World.{World, made}
 use Rattle.ns_facets.specs.declared.row.Grants.{Grants}
-use Rattle.ns_mirror.specs.Mirror.{cell_number}
 use Rattle.ns_send.specs.Control.{Progress, in_world, After, Gives, Halts, charged}
 use Rattle.ns_send.specs.Sends.{site_at, own_sel}
 use Rattle.ns_send.specs.Start.{start_cells, nothing_done, all_made, start_made, manifest, first_class}

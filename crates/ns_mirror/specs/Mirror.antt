@@ -4,12 +4,13 @@ use Rattle.ns_base.specs.declared.selector.Sel.{Sel}
 use Rattle.ns_code.specs.declared.program.CodeProgram.{CodeProgram}
 use Rattle.ns_code.specs.Selector.{selector_arity}
 use Rattle.ns_world.specs.declared.value.Value.{Value}
-use Rattle.ns_world.specs.declared.value.Value.TheVariants.{Sym, Ref}
+use Rattle.ns_world.specs.declared.value.Value.TheVariants.{Sym}
 use Rattle.ns_world.specs.declared.ending.Fault.{Fault}
 use Rattle.ns_world.specs.declared.ending.Fault.TheVariants.{Kind}
 use Rattle.ns_world.specs.declared.ending.Kind.TheVariants as kind
 use Rattle.ns_world.specs.Cell.{MirrorCell}
 use Rattle.ns_world.specs.World.{World, WorldView, SameRoom}
+use Rattle.ns_world.specs.Heap.{cell_number}
 use Rattle.ns_kdata.specs.Outcome.{Outcome, Answers, Fails, making, unchanged, wrong_kind}
 use Rattle.ns_kdata.specs.Arguments.{argument, is_array, items_of}
 use Rattle.ns_mirror.specs.declared.row.MirrorRow.{MirrorRow}
@@ -30,11 +31,6 @@ pub data Reflected : Type 0 where
 abbrev pub reflected : Outcome → Reflected
 reflected (Answers value world) = Reflects (Answer value) world
 reflected (Fails fault) = Refuses fault
-
--- the number of the cell that a value refers to, 0 where it refers to none
-abbrev pub cell_number : Value → ℕ
-cell_number (Ref at) = at
-cell_number value = 0
 
 -- the send of a symbol with the elements of an array; WrongArity where there are more or fewer than it takes
 abbrev pub performed : World → CodeProgram → Value → Sel → Value → Reflected

@@ -1,6 +1,6 @@
 //! The rows of mirrors, in one table.
 
-ghost use Rattle.std.specs.Prelude.{◌≡◌, ◌≤◌, All, IsSome};
+ghost use Rattle.std.specs.Prelude.{◌≤◌, All, IsSome};
 ghost use Rattle.ns_world.specs.Heap.{find_cell};
 ghost use Rattle.ns_world.specs.Lawful.{IsLiveValue, IsLawful};
 ghost use Rattle.ns_kdata.specs.Arguments.{IsThere};
@@ -20,7 +20,7 @@ use ns_kdata::arguments::{argument, array_size, is_array, wrong_kind};
 use ns_kdata::making::make_cell;
 use ns_world::cell::NewCell;
 use ns_world::ending::{Fault, Kind};
-use ns_world::value::Value;
+use ns_world::value::{Value, cell_number};
 use ns_world::world::World;
 
 /// The answer of a row of a mirror with its change of the world, or the send that is to be made; or
@@ -125,15 +125,4 @@ fn performed_with(
         sel,
         args: cell_number(args),
     })
-}
-
-/// The number of the cell that a value refers to, 0 where it refers to none.
-#[inline(always)]
-pub fn cell_number(value: Value) -> u32
-    ensures { result ≡ spec.cell_number value }
-{
-    match value {
-        Value::Ref(at) => at,
-        _ => 0,
-    }
 }

@@ -21,7 +21,7 @@ use Rattle.ns_world.specs.declared.ending.Kind.TheVariants.{WrongArity, InitMism
 use Rattle.ns_world.specs.declared.ending.LimitKind.{LimitKind}
 use Rattle.ns_world.specs.declared.ending.LimitKind.TheVariants.{Steps, Depth, Cells}
 use Rattle.ns_world.specs.Cell.{Cell, ObjectCell, ClassCell, BlockCell, EnvironmentCell, ArrayCell, TextCell, FacetCell, MirrorCell, MessageCell}
-use Rattle.ns_world.specs.Heap.{Heap, heap_size, find_cell, superclass_in, word_at}
+use Rattle.ns_world.specs.Heap.{Heap, heap_size, find_cell, superclass_in, word_at, cell_number}
 use Rattle.ns_world.specs.Layout.{declaration_of, layout_of}
 use Rattle.ns_world.specs.Starts.{start_of, class_name_of}
 use Rattle.ns_world.specs.World.{World, made, stepped, entered, left, written}
@@ -35,7 +35,6 @@ use Rattle.ns_find.specs.Find.{side_of, found_from, found_private, super_start}
 use Rattle.ns_kdata.specs.Arguments.{shape_of_value, items_of}
 use Rattle.ns_kdata.specs.Rows.{stored}
 use Rattle.ns_mirror.specs.Naming.{class_text}
-use Rattle.ns_mirror.specs.Mirror.{cell_number}
 use Rattle.ns_send.specs.declared.site.Site.{Site}
 use Rattle.ns_send.specs.Site.{error}
 use Rattle.ns_send.specs.Control.{Progress, in_world, Activation, Exit, FromMethod, FromBody, FromClause, After, Gives, Halts}

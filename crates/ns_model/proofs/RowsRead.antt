@@ -13,7 +13,7 @@ use Rattle.ns_world.specs.declared.cell.NewCell.TheVariants as new
 use Rattle.ns_world.specs.declared.kernel.ClassName.{ClassName}
 use Rattle.ns_world.specs.declared.kernel.ClassName.TheVariants.{Declared, ClassOf, Kernel}
 use Rattle.ns_world.specs.Cell.{ArrayCell, TextCell}
-use Rattle.ns_world.specs.Heap.{Heap, chain_of}
+use Rattle.ns_world.specs.Heap.{Heap, chain_of, cell_number}
 use Rattle.ns_world.specs.Starts.{class_name_of}
 use Rattle.ns_world.specs.Layout.{declaration_of}
 use Rattle.ns_world.specs.World.{World}
@@ -36,7 +36,7 @@ use Rattle.ns_mirror.specs.Naming.{class_text}
 use Rattle.ns_mirror.specs.Slots.{declared_slots, slot_symbols, slot_names_along, entry_of, place_of, slot_or, slot_along, slot_of}
 use Rattle.ns_mirror.specs.Slots.{read_slot, write_slot, slot, slot_put}
 use Rattle.ns_mirror.specs.Selectors.{public_selectors, methods_of_shape}
-use Rattle.ns_mirror.specs.Mirror.{reflected, perform, mirror, cell_number}
+use Rattle.ns_mirror.specs.Mirror.{reflected, perform, mirror}
 use Rattle.ns_send.specs.declared.row.Row.{Row}
 use Rattle.ns_send.specs.declared.row.Row.TheVariants as row
 use Rattle.ns_send.specs.declared.site.Site.{Site}

@@ -16,11 +16,10 @@ use Rattle.ns_world.specs.declared.ending.Ending.{Ending}
 use Rattle.ns_world.specs.declared.ending.Ending.TheVariants.{Done, Error, Limit}
 use Rattle.ns_world.specs.declared.cell.FacetKind.{FacetKind}
 use Rattle.ns_world.specs.Cell.{Cell, ArrayCell, TextCell, FacetCell, cell_size}
-use Rattle.ns_world.specs.Heap.{Heap, heap_size}
+use Rattle.ns_world.specs.Heap.{Heap, heap_size, cell_number}
 use Rattle.ns_world.specs.Lawful.{IsLiveValue, HasEnclosing}
 use Rattle.ns_world.specs.laws.Charging.{empty_is_lawful}
 use Rattle.ns_facets.specs.declared.row.Grants.{Grants}
-use Rattle.ns_mirror.specs.Mirror.{cell_number}
 use Rattle.ns_send.specs.Control.{Progress, After, Gives, Halts}
 use Rattle.ns_send.specs.Start.{facet_if, facets_of, top_if, tops_of, standing_cells, numbers_from, size_of_cells, start_cells, nothing_done, start_made}
 use Rattle.ns_send.specs.Sends.{site_at}

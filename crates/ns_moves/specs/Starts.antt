@@ -5,8 +5,8 @@ use Rattle.ns_base.specs.declared.selector.Sel.{Sel}
 use Rattle.ns_code.specs.declared.program.CodeProgram.{CodeProgram}
 use Rattle.ns_code.specs.declared.own.Own.TheVariants.{PackageUsing}
 use Rattle.ns_world.specs.declared.value.Value.{Value}
+use Rattle.ns_world.specs.Heap.{cell_number}
 use Rattle.ns_facets.specs.declared.row.Grants.{Grants}
-use Rattle.ns_mirror.specs.Mirror.{cell_number}
 use Rattle.ns_send.specs.Control.{After, Gives, Halts}
 use Rattle.ns_send.specs.Start.{start_made, manifest, first_class}
 use Rattle.ns_send.specs.Sends.{site_at, own_sel}

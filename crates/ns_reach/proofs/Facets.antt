@@ -19,7 +19,7 @@ use Rattle.ns_world.specs.declared.cell.NewCell.TheVariants as new
 use Rattle.ns_world.specs.declared.cell.FacetKind.{FacetKind}
 use Rattle.ns_world.specs.declared.cell.FacetKind.TheVariants as kinds
 use Rattle.ns_world.specs.Cell.{Cell, ObjectCell, ClassCell, BlockCell, EnvironmentCell, ArrayCell, TextCell, FacetCell, MirrorCell, MessageCell}
-use Rattle.ns_world.specs.Heap.{Heap, find_cell, chain_of, shape_at, no_class}
+use Rattle.ns_world.specs.Heap.{Heap, find_cell, chain_of, shape_at, no_class, cell_number}
 use Rattle.ns_world.specs.Seek.{first_such, is_facet, is_top}
 use Rattle.ns_world.specs.Starts.{class_name_of}
 use Rattle.ns_kdata.specs.Outcome.{Outcome, Answers, Fails, making, unchanged, wrong_kind}
@@ -38,7 +38,7 @@ use Rattle.ns_facets.specs.Platform.{cell_value, top_class, granted}
 use Rattle.ns_mirror.specs.declared.row.Mirrored.TheVariants.{Answer, Perform}
 use Rattle.ns_mirror.specs.declared.row.MirrorRow.{MirrorRow}
 use Rattle.ns_mirror.specs.declared.row.MirrorRow.TheVariants as mirrors
-use Rattle.ns_mirror.specs.Mirror.{Reflected, Reflects, Refuses, reflected, cell_number, performed, perform, row_outcome}
+use Rattle.ns_mirror.specs.Mirror.{Reflected, Reflects, Refuses, reflected, performed, perform, row_outcome}
 use Rattle.ns_mirror.specs.Looking as looking
 use Rattle.ns_mirror.specs.declared.slots.SlotPlace.{SlotPlace}
 use Rattle.ns_mirror.specs.Slots as slots

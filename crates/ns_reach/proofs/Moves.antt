@@ -14,11 +14,10 @@ use Rattle.ns_world.specs.declared.cell.NewCell.{NewCell}
 use Rattle.ns_world.specs.declared.cell.NewCell.TheVariants as new
 use Rattle.ns_world.specs.declared.cell.FacetKind.TheVariants.{Manifest}
 use Rattle.ns_world.specs.Cell.{FacetCell}
-use Rattle.ns_world.specs.Heap.{Heap, find_cell, shape_at, is_class, word_at}
+use Rattle.ns_world.specs.Heap.{Heap, find_cell, shape_at, is_class, word_at, cell_number}
 use Rattle.ns_world.specs.World.{stepped, written}
 use Rattle.ns_kcode.specs.declared.state.KMethod.{KMethod}
 use Rattle.ns_kdata.specs.Arguments.{items_of}
-use Rattle.ns_mirror.specs.Mirror.{cell_number}
 use Rattle.ns_find.specs.declared.found.Sending.TheVariants.{Inner}
 use Rattle.ns_send.specs.declared.site.Site.{Site}
 use Rattle.ns_send.specs.Site.{error}

@@ -11,7 +11,7 @@ use Rattle.ns_world.specs.declared.value.Value.TheVariants.{Nil, True, False, In
 use Rattle.ns_world.specs.declared.ending.Fault.{Fault}
 use Rattle.ns_world.specs.declared.ending.LimitKind.TheVariants.{Cells}
 use Rattle.ns_world.specs.Cell.{ArrayCell, MessageCell}
-use Rattle.ns_world.specs.Heap.{Heap, heap_size}
+use Rattle.ns_world.specs.Heap.{Heap, heap_size, cell_number}
 use Rattle.ns_world.specs.World.{made}
 use Rattle.ns_world.specs.Starts.{start_of}
 use Rattle.ns_kint.specs.Integer.{integer, is_integer_or_boolean}
@@ -27,7 +27,7 @@ use Rattle.ns_facets.specs.declared.row.FacetRow.{FacetRow}
 use Rattle.ns_facets.specs.declared.row.FacetRow.TheVariants as facet
 use Rattle.ns_facets.specs.Facet.{board_after, facet as facet_outcome}
 use Rattle.ns_mirror.specs.declared.row.Mirrored.TheVariants.{Answer, Perform as MirrorPerform}
-use Rattle.ns_mirror.specs.Mirror.{Reflected, Reflects, Refuses, mirror, cell_number}
+use Rattle.ns_mirror.specs.Mirror.{Reflected, Reflects, Refuses, mirror}
 use Rattle.ns_find.specs.declared.found.Found.{Found}
 use Rattle.ns_find.specs.declared.found.Found.TheVariants as found
 use Rattle.ns_find.specs.declared.found.Sending.{Sending}

@@ -5,12 +5,12 @@ use Rattle.ns_world.specs.declared.value.Value.{Value}
 use Rattle.ns_world.specs.declared.ending.Fault.{Fault}
 use Rattle.ns_world.specs.Lawful.{IsLawful, IsLiveValue}
 use Rattle.ns_world.specs.World.{WorldView, left}
+use Rattle.ns_world.specs.Heap.{cell_number}
 use Rattle.ns_send.specs.declared.site.Site.{Site}
 use Rattle.ns_send.specs.Control.{Progress, Activation, Exit, FromClause, in_world}
 use Rattle.ns_send.specs.Classes.{body_ended}
 use Rattle.ns_send.specs.Lawful.{LawfulRun, LawfulAfter, FitsExit}
 use Rattle.ns_send.specs.Shown.{answer_shown}
-use Rattle.ns_mirror.specs.Mirror.{cell_number}
 use Rattle.ns_moves.specs.Returns.{settled, returned}
 use Rattle.ns_moves.specs.WorldAsks.{CanLeave}
 use Rattle.ns_act.specs.Running.{activation_at}

@@ -2,11 +2,12 @@
 use Rattle.std.specs.Prelude.{List}
 use Rattle.ns_code.specs.declared.program.CodeProgram.{CodeProgram}
 use Rattle.ns_world.specs.declared.value.Value.{Value}
+use Rattle.ns_world.specs.Heap.{cell_number}
 use Rattle.ns_kdata.specs.Outcome.{Fails}
 use Rattle.ns_kdata.specs.Arguments.{shape_of_value}
 use Rattle.ns_kdata.specs.Rows.{not_understood, message_selector}
 use Rattle.ns_mirror.specs.declared.row.MirrorRow.{MirrorRow}
-use Rattle.ns_mirror.specs.Mirror.{mirror, cell_number}
+use Rattle.ns_mirror.specs.Mirror.{mirror}
 use Rattle.ns_send.specs.declared.site.Site.{Site}
 use Rattle.ns_send.specs.Control.{Progress, Control, Now}
 use Rattle.ns_send.specs.Classes.{mixed}

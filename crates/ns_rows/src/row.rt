@@ -23,13 +23,13 @@ use ns_kdata::arguments::{argument, number_of, shape_of_value};
 use ns_kdata::datum::datum;
 use ns_kdata::row::DataRow;
 use ns_kint::integer::integer;
-use ns_mirror::mirror::{cell_number, mirror};
+use ns_mirror::mirror::mirror;
 use ns_mirror::row::{MirrorRow, Mirrored};
 use ns_send::control::{Given, Reached};
 use ns_send::row::Row;
 use ns_world::cell::NewCell;
 use ns_world::ending::{Fault, Kind};
-use ns_world::value::Value;
+use ns_world::value::{Value, cell_number};
 use ns_world::world::World;
 
 /// What a row of the kernel comes to, with its receiver and its arguments, sent as that selector.

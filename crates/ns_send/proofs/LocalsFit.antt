@@ -8,11 +8,10 @@ use Rattle.ns_world.specs.declared.value.Value.{Value}
 use Rattle.ns_world.specs.declared.value.Value.TheVariants.{Nil, True, False, Int, Sym, Kernel, Ref}
 use Rattle.ns_world.specs.declared.cell.NewCell.TheVariants as new
 use Rattle.ns_world.specs.Cell.{Cell, ObjectCell, ClassCell, BlockCell, EnvironmentCell, ArrayCell, TextCell, FacetCell, MirrorCell, MessageCell, shape_of, cell_words}
-use Rattle.ns_world.specs.Heap.{Heap, find_cell, shape_at, word_at}
+use Rattle.ns_world.specs.Heap.{Heap, find_cell, shape_at, word_at, cell_number}
 use Rattle.ns_world.specs.World.{World}
 use Rattle.ns_world.specs.Lawful.{IsLawful, IsLiveValue, FitsEnvironment, environment_in, is_environment, parent_of}
 use Rattle.ns_kdata.specs.laws.LivingItems.{get_live}
-use Rattle.ns_mirror.specs.Mirror.{cell_number}
 use Rattle.ns_send.specs.Control.{Activation}
 use Rattle.ns_send.specs.Bodies.{has_environment, environment_out, environment_at, parent_in, is_beside, local_at}
 use Rattle.ns_send.specs.Lawful.{body_out, FitsLocal}

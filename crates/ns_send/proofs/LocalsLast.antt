@@ -7,13 +7,12 @@ use Rattle.ns_world.specs.declared.value.Value.{Value}
 use Rattle.ns_world.specs.declared.value.Value.TheVariants.{Nil, True, False, Int, Sym, Kernel, Ref}
 use Rattle.ns_world.specs.declared.cell.NewCell.TheVariants as new
 use Rattle.ns_world.specs.Cell.{Cell, ObjectCell, ClassCell, BlockCell, EnvironmentCell, ArrayCell, TextCell, FacetCell, MirrorCell, MessageCell, shape_of}
-use Rattle.ns_world.specs.Heap.{Heap, heap_size, find_cell}
+use Rattle.ns_world.specs.Heap.{Heap, heap_size, find_cell, cell_number}
 use Rattle.ns_world.specs.World.{World}
 use Rattle.ns_world.specs.Later.{RunsOn}
 use Rattle.ns_world.specs.Lawful.{IsLawful, IsEnvironmentOrNil, is_environment}
 use Rattle.ns_world.specs.laws.Staying.{environment_stays}
 use Rattle.ns_world.specs.laws.Lasting.{keeps_of, shape_lasts}
-use Rattle.ns_mirror.specs.Mirror.{cell_number}
 use Rattle.ns_send.specs.Control.{Activation}
 use Rattle.ns_send.specs.Bodies.{has_environment, environment_out, parent_in}
 use Rattle.ns_send.specs.Lawful.{FitsLocal}

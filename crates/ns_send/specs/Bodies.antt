@@ -13,11 +13,10 @@ use Rattle.ns_world.specs.declared.ending.LimitKind.TheVariants.{Cells}
 use Rattle.ns_world.specs.declared.cell.NewCell.{NewCell}
 use Rattle.ns_world.specs.declared.cell.NewCell.TheVariants as new
 use Rattle.ns_world.specs.Cell.{EnvironmentCell}
-use Rattle.ns_world.specs.Heap.{Heap, heap_size, shape_at, word_at}
+use Rattle.ns_world.specs.Heap.{Heap, heap_size, shape_at, word_at, cell_number}
 use Rattle.ns_world.specs.World.{World, made, written}
 use Rattle.ns_find.specs.declared.members.Side.{Side}
 use Rattle.ns_find.specs.Find.{side_of}
-use Rattle.ns_mirror.specs.Mirror.{cell_number}
 use Rattle.ns_send.specs.Control.{Progress, in_world, Activation, charged}
 
 -- ---- what a body declares

@@ -7,6 +7,7 @@ use Rattle.ns_world.specs.declared.value.Value.TheVariants.{Int, Sym}
 use Rattle.ns_world.specs.declared.ending.Fault.{Fault}
 use Rattle.ns_world.specs.declared.ending.Fault.TheVariants as fault
 use Rattle.ns_world.specs.declared.ending.Kind.TheVariants.{NotUnderstood}
+use Rattle.ns_world.specs.Heap.{cell_number}
 use Rattle.ns_kint.specs.Integer.{integer}
 use Rattle.ns_kdata.specs.declared.row.DataRow.{DataRow}
 use Rattle.ns_kdata.specs.declared.row.DataRow.TheVariants.{DoesNotUnderstand}
@@ -19,7 +20,7 @@ use Rattle.ns_facets.specs.declared.row.FacetRow.TheVariants as facet
 use Rattle.ns_facets.specs.Facet.{facet as facet_outcome, board_after}
 use Rattle.ns_mirror.specs.declared.row.Mirrored.{Mirrored}
 use Rattle.ns_mirror.specs.declared.row.Mirrored.TheVariants.{Answer, Perform as MirrorPerform}
-use Rattle.ns_mirror.specs.Mirror.{Reflected, Reflects, Refuses, mirror, cell_number}
+use Rattle.ns_mirror.specs.Mirror.{Reflected, Reflects, Refuses, mirror}
 use Rattle.ns_send.specs.declared.row.Row.{Row}
 use Rattle.ns_send.specs.declared.row.Row.TheVariants as row
 use Rattle.ns_send.specs.declared.site.Site.{Site}

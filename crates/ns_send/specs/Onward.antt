@@ -2,10 +2,9 @@
 use Rattle.std.specs.Prelude.{◌≡◌, ℕ, ◌≤◌, List, [], ◌∷◌, ◌++◌, IsSome, Contains}
 use Rattle.ns_world.specs.declared.value.Value.{Value}
 use Rattle.ns_world.specs.declared.value.Value.TheVariants.{Ref}
-use Rattle.ns_world.specs.Heap.{Heap, heap_size, find_cell}
+use Rattle.ns_world.specs.Heap.{Heap, heap_size, find_cell, cell_number}
 use Rattle.ns_world.specs.World.{World}
 use Rattle.ns_mirror.specs.Looking.{mirrored}
-use Rattle.ns_mirror.specs.Mirror.{cell_number}
 use Rattle.ns_send.specs.Control.{Progress, After, Gives, Halts, Control, Now, Enter, Evaluate, Begin, Perform, Part, Skip, Stop, EnterPart, Waiting, Waits, Finishes}
 
 -- No limit changed, no counter but depth fell, what was printed stands, and each cell that was there is as it

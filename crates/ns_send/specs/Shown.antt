@@ -5,9 +5,8 @@ use Rattle.ns_world.specs.declared.value.Value.{Value}
 use Rattle.ns_world.specs.declared.value.Value.TheVariants.{Ref}
 use Rattle.ns_world.specs.declared.ending.Fault.{Fault}
 use Rattle.ns_world.specs.declared.ending.Kind.TheVariants.{NotUnderstood}
-use Rattle.ns_world.specs.Heap.{Heap}
+use Rattle.ns_world.specs.Heap.{Heap, cell_number}
 use Rattle.ns_kdata.specs.Arguments.{items_of}
-use Rattle.ns_mirror.specs.Mirror.{cell_number}
 use Rattle.ns_send.specs.declared.site.Site.{Site}
 use Rattle.ns_send.specs.declared.control.Given.{Given}
 use Rattle.ns_send.specs.declared.control.Given.TheVariants as given

@@ -70,6 +70,11 @@ abbrev pub superclass_in : Option Cell → Value
 superclass_in (Some (ClassCell decl encl holder over)) = over
 superclass_in _ = Nil
 
+-- the number of the cell that a value refers to, 0 where it refers to none
+abbrev pub cell_number : Value → ℕ
+cell_number (Ref at) = at
+cell_number value = 0
+
 -- the values behind the head of the cell of that number
 abbrev pub words_at : Heap → ℕ → List Value
 words_at heap number = option_map_or cell_words (find_cell heap number) []

@@ -2,6 +2,7 @@
 
 ghost use Rattle.std.specs.Prelude.{◌≡◌};
 ghost use Rattle.ns_world.specs.Booleans as booleans;
+ghost use Rattle.ns_world.specs.Heap as heap;
 
 use ns_base::selector::Sel;
 
@@ -30,4 +31,15 @@ pub fn truth(test: bool) -> Value
     ensures { result ≡ booleans.truth test }
 {
     if test { Value::True } else { Value::False }
+}
+
+/// The number of the cell that a value refers to, 0 where it refers to none.
+#[inline(always)]
+pub fn cell_number(value: Value) -> u32
+    ensures { result ≡ heap.cell_number value }
+{
+    match value {
+        Value::Ref(at) => at,
+        _ => 0,
+    }
 }

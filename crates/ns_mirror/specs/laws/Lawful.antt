@@ -8,7 +8,7 @@ use Rattle.ns_world.specs.declared.value.Value.TheVariants.{Nil, True, False, In
 use Rattle.ns_world.specs.declared.ending.Fault.TheVariants.{Kind}
 use Rattle.ns_world.specs.declared.ending.Kind.TheVariants as kind
 use Rattle.ns_world.specs.Cell.{ArrayCell, TextCell, MirrorCell}
-use Rattle.ns_world.specs.Heap.{chain_of}
+use Rattle.ns_world.specs.Heap.{chain_of, cell_number}
 use Rattle.ns_world.specs.Starts.{class_name_of}
 use Rattle.ns_world.specs.World.{World}
 use Rattle.ns_world.specs.Lawful.{IsLawful, IsLiveValue}
@@ -23,7 +23,7 @@ use Rattle.ns_mirror.specs.Naming.{class_text}
 use Rattle.ns_mirror.specs.Looking.{object_class}
 use Rattle.ns_mirror.specs.Slots.{slot, slot_put, slot_names_along}
 use Rattle.ns_mirror.specs.Selectors.{public_selectors, methods_of_shape}
-use Rattle.ns_mirror.specs.Mirror.{Reflects, Refuses, reflected, cell_number, performed_with, perform, row_outcome}
+use Rattle.ns_mirror.specs.Mirror.{Reflects, Refuses, reflected, performed_with, perform, row_outcome}
 use Rattle.ns_mirror.specs.Lawful.{ReflectsLawful}
 use Rattle.ns_mirror.specs.lemmas.Named.{slot_names_live, shown_selectors_live}
 use Rattle.ns_mirror.specs.lemmas.Written.{slot_put_lawful}

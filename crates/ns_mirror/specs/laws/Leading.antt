@@ -8,7 +8,7 @@ use Rattle.ns_world.specs.declared.value.Value.TheVariants as value
 use Rattle.ns_world.specs.declared.ending.Fault.TheVariants.{Kind}
 use Rattle.ns_world.specs.declared.ending.Kind.TheVariants as kind
 use Rattle.ns_world.specs.Cell.{ArrayCell, TextCell, MirrorCell}
-use Rattle.ns_world.specs.Heap.{chain_of}
+use Rattle.ns_world.specs.Heap.{chain_of, cell_number}
 use Rattle.ns_world.specs.Starts.{class_name_of}
 use Rattle.ns_world.specs.World.{World}
 use Rattle.ns_kdata.specs.Outcome.{Outcome, Answers, Fails, making, unchanged, wrong_kind}
@@ -22,7 +22,7 @@ use Rattle.ns_mirror.specs.Looking.{object_class}
 use Rattle.ns_mirror.specs.Naming.{class_name, class_text}
 use Rattle.ns_mirror.specs.Selectors.{selectors, public_selectors, methods_of_shape}
 use Rattle.ns_mirror.specs.Slots.{slot, slot_names, slot_names_along, write_slot, slot_put, slot_of}
-use Rattle.ns_mirror.specs.Mirror.{Reflects, Refuses, reflected, cell_number, perform, row_outcome}
+use Rattle.ns_mirror.specs.Mirror.{Reflects, Refuses, reflected, perform, row_outcome}
 use Rattle.ns_world.specs.Later.{IsLater}
 use Rattle.ns_kdata.specs.Leading.{LeadsTo}
 use Rattle.ns_kdata.specs.laws.Leading.{Allows, Writes, allows_later, writes_later, cell_leads, unchanged_leads}

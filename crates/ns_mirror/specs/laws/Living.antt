@@ -11,7 +11,7 @@ use Rattle.ns_world.specs.declared.cell.NewCell.TheVariants as new
 use Rattle.ns_world.specs.declared.ending.Fault.TheVariants.{Kind}
 use Rattle.ns_world.specs.declared.ending.Kind.TheVariants as kind
 use Rattle.ns_world.specs.Cell.{Cell, shape_of, ObjectCell, ClassCell, BlockCell, EnvironmentCell, ArrayCell, TextCell, FacetCell, MirrorCell, MessageCell}
-use Rattle.ns_world.specs.Heap.{Heap, find_cell, chain_of}
+use Rattle.ns_world.specs.Heap.{Heap, find_cell, chain_of, cell_number}
 use Rattle.ns_world.specs.Starts.{class_name_of}
 use Rattle.ns_world.specs.World.{World}
 use Rattle.ns_world.specs.Lawful.{IsLawful, IsLiveValue}
@@ -26,7 +26,7 @@ use Rattle.ns_mirror.specs.Naming.{class_text}
 use Rattle.ns_mirror.specs.Looking.{object_class}
 use Rattle.ns_mirror.specs.Slots.{slot, slot_put, slot_names_along}
 use Rattle.ns_mirror.specs.Selectors.{public_selectors, methods_of_shape}
-use Rattle.ns_mirror.specs.Mirror.{Reflects, Refuses, reflected, performed_with, perform, cell_number, row_outcome}
+use Rattle.ns_mirror.specs.Mirror.{Reflects, Refuses, reflected, performed_with, perform, row_outcome}
 use Rattle.ns_mirror.specs.Living.{ReflectsLive}
 use Rattle.ns_mirror.specs.lemmas.LivingSlots.{slot_live, slot_put_live}
 use Rattle.ns_mirror.specs.lemmas.LivingEnclosing.{enclosing_live}

@@ -18,7 +18,7 @@ use Rattle.ns_world.specs.declared.ending.LimitKind.TheVariants.{Steps, Depth, C
 use Rattle.ns_world.specs.declared.cell.NewCell.{NewCell}
 use Rattle.ns_world.specs.declared.cell.NewCell.TheVariants as new
 use Rattle.ns_world.specs.Cell.{Cell, ObjectCell, ClassCell, BlockCell, EnvironmentCell, ArrayCell, TextCell, FacetCell, MirrorCell, MessageCell, shape_of}
-use Rattle.ns_world.specs.Heap.{heap_size, find_cell, superclass_in}
+use Rattle.ns_world.specs.Heap.{heap_size, find_cell, superclass_in, cell_number}
 use Rattle.ns_world.specs.World.{World, made, stepped, entered, left}
 use Rattle.ns_world.specs.Lawful.{IsLawful, MessageIsLawful}
 use Rattle.ns_world.specs.Layout.{declaration_of, layout_of}
@@ -43,7 +43,7 @@ use Rattle.ns_facets.specs.declared.row.FacetRow.{FacetRow}
 use Rattle.ns_facets.specs.declared.row.FacetRow.TheVariants as facet
 use Rattle.ns_facets.specs.Facet.{facet as facet_outcome, board_after}
 use Rattle.ns_mirror.specs.declared.row.Mirrored.TheVariants.{Answer, Perform}
-use Rattle.ns_mirror.specs.Mirror.{Reflected, Reflects, Refuses, mirror, cell_number}
+use Rattle.ns_mirror.specs.Mirror.{Reflected, Reflects, Refuses, mirror}
 use Rattle.ns_kcode.specs.declared.state.KMethod.{KMethod}
 use Rattle.ns_kcode.specs.declared.state.KState.{KState}
 use Rattle.ns_kcode.specs.declared.state.KAction.{KAction}

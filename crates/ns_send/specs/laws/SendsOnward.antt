@@ -11,7 +11,7 @@ use Rattle.ns_world.specs.declared.value.Value.TheVariants as value
 use Rattle.ns_world.specs.declared.ending.Fault.{Fault}
 use Rattle.ns_world.specs.declared.ending.LimitKind.TheVariants.{Steps}
 use Rattle.ns_world.specs.Cell.{ArrayCell, MessageCell}
-use Rattle.ns_world.specs.Heap.{Heap, heap_size}
+use Rattle.ns_world.specs.Heap.{Heap, heap_size, cell_number}
 use Rattle.ns_world.specs.World.{stepped}
 use Rattle.ns_world.specs.Starts.{start_of}
 use Rattle.ns_find.specs.declared.found.Found.{Found}
@@ -33,7 +33,7 @@ use Rattle.ns_facets.specs.declared.row.FacetRow.TheVariants as facet
 use Rattle.ns_facets.specs.Facet.{facet as facet_outcome, board_after}
 use Rattle.ns_mirror.specs.declared.row.Mirrored.TheVariants.{Answer, Perform}
 use Rattle.ns_mirror.specs.Looking.{mirrored}
-use Rattle.ns_mirror.specs.Mirror.{Reflected, Reflects, Refuses, mirror, cell_number}
+use Rattle.ns_mirror.specs.Mirror.{Reflected, Reflects, Refuses, mirror}
 use Rattle.ns_facets.specs.laws.Leading.{facet_leads}
 use Rattle.ns_mirror.specs.Leading.{ReflectsTo}
 use Rattle.ns_mirror.specs.laws.Leading.{mirror_leads}

@@ -17,7 +17,7 @@ use Rattle.ns_world.specs.declared.ending.LimitKind.TheVariants.{Steps, Depth, C
 use Rattle.ns_world.specs.declared.cell.NewCell.{NewCell}
 use Rattle.ns_world.specs.declared.cell.NewCell.TheVariants as new
 use Rattle.ns_world.specs.Cell.{Cell, ObjectCell, ClassCell, BlockCell, ArrayCell, TextCell, MessageCell}
-use Rattle.ns_world.specs.Heap.{heap_size, find_cell, superclass_in}
+use Rattle.ns_world.specs.Heap.{heap_size, find_cell, superclass_in, cell_number}
 use Rattle.ns_world.specs.World.{World, made, stepped, entered, left, written}
 use Rattle.ns_world.specs.Layout.{declaration_of, layout_of, entry_word}
 use Rattle.ns_world.specs.Starts.{start_of}
@@ -43,7 +43,7 @@ use Rattle.ns_facets.specs.Facet.{facet as facet_outcome, board_after}
 use Rattle.ns_facets.specs.laws.Leading.{facet_leads}
 use Rattle.ns_mirror.specs.declared.row.Mirrored.TheVariants.{Answer, Perform}
 use Rattle.ns_mirror.specs.Looking.{mirrored}
-use Rattle.ns_mirror.specs.Mirror.{Reflected, Reflects, Refuses, mirror, cell_number}
+use Rattle.ns_mirror.specs.Mirror.{Reflected, Reflects, Refuses, mirror}
 use Rattle.ns_mirror.specs.Leading.{ReflectsTo}
 use Rattle.ns_mirror.specs.laws.Leading.{mirror_leads}
 use Rattle.ns_kcode.specs.declared.state.KMethod.{KMethod}

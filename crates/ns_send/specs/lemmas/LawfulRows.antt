@@ -11,7 +11,7 @@ use Rattle.ns_world.specs.declared.ending.Fault.TheVariants.{Kind}
 use Rattle.ns_world.specs.declared.ending.Kind.TheVariants as kind
 use Rattle.ns_world.specs.declared.cell.NewCell.TheVariants as new
 use Rattle.ns_world.specs.Cell.{Cell, ObjectCell, ClassCell, BlockCell, EnvironmentCell, ArrayCell, TextCell, FacetCell, MirrorCell, MessageCell, shape_of}
-use Rattle.ns_world.specs.Heap.{Heap, find_cell}
+use Rattle.ns_world.specs.Heap.{Heap, find_cell, cell_number}
 use Rattle.ns_world.specs.World.{World}
 use Rattle.ns_world.specs.Lawful.{IsLawful, IsLiveValue}
 use Rattle.ns_kint.specs.declared.row.IntRow.{IntRow}
@@ -37,7 +37,7 @@ use Rattle.ns_facets.specs.laws.Living.{rows_live as facets_live}
 use Rattle.ns_facets.specs.laws.Lawful.{rows_lawful as facets_lawful}
 use Rattle.ns_mirror.specs.declared.row.Mirrored.TheVariants.{Answer, Perform}
 use Rattle.ns_mirror.specs.Looking.{mirrored_in, mirrored}
-use Rattle.ns_mirror.specs.Mirror.{Reflected, Reflects, Refuses, mirror, cell_number}
+use Rattle.ns_mirror.specs.Mirror.{Reflected, Reflects, Refuses, mirror}
 use Rattle.ns_mirror.specs.Living.{ReflectsLive}
 use Rattle.ns_mirror.specs.Lawful.{ReflectsLawful}
 use Rattle.ns_mirror.specs.laws.Living.{rows_live as mirrors_live}

@@ -10,7 +10,7 @@ use Rattle.ns_world.specs.declared.value.Value.{Value}
 use Rattle.ns_world.specs.declared.value.Value.TheVariants.{Nil, True, False, Int, Sym, Kernel, Ref}
 use Rattle.ns_world.specs.declared.cell.NewCell.TheVariants as new
 use Rattle.ns_world.specs.Cell.{Cell, ObjectCell, ClassCell, BlockCell, EnvironmentCell, ArrayCell, TextCell, FacetCell, MirrorCell, MessageCell, shape_of}
-use Rattle.ns_world.specs.Heap.{Heap, find_cell, is_class}
+use Rattle.ns_world.specs.Heap.{Heap, find_cell, is_class, cell_number}
 use Rattle.ns_world.specs.World.{World}
 use Rattle.ns_world.specs.Layout.{declaration_of}
 use Rattle.ns_world.specs.Lawful.{IsLawful, IsLiveValue, HasHolder, HasEnclosing, FitsBody}
@@ -18,7 +18,6 @@ use Rattle.ns_find.specs.declared.members.Side.{Side}
 use Rattle.ns_find.specs.declared.members.Side.TheVariants.{Instance as InstanceSide, Class as ClassSide}
 use Rattle.ns_find.specs.Find.{side_of}
 use Rattle.ns_send.specs.Control.{Activation}
-use Rattle.ns_mirror.specs.Mirror.{cell_number}
 use Rattle.ns_send.specs.Bodies.{Place, enclosing_place, enclosing, side_of_body, side_at}
 use Rattle.ns_send.specs.Lawful.{FitsActivation, declaration_of_body, outer_of, declaration_at}
 use Rattle.ns_send.specs.lemmas.LawfulClasses.{object_live}

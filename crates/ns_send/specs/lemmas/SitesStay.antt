@@ -11,7 +11,7 @@ use Rattle.ns_world.specs.declared.ending.Fault.{Fault}
 use Rattle.ns_world.specs.declared.ending.Kind.TheVariants.{WrongArity, WrongKind}
 use Rattle.ns_world.specs.declared.ending.LimitKind.TheVariants.{Depth, Cells}
 use Rattle.ns_world.specs.Cell.{ObjectCell, EnvironmentCell, ArrayCell, MessageCell}
-use Rattle.ns_world.specs.Heap.{heap_size}
+use Rattle.ns_world.specs.Heap.{heap_size, cell_number}
 use Rattle.ns_world.specs.World.{World, made, entered}
 use Rattle.ns_world.specs.Layout.{declaration_of, layout_of}
 use Rattle.ns_world.specs.Starts.{start_of}
@@ -31,7 +31,7 @@ use Rattle.ns_facets.specs.declared.row.FacetRow.{FacetRow}
 use Rattle.ns_facets.specs.declared.row.FacetRow.TheVariants as facet
 use Rattle.ns_facets.specs.Facet.{facet as facet_outcome, board_after}
 use Rattle.ns_mirror.specs.declared.row.Mirrored.TheVariants.{Answer, Perform}
-use Rattle.ns_mirror.specs.Mirror.{Reflected, Reflects, Refuses, mirror, cell_number}
+use Rattle.ns_mirror.specs.Mirror.{Reflected, Reflects, Refuses, mirror}
 use Rattle.ns_kcode.specs.declared.state.KMethod.{KMethod}
 use Rattle.ns_kcode.specs.Rows.{beginning}
 use Rattle.ns_send.specs.declared.row.Row.{Row}
