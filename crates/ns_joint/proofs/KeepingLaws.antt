@@ -8,8 +8,8 @@ use Rattle.ns_session.specs.Play.{opened}
 use Rattle.ns_session.specs.Reached.{left_of}
 use Rattle.ns_session.specs.Session.{SessionView}
 use Rattle.ns_world.specs.declared.ending.Ending.{Ending}
-use Rattle.ns_rounds.specs.Robin.{have_ended, round_from, round_of, rounds_in, turn_for, turn_unless}
-use Rattle.ns_rounds.specs.Turned.{turned_beside}
+use Rattle.ns_session.specs.Robin.{have_ended, round_from, round_of, rounds_in, turn_for, turn_unless}
+use Rattle.ns_session.specs.Turned.{turned_beside}
 use Rattle.ns_joint.specs.Laws.{KeepsApplications, application_in}
 
 -- the applications of a session

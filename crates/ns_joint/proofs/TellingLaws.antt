@@ -11,8 +11,8 @@ use Rattle.ns_moves.specs.State.{ending_of}
 use Rattle.ns_session.specs.Member.{MayStart, MemberView, StandsAlone}
 use Rattle.ns_session.specs.Rounds.{HaveEnded}
 use Rattle.ns_session.specs.Session.{SessionView, ending_in}
-use Rattle.ns_rounds.specs.Laws.{MayAllStart}
-use Rattle.ns_rounds.specs.Robin.{session_run}
+use Rattle.ns_session.specs.RobinLaws.{MayAllStart}
+use Rattle.ns_session.specs.Robin.{session_run}
 use Rattle.ns_joint.specs.Answer.{AreAdmitted}
 use Rattle.ns_joint.specs.Joint.{run_of, run_text, runs, runs_of, status_of_all, status_then, text_from, told_of}
 use Rattle.ns_joint.specs.Laws.{AppliesAsMeant, KeepsApplications, application_in}

@@ -11,7 +11,7 @@ use Rattle.ns_launch.specs.Machine.{told_at}
 use Rattle.ns_launch.specs.Run.{ran_of}
 use Rattle.ns_launch.specs.declared.run.Ran.{Ran}
 use Rattle.ns_model.specs.Whole.{meaning_of_run}
-use Rattle.ns_rounds.specs.Robin.{session_run}
+use Rattle.ns_session.specs.Robin.{session_run}
 use Rattle.ns_session.specs.Member.{MemberView}
 use Rattle.ns_joint.specs.Making.{Making, Refusal, Source, all_made, application_of, files_named, made, refused}
 use Rattle.ns_joint.specs.declared.joint.Told.{Told}

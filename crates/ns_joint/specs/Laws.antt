@@ -2,7 +2,7 @@
 use Rattle.std.specs.Prelude.{◌≡◌, ℕ, List, map, IsSome}
 use Rattle.ns_base.specs.declared.limits.Limits.{Limits}
 use Rattle.ns_moves.specs.State.{ending_of}
-use Rattle.ns_rounds.specs.Robin.{session_run}
+use Rattle.ns_session.specs.Robin.{session_run}
 use Rattle.ns_session.specs.Member.{Application, MemberView, StandsAlone}
 use Rattle.ns_joint.specs.Answer.{IsAdmitted}
 use Rattle.ns_joint.specs.Joint.{run_of}

@@ -23,7 +23,7 @@ use ns_base::no_memory::NoMemory;
 use ns_base::shelf::Shelf;
 use ns_base::status::Status;
 use ns_base::text::Text;
-use ns_rounds::laws::sessions_run_as_a_function;
+use ns_session::robin_laws::sessions_run_as_a_function;
 use ns_session::rounds::run_round_robin;
 use ns_session::session::Session;
 use std::alloc::Global;

@@ -8,3 +8,6 @@ pub mod Lists
 pub mod Playing
 pub mod Rounding
 pub mod Keeping
+pub mod Turning
+pub mod Beside
+pub mod RobinRounding

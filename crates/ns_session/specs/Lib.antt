@@ -5,3 +5,6 @@ pub mod Session
 pub mod Play
 pub mod Rounds
 pub mod Laws
+pub mod Turned
+pub mod Robin
+pub mod RobinLaws

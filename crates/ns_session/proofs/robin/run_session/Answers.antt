@@ -1,4 +1,4 @@
-use Rattle.ns_rounds.proofs.run.run_session.Goals as goal
+use Rattle.ns_session.proofs.robin.run_session.Goals as goal
 
 pub returns : goal.returns
 returns c =

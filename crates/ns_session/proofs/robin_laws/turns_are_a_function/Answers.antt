@@ -1,5 +1,5 @@
-use Rattle.ns_rounds.proofs.Turning.{turns_are_turned}
-use Rattle.ns_rounds.proofs.laws.turns_are_a_function.Goals as goal
+use Rattle.ns_session.proofs.Turning.{turns_are_turned}
+use Rattle.ns_session.proofs.robin_laws.turns_are_a_function.Goals as goal
 
 pub returns : goal.returns
 returns c code grants =

@@ -12,8 +12,8 @@ use Rattle.ns_moves.specs.Standing.{MovesKeepValid}
 use Rattle.ns_moves.specs.State.{State, world_of}
 use Rattle.ns_moves.specs.Turn.{is_still, charges, charged_in, one_if, Turns}
 use Rattle.ns_moves.specs.Valid.{Valid}
-use Rattle.ns_rounds.specs.Laws.{TurnsAreTurned}
-use Rattle.ns_rounds.specs.Turned.{Underway, is_over, moved_on, steps_behind, turned}
+use Rattle.ns_session.specs.RobinLaws.{TurnsAreTurned}
+use Rattle.ns_session.specs.Turned.{Underway, is_over, moved_on, steps_behind, turned}
 
 -- What is known of moves.
 pub record Known (code : CodeProgram) (grants : Grants) : Type 0 where

@@ -11,8 +11,8 @@ use Rattle.ns_session.specs.Play.{opened}
 use Rattle.ns_session.specs.Reached.{IsReached}
 use Rattle.ns_session.specs.Rounds.{RoundRobin}
 use Rattle.ns_session.specs.Session.{SessionView}
-use Rattle.ns_rounds.specs.Robin.{robin, session_run}
-use Rattle.ns_rounds.specs.Turned.{left_as, turned, turned_beside}
+use Rattle.ns_session.specs.Robin.{robin, session_run}
+use Rattle.ns_session.specs.Turned.{left_as, turned, turned_beside}
 
 -- In a valid state a turn leaves what the function gives.
 abbrev pub TurnsAreTurned : CodeProgram → Grants → Type 0

@@ -1,5 +1,5 @@
-use Rattle.ns_rounds.proofs.Beside.{turns_beside}
-use Rattle.ns_rounds.proofs.laws.turns_beside_a_board_are_a_function.Goals as goal
+use Rattle.ns_session.proofs.Beside.{turns_beside}
+use Rattle.ns_session.proofs.robin_laws.turns_beside_a_board_are_a_function.Goals as goal
 
 pub returns : goal.returns
 returns c application =

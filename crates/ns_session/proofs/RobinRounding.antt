@@ -13,8 +13,8 @@ use Rattle.ns_session.specs.Reached.{IsReached, left_for, left_of}
 use Rattle.ns_session.specs.Rounds.{GivenTo, RoundFrom, Rounds, RoundRobin, HaveEnded}
 use Rattle.ns_session.specs.Session.{SessionView, HasTurn, PlaysAt, ending_in}
 use Rattle.ns_world.specs.declared.ending.Ending.{Ending}
-use Rattle.ns_rounds.specs.Laws.{TurnsAreTurnedBeside, AreReached, MayAllStart}
-use Rattle.ns_rounds.specs.Robin.{with_turn, turn_unless, turn_for, round_from, round_of, have_ended, rounds_in, robin}
+use Rattle.ns_session.specs.RobinLaws.{TurnsAreTurnedBeside, AreReached, MayAllStart}
+use Rattle.ns_session.specs.Robin.{with_turn, turn_unless, turn_for, round_from, round_of, have_ended, rounds_in, robin}
 
 -- What is known of turns.
 pub record Known : Type 0 where

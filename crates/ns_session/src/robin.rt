@@ -1,12 +1,12 @@
 //! The run of a session: its applications take turns until all have ended.
 
 ghost use Rattle.std.specs.Prelude.{◌≡◌, ◌≤◌};
-ghost use Rattle.ns_rounds.specs.Laws.{AreReached};
-ghost use Rattle.ns_rounds.specs.Robin.{robin};
+ghost use Rattle.ns_session.specs.RobinLaws.{AreReached};
+ghost use Rattle.ns_session.specs.Robin.{robin};
 
-use crate::laws::round_robins_are_a_function;
-use ns_session::rounds::run_round_robin;
-use ns_session::session::Session;
+use crate::robin_laws::round_robins_are_a_function;
+use crate::rounds::run_round_robin;
+use crate::session::Session;
 
 /// Each application that hasn't ended gets so many steps, in order, again and again until all have ended. It takes no
 /// memory.

@@ -1,6 +1,6 @@
 use Rattle.ns_session.specs.Play.{opened}
-use Rattle.ns_rounds.proofs.Rounding.{opened_reached}
-use Rattle.ns_rounds.proofs.laws.sessions_run_as_a_function.Goals as goal
+use Rattle.ns_session.proofs.RobinRounding.{opened_reached}
+use Rattle.ns_session.proofs.robin_laws.sessions_run_as_a_function.Goals as goal
 
 pub returns : goal.returns
 returns c quantum applications new some may made =

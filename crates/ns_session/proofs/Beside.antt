@@ -5,8 +5,8 @@ use Rattle.ns_moves.specs.State.{State, swapped}
 use Rattle.ns_moves.specs.WorldStays.{SwapsKeepValid}
 use Rattle.ns_session.specs.Member.{Application, TurnOf, board_of}
 use Rattle.ns_session.specs.Reached.{IsReached}
-use Rattle.ns_rounds.specs.Laws.{TurnsAreTurned, TurnsAreTurnedBeside}
-use Rattle.ns_rounds.specs.Turned.{given_back, left_as, turned, turned_beside}
+use Rattle.ns_session.specs.RobinLaws.{TurnsAreTurned, TurnsAreTurnedBeside}
+use Rattle.ns_session.specs.Turned.{given_back, left_as, turned, turned_beside}
 
 -- what a turn leaves, part by part
 after_is : (one other : State) (here there : Board) → one ≡ other → here ≡ there

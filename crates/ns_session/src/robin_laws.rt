@@ -5,7 +5,7 @@ ghost use Rattle.std.specs.Prelude.{ℕ};
 ghost use Rattle.ns_code.specs.declared.program.CodeProgram.{CodeProgram};
 ghost use Rattle.ns_facets.specs.declared.row.Grants.{Grants};
 ghost use Rattle.ns_session.specs.Member.{Application};
-ghost use Rattle.ns_rounds.specs.Laws.{TurnsAreTurned, TurnsAreTurnedBeside, RoundRobinIsRobin, SessionsRun};
+ghost use Rattle.ns_session.specs.RobinLaws.{TurnsAreTurned, TurnsAreTurnedBeside, RoundRobinIsRobin, SessionsRun};
 
 /// In a valid state a turn leaves one state, which a function gives.
 pub fn turns_are_a_function()
@@ -30,8 +30,8 @@ pub fn round_robins_are_a_function()
     ensures { (quantum : ℕ) → RoundRobinIsRobin quantum }
 {
     turns_beside_a_board_are_a_function();
-    ns_session::laws::applications_stay_in_reach();
-    ns_session::laws::turns_use_steps_up();
+    crate::laws::applications_stay_in_reach();
+    crate::laws::turns_use_steps_up();
 }
 
 /// So what a session of applications that were admitted comes to under the round robin is a function of them and the
@@ -40,5 +40,5 @@ pub fn sessions_run_as_a_function()
     ensures { (quantum : ℕ) → SessionsRun quantum }
 {
     round_robins_are_a_function();
-    ns_session::laws::applications_stay_in_reach();
+    crate::laws::applications_stay_in_reach();
 }

@@ -7,7 +7,7 @@ use Rattle.ns_session.specs.Member.{Application, MemberView}
 use Rattle.ns_session.specs.Play.{opened}
 use Rattle.ns_session.specs.Reached.{left_of}
 use Rattle.ns_session.specs.Session.{SessionView}
-use Rattle.ns_rounds.specs.Turned.{AfterTurn, turned_beside}
+use Rattle.ns_session.specs.Turned.{AfterTurn, turned_beside}
 
 -- the session after a turn of that application, which left this
 abbrev pub with_turn : ℕ → MemberView → SessionView → AfterTurn → SessionView

@@ -1,5 +1,5 @@
-use Rattle.ns_rounds.proofs.Rounding.{robin_is}
-use Rattle.ns_rounds.proofs.laws.round_robins_are_a_function.Goals as goal
+use Rattle.ns_session.proofs.RobinRounding.{robin_is}
+use Rattle.ns_session.proofs.robin_laws.round_robins_are_a_function.Goals as goal
 
 pub returns : goal.returns
 returns c quantum old new some reached made =
