@@ -1,5 +1,5 @@
 -- Steps that lead straight on.
-use Rattle.std.specs.Prelude.{◌≡◌, ℕ, List, [], ◌∷◌, Option, Bool, true, false}
+use Rattle.std.specs.Prelude.{◌≡◌, ℕ, ◌+◌, List, [], ◌∷◌, Option, Bool, true, false}
 use Rattle.ns_base.specs.declared.place.Place.{Place as SourcePlace}
 use Rattle.ns_code.specs.declared.program.CodeProgram.{CodeProgram}
 use Rattle.ns_code.specs.declared.instruction.Instr.{Instr}
@@ -24,16 +24,20 @@ pub record IsOnTop (code : CodeProgram) (top : OnTop) (frames : List Frame) : Ty
   pub runs : RunsBody top.body frames
   pub environment : top.environment ≡ has_environment code top.body
 
--- That body still runs on top, and no step was charged.
-pub record StaysIn (body : ℕ) (old new : Core) : Type 0 where
+-- That body still runs on top, and so many steps were charged.
+pub record StaysIn (body charged : ℕ) (old new : Core) : Type 0 where
   pub runs : RunsBody body new.stack.frames.items
-  pub steps : new.run.world.world.steps ≡ old.run.world.world.steps
+  pub steps : new.run.world.world.steps ≡ old.run.world.world.steps + charged
 
--- The instruction is done, and the body that runs goes straight on at those registers.
-pub record GoesStraight (code : CodeProgram) (instr : Instr) (place : Option SourcePlace) (old : Core) (at : Registers) (new : Core) (to : Registers)
-    : Type 0 where
+-- So it is with the body that runs on top, whichever it is.
+abbrev pub StaysOnTop : ℕ → Core → Core → Type 0
+StaysOnTop charged old new = (body : ℕ) → RunsBody body old.stack.frames.items → StaysIn body charged old new
+
+-- The instruction is done, so many steps were charged, and the body that runs goes straight on at those registers.
+pub record GoesStraight (code : CodeProgram) (charged : ℕ) (instr : Instr) (place : Option SourcePlace) (old : Core) (at : Registers)
+    (new : Core) (to : Registers) : Type 0 where
   pub does : Does code instr place old at new (On to)
-  pub stays : (body : ℕ) → RunsBody body old.stack.frames.items → StaysIn body old new
+  pub stays : StaysOnTop charged old new
 
 -- whether an instruction is plain: it neither sends nor jumps nor ends a body, and makes nothing but a block
 abbrev pub is_plain : Instr → Bool

@@ -1,4 +1,5 @@
 -- Laws of these definitions, for the crates above.
+pub mod Charged
 pub mod Finds
 pub mod Kept
 pub mod Pushed

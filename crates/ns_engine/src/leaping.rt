@@ -1,4 +1,5 @@
-//! Jumps by the quick way: one that finds no step left or no boolean isn't made. One that goes forward leads straight on.
+//! Jumps by the quick way: one that finds no step left or no boolean isn't made. One that goes forward leads straight on, and so
+//! does one that goes back, with a step charged.
 
 ghost use Rattle.std.specs.Prelude.{Option};
 ghost use Rattle.ns_base.specs.declared.place.Place.{Place as SourcePlace};
@@ -16,6 +17,7 @@ use ns_world::value::Value;
 
 /// Takes a jump, unless it charges a step and none is left.
 #[inline(always)]
+#[tactic(auto, using(crate::specs::laws::Charged::step_on_top))]
 fn take(code: &CodeProgram, core: &mut Core, at: Registers, target: u32) -> Led
     requires { CanJump code.now core.old at target }
     ensures { JumpLeads code.now core.old at target core.new result }
@@ -27,20 +29,21 @@ fn take(code: &CodeProgram, core: &mut Core, at: Registers, target: u32) -> Led
         return Led::Straight(to);
     }
     match core.run.world.step() {
-        Ok(()) => Led::On(to),
+        Ok(()) => Led::Charged(to),
         Err(_) => Led::Nowhere,
     }
 }
 
 /// Jumps.
 #[inline(always)]
-#[tactic(auto, using(crate::specs::laws::Straight::same_straight))]
+#[tactic(auto, using(crate::specs::laws::Straight::same_straight, crate::specs::laws::Straight::charged_straight))]
 pub fn jump(code: &CodeProgram, core: &mut Core, at: Registers, target: u32) -> Led
     requires { CanDo code.now core.old at (instr.Jump target) }
     ensures { (place : Option SourcePlace) → Leads code.now (instr.Jump target) place core.old at core.new result }
 {
     match take(code, core, at, target) {
         Led::Straight(to) => Led::Straight(to),
+        Led::Charged(to) => Led::Charged(to),
         Led::On(to) => Led::On(to),
         Led::Nowhere => Led::Nowhere,
     }
@@ -48,7 +51,7 @@ pub fn jump(code: &CodeProgram, core: &mut Core, at: Registers, target: u32) -> 
 
 /// Takes the topmost operand off, and jumps where it is false.
 #[inline(always)]
-#[tactic(auto, using(crate::specs::laws::Taken::some_operand, crate::specs::laws::Straight::same_straight))]
+#[tactic(auto, using(crate::specs::laws::Taken::some_operand, crate::specs::laws::Straight::same_straight, crate::specs::laws::Straight::charged_straight))]
 pub fn jump_false(code: &CodeProgram, core: &mut Core, at: Registers, target: u32) -> Led
     requires { CanDo code.now core.old at (instr.JumpFalse target) }
     ensures { (place : Option SourcePlace) → Leads code.now (instr.JumpFalse target) place core.old at core.new result }
@@ -57,6 +60,7 @@ pub fn jump_false(code: &CodeProgram, core: &mut Core, at: Registers, target: u3
     match value {
         Value::False => match take(code, core, below, target) {
             Led::Straight(to) => Led::Straight(to),
+            Led::Charged(to) => Led::Charged(to),
             Led::On(to) => Led::On(to),
             Led::Nowhere => Led::Nowhere,
         },
@@ -67,7 +71,7 @@ pub fn jump_false(code: &CodeProgram, core: &mut Core, at: Registers, target: u3
 
 /// Takes the topmost operand off, and jumps where it is true.
 #[inline(always)]
-#[tactic(auto, using(crate::specs::laws::Taken::some_operand, crate::specs::laws::Straight::same_straight))]
+#[tactic(auto, using(crate::specs::laws::Taken::some_operand, crate::specs::laws::Straight::same_straight, crate::specs::laws::Straight::charged_straight))]
 pub fn jump_true(code: &CodeProgram, core: &mut Core, at: Registers, target: u32) -> Led
     requires { CanDo code.now core.old at (instr.JumpTrue target) }
     ensures { (place : Option SourcePlace) → Leads code.now (instr.JumpTrue target) place core.old at core.new result }
@@ -76,6 +80,7 @@ pub fn jump_true(code: &CodeProgram, core: &mut Core, at: Registers, target: u32
     match value {
         Value::True => match take(code, core, below, target) {
             Led::Straight(to) => Led::Straight(to),
+            Led::Charged(to) => Led::Charged(to),
             Led::On(to) => Led::On(to),
             Led::Nowhere => Led::Nowhere,
         },

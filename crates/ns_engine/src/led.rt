@@ -5,11 +5,12 @@ ghost use Rattle.ns_engine.specs.Tried as spec;
 
 use ns_frames::registers::Registers;
 
-/// Straight on: the body that runs stays on top, and no step was charged. On, with the frame that is topmost then. Or
-/// nowhere: nothing was done.
+/// Straight on: the body that runs stays on top, and no step was charged. Charged: it stays on top too, and one step was.
+/// On, with the frame that is topmost then. Or nowhere: nothing was done.
 #[derive(Clone, Copy)]
 pub enum Led {
     Straight(Registers),
+    Charged(Registers),
     On(Registers),
     Nowhere,
 }
@@ -21,6 +22,17 @@ pub fn led_straight(done: Option<Registers>) -> Led
 {
     match done {
         Some(to) => Led::Straight(to),
+        None => Led::Nowhere,
+    }
+}
+
+/// Where a step leads that goes straight on with one step charged, if it was done.
+#[inline(always)]
+pub fn led_charged(done: Option<Registers>) -> Led
+    ensures { result ≡ spec.led_charged done }
+{
+    match done {
+        Some(to) => Led::Charged(to),
         None => Led::Nowhere,
     }
 }

@@ -5,7 +5,7 @@ ghost use Rattle.std.specs.Prelude.{◌≡◌, slice_get};
 ghost use Rattle.ns_plan.specs.Integers.{row_of_send};
 ghost use Rattle.ns_engine.specs.Doing.{CanDo};
 ghost use Rattle.ns_engine.specs.Straight.{IsOnTop};
-ghost use Rattle.ns_engine.specs.Tried.{DoesOrNot, Leads};
+ghost use Rattle.ns_engine.specs.Tried.{Leads};
 ghost use Rattle.ns_quick.specs.Above.{HasMemberAbove};
 
 use ns_base::selector::Sel;
@@ -68,14 +68,14 @@ pub fn perform(code: &CodeProgram, core: &mut Core, at: Registers, top: OnTop, s
             kind,
             place,
             row,
-        } => led_on(send_as(code, core, at, sel, argc, kind, place, row)),
+        } => send_as(code, core, at, sel, argc, kind, place, row),
         Step::SendPrivate {
             level,
             sel,
             argc,
             place,
             member,
-        } => led_on(send_private(code, core, at, level, sel, argc, place, member)),
+        } => send_private(code, core, at, level, sel, argc, place, member),
         Step::Return => led_on(return_value(code, core, at)),
         Step::ReturnSelf => led_on(return_self(code, core, at)),
         Step::ReturnHome => led_on(return_home(code, core, at)),
@@ -83,7 +83,8 @@ pub fn perform(code: &CodeProgram, core: &mut Core, at: Registers, top: OnTop, s
     }
 }
 
-/// Sends to the operand below the arguments: to an Integer by the row that its step has, else by what is found.
+/// Sends to the operand below the arguments: to an Integer by the row that its step has, which goes straight on, else by what is
+/// found.
 #[inline(always)]
 fn send_as(
     code: &CodeProgram,
@@ -94,13 +95,13 @@ fn send_as(
     kind: Sending,
     place: u32,
     row: Option<IntRow>,
-) -> Option<Registers>
+) -> Led
     requires can { CanDo code.now core.old at (send_instr kind sel argc) }
     requires row { row ≡ row_of_send code.now sel }
-    ensures { DoesOrNot code.now (send_instr kind sel argc) (slice_get core.old.places place) core.old at core.new result }
+    ensures { Leads code.now (send_instr kind sel argc) (slice_get core.old.places place) core.old at core.new result }
 {
     match send_integer(code, core, at, sel, argc, kind, place, row) {
-        Some(to) => Some(to),
+        Some(to) => Led::Charged(to),
         None => send_found(code, core, at, sel, argc, kind, place),
     }
 }
@@ -115,9 +116,9 @@ fn send_found(
     argc: u8,
     kind: Sending,
     place: u32,
-) -> Option<Registers>
+) -> Led
     requires { CanDo code.now core.old at (send_instr kind sel argc) }
-    ensures { DoesOrNot code.now (send_instr kind sel argc) (slice_get core.old.places place) core.old at core.new result }
+    ensures { Leads code.now (send_instr kind sel argc) (slice_get core.old.places place) core.old at core.new result }
 {
     match kind {
         Sending::Plain => send(code, core, at, sel, argc, place),

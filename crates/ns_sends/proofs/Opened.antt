@@ -32,7 +32,7 @@ use Rattle.ns_sends.specs.declared.sent.Sent.{Sent}
 use Rattle.ns_sends.specs.Going.{arguments_in, answered_at}
 use Rattle.ns_sends.specs.Opening.{HasRoomFor, begun_at}
 use Rattle.ns_sends.specs.Sending.{looked_up}
-use Rattle.ns_sends.proofs.Stepped.{step_is}
+use Rattle.ns_engine.specs.laws.Charged.{step_is}
 
 -- ---- what the send came to
 

@@ -24,13 +24,18 @@ use Rattle.ns_frames.specs.Standing.{Stood, Runs, Loops, pushed, pushed_all, ope
 use Rattle.ns_frames.specs.Stack.{stood, with_top, IsLaid}
 use Rattle.ns_frames.specs.View.{activation_shown, frames_shown}
 use Rattle.ns_frames.specs.laws.Taking.{taken_stood, taken_length}
+use Rattle.ns_engine.specs.declared.led.Led.{Led}
+use Rattle.ns_engine.specs.declared.led.Led.TheVariants.{Straight, Charged, On as OnTop, Nowhere}
 use Rattle.ns_engine.specs.declared.state.Core.{Core}
 use Rattle.ns_engine.specs.declared.state.Next.{Next}
+use Rattle.ns_engine.specs.declared.state.Next.TheVariants.{On}
 use Rattle.ns_engine.specs.Shown.{phase_shown, progress_in, shown}
 use Rattle.ns_engine.specs.Doing.{done, Finds, CanDo, Does}
+use Rattle.ns_engine.specs.Tried.{Leads}
 use Rattle.ns_engine.specs.laws.Pushed.{runs, one_more}
 use Rattle.ns_engine.specs.laws.Taken.{some_operand}
 use Rattle.ns_sends.specs.declared.sent.Sent.{Sent}
+use Rattle.ns_sends.specs.Given.{SendLeads, ToTopLeads}
 use Rattle.ns_sends.specs.Sending.{CanSend, sent_at, Sends}
 use Rattle.ns_sends.specs.Operands.{topmost, SendsOperands, SendsToTop}
 use Rattle.ns_sends.proofs.Stepped.{no_one}
@@ -107,6 +112,13 @@ module _ (code : CodeProgram) (core : Core) (at : Registers) (sel : Sel) (argc :
       stays = (sends no_one).stays;
       kept = (sends no_one).kept;
     }
+
+    pub leads_to_top : (place : ℕ) (class : ClassName) (kind : Sending) (new : Core) (led : Led) → under ≡ stood core.stack (with_top (at.top - argc - 1) at)
+        → SendLeads code core at (sent_of at argc place class sel) receiver kind new led → ToTopLeads code core at sel argc place kind new led
+    leads_to_top place class kind new (Straight to) same is = (sends_to_top place class kind new (On to) same is.0, is.1)
+    leads_to_top place class kind new (Charged to) same is = (sends_to_top place class kind new (On to) same is.0, is.1)
+    leads_to_top place class kind new (OnTop to) same is = sends_to_top place class kind new (On to) same is
+    leads_to_top place class kind new Nowhere same is = is
 
 -- ---- the instructions
 
@@ -206,3 +218,14 @@ pub kind_does : ((missing : State) → AreTaken missing) → (code : CodeProgram
     → Does code (send_instr kind sel argc) (slice_get old.places place) old at new next
 kind_does taken code old new at sel argc place Plain next can is = send_does taken code old new at sel argc place next can is
 kind_does taken code old new at sel argc place Inner next can is = inner_does taken code old new at sel argc place next can is
+
+-- Where it leads, the instruction leads.
+pub kind_leads : ((missing : State) → AreTaken missing) → (code : CodeProgram) (old new : Core) (at : Registers) (sel : Sel) (argc place : ℕ) (kind : Sending) (led : Led)
+    → CanDo code old at (send_instr kind sel argc) → ToTopLeads code old at sel argc place kind new led
+    → Leads code (send_instr kind sel argc) (slice_get old.places place) old at new led
+kind_leads taken code old new at sel argc place kind (Straight to) can is =
+    record { does = kind_does taken code old new at sel argc place kind (On to) can is.0; stays = is.1 }
+kind_leads taken code old new at sel argc place kind (Charged to) can is =
+    record { does = kind_does taken code old new at sel argc place kind (On to) can is.0; stays = is.1 }
+kind_leads taken code old new at sel argc place kind (OnTop to) can is = kind_does taken code old new at sel argc place kind (On to) can is
+kind_leads taken code old new at sel argc place kind Nowhere can is = is

@@ -49,7 +49,8 @@ use Rattle.ns_sends.specs.Going.{arguments_in, control_at, GoesOn, ComesToBody, 
 use Rattle.ns_sends.specs.Waiting.{CanSendOn, sent_on_at, looked_on, LeadsTo, LeadsKept}
 use Rattle.ns_sends.proofs.Goes.{room_above}
 use Rattle.ns_sends.proofs.Leads.{with_world, row_control}
-use Rattle.ns_sends.proofs.Stepped.{step_is, left_in}
+use Rattle.ns_engine.specs.laws.Charged.{step_is}
+use Rattle.ns_sends.proofs.Stepped.{left_in}
 
 -- ---- where they lead
 

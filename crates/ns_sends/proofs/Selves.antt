@@ -38,7 +38,7 @@ use Rattle.ns_engine.specs.laws.Finds.{finds_in, fits_anywhere}
 use Rattle.ns_sends.specs.declared.sent.Sent.{Sent}
 use Rattle.ns_sends.specs.Sending.{CanSend, sent_at, Sends}
 use Rattle.ns_sends.specs.Operands.{topmost, SendsOperands}
-use Rattle.ns_sends.proofs.Stepped.{step_is}
+use Rattle.ns_engine.specs.laws.Charged.{step_is}
 use Rattle.ns_sends.proofs.Operands.{known, depth_is, left_behind, live_apart}
 
 -- what was sent with so many arguments, which no receiver stands below

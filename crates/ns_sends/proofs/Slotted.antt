@@ -17,19 +17,23 @@ use Rattle.ns_send.specs.Control.{Activation, gives, in_world}
 use Rattle.ns_send.specs.Sends.{Target, answered_by, first_of, found_at, receiver_of}
 use Rattle.ns_send.specs.Suits.{Suits}
 use Rattle.ns_moves.specs.Arrivals.{arrived}
+use Rattle.ns_frames.specs.declared.frame.KeptSite.{KeptSite}
 use Rattle.ns_frames.specs.declared.registers.Registers.{Registers}
 use Rattle.ns_frames.specs.Stack.{stood, with_top}
 use Rattle.ns_frames.specs.View.{site_shown, frames_shown}
 use Rattle.ns_engine.specs.declared.state.Core.{Core}
 use Rattle.ns_engine.specs.declared.state.Next.{Next}
+use Rattle.ns_engine.specs.declared.state.Next.TheVariants.{On}
 use Rattle.ns_engine.specs.Doing.{IsSettled}
 use Rattle.ns_engine.specs.Shown.{phase_shown, progress_in}
+use Rattle.ns_engine.specs.Straight.{StaysOnTop}
+use Rattle.ns_engine.specs.laws.Charged.{step_is, given_on_top}
+use Rattle.ns_engine.specs.laws.Straight.{slot_charges_none}
 use Rattle.ns_sends.specs.declared.sent.Sent.{Sent}
 use Rattle.ns_sends.specs.Going.{arguments_in}
 use Rattle.ns_sends.specs.Opening.{got_at, set_at}
 use Rattle.ns_sends.specs.Sending.{CanSend, looked_up, Sends}
 use Rattle.ns_sends.proofs.Opened.{stepped_to}
-use Rattle.ns_sends.proofs.Stepped.{step_is}
 
 -- ---- the word
 
@@ -152,3 +156,30 @@ setter_sends code core new at sent receiver word v values next can all same is =
   };
   kept = rw is.run can.kept;
 }
+
+-- ---- the body that runs
+
+-- A word that is given leaves it on top, with the step charged that the send has,
+pub got_on_top : (code : CodeProgram) (core new : Core) (at to : Registers) (floor : ℕ) (receiver : Value) (word : ℕ) (world : WorldView)
+    → stepped core.run.world.world ≡ Some world.world
+    → Sends code (stepped_to core world) at floor (got_at (stepped_to core world) receiver word) new (On to) → StaysOnTop 1 core new
+got_on_top code core new at to floor receiver word world e is =
+    given_on_top code 1 core new (with_top floor at) to (word_of_object world.world.cells receiver word) (progress_in (stepped_to core world))
+    (ap (λ (w : World). w.steps) (step_is core.run.world.world world.world e)) is.state
+
+-- so does one that is stored,
+pub set_on_top : (code : CodeProgram) (core new : Core) (at to : Registers) (sent : Sent) (receiver : Value) (word : ℕ) (world : WorldView)
+    → stepped core.run.world.world ≡ Some world.world
+    → Sends code (stepped_to core world) at sent.floor (set_at (stepped_to core world) at sent receiver word) new (On to) → StaysOnTop 1 core new
+set_on_top code core new at to sent receiver word world e is =
+    given_on_top code 1 core new (with_top sent.floor at) to receiver
+    (in_world (progress_in (stepped_to core world)) (stored world.world receiver word (first_of (arguments_in core at sent))))
+    (slot_charges_none world.world receiver word (first_of (arguments_in core at sent))
+    ∙ ap (λ (w : World). w.steps) (step_is core.run.world.world world.world e)) is.state
+
+-- and what is stored and then given charges none by itself.
+pub stored_on_top : (code : CodeProgram) (core new : Core) (at to : Registers) (site : KeptSite) (receiver : Value) (word : ℕ) (v value : Value)
+    → IsSettled code (with_stored core receiver word v) at site (Ok value) new (On to) → StaysOnTop 0 core new
+stored_on_top code core new at to site receiver word v value is =
+    given_on_top code 0 core new at to value (progress_in (with_stored core receiver word v))
+    (let same = slot_charges_none core.run.world.world receiver word v in omega (arith, same)) is.state

@@ -1,6 +1,5 @@
 -- Sends from their step on.
-use Rattle.std.proofs.Common.{◌≡◌, ◌+◌, List, length, ap, sym, ◌∙◌, subst, arith, Option, Some, None, Bool, true, false, cond, All}
-use Rattle.std.specs.Prelude.{nat_lt}
+use Rattle.std.proofs.Common.{◌≡◌, ◌+◌, List, length, ap, sym, ◌∙◌, subst, arith, Option, Some, None, All}
 use Rattle.ns_base.specs.declared.place.Place.{Place as SourcePlace}
 use Rattle.ns_base.specs.declared.selector.Sel.{Sel}
 use Rattle.ns_code.specs.declared.program.CodeProgram.{CodeProgram}
@@ -22,7 +21,6 @@ use Rattle.ns_send.specs.Lawful.{FitsTarget}
 use Rattle.ns_send.specs.Sends.{Target, receiver_of, site_at, sent}
 use Rattle.ns_send.specs.Suiting.{FoundSuits}
 use Rattle.ns_moves.specs.Arrivals.{arrived}
-use Rattle.ns_moves.specs.State.{Ended}
 use Rattle.ns_act.specs.declared.run.Run.{Run}
 use Rattle.ns_act.specs.declared.sends.Answered.{Answered}
 use Rattle.ns_act.specs.declared.sends.Answered.TheVariants as answers
@@ -38,6 +36,7 @@ use Rattle.ns_engine.specs.declared.state.Next.{Next}
 use Rattle.ns_engine.specs.declared.state.Next.TheVariants as next
 use Rattle.ns_engine.specs.Shown.{phase_shown, progress_in}
 use Rattle.ns_engine.specs.Standing.{HasRooms}
+use Rattle.ns_engine.specs.laws.Charged.{step_is}
 use Rattle.ns_engine.specs.laws.Pushed.{ended_stays}
 use Rattle.ns_engine.specs.laws.Worlds.{in_other}
 use Rattle.ns_sends.specs.declared.sent.Sent.{Sent}
@@ -46,14 +45,6 @@ use Rattle.ns_sends.specs.Sending.{CanSend, looked_up, sent_at, Sends}
 use Rattle.ns_sends.proofs.Goes.{SendsKnown, send_goes}
 
 -- ---- the step
-
--- a step that fits is one more, and nothing else has changed
-pub step_is : (old new : World) → stepped old ≡ Some new → new ≡ record old { steps = old.steps + 1 }
-step_is old new e = tested (nat_lt old.steps old.limits.steps) e
-  where
-    tested : (b : Bool) → cond b (Some (record old { steps = old.steps + 1 })) None ≡ Some new → new ≡ record old { steps = old.steps + 1 }
-    tested true is = let same : (let more : World = record old { steps = old.steps + 1 } in more) ≡ new = cc in sym same
-    tested false is = absurd (cc)
 
 -- the same view with one step more
 abbrev pub one_step : WorldView → WorldView → Type 0

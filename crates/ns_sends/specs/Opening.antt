@@ -25,9 +25,12 @@ use Rattle.ns_frames.specs.declared.registers.Registers.{Registers}
 use Rattle.ns_plan.specs.declared.step.Member.{Member}
 use Rattle.ns_plan.specs.Privates.{member_at}
 use Rattle.ns_frames.specs.View.{site_shown}
+use Rattle.ns_engine.specs.declared.led.Led.{Led}
+use Rattle.ns_engine.specs.declared.led.Led.TheVariants.{Straight, Charged, On as OnTop, Nowhere}
 use Rattle.ns_engine.specs.declared.state.Core.{Core}
 use Rattle.ns_engine.specs.declared.state.Next.TheVariants.{On}
 use Rattle.ns_engine.specs.Shown.{progress_in}
+use Rattle.ns_engine.specs.Straight.{StaysOnTop}
 use Rattle.ns_engine.specs.Tried.{IsUntouched}
 use Rattle.ns_sends.specs.declared.sent.Sent.{Sent}
 use Rattle.ns_sends.specs.Going.{arguments_in}
@@ -78,6 +81,22 @@ FindsAround code core running level sent found = found ≡ found_at core.run.wor
 abbrev pub AroundOrNot : CodeProgram → Core → Registers → Sent → RunningCode → ℕ → Core → Option Registers → Type 0
 AroundOrNot code old at sent running level new (Some to) = Sends code old at sent.floor (sent_at code old at sent (code_of running) (ToPrivate level)) new (On to)
 AroundOrNot code old at sent running level new None = IsUntouched code old new
+
+-- It has led straight on to those registers, with one step charged; or nothing is done.
+abbrev pub AroundCharges : CodeProgram → Core → Registers → Sent → RunningCode → ℕ → Core → Option Registers → Type 0
+AroundCharges code old at sent running level new (Some to) =
+    Sends code old at sent.floor (sent_at code old at sent (code_of running) (ToPrivate level)) new (On to) × StaysOnTop 1 old new
+AroundCharges code old at sent running level new None = IsUntouched code old new
+
+-- It has led there; or nothing is done.
+abbrev pub AroundLeads : CodeProgram → Core → Registers → Sent → RunningCode → ℕ → Core → Led → Type 0
+AroundLeads code old at sent running level new (Straight to) =
+    Sends code old at sent.floor (sent_at code old at sent (code_of running) (ToPrivate level)) new (On to) × StaysOnTop 0 old new
+AroundLeads code old at sent running level new (Charged to) =
+    Sends code old at sent.floor (sent_at code old at sent (code_of running) (ToPrivate level)) new (On to) × StaysOnTop 1 old new
+AroundLeads code old at sent running level new (OnTop to) =
+    Sends code old at sent.floor (sent_at code old at sent (code_of running) (ToPrivate level)) new (On to)
+AroundLeads code old at sent running level new Nowhere = IsUntouched code old new
 
 -- The member is the private one of that name of the declaration so many levels out from a body.
 abbrev pub IsMemberAt : CodeProgram → ℕ → ℕ → Sel → Member → Type 0

@@ -1,13 +1,13 @@
 //! Sends of operands that find a method, a slot, or a row of the kernel that gives a value at once, by the quick way:
-//! registers alone come back.
+//! registers alone come back, and whether the body that runs goes straight on.
 
 ghost use Rattle.std.specs.Prelude.{◌≡◌, ◌+◌, slice_get};
 ghost use Rattle.ns_code.specs.declared.instruction.Instr.TheVariants as instr;
 ghost use Rattle.ns_world.specs.Starts.{start_of};
 ghost use Rattle.ns_find.specs.Find.{found_from};
 ghost use Rattle.ns_engine.specs.Doing.{CanDo};
-ghost use Rattle.ns_engine.specs.Tried.{DoesOrNot};
-ghost use Rattle.ns_sends.specs.Given.{SendsOrNot, ToTopOrNot};
+ghost use Rattle.ns_engine.specs.Tried.{Leads};
+ghost use Rattle.ns_sends.specs.Given.{SendLeads, ToTopLeads};
 ghost use Rattle.ns_sends.specs.Operands.{SendsOperands};
 ghost use Rattle.ns_sends.specs.Sending.{CanSend};
 
@@ -20,6 +20,7 @@ use ns_act::answering::found_of;
 use ns_act::targets::class_of;
 use ns_base::selector::Sel;
 use ns_code::program::CodeProgram;
+use ns_engine::led::{Led, led_charged, led_on};
 use ns_engine::state::Core;
 use ns_find::found::{Found, Sending};
 use ns_frames::frame::KeptSite;
@@ -37,15 +38,12 @@ pub fn send(
     sel: Sel,
     argc: u8,
     place: u32,
-) -> Option<Registers>
+) -> Led
     requires { CanDo code.now core.old at (instr.Send sel argc) }
-    ensures { DoesOrNot code.now (instr.Send sel argc) (slice_get core.old.places place) core.old at core.new result }
+    ensures { Leads code.now (instr.Send sel argc) (slice_get core.old.places place) core.old at core.new result }
 {
     operands_are_taken();
-    match send_operands(code, core, at, sel, argc, place, Sending::Plain) {
-        Some(to) => Some(to),
-        None => None,
-    }
+    send_operands(code, core, at, sel, argc, place, Sending::Plain)
 }
 
 /// Sends to a value, whose protected members it reaches too.
@@ -58,15 +56,12 @@ pub fn send_inner(
     sel: Sel,
     argc: u8,
     place: u32,
-) -> Option<Registers>
+) -> Led
     requires { CanDo code.now core.old at (instr.SendInner sel argc) }
-    ensures { DoesOrNot code.now (instr.SendInner sel argc) (slice_get core.old.places place) core.old at core.new result }
+    ensures { Leads code.now (instr.SendInner sel argc) (slice_get core.old.places place) core.old at core.new result }
 {
     operands_are_taken();
-    match send_operands(code, core, at, sel, argc, place, Sending::Inner) {
-        Some(to) => Some(to),
-        None => None,
-    }
+    send_operands(code, core, at, sel, argc, place, Sending::Inner)
 }
 
 /// Sends so many topmost operands to the value below them.
@@ -78,9 +73,9 @@ fn send_operands(
     argc: u8,
     place: u32,
     kind: Sending,
-) -> Option<Registers>
+) -> Led
     requires { SendsOperands code.now core.old at sel argc (argc + 1) }
-    ensures { ToTopOrNot code.now core.old at sel argc place kind core.new result }
+    ensures { ToTopLeads code.now core.old at sel argc place kind core.new result }
 {
     let first = at.top - u32::from(argc);
     let above = Registers { top: first, ..at };
@@ -91,10 +86,7 @@ fn send_operands(
         floor: below.top,
         first,
     };
-    match send_to(code, core, at, sent, receiver, kind) {
-        Some(to) => Some(to),
-        None => None,
-    }
+    send_to(code, core, at, sent, receiver, kind)
 }
 
 /// Sends to a value that finds a method, a slot, or a row of the kernel.
@@ -106,15 +98,12 @@ fn send_to(
     sent: Sent,
     receiver: Value,
     kind: Sending,
-) -> Option<Registers>
+) -> Led
     requires { CanSend code.now core.old at sent receiver }
-    ensures { SendsOrNot code.now core.old at sent receiver kind core.new result }
+    ensures { SendLeads code.now core.old at sent receiver kind core.new result }
 {
     let found = found_of(&mut core.run, code, receiver, sent.site.sel, kind);
-    match do_found(code, core, at, sent, receiver, kind, found) {
-        Some(to) => Some(to),
-        None => None,
-    }
+    do_found(code, core, at, sent, receiver, kind, found)
 }
 
 /// Goes on with what was found, where that is a method, a slot, or a row of the kernel.
@@ -127,25 +116,27 @@ fn do_found(
     receiver: Value,
     kind: Sending,
     found: Found,
-) -> Option<Registers>
+) -> Led
     requires can { CanSend code.now core.old at sent receiver }
     requires found { found ≡ found_from core.old.run.world.world.cells code.now (start_of core.old.run.world.world.cells receiver) sent.site.sel.0 kind }
-    ensures { SendsOrNot code.now core.old at sent receiver kind core.new result }
+    ensures { SendLeads code.now core.old at sent receiver kind core.new result }
 {
     match found {
-        Found::Method { body, holder } => {
-            send_method(code, core, at, sent, receiver, kind, body, holder)
+        Found::Method { body, holder } => led_on(send_method(
+            code, core, at, sent, receiver, kind, body, holder,
+        )),
+        Found::Getter { holder, word } => led_charged(send_getter(
+            code, core, at, sent, receiver, kind, holder, word,
+        )),
+        Found::Setter { holder, word } => led_charged(send_setter(
+            code, core, at, sent, receiver, kind, holder, word,
+        )),
+        Found::Kernel(number) if loops(number) => led_on(send_looping(
+            code, core, at, sent, receiver, kind, number,
+        )),
+        Found::Kernel(number) => {
+            led_charged(send_row(code, core, at, sent, receiver, kind, number))
         }
-        Found::Getter { holder, word } => {
-            send_getter(code, core, at, sent, receiver, kind, holder, word)
-        }
-        Found::Setter { holder, word } => {
-            send_setter(code, core, at, sent, receiver, kind, holder, word)
-        }
-        Found::Kernel(number) if loops(number) => {
-            send_looping(code, core, at, sent, receiver, kind, number)
-        }
-        Found::Kernel(number) => send_row(code, core, at, sent, receiver, kind, number),
-        _ => None,
+        _ => Led::Nowhere,
     }
 }

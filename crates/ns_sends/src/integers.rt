@@ -1,4 +1,5 @@
-//! Sends to Integers by the row that their step has, by the quick way: nothing is looked up, and registers alone come back.
+//! Sends to Integers by the row that their step has, by the quick way: nothing is looked up, and registers alone come back. The
+//! body that runs stays on top, and one step is charged.
 
 ghost use Rattle.std.specs.Prelude.{◌≡◌, ◌+◌, Some, IsTrue, slice_get};
 ghost use Rattle.ns_kdata.specs.Arguments.{argument as argument_at};

@@ -1,4 +1,5 @@
-//! Private sends that find a method or a slot, by the quick way: registers alone come back.
+//! Private sends that find a method or a slot, by the quick way: registers alone come back, and whether the body that runs goes
+//! straight on.
 
 ghost use Rattle.std.specs.Prelude.{◌≡◌, slice_get, IsSome, IsTrue};
 ghost use Rattle.ns_code.specs.declared.instruction.Instr.TheVariants as instr;
@@ -13,8 +14,8 @@ ghost use Rattle.ns_act.specs.Enclosing.{place_of};
 ghost use Rattle.ns_act.specs.Running.{code_of};
 ghost use Rattle.ns_plan.specs.Privates.{IsAmong, found_in};
 ghost use Rattle.ns_engine.specs.Doing.{CanDo};
-ghost use Rattle.ns_engine.specs.Tried.{DoesOrNot};
-ghost use Rattle.ns_sends.specs.Opening.{FindsAround, AroundOrNot, IsMemberAbove, IsMemberAt};
+ghost use Rattle.ns_engine.specs.Tried.{Leads};
+ghost use Rattle.ns_sends.specs.Opening.{FindsAround, AroundOrNot, AroundCharges, AroundLeads, IsMemberAbove, IsMemberAt};
 ghost use Rattle.ns_sends.specs.Sending.{CanSend};
 
 use crate::opening::{begin, has_room};
@@ -27,6 +28,7 @@ use ns_act::targets::class_of;
 use ns_base::selector::Sel;
 use ns_classes::layout::word;
 use ns_code::program::CodeProgram;
+use ns_engine::led::{Led, led_charged, led_on};
 use ns_engine::settling::{running, running_code};
 use ns_engine::state::Core;
 use ns_find::found::Found;
@@ -51,10 +53,10 @@ pub fn send_private(
     argc: u8,
     place: u32,
     member: Member,
-) -> Option<Registers>
+) -> Led
     requires can { CanDo code.now core.old at (instr.SendPrivate level sel argc) }
     requires member { IsMemberAbove code.now core.old.stack.frames.items level sel member }
-    ensures { DoesOrNot code.now (instr.SendPrivate level sel argc) (slice_get core.old.places place) core.old at core.new result }
+    ensures { Leads code.now (instr.SendPrivate level sel argc) (slice_get core.old.places place) core.old at core.new result }
 {
     operands_are_taken();
     enclosing_objects_are_there();
@@ -67,10 +69,7 @@ pub fn send_private(
         floor: first,
         first,
     };
-    match send_around(code, core, at, sent, code_here, level, around, member) {
-        Some(to) => Some(to),
-        None => None,
-    }
+    send_around(code, core, at, sent, code_here, level, around, member)
 }
 
 /// Looks the selector up among the private members, and does what was found, where that is a method or a slot.
@@ -84,13 +83,13 @@ fn send_around(
     level: u8,
     around: Surrounding,
     member: Member,
-) -> Option<Registers>
+) -> Led
     requires can { CanSend code.now core.old at sent around.object }
     requires around { place_of around ≡ bodies.enclosing core.old.run.world.world.cells (code_of running) level }
     requires runs { FitsActivation core.old.run.world.world.cells code.now (code_of running) }
     requires level { IsSome (declaration_at code.now running.body level) }
     requires member { IsMemberAt code.now running.body level sent.site.sel member }
-    ensures { AroundOrNot code.now core.old at sent running level core.new result }
+    ensures { AroundLeads code.now core.old at sent running level core.new result }
 {
     let receiver = around.object;
     match found_around(
@@ -102,16 +101,16 @@ fn send_around(
         around.holder,
         member,
     ) {
-        Found::Method { body, holder } => {
-            begin_around(code, core, at, sent, running, level, receiver, body, holder)
-        }
-        Found::Getter { holder, word } => {
-            get_around(code, core, at, sent, running, level, receiver, holder, word)
-        }
-        Found::Setter { holder, word } => {
-            set_around(code, core, at, sent, running, level, receiver, holder, word)
-        }
-        _ => None,
+        Found::Method { body, holder } => led_on(begin_around(
+            code, core, at, sent, running, level, receiver, body, holder,
+        )),
+        Found::Getter { holder, word } => led_charged(get_around(
+            code, core, at, sent, running, level, receiver, holder, word,
+        )),
+        Found::Setter { holder, word } => led_charged(set_around(
+            code, core, at, sent, running, level, receiver, holder, word,
+        )),
+        _ => Led::Nowhere,
     }
 }
 
@@ -219,7 +218,7 @@ fn get_around(
     requires runs { FitsActivation core.old.run.world.world.cells code.now (code_of running) }
     requires level { IsSome (declaration_at code.now running.body level) }
     requires finds { FindsAround code.now core.old running level sent (found.Getter holder word) }
-    ensures { AroundOrNot code.now core.old at sent running level core.new result }
+    ensures { AroundCharges code.now core.old at sent running level core.new result }
 {
     a_send_is_its_step_and_its_answer();
     charging_keeps_lawful();
@@ -250,7 +249,7 @@ fn set_around(
     requires runs { FitsActivation core.old.run.world.world.cells code.now (code_of running) }
     requires level { IsSome (declaration_at code.now running.body level) }
     requires finds { FindsAround code.now core.old running level sent (found.Setter holder word) }
-    ensures { AroundOrNot code.now core.old at sent running level core.new result }
+    ensures { AroundCharges code.now core.old at sent running level core.new result }
 {
     a_send_is_its_step_and_its_answer();
     charging_keeps_lawful();

@@ -1,4 +1,5 @@
-//! Sends that find a row of the kernel which gives a value at once, by the quick way: registers alone come back.
+//! Sends that find a row of the kernel which gives a value at once, by the quick way: registers alone come back. The body that runs
+//! stays on top, and one step is charged.
 
 ghost use Rattle.std.specs.Prelude.{◌<◌, length, IfSome};
 ghost use Rattle.ns_world.specs.Heap.{Heap};
@@ -8,7 +9,8 @@ ghost use Rattle.ns_send.specs.Control.{Activation};
 ghost use Rattle.ns_send.specs.declared.row.Row.TheVariants.{Data, Integer};
 ghost use Rattle.ns_send.specs.Sends.{To};
 ghost use Rattle.ns_engine.specs.declared.state.Next.TheVariants as next;
-ghost use Rattle.ns_sends.specs.Given.{SendsOrNot};
+ghost use Rattle.ns_engine.specs.Straight.{StaysOnTop};
+ghost use Rattle.ns_sends.specs.Given.{ChargesOrNot};
 ghost use Rattle.ns_sends.specs.Going.{arguments_in};
 ghost use Rattle.ns_sends.specs.Opening.{FindsKernel};
 ghost use Rattle.ns_sends.specs.Rows.{FindsRow, RowGives, NamesPlace};
@@ -44,7 +46,7 @@ pub fn send_row(
 ) -> Option<Registers>
     requires can { CanSend code.now core.old at sent receiver }
     requires finds { FindsKernel code.now core.old sent receiver kind number }
-    ensures { SendsOrNot code.now core.old at sent receiver kind core.new result }
+    ensures { ChargesOrNot code.now core.old at sent receiver kind core.new result }
 {
     let row = row_of(number);
     match row {
@@ -66,7 +68,7 @@ fn send_to_row(
 ) -> Option<Registers>
     requires can { CanSend code.now core.old at sent receiver }
     requires finds { FindsRow code.now core.old sent receiver kind row }
-    ensures { SendsOrNot code.now core.old at sent receiver kind core.new result }
+    ensures { ChargesOrNot code.now core.old at sent receiver kind core.new result }
 {
     let first = argument(core.stack.from(at, sent.first), 0);
     match value_of(&core.run.world, code, row, receiver, first) {
@@ -132,7 +134,7 @@ fn charge(
     requires can { CanSend code.now core.old at sent receiver }
     requires finds { FindsRow code.now core.old sent receiver kind row }
     requires gives { RowGives code.now core.old.run.world.world.cells row receiver (argument_at (arguments_in core.old at sent) 0) value }
-    ensures { SendsOrNot code.now core.old at sent receiver kind core.new result }
+    ensures { ChargesOrNot code.now core.old at sent receiver kind core.new result }
 {
     a_send_is_its_step_and_its_answer();
     charging_keeps_lawful();
@@ -142,7 +144,7 @@ fn charge(
     }
 }
 
-/// Brings the value of a row to the body that runs.
+/// Brings the value of a row to the body that runs, which stays on top.
 #[inline(always)]
 pub fn give(
     code: &CodeProgram,
@@ -157,7 +159,8 @@ pub fn give(
     requires can { CanSend code.now core.old at sent receiver }
     requires finds { FindsRow code.now core.old sent receiver kind row }
     requires gives { RowGives code.now core.old.run.world.world.cells row receiver (argument_at (arguments_in core.old at sent) 0) value }
-    ensures { (activation : Activation) → Sends code.now core.old at sent.floor (looked_up code.now core.old at sent activation (To receiver kind)) core.new (next.On result) }
+    ensures sends { (activation : Activation) → Sends code.now core.old at sent.floor (looked_up code.now core.old at sent activation (To receiver kind)) core.new (next.On result) }
+    ensures stays { StaysOnTop 0 core.old core.new }
 {
     let _receiver = receiver;
     let _kind = kind;
@@ -181,7 +184,7 @@ fn send_put(
 ) -> Option<Registers>
     requires can { CanSend code.now core.old at sent receiver }
     requires finds { FindsRow code.now core.old sent receiver kind (Data ArrayPut) }
-    ensures { SendsOrNot code.now core.old at sent receiver kind core.new result }
+    ensures { ChargesOrNot code.now core.old at sent receiver kind core.new result }
 {
     let first = argument(core.stack.from(at, sent.first), 0);
     match place_at(&core.run.world, receiver, first) {
@@ -205,7 +208,7 @@ fn charge_put(
     requires finds { FindsRow code.now core.old sent receiver kind (Data ArrayPut) }
     requires names { NamesPlace core.old at sent receiver place }
     requires below { place < length (items_of core.old.run.world.world.cells receiver) }
-    ensures { SendsOrNot code.now core.old at sent receiver kind core.new result }
+    ensures { ChargesOrNot code.now core.old at sent receiver kind core.new result }
 {
     a_send_is_its_step_and_its_answer();
     charging_keeps_lawful();
@@ -230,7 +233,8 @@ fn put(
     requires finds { FindsRow code.now core.old sent receiver kind (Data ArrayPut) }
     requires names { NamesPlace core.old at sent receiver place }
     requires below { place < length (items_of core.old.run.world.world.cells receiver) }
-    ensures { (activation : Activation) → Sends code.now core.old at sent.floor (looked_up code.now core.old at sent activation (To receiver kind)) core.new (next.On result) }
+    ensures sends { (activation : Activation) → Sends code.now core.old at sent.floor (looked_up code.now core.old at sent activation (To receiver kind)) core.new (next.On result) }
+    ensures stays { StaysOnTop 0 core.old core.new }
 {
     let _kind = kind;
     let value = argument(core.stack.from(at, sent.first), 1);

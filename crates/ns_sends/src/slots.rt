@@ -1,9 +1,10 @@
-//! Sends that find a getter or a setter, by the quick way: registers alone come back.
+//! Sends that find a getter or a setter, by the quick way: registers alone come back. The body that runs stays on top, and one step
+//! is charged.
 
 ghost use Rattle.ns_find.specs.declared.found.Found.TheVariants as found;
 ghost use Rattle.ns_send.specs.Suits.{Suits};
 ghost use Rattle.ns_engine.specs.declared.state.Next.TheVariants as next;
-ghost use Rattle.ns_sends.specs.Given.{SendsOrNot};
+ghost use Rattle.ns_sends.specs.Given.{ChargesOrNot};
 ghost use Rattle.ns_sends.specs.Opening.{FindsGetter, FindsSetter, got_at, set_at};
 ghost use Rattle.ns_sends.specs.Sending.{CanSend, Sends};
 
@@ -34,7 +35,7 @@ pub fn send_getter(
 ) -> Option<Registers>
     requires can { CanSend code.now core.old at sent receiver }
     requires finds { FindsGetter code.now core.old sent receiver kind holder word }
-    ensures { SendsOrNot code.now core.old at sent receiver kind core.new result }
+    ensures { ChargesOrNot code.now core.old at sent receiver kind core.new result }
 {
     a_send_is_its_step_and_its_answer();
     charging_keeps_lawful();
@@ -84,7 +85,7 @@ pub fn send_setter(
 ) -> Option<Registers>
     requires can { CanSend code.now core.old at sent receiver }
     requires finds { FindsSetter code.now core.old sent receiver kind holder word }
-    ensures { SendsOrNot code.now core.old at sent receiver kind core.new result }
+    ensures { ChargesOrNot code.now core.old at sent receiver kind core.new result }
 {
     a_send_is_its_step_and_its_answer();
     charging_keeps_lawful();

@@ -13,10 +13,10 @@ use Rattle.ns_frames.specs.View.{state_shown}
 use Rattle.ns_engine.specs.declared.own.OwnSends.{OwnSends}
 use Rattle.ns_engine.specs.declared.state.Core.{Core}
 use Rattle.ns_engine.specs.declared.state.Next.{Next}
-use Rattle.ns_engine.specs.declared.state.Next.TheVariants.{Waits}
+use Rattle.ns_engine.specs.declared.state.Next.TheVariants.{On, Waits}
 use Rattle.ns_engine.specs.Shown.{phase_shown, progress_in, shown}
 use Rattle.ns_engine.specs.Ready.{Moves, MovesKeepReady}
-use Rattle.ns_turns.specs.Turning.{steps_left, RunsBy, IsTurning, GoesAlong, HasGone}
+use Rattle.ns_turns.specs.Turning.{steps_left, RunsBy, IsTurning, GoesAlong, HasGone, MovesGoAlong}
 use Rattle.ns_turns.proofs.Turned.{Known, runs_on, turning_on, counted, left_is, since_begun}
 
 -- what is known of moves of a machine
@@ -103,6 +103,19 @@ pub gone_since : (code : CodeProgram) (plan : Plan) (sends : OwnSends) (left som
     → HasGone code plan sends left old from new next
 gone_since code plan sends left some old now new from here next along goes e gone =
     gone_far code plan sends left old now new from here next along goes (subst (λ n. HasGone code plan sends n now here new next) e gone)
+
+-- With so many steps left, a move of a body that runs leads on,
+pub body_gone : (code : CodeProgram) → MovesGoAlong code → (plan : Plan) (sends : OwnSends) (left some : ℕ) (old now new : Core) (at here : Registers) (next : Next)
+    → 1 ≤ some → some ≡ left - (now.run.world.world.steps - old.run.world.world.steps) → GoesAlong code plan sends left old (On at) now (On here)
+    → Moves code now (On here) new next → HasGone code plan sends left old (On at) new next
+body_gone code law plan sends left some old now new at here next one e along moved =
+    law plan sends left old now new (On at) (On here) next along refl refl (omega (arith, one, e)) moved
+
+-- and leaves less to be done.
+pub body_falls : (code : CodeProgram) → MovesGoAlong code → (plan : Plan) (sends : OwnSends) (now new : Core) (here : Registers) (next : Next)
+    → RunsBy code plan sends now (On here) → Moves code now (On here) new next → run_left code (shown code new next) < run_left code (shown code now (On here))
+body_falls code law plan sends now new here next runs moved =
+    (body_gone code law plan sends 1 1 now now new here here next (omega arith) (omega arith) (none_gone code plan sends 1 now (On here) runs) moved).falls
 
 -- A run in which something waits goes on.
 pub waits_goes : (code : CodeProgram) (core : Core) (at : Registers) → is_still (shown code core (Waits at)) ≡ false

@@ -42,6 +42,7 @@ pub fn go_quickly(
     };
     match perform(code, core, behind, top, step) {
         Led::Straight(to) => Led::Straight(to),
+        Led::Charged(to) => Led::Charged(to),
         Led::On(to) => Led::On(to),
         Led::Nowhere => Led::Nowhere,
     }

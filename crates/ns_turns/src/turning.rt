@@ -163,7 +163,8 @@ fn advance(
 }
 
 /// Goes straight on in the body that runs in the topmost frame, and makes one move more, by the quick way where that does it.
-/// Up to there no step is charged and the body stays on top, so neither the steps left nor the frame are looked at.
+/// Up to there the body stays on top, so the frame isn't looked at, and the steps that moves charge are taken off those left here,
+/// so neither are the world's counters. With none left that was the last move.
 #[inline(always)]
 fn go_straight(
     plan: &Plan,
@@ -188,11 +189,19 @@ fn go_straight(
         environment: row.environment,
     };
     let mut here = at;
+    let mut rest = left;
     'straight: loop {
         match go_quickly(plan, code, core, here, top, entry) {
             Led::Straight(to) => here = to,
+            Led::Charged(to) => {
+                rest -= 1;
+                if rest == 0 {
+                    return Next::On(to);
+                }
+                here = to;
+            }
             Led::On(to) => return Next::On(to),
-            Led::Nowhere => return as_value(go_apart(plan, code, core, here, left, own)),
+            Led::Nowhere => return as_value(go_apart(plan, code, core, here, rest, own)),
         }
     }
 }

@@ -1,5 +1,5 @@
 -- Plain instructions lead straight on.
-use Rattle.std.proofs.Common.{◌≡◌, ℕ, zero, suc, List, [], ◌∷◌, ap, sym, ◌∙◌, refl, subst, Option, Bool, true, false, take, drop}
+use Rattle.std.proofs.Common.{◌≡◌, ℕ, zero, suc, List, [], ◌∷◌, ap, sym, ◌∙◌, refl, subst, arith, Option, Bool, true, false, take, drop}
 use Rattle.std.specs.Prelude.{reverse, ◌+◌, ◌-◌, nat_le, Some, None, if◌then◌else◌}
 use Rattle.ns_base.specs.declared.place.Place.{Place as SourcePlace}
 use Rattle.ns_code.specs.declared.program.CodeProgram.{CodeProgram}
@@ -35,7 +35,7 @@ use Rattle.ns_engine.specs.declared.state.Next.TheVariants.{On}
 use Rattle.ns_engine.specs.Shown.{phase_shown, progress_in, shown}
 use Rattle.ns_engine.specs.Doing.{done, Does}
 use Rattle.ns_engine.specs.Tried.{DoesOrNot, Leads, led_straight, led_on}
-use Rattle.ns_engine.specs.Straight.{RunsBody, StaysIn, GoesStraight, is_plain}
+use Rattle.ns_engine.specs.Straight.{RunsBody, StaysIn, StaysOnTop, GoesStraight, is_plain}
 
 -- ---- the topmost frame
 
@@ -65,7 +65,7 @@ pub record IsIn (body steps : ℕ) (s : State) : Type 0 where
   pub none : progress.world.steps ≡ steps
 
 -- where such a state is shown that body runs
-shown_in : (code : CodeProgram) (body steps : ℕ) (new : Core) (to : Registers) → IsIn body steps (shown code new (On to))
+pub shown_in : (code : CodeProgram) (body steps : ℕ) (new : Core) (to : Registers) → IsIn body steps (shown code new (On to))
     → RunsBody body new.stack.frames.items × (new.run.world.world.steps ≡ steps)
 shown_in code body steps new to is = by_frames new.stack.frames.items is.is
   where
@@ -98,7 +98,7 @@ local_charges_none code activation hops index value world = by_place (is_beside 
     by_place false = refl
 
 -- nor has one with a slot filled
-slot_charges_none : (world : World) (object : Value) (word : ℕ) (value : Value) → (stored world object word value).steps ≡ world.steps
+pub slot_charges_none : (world : World) (object : Value) (word : ℕ) (value : Value) → (stored world object word value).steps ≡ world.steps
 slot_charges_none world Nil word value = refl
 slot_charges_none world True word value = refl
 slot_charges_none world False word value = refl
@@ -197,7 +197,7 @@ module _ (code : CodeProgram) (phase going : Phase) (place : Option SourcePlace)
 
 -- Where a plain instruction is done and leads on, the body that runs goes straight on.
 pub plain_straight : (code : CodeProgram) (i : Instr) (place : Option SourcePlace) (old new : Core) (at to : Registers) → is_plain i ≡ true
-    → Does code i place old at new (On to) → GoesStraight code i place old at new to
+    → Does code i place old at new (On to) → GoesStraight code 0 i place old at new to
 plain_straight code i place old new at to plain does = record {
   does = does;
   stays = λ body runs. by_frames body old.stack.frames.items runs does.state;
@@ -206,7 +206,7 @@ plain_straight code i place old new at to plain does = record {
     by_frames : (body : ℕ) (frames : List Frame) → RunsBody body frames
         → shown code new (On to)
         ≡ done code old.places (phase_shown old.phase) i place (standing (at_next at.next frames) (in_use old.stack at)) (progress_in old)
-        → StaysIn body old new
+        → StaysIn body 0 old new
     by_frames body [] runs e = absurd runs
     by_frames body (Looping frame ∷ frames) runs e = absurd runs
     by_frames body (Running frame ∷ frames) runs e =
@@ -217,18 +217,24 @@ plain_straight code i place old new at to plain does = record {
         (frames_shown code old.places (standing frames (take frame.floor (in_use old.stack at))))
         (frames_shown code new.places (stood new.stack to)) (progress_in old) (progress_in new) i
         (reverse (drop frame.operands (in_use old.stack at))) plain e) in
-        record { runs = subst (λ (b : ℕ). RunsBody b new.stack.frames.items) runs is.0; steps = is.1 }
+        let steps = is.1 in
+        record { runs = subst (λ (b : ℕ). RunsBody b new.stack.frames.items) runs is.0; steps = omega (arith, steps) }
 
 -- Where nothing but the registers has changed, it does so too.
 pub same_straight : (code : CodeProgram) (i : Instr) (place : Option SourcePlace) (old new : Core) (at to : Registers) → new ≡ old
-    → Does code i place old at new (On to) → GoesStraight code i place old at new to
+    → Does code i place old at new (On to) → GoesStraight code 0 i place old at new to
 same_straight code i place old new at to same does = record {
   does = does;
   stays = λ body runs. record {
     runs = subst (λ (core : Core). RunsBody body core.stack.frames.items) (sym same) runs;
-    steps = ap (λ (core : Core). core.run.world.world.steps) same;
+    steps = let steps = ap (λ (core : Core). core.run.world.world.steps) same in omega (arith, steps);
   };
 }
+
+-- Where one step was charged and the body that runs stays on top, it does so too.
+pub charged_straight : (code : CodeProgram) (i : Instr) (place : Option SourcePlace) (old new : Core) (at to : Registers) → StaysOnTop 1 old new
+    → Does code i place old at new (On to) → GoesStraight code 1 i place old at new to
+charged_straight code i place old new at to stays does = record { does = does; stays = stays }
 
 -- ---- what was tried
 

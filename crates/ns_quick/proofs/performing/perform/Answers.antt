@@ -91,7 +91,7 @@ returns-in-JumpTrue c = rw c.in-JumpTrue.is (c.jump_true.ensures None)
 
 pub returns-in-Return : goal.returns-in-Return
 returns-in-Return c =
-    rw (c.in-Return.is, c.led_on-in-Return.ensures)
+    rw (c.in-Return.is, c.led_on.ensures)
     (tried_on c.args.code.now instr.Return None c.args.core.now c.args.at c.return_value.new.core c.return_value.result (c.return_value.ensures None))
 
 pub returns-in-ReturnSelf : goal.returns-in-ReturnSelf
@@ -112,3 +112,9 @@ pub send_as-requires-clause-row : goal.send_as-requires-clause-row
 send_as-requires-clause-row c =
     let above = body_above c.args.code.now c.args.core.now c.args.at (instr_of c.args.step) c.args.step c.requires.can c.requires.member in
     subst (λ (s : Step). HasItsMember c.args.code.now above.body s) c.in-Send.is above.has
+
+pub returns-in-Send : goal.returns-in-Send
+returns-in-Send c = rw c.in-Send.is c.send_as.ensures
+
+pub returns-in-SendPrivate : goal.returns-in-SendPrivate
+returns-in-SendPrivate c = rw c.in-SendPrivate.is c.send_private.ensures

@@ -2,7 +2,7 @@ use Rattle.std.proofs.Common.{subst, sym, slice_get}
 use Rattle.ns_plan.specs.Steps.{send_instr}
 use Rattle.ns_engine.specs.declared.state.Core.{Core}
 use Rattle.ns_engine.specs.Doing.{CanDo}
-use Rattle.ns_engine.specs.Tried.{DoesOrNot}
+use Rattle.ns_engine.specs.Tried.{Leads}
 use Rattle.ns_quick.proofs.performing.send_as.Goals as goal
 
 pub send_found-requires : goal.send_found-requires
@@ -12,5 +12,5 @@ send_found-requires c =
 pub returns-in-None : goal.returns-in-None
 returns-in-None c =
     subst (λ (core : Core).
-    DoesOrNot c.args.code.now (send_instr c.args.kind c.args.sel c.args.argc) (slice_get core.places c.args.place) core c.args.at c.send_found.new.core
+    Leads c.args.code.now (send_instr c.args.kind c.args.sel c.args.argc) (slice_get core.places c.args.place) core c.args.at c.send_found.new.core
     c.send_found.result) c.in-None.ensures c.send_found.ensures

@@ -1,11 +1,10 @@
-use Rattle.ns_engine.specs.declared.state.Next.TheVariants as next
 use Rattle.std.proofs.Common.{◌+◌, ◌-◌, ℕ, ap, sym, subst, arith}
-use Rattle.ns_send.specs.Sends.{To}
 use Rattle.ns_frames.specs.declared.registers.Registers.{Registers}
 use Rattle.ns_frames.specs.Stack.{stood}
-use Rattle.ns_sends.specs.Sending.{CanSend, sent_at, Sends}
-use Rattle.ns_sends.specs.Operands.{SendsOperands, SendsToTop}
-use Rattle.ns_sends.proofs.Received.{receiver_live, can_send, sends_to_top}
+use Rattle.ns_sends.specs.Given.{SendLeads, ToTopLeads}
+use Rattle.ns_sends.specs.Operands.{SendsOperands}
+use Rattle.ns_sends.specs.Sending.{CanSend}
+use Rattle.ns_sends.proofs.Received.{receiver_live, can_send, leads_to_top}
 use Rattle.ns_sends.proofs.giving.send_operands.Goals as goal
 
 pub class_of-class-requires-clause-live : goal.class_of-class-requires-clause-live
@@ -27,16 +26,14 @@ send_to-requires c =
     c.pop-receiver.result.0 (stood c.args.core.now.stack c.pop-receiver.result.1) c.pop-receiver.ensures.stood (omega (arith, few, same)) c.args.place
     c.class_of-class.result c.class_of-class.ensures)
 
-pub returns-in-Some : goal.returns-in-Some
-returns-in-Some c =
-    subst (λ (n : ℕ). SendsToTop c.args.code.now c.args.core.now c.args.at c.args.sel n c.args.place c.args.kind c.send_to.new.core (next.On c.in-Some.to)) c.from.ensures
-    (sends_to_top c.args.code.now c.args.core.now c.args.at c.args.sel c.from.result
+pub returns : goal.returns
+returns c =
+    subst (λ (n : ℕ). ToTopLeads c.args.code.now c.args.core.now c.args.at c.args.sel n c.args.place c.args.kind c.send_to.new.core c.send_to.result) c.from.ensures
+    (leads_to_top c.args.code.now c.args.core.now c.args.at c.args.sel c.from.result
     (subst (λ (n : ℕ). SendsOperands c.args.code.now c.args.core.now c.args.at c.args.sel n (n + 1)) (sym c.from.ensures) c.requires)
     c.pop-receiver.result.0 (stood c.args.core.now.stack c.pop-receiver.result.1) c.pop-receiver.ensures.stood c.args.place c.class_of-class.result c.args.kind
-    c.send_to.new.core (next.On c.in-Some.to) (ap (λ (r : Registers). stood c.args.core.now.stack r) c.pop-receiver.ensures.at)
-    (λ activation.
-    subst (λ (floor : ℕ). Sends c.args.code.now c.args.core.now c.args.at floor
-    (sent_at c.args.code.now c.args.core.now c.args.at
+    c.send_to.new.core c.send_to.result (ap (λ (r : Registers). stood c.args.core.now.stack r) c.pop-receiver.ensures.at)
+    (subst (λ (floor : ℕ). SendLeads c.args.code.now c.args.core.now c.args.at
     (record { site = record { place = c.args.place; class = c.class_of-class.result; sel = c.args.sel }; floor = floor; first = c.args.at.top - c.from.result })
-    activation (To c.pop-receiver.result.0 c.args.kind)) c.send_to.new.core (next.On c.in-Some.to))
-    (ap (λ (r : Registers). r.top) c.pop-receiver.ensures.at) (c.in-Some.ensures activation)))
+    c.pop-receiver.result.0 c.args.kind c.send_to.new.core c.send_to.result)
+    (ap (λ (r : Registers). r.top) c.pop-receiver.ensures.at) c.send_to.ensures))

@@ -31,15 +31,17 @@ send_to-requires-clause-can c =
     integers (integer_named c.args.core.now.run.world.world.cells c.pop-receiver.result.0 is))
 
 pub returns-in-Some : goal.returns-in-Some
-returns-in-Some c =
-    subst (λ (n : ℕ). SendsToTop c.args.code.now c.args.core.now c.args.at c.args.sel n c.args.place c.args.kind c.send_to.new.core (next.On c.in-Some.to)) c.from.ensures
-    (sends_to_top c.args.code.now c.args.core.now c.args.at c.args.sel c.from.result
-    (subst (λ (n : ℕ). SendsOperands c.args.code.now c.args.core.now c.args.at c.args.sel n (n + 1)) (sym c.from.ensures) c.requires.operands)
-    c.pop-receiver.result.0 (stood c.args.core.now.stack c.pop-receiver.result.1) c.pop-receiver.ensures.stood c.args.place integers c.args.kind
-    c.send_to.new.core (next.On c.in-Some.to) (ap (λ (r : Registers). stood c.args.core.now.stack r) c.pop-receiver.ensures.at)
-    (λ activation.
-    subst (λ (floor : ℕ). Sends c.args.code.now c.args.core.now c.args.at floor
-    (sent_at c.args.code.now c.args.core.now c.args.at
-    (record { site = record { place = c.args.place; class = integers; sel = c.args.sel }; floor = floor; first = c.args.at.top - c.from.result })
-    activation (To c.pop-receiver.result.0 c.args.kind)) c.send_to.new.core (next.On c.in-Some.to))
-    (ap (λ (r : Registers). r.top) c.pop-receiver.ensures.at) (c.in-Some.ensures activation)))
+returns-in-Some c = (
+  subst (λ (n : ℕ). SendsToTop c.args.code.now c.args.core.now c.args.at c.args.sel n c.args.place c.args.kind c.send_to.new.core (next.On c.in-Some.to)) c.from.ensures
+      (sends_to_top c.args.code.now c.args.core.now c.args.at c.args.sel c.from.result
+      (subst (λ (n : ℕ). SendsOperands c.args.code.now c.args.core.now c.args.at c.args.sel n (n + 1)) (sym c.from.ensures) c.requires.operands)
+      c.pop-receiver.result.0 (stood c.args.core.now.stack c.pop-receiver.result.1) c.pop-receiver.ensures.stood c.args.place integers c.args.kind
+      c.send_to.new.core (next.On c.in-Some.to) (ap (λ (r : Registers). stood c.args.core.now.stack r) c.pop-receiver.ensures.at)
+      (λ activation.
+      subst (λ (floor : ℕ). Sends c.args.code.now c.args.core.now c.args.at floor
+      (sent_at c.args.code.now c.args.core.now c.args.at
+      (record { site = record { place = c.args.place; class = integers; sel = c.args.sel }; floor = floor; first = c.args.at.top - c.from.result })
+      activation (To c.pop-receiver.result.0 c.args.kind)) c.send_to.new.core (next.On c.in-Some.to))
+      (ap (λ (r : Registers). r.top) c.pop-receiver.ensures.at) (c.in-Some.ensures.0 activation))),
+  c.in-Some.ensures.1,
+)

@@ -1,16 +1,14 @@
-use Rattle.std.proofs.Common.{◌-◌, ℕ, ap, sym, subst, arith}
+use Rattle.std.proofs.Common.{ℕ, ap, sym, subst, arith}
 use Rattle.ns_code.specs.declared.instruction.Instr.TheVariants as instr
 use Rattle.ns_world.specs.declared.value.Value.{Value}
 use Rattle.ns_world.specs.Lawful.{IsLiveValue}
 use Rattle.ns_send.specs.Bodies.{Place}
-use Rattle.ns_send.specs.Sends.{ToPrivate}
 use Rattle.ns_act.specs.declared.running.Running.{Running}
 use Rattle.ns_act.specs.Running.{code_of, nowhere}
-use Rattle.ns_sends.specs.Opening.{IsMemberAt}
-use Rattle.ns_sends.specs.Sending.{sent_at, Sends}
-use Rattle.ns_engine.specs.declared.state.Next.TheVariants.{On}
+use Rattle.ns_sends.specs.Opening.{IsMemberAt, AroundLeads}
 use Rattle.ns_sends.specs.Operands.{SendsOperands}
-use Rattle.ns_sends.proofs.Selves.{own_sent, can_send_own, private_operands, here_fits, here_lawful, level_there, private_does}
+use Rattle.ns_sends.proofs.Privately.{private_leads}
+use Rattle.ns_sends.proofs.Selves.{own_sent, can_send_own, private_operands, here_fits, here_lawful, level_there}
 use Rattle.ns_sends.proofs.private.send_private.Goals as goal
 
 pub send_around-requires-clause-around : goal.send_around-requires-clause-around
@@ -46,14 +44,13 @@ send_around-requires-clause-can c =
     c.running.ensures c.running_code-code_here.ensures)).live)
     c.class_of-class.ensures
 
-pub returns-in-Some : goal.returns-in-Some
-returns-in-Some c =
-    private_does c.operands_are_taken.ensures.taken c.args.code.now c.args.core.now c.send_around.new.core c.args.at c.args.level c.args.sel c.args.argc c.args.place
-    c.class_of-class.result c.running_code-code_here.result c.running.result (On c.in-Some.to) c.requires.can c.running.ensures c.running_code-code_here.ensures
-    (subst (λ (n : ℕ). Sends c.args.code.now c.args.core.now c.args.at (c.args.at.top - n)
-    (sent_at c.args.code.now c.args.core.now c.args.at (own_sent c.args.at n c.args.place c.class_of-class.result c.args.sel)
-    (code_of c.running_code-code_here.result) (ToPrivate c.args.level)) c.send_around.new.core (On c.in-Some.to))
-    c.from.ensures c.in-Some.ensures)
+pub returns : goal.returns
+returns c =
+    private_leads c.operands_are_taken.ensures.taken c.args.code.now c.args.core.now c.send_around.new.core c.args.at c.args.level c.args.sel c.args.argc c.args.place
+    c.class_of-class.result c.running_code-code_here.result c.running.result c.send_around.result c.requires.can c.running.ensures c.running_code-code_here.ensures
+    (subst (λ (n : ℕ). AroundLeads c.args.code.now c.args.core.now c.args.at (own_sent c.args.at n c.args.place c.class_of-class.result c.args.sel)
+    c.running_code-code_here.result c.args.level c.send_around.new.core c.send_around.result)
+    c.from.ensures c.send_around.ensures)
 
 pub send_around-requires-clause-member : goal.send_around-requires-clause-member
 send_around-requires-clause-member c =

@@ -6,7 +6,7 @@ use Rattle.ns_act.specs.Running.{code_of}
 use Rattle.ns_engine.specs.declared.state.Next.TheVariants.{On}
 use Rattle.ns_sends.specs.Sending.{Sends}
 use Rattle.ns_sends.proofs.Opened.{stepped_to}
-use Rattle.ns_sends.proofs.Slotted.{suits_later, setter_later}
+use Rattle.ns_sends.proofs.Slotted.{suits_later, setter_later, set_on_top}
 use Rattle.ns_sends.proofs.Stepped.{step_sends}
 use Rattle.ns_sends.proofs.private.set_around.Goals as goal
 
@@ -19,11 +19,14 @@ set-requires-clause-suits c =
     (sym c.requires.finds) (sym c.requires.receiver)
 
 pub returns-in-Ok : goal.returns-in-Ok
-returns-in-Ok c =
-    step_sends c.a_send_is_its_step_and_its_answer.ensures.running c.args.code.now c.args.core.now c.set.new.core c.args.at c.args.sent c.args.receiver
-    (code_of c.args.running) (ToPrivate c.args.level) c.step.new.self (On c.set.result) c.in-Ok.ensures.charges.0 c.in-Ok.ensures.charges.1 (sym c.requires.receiver)
-    c.requires.can
-    (subst (λ (control : Control). Sends c.args.code.now (stepped_to c.args.core.now c.step.new.self) c.args.at c.args.sent.floor control c.set.new.core (On c.set.result))
-    (sym (setter_later c.args.code.now c.args.core.now c.args.at c.args.sent c.args.receiver c.args.holder c.args.word (code_of c.args.running) (ToPrivate c.args.level)
-    c.step.new.self c.in-Ok.ensures.charges.0 (sym c.requires.finds) (sym c.requires.receiver)))
-    c.set.ensures)
+returns-in-Ok c = (
+  step_sends c.a_send_is_its_step_and_its_answer.ensures.running c.args.code.now c.args.core.now c.set.new.core c.args.at c.args.sent c.args.receiver
+      (code_of c.args.running) (ToPrivate c.args.level) c.step.new.self (On c.set.result) c.in-Ok.ensures.charges.0 c.in-Ok.ensures.charges.1 (sym c.requires.receiver)
+      c.requires.can
+      (subst (λ (control : Control). Sends c.args.code.now (stepped_to c.args.core.now c.step.new.self) c.args.at c.args.sent.floor control c.set.new.core (On c.set.result))
+      (sym (setter_later c.args.code.now c.args.core.now c.args.at c.args.sent c.args.receiver c.args.holder c.args.word (code_of c.args.running) (ToPrivate c.args.level)
+      c.step.new.self c.in-Ok.ensures.charges.0 (sym c.requires.finds) (sym c.requires.receiver)))
+      c.set.ensures),
+  set_on_top c.args.code.now c.args.core.now c.set.new.core c.args.at c.set.result c.args.sent c.args.receiver c.args.word c.step.new.self
+      c.in-Ok.ensures.charges.0 c.set.ensures,
+)
