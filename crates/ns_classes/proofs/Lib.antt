@@ -1,2 +1,3 @@
+pub mod Based
 pub mod Lawfully
 pub mod Lasting

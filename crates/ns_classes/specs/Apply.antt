@@ -4,8 +4,10 @@ use Rattle.ns_world.specs.declared.value.Value.{Value}
 use Rattle.ns_world.specs.declared.value.Value.TheVariants.{Kernel, Ref}
 use Rattle.ns_world.specs.declared.value.KClass.{KClass}
 use Rattle.ns_world.specs.declared.value.KClass.TheVariants.{Object, Array}
-use Rattle.ns_world.specs.Cell.{Cell}
+use Rattle.ns_code.specs.declared.program.CodeProgram.{CodeProgram}
+use Rattle.ns_world.specs.Cell.{Cell, ClassCell}
 use Rattle.ns_world.specs.Heap.{Heap, heap_size, find_cell, is_class, chain_of}
+use Rattle.ns_world.specs.Layout.{entries_above}
 use Rattle.ns_world.specs.World.{WorldView, made, SameRoom}
 use Rattle.ns_classes.specs.declared.apply.MakeFault.{MakeFault}
 use Rattle.ns_classes.specs.declared.apply.MakeFault.TheVariants.{NotAClass, KernelSuper, ChainLimit, CellLimit}
@@ -33,6 +35,10 @@ class_fault heap _ = Some NotAClass
 abbrev pub is_object : KClass → Bool
 is_object Object = true
 is_object Array = false
+
+-- a class of a declaration over a superclass, whose entries stand behind those of the superclass
+abbrev pub class_cell : Heap → CodeProgram → ℕ → Value → Value → Value → Cell
+class_cell heap code decl encl holder over = ClassCell decl (entries_above heap code over) encl holder over
 
 -- A check answers the fault, if there is one, and a superclass that passes is one.
 abbrev pub Checks : Option MakeFault → Bool → Result (Unit {0}) MakeFault → Type 0

@@ -1,14 +1,15 @@
 //! Making a class: the checks of its superclass in their order, then the charge.
 
 ghost use Rattle.std.specs.Prelude.{◌≡◌, ℕ, ◌≤◌, true, IsTrue, IsSome, IfOk};
-ghost use Rattle.ns_world.specs.Cell.{ClassCell};
 ghost use Rattle.ns_world.specs.Heap.{find_cell, is_class, is_superclass, chain_of};
+ghost use Rattle.ns_world.specs.Layout.{entries_above};
 ghost use Rattle.ns_world.specs.Lawful.{IsLive, IsLawful};
 ghost use Rattle.ns_world.specs.Keeping.{IsEnclosed};
 ghost use Rattle.ns_world.specs.World.{SameRoom};
-ghost use Rattle.ns_classes.specs.Apply.{AppliesClass, class_fault, declared_fault, chain_fault, kernel_fault, is_object, Checks};
+ghost use Rattle.ns_classes.specs.Apply.{AppliesClass, class_cell, class_fault, declared_fault, chain_fault, kernel_fault, is_object, Checks};
 ghost use Rattle.ns_world.specs.declared.value.Value.TheVariants.{Ref};
 
+use crate::layout::layout;
 use ns_code::program::CodeProgram;
 use ns_world::cell::NewCell;
 use ns_world::value::{KClass, Value};
@@ -39,38 +40,56 @@ pub fn apply(
     requires live { IsLive world.old.world.cells code.now over }
     requires enclosed { IsEnclosed world.old.world.cells code.now decl encl holder }
     requires room { world.old.world.limits.cells ≤ world.old.cell_room }
-    ensures applies { AppliesClass (class_fault world.old.world.cells over) world.old (ClassCell decl encl holder over) result world.new }
+    ensures applies { AppliesClass (class_fault world.old.world.cells over) world.old
+        (class_cell world.old.world.cells code.now decl encl holder over) result world.new }
     ensures class { IfOk result (λ number. IsTrue (is_class (find_cell world.new.world.cells number))) }
     ensures lawful { IsLawful world.new.world code.now }
     ensures limits { world.new.world.limits ≡ world.old.world.limits }
     ensures room { SameRoom world.old world.new }
 {
-    make_class(world, decl, encl, holder, over)
+    make_class(world, code, decl, encl, holder, over)
 }
 
 /// The checks, the charge and the making.
 fn make_class(
     world: &mut World,
+    code: &CodeProgram,
     decl: u32,
     encl: Value,
     holder: Value,
     over: Value,
 ) -> Result<u32, MakeFault>
+    requires lawful { IsLawful world.old.world code.now }
     requires live { (at : ℕ) → over ≡ Ref at → IsSome (find_cell world.old.world.cells at) }
     requires room { world.old.world.limits.cells ≤ world.old.cell_room }
-    ensures applies { AppliesClass (class_fault world.old.world.cells over) world.old (ClassCell decl encl holder over) result world.new }
+    ensures applies { AppliesClass (class_fault world.old.world.cells over) world.old
+        (class_cell world.old.world.cells code.now decl encl holder over) result world.new }
     ensures limits { world.new.world.limits ≡ world.old.world.limits }
     ensures room { SameRoom world.old world.new }
 {
     check_superclass(world, over)?;
+    let base = base_over(world, code, over);
     match world.make(NewCell::Class {
         decl,
+        base,
         encl,
         holder,
         over,
     }) {
         Ok(number) => Ok(number),
         Err(_) => Err(MakeFault::CellLimit),
+    }
+}
+
+/// The base of a class over a superclass: how many entries the instances of that have.
+fn base_over(world: &World, code: &CodeProgram, over: Value) -> u32
+    requires lawful { IsLawful world.now.world code.now }
+    requires superclass { IsTrue (is_superclass world.now.world.cells over) }
+    ensures { result ≡ entries_above world.now.world.cells code.now over }
+{
+    match over {
+        Value::Ref(class) => layout(world, code, class),
+        _ => 0,
     }
 }
 

@@ -26,7 +26,7 @@ environment_cell : (o : Option Cell) → IsSome (environment_in o) → (parent :
 environment_cell (Some (EnvironmentCell parent locals)) some = (parent, locals, refl)
 environment_cell None some = absurd (cc)
 environment_cell (Some (ObjectCell class entries)) some = absurd (cc)
-environment_cell (Some (ClassCell decl encl holder over)) some = absurd (cc)
+environment_cell (Some (ClassCell decl base encl holder over)) some = absurd (cc)
 environment_cell (Some (BlockCell body env home receiver holder)) some = absurd (cc)
 environment_cell (Some (ArrayCell items)) some = absurd (cc)
 environment_cell (Some (TextCell bytes)) some = absurd (cc)

@@ -23,7 +23,7 @@ use Rattle.ns_send.specs.laws.Onward.{charged_all}
 -- ---- superclasses
 
 class_over : (earlier : Heap) (cell : Cell) (over : ℕ) → has_superclass earlier cell ≡ true → superclass_in (Some cell) ≡ value.Ref over → over < heap_size earlier
-class_over earlier (ClassCell decl encl holder above) over s e = class_below earlier over (ap (is_superclass earlier) (sym e) ∙ s)
+class_over earlier (ClassCell decl base encl holder above) over s e = class_below earlier over (ap (is_superclass earlier) (sym e) ∙ s)
 class_over earlier (ObjectCell class entries) over s e = absurd (cc)
 class_over earlier (BlockCell body env home receiver holder) over s e = absurd (cc)
 class_over earlier (EnvironmentCell parent locals) over s e = absurd (cc)

@@ -245,7 +245,7 @@ entered_lower most code phase (new.Block body env home receiver holder) argument
     tested true e = absurd (cc)
     tested false e = omega arith
 entered_lower most code phase (new.Object class words) arguments site frames p e = omega arith
-entered_lower most code phase (new.Class decl encl holder over) arguments site frames p e = omega arith
+entered_lower most code phase (new.Class decl base encl holder over) arguments site frames p e = omega arith
 entered_lower most code phase (new.Environment parent locals) arguments site frames p e = omega arith
 entered_lower most code phase (new.Array size) arguments site frames p e = omega arith
 entered_lower most code phase (new.Text bytes) arguments site frames p e = omega arith

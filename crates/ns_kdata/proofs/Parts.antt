@@ -81,7 +81,7 @@ there_in_more heap cell (Kernel class) there = tt
 bytes_of_cell : (cell : Cell) → length (cell_bytes cell) ≤ 8 * cell_size cell
 bytes_of_cell (TextCell bytes) = omega arith
 bytes_of_cell (ObjectCell class entries) = omega arith
-bytes_of_cell (ClassCell decl encl holder over) = omega arith
+bytes_of_cell (ClassCell decl base encl holder over) = omega arith
 bytes_of_cell (BlockCell body env home receiver holder) = omega arith
 bytes_of_cell (EnvironmentCell parent locals) = omega arith
 bytes_of_cell (ArrayCell items) = omega arith

@@ -11,7 +11,7 @@ use Rattle.ns_kdata.specs.Arguments.{shape_of_value, text_size_in, array_size_in
 text_cell : (o : Option Cell) → text_size_in (option_map_or shape_of o (new.Mirror Nil)) ≡ length (option_map_or cell_bytes o [])
 text_cell None = refl
 text_cell (Some (ObjectCell class entries)) = refl
-text_cell (Some (ClassCell decl encl holder over)) = refl
+text_cell (Some (ClassCell decl base encl holder over)) = refl
 text_cell (Some (BlockCell body env home receiver holder)) = refl
 text_cell (Some (EnvironmentCell parent locals)) = refl
 text_cell (Some (ArrayCell items)) = refl
@@ -33,7 +33,7 @@ text_size_told heap (Kernel class) = refl
 array_cell : (o : Option Cell) → array_size_in (option_map_or shape_of o (new.Mirror Nil)) ≡ length (array_items o)
 array_cell None = refl
 array_cell (Some (ObjectCell class entries)) = refl
-array_cell (Some (ClassCell decl encl holder over)) = refl
+array_cell (Some (ClassCell decl base encl holder over)) = refl
 array_cell (Some (BlockCell body env home receiver holder)) = refl
 array_cell (Some (EnvironmentCell parent locals)) = refl
 array_cell (Some (ArrayCell items)) = refl

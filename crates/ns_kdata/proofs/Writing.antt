@@ -10,7 +10,7 @@ use Rattle.ns_world.specs.laws.Changing.{set_here}
 bytes_with : (cell : Cell) (place byte : ℕ) → length (cell_bytes (with_byte cell place byte)) ≡ length (cell_bytes cell)
 bytes_with (TextCell bytes) place byte = length-set bytes place byte
 bytes_with (ObjectCell class entries) place byte = refl
-bytes_with (ClassCell decl encl holder over) place byte = refl
+bytes_with (ClassCell decl base encl holder over) place byte = refl
 bytes_with (BlockCell body env home receiver holder) place byte = refl
 bytes_with (EnvironmentCell parent locals) place byte = refl
 bytes_with (ArrayCell items) place byte = refl

@@ -20,7 +20,7 @@ abbrev pub is_common : NewCell → Bool
 is_common (new.Facet kind) = false
 is_common (new.Block body env home receiver holder) = false
 is_common (new.Object class words) = true
-is_common (new.Class decl encl holder over) = true
+is_common (new.Class decl base encl holder over) = true
 is_common (new.Environment parent locals) = true
 is_common (new.Array size) = true
 is_common (new.Text bytes) = true

@@ -22,7 +22,7 @@ use Rattle.ns_world.specs.Heap.{heap_size, find_cell, superclass_in}
 use Rattle.ns_world.specs.Layout.{declaration_of, layout_of, entry_word}
 use Rattle.ns_world.specs.Starts.{start_of}
 use Rattle.ns_world.specs.World.{World, made, stepped, entered, left, written}
-use Rattle.ns_classes.specs.Apply.{class_fault}
+use Rattle.ns_classes.specs.Apply.{class_fault, class_cell}
 use Rattle.ns_classes.specs.Nested.{kept_class}
 use Rattle.ns_find.specs.declared.found.Found.{Found}
 use Rattle.ns_find.specs.declared.found.Found.TheVariants as found
@@ -137,7 +137,7 @@ module _ (k : ℕ) (code : CodeProgram) where
           ≡ after_to k (kept_or o p (newly_kept code object holder class over site p))
       cases (Some kept) = refl
       cases None =
-          class_made_to k (ClassCell class (value.Ref object) (value.Ref holder) over) (class_fault p.world.cells over) site p _ _ (λ number q. refl)
+          class_made_to k (class_cell p.world.cells code class (value.Ref object) (value.Ref holder) over) (class_fault p.world.cells over) site p _ _ (λ number q. refl)
 
   head_to : (object holder class : ℕ) (clause : Option ℕ) (site : Site) (p : Progress)
       → head code object holder class clause site (to_steps k p) ≡ control_to k (head code object holder class clause site p)
@@ -307,7 +307,7 @@ module _ (k : ℕ) (code : CodeProgram) where
       opened_to (control_to k) halts (Enter FromBody)
       (record { self = receiver; holder = holder; body = body; home = home; env = env; site = site }) arguments q refl (λ a ls q. refl))
   block_follows (new.Object class words) arguments site p le = inl refl
-  block_follows (new.Class decl encl holder over) arguments site p le = inl refl
+  block_follows (new.Class decl base encl holder over) arguments site p le = inl refl
   block_follows (new.Environment parent locals) arguments site p le = inl refl
   block_follows (new.Array size) arguments site p le = inl refl
   block_follows (new.Text bytes) arguments site p le = inl refl

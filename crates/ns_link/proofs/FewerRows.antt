@@ -21,7 +21,7 @@ use Rattle.ns_world.specs.Heap.{heap_size, no_class, chain_of, cell_number}
 use Rattle.ns_world.specs.Starts.{class_name_of}
 use Rattle.ns_world.specs.World.{World, made, entered, printed}
 use Rattle.ns_classes.specs.declared.apply.MakeFault.{MakeFault}
-use Rattle.ns_classes.specs.Apply.{class_fault}
+use Rattle.ns_classes.specs.Apply.{class_fault, class_cell}
 use Rattle.ns_kint.specs.Integer.{integer}
 use Rattle.ns_kdata.specs.declared.row.DataRow.{DataRow}
 use Rattle.ns_kdata.specs.declared.row.DataRow.TheVariants as data_row
@@ -331,17 +331,17 @@ module _ (k : ℕ) where
       charged_to (after_to k) Halts Cells (made (world_to k p.world) cell) (made p.world cell) p (go' (heap_size p.world.cells))
       (go (heap_size p.world.cells)) (made_to p.world cell) refl (goes (heap_size p.world.cells))
 
-  mixed_to : (cell : NewCell) (over : Value) (site : Site) (p : Progress) → mixed cell over site (to_steps k p) ≡ after_to k (mixed cell over site p)
-  mixed_to (new.Object class words) over site p = refl
-  mixed_to (new.Class decl encl holder under) over site p =
-      class_made_to (ClassCell decl encl holder over) (class_fault p.world.cells over) site p _ _ (λ number q. refl)
-  mixed_to (new.Block body env home receiver holder) over site p = refl
-  mixed_to (new.Environment parent locals) over site p = refl
-  mixed_to (new.Array size) over site p = refl
-  mixed_to (new.Text bytes) over site p = refl
-  mixed_to (new.Facet kind) over site p = refl
-  mixed_to (new.Mirror shown) over site p = refl
-  mixed_to (new.Message sel args) over site p = refl
+  mixed_to : (code : CodeProgram) (cell : NewCell) (over : Value) (site : Site) (p : Progress) → mixed code cell over site (to_steps k p) ≡ after_to k (mixed code cell over site p)
+  mixed_to code (new.Object class words) over site p = refl
+  mixed_to code (new.Class decl base encl holder under) over site p =
+      class_made_to (class_cell p.world.cells code decl encl holder over) (class_fault p.world.cells over) site p _ _ (λ number q. refl)
+  mixed_to code (new.Block body env home receiver holder) over site p = refl
+  mixed_to code (new.Environment parent locals) over site p = refl
+  mixed_to code (new.Array size) over site p = refl
+  mixed_to code (new.Text bytes) over site p = refl
+  mixed_to code (new.Facet kind) over site p = refl
+  mixed_to code (new.Mirror shown) over site p = refl
+  mixed_to code (new.Message sel args) over site p = refl
 
   either_control : (b : Bool) (x' x y : Control) → x' ≡ control_to k x → cond b x' (control_to k y) ≡ control_to k (cond b x y)
   either_control true x' x y e = e
@@ -375,7 +375,7 @@ module _ (k : ℕ) where
       ap (λ r. reflected_reached r site (to_steps k p)) (outcome_of_mirror code about (cell_number receiver) arguments p.world)
       ∙ mirror_reached_to (mirror p.world code about (cell_number receiver) arguments) site p
   row_to code (row.Method method) sel receiver arguments site p = begun_to method receiver (argument arguments 0) (argument arguments 1) site p
-  row_to code row.Apply sel receiver arguments site p = ap Now (mixed_to (shape_of_value p.world.cells receiver) (argument arguments 0) site p)
+  row_to code row.Apply sel receiver arguments site p = ap Now (mixed_to code (shape_of_value p.world.cells receiver) (argument arguments 0) site p)
   row_to code row.Value sel receiver arguments site p = refl
   row_to code row.ValueWithArguments sel receiver arguments site p = listed_to receiver (argument arguments 0) site p
   row_to code row.NumArgs sel receiver arguments site p = refl

@@ -61,7 +61,7 @@ along_inside world code sel place (holder ∷ holders) class lawful s e f =
 cell_starts : (world : World) (code : CodeProgram) (at : ℕ) → IsLawful world code → (o : Option Cell) → find_cell world.cells at ≡ o → is_chain_start world.cells (class_of o) ≡ true
 cell_starts world code at lawful (Some (ObjectCell class entries)) e = (lawful.cells at (ObjectCell class entries) e).0.class_is
 cell_starts world code at lawful None e = none_starts world.cells
-cell_starts world code at lawful (Some (ClassCell decl encl holder over)) e = none_starts world.cells
+cell_starts world code at lawful (Some (ClassCell decl base encl holder over)) e = none_starts world.cells
 cell_starts world code at lawful (Some (BlockCell body env home receiver holder)) e = none_starts world.cells
 cell_starts world code at lawful (Some (EnvironmentCell parent locals)) e = none_starts world.cells
 cell_starts world code at lawful (Some (ArrayCell items)) e = none_starts world.cells
@@ -92,7 +92,7 @@ cell_inside world code at sel place lawful (Some (ObjectCell class entries)) e f
     let below : place.word < length entries = omega (arith, inside, l.words) in
     (below, below)
 cell_inside world code at sel place lawful None e f = absurd (no_slot world code sel place lawful f)
-cell_inside world code at sel place lawful (Some (ClassCell decl encl holder over)) e f = absurd (no_slot world code sel place lawful f)
+cell_inside world code at sel place lawful (Some (ClassCell decl base encl holder over)) e f = absurd (no_slot world code sel place lawful f)
 cell_inside world code at sel place lawful (Some (BlockCell body env home receiver holder)) e f = absurd (no_slot world code sel place lawful f)
 cell_inside world code at sel place lawful (Some (EnvironmentCell parent locals)) e f = absurd (no_slot world code sel place lawful f)
 cell_inside world code at sel place lawful (Some (ArrayCell items)) e f = absurd (no_slot world code sel place lawful f)

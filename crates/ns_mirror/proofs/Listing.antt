@@ -13,7 +13,7 @@ words_with : (cell : Cell) (place : ℕ) (value : Value) → length (open_words 
 words_with (ObjectCell class entries) place value = length-set entries place value
 words_with (EnvironmentCell parent locals) place value = length-set locals place value
 words_with (ArrayCell items) place value = length-set items place value
-words_with (ClassCell decl encl holder over) place value = refl
+words_with (ClassCell decl base encl holder over) place value = refl
 words_with (BlockCell body env home receiver holder) place value = refl
 words_with (TextCell bytes) place value = refl
 words_with (FacetCell kind) place value = refl

@@ -20,7 +20,7 @@ mirrored_cell : (world : World) (code : CodeProgram) (mirror : ℕ) → IsLawful
 mirrored_cell world code mirror lawful None e = (tt, refl)
 mirrored_cell world code mirror lawful (Some (MirrorCell value)) e = lawful.cells mirror (MirrorCell value) e
 mirrored_cell world code mirror lawful (Some (ObjectCell class entries)) e = (tt, refl)
-mirrored_cell world code mirror lawful (Some (ClassCell decl encl holder over)) e = (tt, refl)
+mirrored_cell world code mirror lawful (Some (ClassCell decl base encl holder over)) e = (tt, refl)
 mirrored_cell world code mirror lawful (Some (BlockCell body env home receiver holder)) e = (tt, refl)
 mirrored_cell world code mirror lawful (Some (EnvironmentCell parent locals)) e = (tt, refl)
 mirrored_cell world code mirror lawful (Some (ArrayCell items)) e = (tt, refl)

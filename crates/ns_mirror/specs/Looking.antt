@@ -27,7 +27,7 @@ object_class heap value = object_class_in (shape_of_value heap value)
 
 -- the enclosing object of a class, nil where the cell is another
 abbrev pub enclosing_in : NewCell → Value
-enclosing_in (new.Class decl encl holder over) = encl
+enclosing_in (new.Class decl base encl holder over) = encl
 enclosing_in cell = Nil
 
 -- the enclosing object of a class, nil for the number of no class

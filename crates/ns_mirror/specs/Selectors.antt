@@ -34,7 +34,7 @@ methods_of_class heap code class = if class == no_class then [] else declared_me
 -- the methods of an object's declaration, those of the class side for a class, none for kernel values
 abbrev pub methods_of_shape : Heap → CodeProgram → NewCell → List MethodCode
 methods_of_shape heap code (new.Object class words) = methods_of_class heap code class
-methods_of_shape heap code (new.Class decl encl holder over) = declared_side_methods code decl
+methods_of_shape heap code (new.Class decl base encl holder over) = declared_side_methods code decl
 methods_of_shape heap code cell = []
 
 -- `selectors` of a value

@@ -26,7 +26,7 @@ use Rattle.ns_world.specs.Layout.{declaration_of, layout_of}
 use Rattle.ns_world.specs.Starts.{start_of, class_name_of}
 use Rattle.ns_world.specs.World.{World, made, stepped, entered, left, written}
 use Rattle.ns_classes.specs.declared.apply.MakeFault.{MakeFault}
-use Rattle.ns_classes.specs.Apply.{class_fault}
+use Rattle.ns_classes.specs.Apply.{class_fault, class_cell}
 use Rattle.ns_classes.specs.Nested.{kept_class, nested_entry}
 use Rattle.ns_find.specs.declared.found.Found.{Found}
 use Rattle.ns_find.specs.declared.found.Found.TheVariants as found
@@ -41,7 +41,7 @@ use Rattle.ns_send.specs.Control.{Progress, in_world, Activation, Exit, FromMeth
 use Rattle.ns_send.specs.Control.{Control, Now, Enter, Stop, EnterPart, halts, fails, charged}
 use Rattle.ns_send.specs.Bodies.{parameters_of, locals_of, has_environment, side_of_body, initialiser_of, clause_of, no_home, first_locals, opened}
 use Rattle.ns_send.specs.Bodies.{enclosing, side_at, environment_out, is_beside, environment_at, local_at, locals_with, local_stored}
-use Rattle.ns_send.specs.Classes.{class_made, newly_kept, kept_or, class_over, head, nested, instance, factory_selector, super_selector}
+use Rattle.ns_send.specs.Classes.{class_made, keeping, newly_kept, kept_or, class_over, head, nested, instance, factory_selector, super_selector}
 use Rattle.ns_send.specs.Classes.{declared_part, part_of, super_part, slot_filled, body_ended}
 use Rattle.ns_send.specs.Blocks.{block_entered}
 use Rattle.ns_send.specs.Rows.{row_at}
@@ -51,7 +51,7 @@ use Rattle.ns_send.specs.Sends.{sent_plain}
 use Rattle.ns_send.specs.Report.{cell_text, value_text, place_text, kind_text, report_line}
 use Rattle.ns_model.specs.Tables.{SameTables, ActAlike}
 use Rattle.ns_code.specs.Heads.{head_of}
-use Rattle.ns_model.proofs.Lookups.{recoded, layout_same, word_same, kept_same, found_same, private_same}
+use Rattle.ns_model.proofs.Lookups.{recoded, above_same, layout_same, word_same, kept_same, found_same, private_same}
 use Rattle.ns_model.proofs.RowsRead.{class_same, row_same}
 
 -- ---- charges, and what goes on from them
@@ -154,9 +154,14 @@ module _ (code : CodeProgram) (texts : List (List ℕ)) (bodies : List BodyCode)
   newly_same : (object holder class : ℕ) (over : Value) (site : Site) (progress : Progress)
       → newly_kept code object holder class over site progress ≡ newly_kept other object holder class over site progress
   newly_same object holder class over site progress =
-      made_on (ClassCell class (value.Ref object) (value.Ref holder) over) (class_fault progress.world.cells over) site progress _ _ λ number next.
+      ap (λ base. class_made (ClassCell class base (value.Ref object) (value.Ref holder) over) (class_fault progress.world.cells over) site progress kept)
+      (above_same code texts bodies progress.world.cells over)
+      ∙ made_on (class_cell progress.world.cells other class (value.Ref object) (value.Ref holder) over) (class_fault progress.world.cells over) site progress kept _ λ number next.
       ap (λ word. Gives (value.Ref number) (in_world next (written next.world object word (value.Ref number))))
       (word_same code texts bodies next.world.cells holder (nested_entry code (declaration_of next.world.cells holder) class))
+    where
+      kept : ℕ → Progress → After
+      kept number next = Gives (value.Ref number) (in_world next (keeping code object holder class number next.world))
 
   over_same : (object holder class : ℕ) (over : Value) (site : Site) (progress : Progress)
       → class_over code object holder class over site progress ≡ class_over other object holder class over site progress
@@ -343,7 +348,7 @@ module _ (code : CodeProgram) (texts : List (List ℕ)) (bodies : List BodyCode)
       (charged_on halts Steps (stepped progress.world) progress _ _ λ next.
       charged_on halts Depth (entered next.world) next _ _ (opened_same halts (Enter FromBody) _ arguments))
   block_same (new.Object class words) arguments site progress = refl
-  block_same (new.Class decl encl holder over) arguments site progress = refl
+  block_same (new.Class decl base encl holder over) arguments site progress = refl
   block_same (new.Environment parent locals) arguments site progress = refl
   block_same (new.Array size) arguments site progress = refl
   block_same (new.Text bytes) arguments site progress = refl
@@ -356,7 +361,7 @@ module _ (code : CodeProgram) (texts : List (List ℕ)) (bodies : List BodyCode)
   cell_same : (cell : Option Cell) (class : List ℕ) → cell_text code cell class ≡ cell_text other cell class
   cell_same None class = refl
   cell_same (Some (ObjectCell kind entries)) class = refl
-  cell_same (Some (ClassCell decl encl holder over)) class = refl
+  cell_same (Some (ClassCell decl base encl holder over)) class = refl
   cell_same (Some (BlockCell body env home receiver holder)) class = refl
   cell_same (Some (EnvironmentCell parent locals)) class = refl
   cell_same (Some (ArrayCell items)) class = refl

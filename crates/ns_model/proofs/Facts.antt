@@ -108,7 +108,7 @@ block_room code (new.Block body env home receiver holder) arguments site p = tes
     tested true = room_charged p _
     tested false = tt
 block_room code (new.Object class words) arguments site p = tt
-block_room code (new.Class decl encl holder over) arguments site p = tt
+block_room code (new.Class decl base encl holder over) arguments site p = tt
 block_room code (new.Environment parent locals) arguments site p = tt
 block_room code (new.Array size) arguments site p = tt
 block_room code (new.Text bytes) arguments site p = tt
@@ -129,7 +129,7 @@ and_second false c e = absurd (cc)
 -- a superclass has a smaller number
 over_below : (earlier : Heap) (cell : Cell) (over : ℕ) → superclass_in (Some cell) ≡ value.Ref over → has_superclass earlier cell ≡ true
     → over < heap_size earlier
-over_below earlier (ClassCell decl encl holder under) over e s = class_below earlier over (ap (is_superclass earlier) (sym e) ∙ s)
+over_below earlier (ClassCell decl base encl holder under) over e s = class_below earlier over (ap (is_superclass earlier) (sym e) ∙ s)
 over_below earlier (ObjectCell class entries) over e s = absurd (cc)
 over_below earlier (BlockCell body env home receiver holder) over e s = absurd (cc)
 over_below earlier (EnvironmentCell parent locals) over e s = absurd (cc)

@@ -6,12 +6,13 @@ use Rattle.ns_code.specs.declared.program.CodeProgram.{CodeProgram}
 use Rattle.ns_code.specs.declared.body.BodyCode.{BodyCode}
 use Rattle.ns_code.specs.declared.class.ClassCode.{ClassCode}
 use Rattle.ns_code.specs.declared.class.SlotCode.{SlotCode}
+use Rattle.ns_world.specs.declared.value.Value.{Value}
 use Rattle.ns_world.specs.declared.kernel.Start.{Start}
 use Rattle.ns_world.specs.declared.kernel.Start.TheVariants.{Instance, ClassSide as SideStart, Kernel}
 use Rattle.ns_world.specs.declared.kernel.KernelRow.{KernelRow}
 use Rattle.ns_world.specs.declared.kernel.KernelRow.TheVariants as row
-use Rattle.ns_world.specs.Heap.{Heap, chain_of, superclass_of, word_at}
-use Rattle.ns_world.specs.Layout.{declaration_of, entries_of, entries_along, layout_of, entry_word}
+use Rattle.ns_world.specs.Heap.{Heap, chain_of, chain_above, superclass_of, word_at}
+use Rattle.ns_world.specs.Layout.{declaration_of, entries_of, entries_along, entries_above, layout_of, entry_word}
 use Rattle.ns_classes.specs.Nested.{nested_entry, kept_in, kept_class}
 use Rattle.ns_find.specs.declared.found.Found.TheVariants.{Getter, Setter, Absent}
 use Rattle.ns_find.specs.declared.members.Wanted.{Wanted}
@@ -41,6 +42,9 @@ module _ (code : CodeProgram) (texts : List (List ℕ)) (bodies : List BodyCode)
 
   pub layout_same : (heap : Heap) (class : ℕ) → layout_of heap code class ≡ layout_of heap other class
   layout_same heap class = along heap (chain_of heap class)
+
+  pub above_same : (heap : Heap) (over : Value) → entries_above heap code over ≡ entries_above heap other over
+  above_same heap over = along heap (chain_above over (chain_of heap))
 
   pub word_same : (heap : Heap) (holder entry : ℕ) → entry_word heap code holder entry ≡ entry_word heap other holder entry
   word_same heap holder entry = ap (λ n. n + entry) (layout_same heap (superclass_of heap holder))

@@ -12,7 +12,7 @@ use Rattle.ns_world.specs.declared.cell.NewCell.{NewCell}
 use Rattle.ns_world.specs.declared.cell.NewCell.TheVariants as new
 use Rattle.ns_world.specs.declared.kernel.ClassName.{ClassName}
 use Rattle.ns_world.specs.declared.kernel.ClassName.TheVariants.{Declared, ClassOf, Kernel}
-use Rattle.ns_world.specs.Cell.{ArrayCell, TextCell}
+use Rattle.ns_world.specs.Cell.{ClassCell, ArrayCell, TextCell}
 use Rattle.ns_world.specs.Heap.{Heap, chain_of, cell_number}
 use Rattle.ns_world.specs.Starts.{class_name_of}
 use Rattle.ns_world.specs.Layout.{declaration_of}
@@ -40,11 +40,13 @@ use Rattle.ns_mirror.specs.Mirror.{reflected, perform, mirror}
 use Rattle.ns_send.specs.declared.row.Row.{Row}
 use Rattle.ns_send.specs.declared.row.Row.TheVariants as row
 use Rattle.ns_send.specs.declared.site.Site.{Site}
-use Rattle.ns_send.specs.Control.{Progress, gives}
+use Rattle.ns_classes.specs.Apply.{class_fault}
+use Rattle.ns_send.specs.Control.{Progress, Gives, Now, gives}
+use Rattle.ns_send.specs.Classes.{class_made, mixed}
 use Rattle.ns_send.specs.Bodies.{parameters_of}
 use Rattle.ns_send.specs.Blocks.{block_body_in}
 use Rattle.ns_send.specs.Kernel.{outcome_reached, reflected_reached, facet_reached, data_reached, row_reached}
-use Rattle.ns_model.proofs.Lookups.{recoded, word_same}
+use Rattle.ns_model.proofs.Lookups.{recoded, above_same, word_same}
 
 module _ (code : CodeProgram) (texts : List (List ℕ)) (bodies : List BodyCode) where
   abbrev other : CodeProgram
@@ -182,7 +184,7 @@ module _ (code : CodeProgram) (texts : List (List ℕ)) (bodies : List BodyCode)
 
   methods_same : (heap : Heap) (cell : NewCell) → methods_of_shape heap code cell ≡ methods_of_shape heap other cell
   methods_same heap (new.Object class words) = refl
-  methods_same heap (new.Class decl encl holder over) = refl
+  methods_same heap (new.Class decl base encl holder over) = refl
   methods_same heap (new.Block body env home receiver holder) = refl
   methods_same heap (new.Environment parent locals) = refl
   methods_same heap (new.Array size) = refl
@@ -226,6 +228,19 @@ module _ (code : CodeProgram) (texts : List (List ℕ)) (bodies : List BodyCode)
 
   -- ---- all rows
 
+  mixed_same : (mixin : NewCell) (over : Value) (site : Site) (progress : Progress) → mixed code mixin over site progress ≡ mixed other mixin over site progress
+  mixed_same (new.Object class words) over site progress = refl
+  mixed_same (new.Class decl base encl holder under) over site progress =
+      ap (λ above. class_made (ClassCell decl above encl holder over) (class_fault progress.world.cells over) site progress (λ number next. Gives (value.Ref number) next))
+      (above_same code texts bodies progress.world.cells over)
+  mixed_same (new.Block body env home receiver holder) over site progress = refl
+  mixed_same (new.Environment parent locals) over site progress = refl
+  mixed_same (new.Array size) over site progress = refl
+  mixed_same (new.Text bytes) over site progress = refl
+  mixed_same (new.Facet kind) over site progress = refl
+  mixed_same (new.Mirror shown) over site progress = refl
+  mixed_same (new.Message sel args) over site progress = refl
+
   pub row_same : ((body : ℕ) → parameters_of code body ≡ parameters_of other body)
       → (about : Row) (sel : Sel) (receiver : Value) (arguments : List Value) (site : Site) (progress : Progress)
       → row_reached code about sel receiver arguments site progress ≡ row_reached other about sel receiver arguments site progress
@@ -235,7 +250,8 @@ module _ (code : CodeProgram) (texts : List (List ℕ)) (bodies : List BodyCode)
   row_same params (row.Facet about) sel receiver arguments site progress = facet_same about arguments site progress
   row_same params (row.Mirror about) sel receiver arguments site progress = mirror_same about (cell_number receiver) arguments site progress
   row_same params (row.Method method) sel receiver arguments site progress = refl
-  row_same params row.Apply sel receiver arguments site progress = refl
+  row_same params row.Apply sel receiver arguments site progress =
+      ap Now (mixed_same (shape_of_value progress.world.cells receiver) (argument arguments 0) site progress)
   row_same params row.Value sel receiver arguments site progress = refl
   row_same params row.ValueWithArguments sel receiver arguments site progress = refl
   row_same params row.NumArgs sel receiver arguments site progress =

@@ -64,7 +64,7 @@ top_may code decl class heap e = tested class.outer refl
         subst (λ (c : ClassCode). HasEnclosing heap code c.outer Nil Nil) same (subst (λ o. HasEnclosing heap code o Nil Nil) (sym n) (refl, refl))
 
     tested : (o : Option ℕ) → class.outer ≡ o → AllMayStart code heap (top_if o decl)
-    tested None n = (record { superclass = refl; made = ((rw e refl, enclosing n), omega arith); holds = tt; homes = λ h. h }, tt)
+    tested None n = (record { superclass = refl; made = ((rw e refl, enclosing n), refl, omega arith); holds = tt; homes = λ h. h }, tt)
     tested (Some outer) n = tt
 
 tops_may : (code : CodeProgram) (decl : ℕ) (classes : List ClassCode) (heap : Heap)

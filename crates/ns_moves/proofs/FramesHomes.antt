@@ -26,7 +26,7 @@ and_second false c e = absurd (cc)
 others_have : (code : CodeProgram) (begun : ℕ) (cell : Cell) (cells : Heap) → blocks_have_homes code begun (cell ∷ cells) ≡ true → blocks_have_homes code begun cells ≡ true
 others_have code begun (BlockCell body env home receiver holder) cells t = and_second (has_block_home code begun body home) (blocks_have_homes code begun cells) t
 others_have code begun (ObjectCell class entries) cells t = t
-others_have code begun (ClassCell decl encl holder over) cells t = t
+others_have code begun (ClassCell decl base encl holder over) cells t = t
 others_have code begun (EnvironmentCell parent locals) cells t = t
 others_have code begun (ArrayCell items) cells t = t
 others_have code begun (TextCell bytes) cells t = t
@@ -56,7 +56,7 @@ block_home code begun heap (Ref at) t is = found (find_cell heap at) refl is
     found (Some (BlockCell body env home receiver holder)) e is = found_home code begun at body env home receiver holder heap e t
     found None e is = absurd (cc)
     found (Some (ObjectCell class entries)) e is = absurd (cc)
-    found (Some (ClassCell decl encl holder over)) e is = absurd (cc)
+    found (Some (ClassCell decl base encl holder over)) e is = absurd (cc)
     found (Some (EnvironmentCell parent locals)) e is = absurd (cc)
     found (Some (ArrayCell items)) e is = absurd (cc)
     found (Some (TextCell bytes)) e is = absurd (cc)

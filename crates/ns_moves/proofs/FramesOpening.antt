@@ -84,7 +84,7 @@ opening_fits code fits = there (slice_get code.bodies (initialiser_of code 0)) r
 
 some_size : (cell : Cell) → 1 ≤ cell_size cell
 some_size (ObjectCell class entries) = omega arith
-some_size (ClassCell decl encl holder over) = omega arith
+some_size (ClassCell decl base encl holder over) = omega arith
 some_size (BlockCell body env home receiver holder) = omega arith
 some_size (EnvironmentCell parent locals) = omega arith
 some_size (ArrayCell items) = omega arith
@@ -147,7 +147,7 @@ array_there number (ArrayCell items ∷ cells) at e =
     let same : number ≡ at = cc in
     record { texts = []; items = items; more = cells; cells_are = refl; at_is = omega (arith, same) }
 array_there number (ObjectCell class entries ∷ cells) at e = absurd (cc)
-array_there number (ClassCell decl encl holder over ∷ cells) at e = absurd (cc)
+array_there number (ClassCell decl base encl holder over ∷ cells) at e = absurd (cc)
 array_there number (BlockCell body env home receiver holder ∷ cells) at e = absurd (cc)
 array_there number (EnvironmentCell parent locals ∷ cells) at e = absurd (cc)
 array_there number (FacetCell kind ∷ cells) at e = absurd (cc)

@@ -91,7 +91,7 @@ array_at number at (ArrayCell items ∷ cells) e =
     record { front = []; items = items; rest = cells; cells_are = refl; number_is = omega (arith, same) }
 array_at number at (FacetCell kind ∷ cells) e = absurd (cc)
 array_at number at (ObjectCell class entries ∷ cells) e = absurd (cc)
-array_at number at (ClassCell decl encl holder over ∷ cells) e = absurd (cc)
+array_at number at (ClassCell decl base encl holder over ∷ cells) e = absurd (cc)
 array_at number at (BlockCell body env home receiver holder ∷ cells) e = absurd (cc)
 array_at number at (EnvironmentCell parent locals ∷ cells) e = absurd (cc)
 array_at number at (MirrorCell mirrored ∷ cells) e = absurd (cc)
@@ -135,7 +135,7 @@ such_there test (cell ∷ heap) number e = before (first_such test heap) refl e 
     before None f e rest = here (test cell) refl e
 
 top_receives : (decl : ℕ) (cell : Cell) → is_top decl cell ≡ true → is_receiver_cell (Some cell) ≡ true
-top_receives decl (ClassCell other encl holder over) e = refl
+top_receives decl (ClassCell other base encl holder over) e = refl
 top_receives decl (ObjectCell class entries) e = absurd (cc)
 top_receives decl (BlockCell body env home receiver holder) e = absurd (cc)
 top_receives decl (EnvironmentCell parent locals) e = absurd (cc)

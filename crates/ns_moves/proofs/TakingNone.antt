@@ -14,7 +14,7 @@ use Rattle.ns_world.specs.Layout.{declaration_of}
 use Rattle.ns_world.specs.Heap.{find_cell, superclass_in}
 use Rattle.ns_classes.specs.declared.apply.MakeFault.{MakeFault}
 use Rattle.ns_classes.specs.declared.apply.MakeFault.TheVariants.{NotAClass, KernelSuper, ChainLimit, CellLimit}
-use Rattle.ns_classes.specs.Apply.{class_fault}
+use Rattle.ns_classes.specs.Apply.{class_fault, class_cell}
 use Rattle.ns_classes.specs.Nested.{kept_class}
 use Rattle.ns_send.specs.declared.site.Site.{Site}
 use Rattle.ns_send.specs.Site.{error}
@@ -85,7 +85,7 @@ ended_none code FromBody a answer p = refl
 ended_none code (FromClause object holder class) a answer p =
     let down : Progress = in_world p (left p.world) in
     kept_none (kept_class down.world.cells code object holder class) (newly_kept code object holder class answer a.site down) p down refl
-    (class_none code object holder class (ClassCell class (value.Ref object) (value.Ref holder) answer) (class_fault down.world.cells answer) a.site
+    (class_none code object holder class (class_cell down.world.cells code class (value.Ref object) (value.Ref holder) answer) (class_fault down.world.cells answer) a.site
     p down refl)
 
 pub returned_none : (code : CodeProgram) (phase : Phase) (leaving : Leaving) (a : Activation) (answer : Value) (frames : List Frame) (p : Progress)

@@ -109,7 +109,7 @@ evaluation_took code phase (new.Block body env home receiver holder) arguments s
         ap (λ (q : Progress). q.world.steps) (arrived_at code phase (framed next) frames) ∙ framed_steps code inner arguments next)
     tested false = record { steps = refl; going = refl }
 evaluation_took code phase (new.Object class words) arguments site frames p is = absurd (cc)
-evaluation_took code phase (new.Class decl encl holder over) arguments site frames p is = absurd (cc)
+evaluation_took code phase (new.Class decl base encl holder over) arguments site frames p is = absurd (cc)
 evaluation_took code phase (new.Environment parent locals) arguments site frames p is = absurd (cc)
 evaluation_took code phase (new.Array size) arguments site frames p is = absurd (cc)
 evaluation_took code phase (new.Text bytes) arguments site frames p is = absurd (cc)

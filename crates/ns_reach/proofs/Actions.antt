@@ -18,7 +18,7 @@ use Rattle.ns_world.specs.Heap.{heap_size, find_cell, superclass_in, word_at}
 use Rattle.ns_world.specs.Layout.{declaration_of, layout_of, entry_word}
 use Rattle.ns_world.specs.World.{World, made, stepped, entered, left}
 use Rattle.ns_classes.specs.declared.apply.MakeFault.{MakeFault}
-use Rattle.ns_classes.specs.Apply.{class_fault}
+use Rattle.ns_classes.specs.Apply.{class_fault, class_cell}
 use Rattle.ns_classes.specs.Nested.{kept_in, kept_class, nested_entry}
 use Rattle.ns_send.specs.Control.{Progress, in_world, Activation, Exit, FromMethod, FromBody, FromClause, After, Gives, Halts, Enter, Skip, Stop, EnterPart, halts, charged, frame_left}
 use Rattle.ns_send.specs.Site.{make_fault, error}
@@ -78,22 +78,22 @@ module _ (Has : ℕ → Type 0) (first : Progress) where
   class_made_in cell None site now go later kept inside plain goes =
       cell_charged (AfterIn Has first) Halts now cell (go (heap_size now.world.cells)) later kept inside plain (tt, kept) goes
 
-  pub mixed_in : (shape : NewCell) (over : Value) (site : Site) (now : Progress) → HasLater Has first.world.cells → Kept Has first now → ShapeIn Has shape → In Has over → AfterIn Has first (mixed shape over site now)
-  mixed_in (new.Class decl encl holder under) over site now later kept s i =
-      class_made_in (ClassCell decl encl holder over) (class_fault now.world.cells over) site now (λ number progress. Gives (Ref number) progress) later kept (s.0, s.1, i) (λ kind e. absurd (cc (e))) (λ next has k. (has, k))
-  mixed_in (new.Object class words) over site now later kept s i = (tt, kept)
-  mixed_in (new.Block body env home receiver holder) over site now later kept s i = (tt, kept)
-  mixed_in (new.Environment parent locals) over site now later kept s i = (tt, kept)
-  mixed_in (new.Array size) over site now later kept s i = (tt, kept)
-  mixed_in (new.Text bytes) over site now later kept s i = (tt, kept)
-  mixed_in (new.Facet facet) over site now later kept s i = (tt, kept)
-  mixed_in (new.Mirror mirrored) over site now later kept s i = (tt, kept)
-  mixed_in (new.Message sel args) over site now later kept s i = (tt, kept)
+  pub mixed_in : (code : CodeProgram) (shape : NewCell) (over : Value) (site : Site) (now : Progress) → HasLater Has first.world.cells → Kept Has first now → ShapeIn Has shape → In Has over → AfterIn Has first (mixed code shape over site now)
+  mixed_in code (new.Class decl base encl holder under) over site now later kept s i =
+      class_made_in (class_cell now.world.cells code decl encl holder over) (class_fault now.world.cells over) site now (λ number progress. Gives (Ref number) progress) later kept (s.0, s.1, i) (λ kind e. absurd (cc (e))) (λ next has k. (has, k))
+  mixed_in code (new.Object class words) over site now later kept s i = (tt, kept)
+  mixed_in code (new.Block body env home receiver holder) over site now later kept s i = (tt, kept)
+  mixed_in code (new.Environment parent locals) over site now later kept s i = (tt, kept)
+  mixed_in code (new.Array size) over site now later kept s i = (tt, kept)
+  mixed_in code (new.Text bytes) over site now later kept s i = (tt, kept)
+  mixed_in code (new.Facet facet) over site now later kept s i = (tt, kept)
+  mixed_in code (new.Mirror mirrored) over site now later kept s i = (tt, kept)
+  mixed_in code (new.Message sel args) over site now later kept s i = (tt, kept)
 
   newly_kept_in : (code : CodeProgram) (object holder class : ℕ) (over : Value) (site : Site) (now : Progress) → HasLater Has first.world.cells → Kept Has first now → Has object → Has holder → In Has over
       → AfterIn Has first (newly_kept code object holder class over site now)
   newly_kept_in code object holder class over site now later kept o h i =
-      class_made_in (ClassCell class (Ref object) (Ref holder) over) (class_fault now.world.cells over) site now
+      class_made_in (class_cell now.world.cells code class (Ref object) (Ref holder) over) (class_fault now.world.cells over) site now
       (λ number progress. Gives (Ref number) (in_world progress (keeping code object holder class number progress.world))) later kept (o, h, i) (λ kind e. absurd (cc (e)))
       (λ next has k. (has, written_kept Has first next object (entry_word next.world.cells code holder (nested_entry code (declaration_of next.world.cells holder) class)) (Ref (heap_size now.world.cells)) k o has))
 

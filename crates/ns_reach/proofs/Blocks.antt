@@ -69,7 +69,7 @@ module _ (Has : ℕ → Type 0) (first : Progress) where
           (opened code halts (Enter FromBody) (record { self = receiver; holder = holder; body = body; home = home; env = env; site = site }) arguments) k (tt, k) (λ last same' z. open_in last z))
       by false = (tt, kept)
   entered_in code (new.Object class words) arguments site now later kept s all = (tt, kept)
-  entered_in code (new.Class decl encl holder over) arguments site now later kept s all = (tt, kept)
+  entered_in code (new.Class decl base encl holder over) arguments site now later kept s all = (tt, kept)
   entered_in code (new.Environment parent locals) arguments site now later kept s all = (tt, kept)
   entered_in code (new.Array size) arguments site now later kept s all = (tt, kept)
   entered_in code (new.Text bytes) arguments site now later kept s all = (tt, kept)

@@ -39,7 +39,7 @@ module _ (Has : ℕ → Type 0) where
   -- what a cell's words hold
   pub words_in : (heap : Heap) (cell : Cell) → CellIn Has heap cell → AllIn Has (cell_words cell)
   words_in heap (ObjectCell class entries) h = h.1
-  words_in heap (ClassCell decl encl holder over) h = (h.0, (h.1, (h.2, tt)))
+  words_in heap (ClassCell decl base encl holder over) h = (h.0, (h.1, (h.2, tt)))
   words_in heap (BlockCell body env home receiver holder) h = (h.1, (h.0, tt))
   words_in heap (EnvironmentCell parent locals) h = h.1
   words_in heap (ArrayCell items) h = h
@@ -59,7 +59,7 @@ module _ (Has : ℕ → Type 0) where
 
   pub cell_in_more : (heap : Heap) (more old : Cell) → Has (heap_size heap) → CellIn Has heap old → CellIn Has (more ∷ heap) old
   cell_in_more heap more (ObjectCell class entries) new h = h
-  cell_in_more heap more (ClassCell decl encl holder over) new h = h
+  cell_in_more heap more (ClassCell decl base encl holder over) new h = h
   cell_in_more heap more (BlockCell body env home receiver holder) new h = h
   cell_in_more heap more (EnvironmentCell parent locals) new h = h
   cell_in_more heap more (ArrayCell items) new h = h
@@ -77,7 +77,7 @@ module _ (Has : ℕ → Type 0) where
   pub cell_in_other : (heap other : Heap) (cell : Cell) → ((decl : ℕ) → first_such (is_top decl) other ≡ first_such (is_top decl) heap) → ((kind : FacetKind) → first_such (is_facet kind) other ≡ first_such (is_facet kind) heap)
       → CellIn Has heap cell → CellIn Has other cell
   cell_in_other heap other (ObjectCell class entries) tops facets h = h
-  cell_in_other heap other (ClassCell decl encl holder over) tops facets h = h
+  cell_in_other heap other (ClassCell decl base encl holder over) tops facets h = h
   cell_in_other heap other (BlockCell body env home receiver holder) tops facets h = h
   cell_in_other heap other (EnvironmentCell parent locals) tops facets h = h
   cell_in_other heap other (ArrayCell items) tops facets h = h
@@ -93,7 +93,7 @@ module _ (Has : ℕ → Type 0) where
 
   pub word_in_cell : (heap : Heap) (cell : Cell) (word : ℕ) (value : Value) → In Has value → CellIn Has heap cell → CellIn Has heap (with_word cell word value)
   word_in_cell heap (ObjectCell class entries) word value i h = (h.0, all_set entries word value h.1 i)
-  word_in_cell heap (ClassCell decl encl holder over) word value i h = h
+  word_in_cell heap (ClassCell decl base encl holder over) word value i h = h
   word_in_cell heap (BlockCell body env home receiver holder) word value i h = h
   word_in_cell heap (EnvironmentCell parent locals) word value i h = (h.0, all_set locals word value h.1 i)
   word_in_cell heap (ArrayCell items) word value i h = all_set items word value h i
@@ -105,7 +105,7 @@ module _ (Has : ℕ → Type 0) where
 -- a facet stays one, and no other cell becomes one
 pub facet_word : (cell : Cell) (word : ℕ) (value : Value) (kind : FacetKind) → with_word cell word value ≡ FacetCell kind → cell ≡ FacetCell kind
 facet_word (ObjectCell class entries) word value kind e = absurd (cc (e))
-facet_word (ClassCell decl encl holder over) word value kind e = e
+facet_word (ClassCell decl base encl holder over) word value kind e = e
 facet_word (BlockCell body env home receiver holder) word value kind e = e
 facet_word (EnvironmentCell parent locals) word value kind e = absurd (cc (e))
 facet_word (ArrayCell items) word value kind e = absurd (cc (e))

@@ -66,7 +66,7 @@ module _ (Has : ℕ → Type 0) (first : Progress) where
       cell_is : (cell : Cell) → find_cell now.world.cells at ≡ Some cell → facet_in (Some cell) ≡ Some kind → IsTheFacet now kind
       cell_is (FacetCell other) f e = record { at = at; has = i; is = f ∙ ap (λ k. Some (FacetCell k)) (cc (e)) }
       cell_is (ObjectCell class entries) f e = absurd (cc (e))
-      cell_is (ClassCell decl encl holder over) f e = absurd (cc (e))
+      cell_is (ClassCell decl base encl holder over) f e = absurd (cc (e))
       cell_is (BlockCell body env home receiver holder) f e = absurd (cc (e))
       cell_is (EnvironmentCell parent locals) f e = absurd (cc (e))
       cell_is (ArrayCell items) f e = absurd (cc (e))
@@ -258,7 +258,7 @@ module _ (Has : ℕ → Type 0) (first : Progress) where
   slot_written_in code now object (Ref at) value kept i v = tt
 
   enclosing_in_set : (shape : NewCell) → ShapeIn Has shape → In Has (looking.enclosing_in shape)
-  enclosing_in_set (new.Class decl encl holder over) s = s.0
+  enclosing_in_set (new.Class decl base encl holder over) s = s.0
   enclosing_in_set (new.Object class words) s = tt
   enclosing_in_set (new.Block body env home receiver holder) s = tt
   enclosing_in_set (new.Environment parent locals) s = tt
@@ -277,7 +277,7 @@ module _ (Has : ℕ → Type 0) (first : Progress) where
 
   around_in : (heap : Heap) (shape : NewCell) → Closed Has heap → ShapeIn Has shape → In Has (looking.enclosing_of_shape heap shape)
   around_in heap (new.Object class words) closed s = class_enclosing_in heap class closed s
-  around_in heap (new.Class decl encl holder over) closed s = s.0
+  around_in heap (new.Class decl base encl holder over) closed s = s.0
   around_in heap (new.Block body env home receiver holder) closed s = tt
   around_in heap (new.Environment parent locals) closed s = tt
   around_in heap (new.Array size) closed s = tt
@@ -315,7 +315,7 @@ module _ (Has : ℕ → Type 0) (first : Progress) where
   mirrored_in_set : (shape : NewCell) → ShapeIn Has shape → In Has (looking.mirrored_in shape)
   mirrored_in_set (new.Mirror mirrored) s = s
   mirrored_in_set (new.Object class words) s = tt
-  mirrored_in_set (new.Class decl encl holder over) s = tt
+  mirrored_in_set (new.Class decl base encl holder over) s = tt
   mirrored_in_set (new.Block body env home receiver holder) s = tt
   mirrored_in_set (new.Environment parent locals) s = tt
   mirrored_in_set (new.Array size) s = tt

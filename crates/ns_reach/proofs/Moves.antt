@@ -93,7 +93,7 @@ module _ (Has : ℕ → Type 0) (first : Progress) where
   PlaceIn place = In Has place.object × HolderIn place.holder
 
   place_in_set : (shape : NewCell) → ShapeIn Has shape → PlaceIn (enclosing_place shape)
-  place_in_set (new.Class decl encl holder over) s = (s.0, number_in holder s.1)
+  place_in_set (new.Class decl base encl holder over) s = (s.0, number_in holder s.1)
   place_in_set (new.Object class words) s = (tt, inr refl)
   place_in_set (new.Block body env home receiver holder) s = (tt, inr refl)
   place_in_set (new.Environment parent locals) s = (tt, inr refl)
@@ -129,7 +129,7 @@ module _ (Has : ℕ → Type 0) (first : Progress) where
   parent_in_set : (shape : NewCell) → ShapeIn Has shape → In Has (parent_in shape)
   parent_in_set (new.Environment parent locals) s = s
   parent_in_set (new.Object class words) s = tt
-  parent_in_set (new.Class decl encl holder over) s = tt
+  parent_in_set (new.Class decl base encl holder over) s = tt
   parent_in_set (new.Block body env home receiver holder) s = tt
   parent_in_set (new.Array size) s = tt
   parent_in_set (new.Text bytes) s = tt

@@ -153,7 +153,7 @@ module _ (Has : ℕ → Type 0) where
   top_from (FacetCell kind ∷ earlier) decl all = without (first_such (is_top decl) earlier) (top_from earlier decl all)
   top_from (MirrorCell mirrored ∷ earlier) decl all = without (first_such (is_top decl) earlier) (top_from earlier decl all)
   top_from (MessageCell sel args ∷ earlier) decl all = without (first_such (is_top decl) earlier) (top_from earlier decl all)
-  top_from (ClassCell other encl holder over ∷ earlier) decl all =
+  top_from (ClassCell other base encl holder over ∷ earlier) decl all =
       by (first_such (is_top decl) earlier) refl (decl == other) refl (is_nil encl) refl
       (top_from earlier decl (rest_have (is_nil encl && is_none (first_such (is_top other) earlier)) (heap_size earlier) (tops_of earlier) all))
     where
@@ -180,13 +180,13 @@ module _ (Has : ℕ → Type 0) where
   from_tops (FacetCell kind ∷ earlier) h = from_tops earlier (λ decl. earlier_in (first_such (is_top decl) earlier) None (h decl))
   from_tops (MirrorCell mirrored ∷ earlier) h = from_tops earlier (λ decl. earlier_in (first_such (is_top decl) earlier) None (h decl))
   from_tops (MessageCell sel args ∷ earlier) h = from_tops earlier (λ decl. earlier_in (first_such (is_top decl) earlier) None (h decl))
-  from_tops (ClassCell other encl holder over ∷ earlier) h =
+  from_tops (ClassCell other base encl holder over ∷ earlier) h =
       by (is_nil encl) refl (first_such (is_top other) earlier) refl (from_tops earlier (λ decl. earlier_in (first_such (is_top decl) earlier) _ (h decl)))
     where
       first : is_nil encl ≡ true → first_such (is_top other) earlier ≡ None → Has (heap_size earlier)
       first nil none =
-          let test : is_top other (ClassCell other encl holder over) ≡ true = rw (eq-eqb other other refl) nil in
-          let is : first_such (is_top other) (ClassCell other encl holder over ∷ earlier) ≡ Some (heap_size earlier) = rw none (rw test refl) in
+          let test : is_top other (ClassCell other base encl holder over) ≡ true = rw (eq-eqb other other refl) nil in
+          let is : first_such (is_top other) (ClassCell other base encl holder over ∷ earlier) ≡ Some (heap_size earlier) = rw none (rw test refl) in
           subst (NumberIn Has) is (h other)
 
       by : (n : Bool) → is_nil encl ≡ n → (o : Option ℕ) → first_such (is_top other) earlier ≡ o → AllHave (tops_of earlier) → AllHave (cond (n && is_none o) (heap_size earlier ∷ tops_of earlier) (tops_of earlier))
@@ -196,7 +196,7 @@ module _ (Has : ℕ → Type 0) where
 
   pub cell_from : (heap : Heap) (cell : Cell) → Has no_class → AllHave (held heap cell) → CellIn Has heap cell
   cell_from heap (ObjectCell class entries) none all = (class_from class none (left_have (class_held class) (all_referred entries) all), all_in_from entries (right_have (class_held class) (all_referred entries) all))
-  cell_from heap (ClassCell decl encl holder over) none all =
+  cell_from heap (ClassCell decl base encl holder over) none all =
       let rest = right_have (referred encl) (referred holder ++ referred over) all in
       (in_from encl (left_have (referred encl) (referred holder ++ referred over) all), in_from holder (left_have (referred holder) (referred over) rest), in_from over (right_have (referred holder) (referred over) rest))
   cell_from heap (BlockCell body env home receiver holder) none all =
@@ -216,7 +216,7 @@ module _ (Has : ℕ → Type 0) where
 
   pub from_cell : (heap : Heap) (cell : Cell) → CellIn Has heap cell → AllHave (held heap cell)
   from_cell heap (ObjectCell class entries) h = both_have (class_held class) (all_referred entries) (from_class class h.0) (from_all_in entries h.1)
-  from_cell heap (ClassCell decl encl holder over) h = both_have (referred encl) (referred holder ++ referred over) (from_in encl h.0) (both_have (referred holder) (referred over) (from_in holder h.1) (from_in over h.2))
+  from_cell heap (ClassCell decl base encl holder over) h = both_have (referred encl) (referred holder ++ referred over) (from_in encl h.0) (both_have (referred holder) (referred over) (from_in holder h.1) (from_in over h.2))
   from_cell heap (BlockCell body env home receiver holder) h = both_have (referred env) (referred receiver ++ class_held holder) (from_in env h.0) (both_have (referred receiver) (class_held holder) (from_in receiver h.1) (from_class holder h.2))
   from_cell heap (EnvironmentCell parent locals) h = both_have (referred parent) (all_referred locals) (from_in parent h.0) (from_all_in locals h.1)
   from_cell heap (ArrayCell items) h = from_all_in items h

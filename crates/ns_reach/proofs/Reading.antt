@@ -38,7 +38,7 @@ module _ (Has : ℕ → Type 0) where
   -- what the fixed parts of a cell hold
   abbrev pub ShapeIn : NewCell → Type 0
   ShapeIn (new.Object class words) = Has class
-  ShapeIn (new.Class decl encl holder over) = In Has encl × In Has holder × In Has over
+  ShapeIn (new.Class decl base encl holder over) = In Has encl × In Has holder × In Has over
   ShapeIn (new.Block body env home receiver holder) = In Has env × In Has receiver × Has holder
   ShapeIn (new.Environment parent locals) = In Has parent
   ShapeIn (new.Array size) = Unit {0}
@@ -49,7 +49,7 @@ module _ (Has : ℕ → Type 0) where
 
   cell_shape : (heap : Heap) (cell : Cell) → CellIn Has heap cell → ShapeIn (shape_of cell)
   cell_shape heap (ObjectCell class entries) h = h.0
-  cell_shape heap (ClassCell decl encl holder over) h = h
+  cell_shape heap (ClassCell decl base encl holder over) h = h
   cell_shape heap (BlockCell body env home receiver holder) h = h
   cell_shape heap (EnvironmentCell parent locals) h = h.0
   cell_shape heap (ArrayCell items) h = tt
@@ -90,7 +90,7 @@ module _ (Has : ℕ → Type 0) where
       array_in : (cell : Cell) → CellIn Has heap cell → AllIn Has (array_items (Some cell))
       array_in (ArrayCell items) h = h
       array_in (ObjectCell class entries) h = tt
-      array_in (ClassCell decl encl holder over) h = tt
+      array_in (ClassCell decl base encl holder over) h = tt
       array_in (BlockCell body env home receiver holder) h = tt
       array_in (EnvironmentCell parent locals) h = tt
       array_in (TextCell bytes) h = tt
@@ -117,7 +117,7 @@ module _ (Has : ℕ → Type 0) where
   superclass_is_in heap holder closed has = by (find_cell heap holder) refl
     where
       over_in : (cell : Cell) → CellIn Has heap cell → In Has (superclass_in (Some cell))
-      over_in (ClassCell decl encl holder over) h = h.2
+      over_in (ClassCell decl base encl holder over) h = h.2
       over_in (ObjectCell class entries) h = tt
       over_in (BlockCell body env home receiver holder) h = tt
       over_in (EnvironmentCell parent locals) h = tt
@@ -174,7 +174,7 @@ module _ (Has : ℕ → Type 0) where
       above go (Kernel kind) i = tt
 
       here : ((other : ℕ) → Has other → AllHas (chain_of earlier other)) → (one : Cell) → In Has (superclass_in (Some one)) → AllHas (chain_at one class (chain_of earlier))
-      here go (ClassCell decl encl holder over) i = (has, above go over i)
+      here go (ClassCell decl base encl holder over) i = (has, above go over i)
       here go (ObjectCell class' entries) i = tt
       here go (BlockCell body env home receiver holder) i = tt
       here go (EnvironmentCell parent locals) i = tt
@@ -251,7 +251,7 @@ module _ (Has : ℕ → Type 0) where
     where
       by : (shape : NewCell) → ShapeIn shape → FoundIn (found_from heap code (start_of_cell shape at) sel kind)
       by (new.Object class words) s = from_instance heap code class sel kind closed s
-      by (new.Class decl encl holder over) s = from_side heap code at true sel kind closed i
+      by (new.Class decl base encl holder over) s = from_side heap code at true sel kind closed i
       by (new.Block body env home receiver holder) s = from_kernel heap code row.Block sel kind
       by (new.Environment parent locals) s = from_kernel heap code row.Object sel kind
       by (new.Array size) s = from_kernel heap code row.Array sel kind

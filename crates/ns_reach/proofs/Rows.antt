@@ -172,7 +172,7 @@ module _ (Has : ℕ → Type 0) (first : Progress) where
   selector_in_set : (shape : NewCell) → In Has (rows.selector_in shape)
   selector_in_set (new.Message sel args) = tt
   selector_in_set (new.Object class words) = tt
-  selector_in_set (new.Class decl encl holder over) = tt
+  selector_in_set (new.Class decl base encl holder over) = tt
   selector_in_set (new.Block body env home receiver holder) = tt
   selector_in_set (new.Environment parent locals) = tt
   selector_in_set (new.Array size) = tt
@@ -183,7 +183,7 @@ module _ (Has : ℕ → Type 0) (first : Progress) where
   arguments_in_set : (shape : NewCell) → ShapeIn Has shape → In Has (rows.arguments_in shape)
   arguments_in_set (new.Message sel args) s = s
   arguments_in_set (new.Object class words) s = tt
-  arguments_in_set (new.Class decl encl holder over) s = tt
+  arguments_in_set (new.Class decl base encl holder over) s = tt
   arguments_in_set (new.Block body env home receiver holder) s = tt
   arguments_in_set (new.Environment parent locals) s = tt
   arguments_in_set (new.Array size) s = tt

@@ -162,7 +162,7 @@ module _ (Has : ℕ → Type 0) (first : Progress) (known : Known) where
   row_in code (row.Method method) sel receiver arguments site now later kept i all suits =
       method_begun_in Has first method receiver (argument arguments 0) (argument arguments 1) site now kept i (argument_in Has arguments 0 all) (argument_in Has arguments 1 all)
   row_in code row.Apply sel receiver arguments site now later kept i all suits =
-      mixed_in Has first (shape_of_value now.world.cells receiver) (argument arguments 0) site now later kept (value_shape_in Has now.world.cells receiver kept.closed i) (argument_in Has arguments 0 all)
+      mixed_in Has first code (shape_of_value now.world.cells receiver) (argument arguments 0) site now later kept (value_shape_in Has now.world.cells receiver kept.closed i) (argument_in Has arguments 0 all)
   row_in code row.Value sel receiver arguments site now later kept i all suits = (i, all, kept)
   row_in code row.ValueWithArguments sel receiver arguments site now later kept i all suits =
       with_arguments_in Has first receiver (argument arguments 0) site now kept i (argument_in Has arguments 0 all)

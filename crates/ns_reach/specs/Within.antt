@@ -62,7 +62,7 @@ module _ (Has : ℕ → Type 0) where
   -- what a cell holds; Platform holds the facets that were granted, and Manifest the top-level classes
   abbrev pub CellIn : Heap → Cell → Type 0
   CellIn heap (ObjectCell class entries) = Has class × AllIn entries
-  CellIn heap (ClassCell decl encl holder over) = In encl × In holder × In over
+  CellIn heap (ClassCell decl base encl holder over) = In encl × In holder × In over
   CellIn heap (BlockCell body env home receiver holder) = In env × In receiver × Has holder
   CellIn heap (EnvironmentCell parent locals) = In parent × AllIn locals
   CellIn heap (ArrayCell items) = AllIn items

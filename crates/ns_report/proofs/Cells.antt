@@ -17,7 +17,7 @@ use Rattle.ns_send.specs.Report.{cell_text}
 text_cell : (code : CodeProgram) (class : List ℕ) (o : Option Cell) → is_text_shape (option_map_or shape_of o (new.Mirror Nil)) ≡ true → cell_text code o class ≡ quoted (option_map_or cell_bytes o [])
 text_cell code class (Some (TextCell bytes)) t = refl
 text_cell code class (Some (ObjectCell c entries)) t = absurd (cc)
-text_cell code class (Some (ClassCell decl encl holder over)) t = absurd (cc)
+text_cell code class (Some (ClassCell decl base encl holder over)) t = absurd (cc)
 text_cell code class (Some (BlockCell body env home receiver holder)) t = absurd (cc)
 text_cell code class (Some (EnvironmentCell parent locals)) t = absurd (cc)
 text_cell code class (Some (ArrayCell items)) t = absurd (cc)
@@ -31,7 +31,7 @@ pub text_shown : (heap : Heap) (code : CodeProgram) (at : ℕ) (class : List ℕ
 text_shown heap code at class t = text_cell code class (find_cell heap at) t
 
 class_cell : (code : CodeProgram) (class : List ℕ) (o : Option Cell) → is_class o ≡ true → cell_text code o class ≡ codes "class " ++ declared_text code (declaration_in (option_map_or shape_of o (new.Mirror Nil)))
-class_cell code class (Some (ClassCell decl encl holder over)) t = refl
+class_cell code class (Some (ClassCell decl base encl holder over)) t = refl
 class_cell code class (Some (ObjectCell c entries)) t = absurd (cc)
 class_cell code class (Some (BlockCell body env home receiver holder)) t = absurd (cc)
 class_cell code class (Some (EnvironmentCell parent locals)) t = absurd (cc)
@@ -48,7 +48,7 @@ class_shown heap code at class t = class_cell code class (find_cell heap at) t
 
 object_cell : (code : CodeProgram) (class : List ℕ) (o : Option Cell) → is_text_shape (option_map_or shape_of o (new.Mirror Nil)) ≡ false → is_class o ≡ false → cell_text code o class ≡ codes "object " ++ class
 object_cell code class (Some (TextCell bytes)) t c = absurd (cc)
-object_cell code class (Some (ClassCell decl encl holder over)) t c = absurd (cc)
+object_cell code class (Some (ClassCell decl base encl holder over)) t c = absurd (cc)
 object_cell code class (Some (ObjectCell of entries)) t c = refl
 object_cell code class (Some (BlockCell body env home receiver holder)) t c = refl
 object_cell code class (Some (EnvironmentCell parent locals)) t c = refl

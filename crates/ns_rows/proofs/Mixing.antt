@@ -13,12 +13,12 @@ use Rattle.ns_world.specs.Keeping.{IsEnclosed}
 use Rattle.ns_kdata.specs.Arguments.{shape_of_value}
 
 -- the declaration, the enclosing object and the holder of a class fit each other
-pub mixin_enclosed : (world : World) (code : CodeProgram) (mixin : Value) (decl : ℕ) (encl holder under : Value) → IsLawful world code → shape_of_value world.cells mixin ≡ new.Class decl encl holder under → IsEnclosed world.cells code decl encl holder
-mixin_enclosed world code (Ref at) decl encl holder under lawful is = cell (find_cell world.cells at) refl is
+pub mixin_enclosed : (world : World) (code : CodeProgram) (mixin : Value) (decl base : ℕ) (encl holder under : Value) → IsLawful world code → shape_of_value world.cells mixin ≡ new.Class decl base encl holder under → IsEnclosed world.cells code decl encl holder
+mixin_enclosed world code (Ref at) decl base encl holder under lawful is = cell (find_cell world.cells at) refl is
   where
-    cell : (o : Option Cell) → find_cell world.cells at ≡ o → option_map_or shape_of o (new.Mirror Nil) ≡ new.Class decl encl holder under → IsEnclosed world.cells code decl encl holder
-    cell (Some (ClassCell decl' encl' holder' over)) e same =
-        let class = lawful.cells at (ClassCell decl' encl' holder' over) e in
+    cell : (o : Option Cell) → find_cell world.cells at ≡ o → option_map_or shape_of o (new.Mirror Nil) ≡ new.Class decl base encl holder under → IsEnclosed world.cells code decl encl holder
+    cell (Some (ClassCell decl' base' encl' holder' over)) e same =
+        let class = lawful.cells at (ClassCell decl' base' encl' holder' over) e in
         let is_decl : decl' ≡ decl = cc in
         let is_encl : encl' ≡ encl = cc in
         let is_holder : holder' ≡ holder = cc in
@@ -32,9 +32,9 @@ mixin_enclosed world code (Ref at) decl encl holder under lawful is = cell (find
     cell (Some (MirrorCell mirrored)) e same = absurd (cc)
     cell (Some (MessageCell sel args)) e same = absurd (cc)
     cell None e same = absurd (cc)
-mixin_enclosed world code Nil decl encl holder under lawful is = absurd (cc)
-mixin_enclosed world code True decl encl holder under lawful is = absurd (cc)
-mixin_enclosed world code False decl encl holder under lawful is = absurd (cc)
-mixin_enclosed world code (Int number) decl encl holder under lawful is = absurd (cc)
-mixin_enclosed world code (Sym sel) decl encl holder under lawful is = absurd (cc)
-mixin_enclosed world code (Kernel class) decl encl holder under lawful is = absurd (cc)
+mixin_enclosed world code Nil decl base encl holder under lawful is = absurd (cc)
+mixin_enclosed world code True decl base encl holder under lawful is = absurd (cc)
+mixin_enclosed world code False decl base encl holder under lawful is = absurd (cc)
+mixin_enclosed world code (Int number) decl base encl holder under lawful is = absurd (cc)
+mixin_enclosed world code (Sym sel) decl base encl holder under lawful is = absurd (cc)
+mixin_enclosed world code (Kernel class) decl base encl holder under lawful is = absurd (cc)

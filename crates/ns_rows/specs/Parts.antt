@@ -24,5 +24,5 @@ mirror_reached code row receiver arguments site progress =
     reflected_reached (mirror progress.world code row (cell_number receiver) arguments) site progress
 
 -- mixin application
-abbrev pub applied : Value → Value → Site → Progress → Control
-applied mixin over site progress = Now (mixed (shape_of_value progress.world.cells mixin) over site progress)
+abbrev pub applied : CodeProgram → Value → Value → Site → Progress → Control
+applied code mixin over site progress = Now (mixed code (shape_of_value progress.world.cells mixin) over site progress)

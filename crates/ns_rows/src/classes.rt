@@ -30,7 +30,7 @@ pub fn mixed(world: &mut World, code: &CodeProgram, mixin: Value, over: Value) -
     requires mixin { IsLiveValue world.old.world.cells code.now mixin }
     requires over { IsLiveValue world.old.world.cells code.now over }
     requires room { HasRoom world.old }
-    ensures reached { (values : List Value) → ReachesAlone code.now values (applied mixin over) world.old result world.new }
+    ensures reached { (values : List Value) → ReachesAlone code.now values (applied code.now mixin over) world.old result world.new }
     ensures limits { world.new.world.limits ≡ world.old.world.limits }
     ensures room { SameRoom world.old world.new }
     ensures row { IsOfRow world.new.world.cells result }

@@ -59,11 +59,11 @@ lawful_facets =
 
 lawful_classes : IsLawful (tried_with class_cells) program_code
 lawful_classes =
-    let h1 : Heap = ClassCell 0 Nil Nil (Kernel kernel.Object) ∷ facet_cells in
-    let h2 : Heap = ClassCell 2 Nil Nil (Ref 6) ∷ h1 in
-    let l1 = with_cell facet_cells (Class 0 Nil Nil (Kernel kernel.Object)) lawful_facets refl (at_top facet_cells 0 class_base refl refl, omega arith) refl in
-    let l2 = with_cell h1 (Class 2 Nil Nil (Ref 6)) l1 refl (at_top h1 2 class_sub refl refl, omega arith) refl in
-    with_cell h2 (Class 3 Nil Nil (Kernel kernel.Object)) l2 refl (at_top h2 3 class_other refl refl, omega arith) refl
+    let h1 : Heap = ClassCell 0 0 Nil Nil (Kernel kernel.Object) ∷ facet_cells in
+    let h2 : Heap = ClassCell 2 3 Nil Nil (Ref 6) ∷ h1 in
+    let l1 = with_cell facet_cells (Class 0 0 Nil Nil (Kernel kernel.Object)) lawful_facets refl (at_top facet_cells 0 class_base refl refl, refl, omega arith) refl in
+    let l2 = with_cell h1 (Class 2 3 Nil Nil (Ref 6)) l1 refl (at_top h1 2 class_sub refl refl, refl, omega arith) refl in
+    with_cell h2 (Class 3 0 Nil Nil (Kernel kernel.Object)) l2 refl (at_top h2 3 class_other refl refl, refl, omega arith) refl
 
 lawful_objects : IsLawful (tried_with empty_objects) program_code
 lawful_objects =
@@ -93,11 +93,11 @@ enclosed = (holds filled_objects 18 6 6 refl (0, omega arith, refl), refl, refl)
 
 lawful_parts : IsLawful (tried_with part_cells) program_code
 lawful_parts =
-    let h1 : Heap = ClassCell 1 (Ref 18) (Ref 6) (Kernel kernel.Object) ∷ filled_objects in
+    let h1 : Heap = ClassCell 1 0 (Ref 18) (Ref 6) (Kernel kernel.Object) ∷ filled_objects in
     let h2 : Heap = ObjectCell 28 [] ∷ h1 in
     let within : IsEnclosed filled_objects program_code 1 (Ref 18) (Ref 6) =
     (refl, for_some (λ (other : ClassCode). HasEnclosing filled_objects program_code other.outer (Ref 18) (Ref 6)) (slice_get program_classes 1) class_part refl enclosed) in
-    let l1 = with_cell filled_objects (Class 1 (Ref 18) (Ref 6) (Kernel kernel.Object)) lawful_filled refl (within, omega arith) refl in
+    let l1 = with_cell filled_objects (Class 1 0 (Ref 18) (Ref 6) (Kernel kernel.Object)) lawful_filled refl (within, refl, omega arith) refl in
     let l2 = with_cell h1 (Object 28 0) l1 refl (refl, refl) refl in
     with_cell h2 (Object no_class 0) l2 refl (refl, refl) refl
 

@@ -30,7 +30,7 @@ starts_there view (Ref at) ready r = told (find_cell view.world.cells at) refl r
     told : (o : Option Cell) → find_cell view.world.cells at ≡ o → is_receiver_cell o ≡ true → is_start view.world.cells (start_of_cell (option_map_or shape_of o (Mirror Nil)) at) ≡ true
     told None e r = absurd (cc)
     told (Some (ObjectCell class entries)) e r = (ready.lawful.cells at (ObjectCell class entries) e).0.class_is
-    told (Some (ClassCell decl encl holder over)) e r = ap is_class e
+    told (Some (ClassCell decl base encl holder over)) e r = ap is_class e
     told (Some (BlockCell body env home receiver holder)) e r = refl
     told (Some (EnvironmentCell parent locals)) e r = absurd (cc)
     told (Some (ArrayCell items)) e r = refl

@@ -22,7 +22,7 @@ receives heap at there e = told (find_cell heap at) there e
     told : (o : Option Cell) → IsSome o → is_no_environment (option_map_or shape_of o (Mirror Nil)) ≡ true → is_receiver_cell o ≡ true
     told None there e = absurd (cc)
     told (Some (ObjectCell class entries)) there e = refl
-    told (Some (ClassCell decl encl holder over)) there e = refl
+    told (Some (ClassCell decl base encl holder over)) there e = refl
     told (Some (BlockCell body env home receiver holder)) there e = refl
     told (Some (EnvironmentCell parent locals)) there e = absurd (cc)
     told (Some (ArrayCell items)) there e = refl
@@ -38,7 +38,7 @@ array_is_no_object heap at e = told (find_cell heap at) e
     told : (o : Option Cell) → is_array_shape (option_map_or shape_of o (Mirror Nil)) ≡ true → class_of_object o ≡ None
     told None e = refl
     told (Some (ObjectCell class entries)) e = absurd (cc)
-    told (Some (ClassCell decl encl holder over)) e = refl
+    told (Some (ClassCell decl base encl holder over)) e = refl
     told (Some (BlockCell body env home receiver holder)) e = refl
     told (Some (EnvironmentCell parent locals)) e = refl
     told (Some (ArrayCell items)) e = refl
@@ -54,7 +54,7 @@ words_told heap at word below = told (find_cell heap at) below
     told : (o : Option Cell) → word < object_words (option_map_or shape_of o (Mirror Nil)) → word < length (option_map_or cell_words o [])
     told None below = absurd (omega (arith, below))
     told (Some (ObjectCell class entries)) below = below
-    told (Some (ClassCell decl encl holder over)) below = absurd (omega (arith, below))
+    told (Some (ClassCell decl base encl holder over)) below = absurd (omega (arith, below))
     told (Some (BlockCell body env home receiver holder)) below = absurd (omega (arith, below))
     told (Some (EnvironmentCell parent locals)) below = absurd (omega (arith, below))
     told (Some (ArrayCell items)) below = absurd (omega (arith, below))

@@ -15,7 +15,7 @@ use Rattle.ns_run_tests.specs.Looking.{size_of_shape, IsNext}
 
 size_told : (cell : Cell) → size_of_shape (shape_of cell) ≡ cell_size cell
 size_told (ObjectCell class entries) = refl
-size_told (ClassCell decl encl holder over) = refl
+size_told (ClassCell decl base encl holder over) = refl
 size_told (BlockCell body env home receiver holder) = refl
 size_told (EnvironmentCell parent locals) = refl
 size_told (ArrayCell items) = refl

@@ -19,12 +19,12 @@ facet_cells =
     FacetCell facet.Board ∷ FacetCell facet.Kernel ∷ FacetCell facet.Mirrors ∷ FacetCell facet.Console
     ∷ FacetCell facet.Platform ∷ FacetCell facet.Manifest ∷ []
 
-abbrev pub top_class : ℕ → Value → Cell
-top_class decl over = ClassCell decl Nil Nil over
+abbrev pub top_class : ℕ → ℕ → Value → Cell
+top_class decl base over = ClassCell decl base Nil Nil over
 
 -- Base at 6, Sub over it at 10, the second Base at 14
 abbrev pub class_cells : Heap
-class_cells = top_class 3 (Kernel Object) ∷ top_class 2 (Ref 6) ∷ top_class 0 (Kernel Object) ∷ facet_cells
+class_cells = top_class 3 0 (Kernel Object) ∷ top_class 2 3 (Ref 6) ∷ top_class 0 0 (Kernel Object) ∷ facet_cells
 
 -- an object of Base at 18 and one of Sub at 22, each slot of which is nil
 abbrev pub empty_objects : Heap
@@ -36,7 +36,7 @@ filled_objects = ObjectCell 10 (Int (pos 1) ∷ Int (pos 2) ∷ Nil ∷ Int (pos
 
 -- Part of the object of Base at 28, an object of it at 32, and an object of the kernel's Object at 33
 abbrev pub part_cells : Heap
-part_cells = ObjectCell no_class [] ∷ ObjectCell 28 [] ∷ ClassCell 1 (Ref 18) (Ref 6) (Kernel Object) ∷ filled_objects
+part_cells = ObjectCell no_class [] ∷ ObjectCell 28 [] ∷ ClassCell 1 0 (Ref 18) (Ref 6) (Kernel Object) ∷ filled_objects
 
 -- an array of two nils at 34, a message `at:put:` with it at 37, and a block at 40
 abbrev pub tried_cells : Heap

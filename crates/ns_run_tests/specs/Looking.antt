@@ -8,7 +8,7 @@ use Rattle.ns_world.specs.Heap.{Heap, heap_size, find_cell}
 -- how many cells a cell of that shape takes
 abbrev pub size_of_shape : NewCell → ℕ
 size_of_shape (Object class words) = 1 + words
-size_of_shape (Class decl encl holder over) = 4
+size_of_shape (Class decl base encl holder over) = 4
 size_of_shape (Block body env home receiver holder) = 3
 size_of_shape (Environment parent locals) = 1 + locals
 size_of_shape (Array size) = 1 + size

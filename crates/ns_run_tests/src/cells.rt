@@ -106,16 +106,17 @@ fn put_classes(world: &mut World) -> bool
     ensures room { world.new.cell_room ≡ world.old.cell_room }
     ensures out { world.new.out_room ≡ world.old.out_room }
 {
-    put(world, top(0, Value::Kernel(KClass::Object)))
-        && put(world, top(2, Value::Ref(6)))
-        && put(world, top(3, Value::Kernel(KClass::Object)))
+    put(world, top(0, 0, Value::Kernel(KClass::Object)))
+        && put(world, top(2, 3, Value::Ref(6)))
+        && put(world, top(3, 0, Value::Kernel(KClass::Object)))
 }
 
-fn top(decl: u32, over: Value) -> NewCell
-    ensures { fresh result ≡ spec.top_class decl over }
+fn top(decl: u32, base: u32, over: Value) -> NewCell
+    ensures { fresh result ≡ spec.top_class decl base over }
 {
     NewCell::Class {
         decl,
+        base,
         encl: Value::Nil,
         holder: Value::Nil,
         over,
@@ -170,6 +171,7 @@ fn put_parts(world: &mut World) -> bool
         world,
         NewCell::Class {
             decl: 1,
+            base: 0,
             encl: Value::Ref(18),
             holder: Value::Ref(6),
             over: Value::Kernel(KClass::Object),

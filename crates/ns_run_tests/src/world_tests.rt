@@ -25,6 +25,7 @@ const CELLS: &[(u32, NewCell)] = &[
         6,
         NewCell::Class {
             decl: 0,
+            base: 0,
             encl: Value::Nil,
             holder: Value::Nil,
             over: OBJECT,
@@ -34,6 +35,7 @@ const CELLS: &[(u32, NewCell)] = &[
         10,
         NewCell::Class {
             decl: 2,
+            base: 3,
             encl: Value::Nil,
             holder: Value::Nil,
             over: BASE,
@@ -43,6 +45,7 @@ const CELLS: &[(u32, NewCell)] = &[
         14,
         NewCell::Class {
             decl: 3,
+            base: 0,
             encl: Value::Nil,
             holder: Value::Nil,
             over: OBJECT,
@@ -60,6 +63,7 @@ const CELLS: &[(u32, NewCell)] = &[
         28,
         NewCell::Class {
             decl: 1,
+            base: 0,
             encl: BASE_OBJECT,
             holder: BASE,
             over: OBJECT,

@@ -113,7 +113,7 @@ abbrev in_head : Activation
 in_head = record in_m { body = 5; site = site_of (Declared 1) 7 }
 
 class_is_kept : body_ended small_code (FromClause 13 4 2) in_head (Kernel Object) (at small_cells 1 1 5)
-    ≡ Gives (Ref 26) (in_world (at small_cells 1 0 5) (written (record (small_world (ClassCell 2 (Ref 13) (Ref 4) (Kernel Object) ∷ small_cells)) { steps = 1 }) 13 1 (Ref 26)))
+    ≡ Gives (Ref 26) (in_world (at small_cells 1 0 5) (written (record (small_world (ClassCell 2 0 (Ref 13) (Ref 4) (Kernel Object) ∷ small_cells)) { steps = 1 }) 13 1 (Ref 26)))
 class_is_kept = refl
 
 -- one that is kept is the answer, and its clause isn't begun again
@@ -130,7 +130,7 @@ head_is_the_kernels : body_ended small_code (FromClause 13 4 2) in_head (Kernel 
 head_is_the_kernels = refl
 
 -- mixin application
-class_is_mixed : send (Ref 4) 10 (Ref 8 ∷ []) ≡ gives (Ref 26) (at (ClassCell 1 Nil Nil (Ref 8) ∷ small_cells) 1 0 5)
+class_is_mixed : send (Ref 4) 10 (Ref 8 ∷ []) ≡ gives (Ref 26) (at (ClassCell 1 4 Nil Nil (Ref 8) ∷ small_cells) 1 0 5)
 class_is_mixed = refl
 
 -- `value` is a send and an evaluation: the block waits, and its arity is checked before its step

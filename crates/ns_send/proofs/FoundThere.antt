@@ -79,7 +79,7 @@ start_there world code (Ref at) lawful live = told (find_cell world.cells at) re
     told : (o : Option Cell) → find_cell world.cells at ≡ o → is_receiver_cell o ≡ true → is_start world.cells (start_of_cell (option_map_or shape_of o (Mirror Nil)) at) ≡ true
     told None e r = absurd (cc)
     told (Some (ObjectCell class entries)) e r = (lawful.cells at (ObjectCell class entries) e).0.class_is
-    told (Some (ClassCell decl encl holder over)) e r = ap is_class e
+    told (Some (ClassCell decl base encl holder over)) e r = ap is_class e
     told (Some (BlockCell body env home receiver holder)) e r = refl
     told (Some (EnvironmentCell parent locals)) e r = absurd (cc)
     told (Some (ArrayCell items)) e r = refl
@@ -95,7 +95,7 @@ words_open heap at some = told (find_cell heap at) refl some
     told : (o : Option Cell) → find_cell heap at ≡ o → IsSome (class_of_object o) → open_words_at heap at ≡ words_at heap at
     told (Some (ObjectCell class entries)) e r = rw e refl
     told None e r = absurd (cc)
-    told (Some (ClassCell decl encl holder over)) e r = absurd (cc)
+    told (Some (ClassCell decl base encl holder over)) e r = absurd (cc)
     told (Some (BlockCell body env home receiver holder)) e r = absurd (cc)
     told (Some (EnvironmentCell parent locals)) e r = absurd (cc)
     told (Some (ArrayCell items)) e r = absurd (cc)

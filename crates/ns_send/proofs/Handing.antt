@@ -139,7 +139,7 @@ block_later code (Some (BlockCell body env home receiver holder)) number argumen
     tested false t = tt
 block_later code None number arguments site progress lawful e = tt
 block_later code (Some (ObjectCell class entries)) number arguments site progress lawful e = tt
-block_later code (Some (ClassCell decl encl holder over)) number arguments site progress lawful e = tt
+block_later code (Some (ClassCell decl base encl holder over)) number arguments site progress lawful e = tt
 block_later code (Some (EnvironmentCell parent locals)) number arguments site progress lawful e = tt
 block_later code (Some (ArrayCell items)) number arguments site progress lawful e = tt
 block_later code (Some (TextCell bytes)) number arguments site progress lawful e = tt

@@ -67,8 +67,8 @@ pub superclass_there : (world : World) (code : CodeProgram) (holder class : ℕ)
 superclass_there world code holder class lawful super = found (find_cell world.cells holder) refl super
   where
     found : (o : Option Cell) → find_cell world.cells holder ≡ o → superclass_in o ≡ Ref class → is_class (find_cell world.cells class) ≡ true
-    found (Some (ClassCell decl encl holder' over)) e s =
-        let l = linked world.cells holder decl encl holder' over lawful.ordered e in ap (λ v. is_superclass world.cells v) (sym s) ∙ l.superclass
+    found (Some (ClassCell decl base encl holder' over)) e s =
+        let l = linked world.cells holder decl base encl holder' over lawful.ordered e in ap (λ v. is_superclass world.cells v) (sym s) ∙ l.superclass
     found None e s = absurd (cc)
     found (Some (ObjectCell class' entries)) e s = absurd (cc)
     found (Some (BlockCell body env home receiver holder')) e s = absurd (cc)

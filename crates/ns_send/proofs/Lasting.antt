@@ -95,7 +95,7 @@ holder_is_class world code (Ref at) holder lawful has = found (find_cell world.c
     found (Some (ObjectCell class entries)) e h =
         (object_holders world code at class lawful (ap class_of_object e) (lawful.cells at (ObjectCell class entries) e).0.class_is holder (h.0 class refl)).1
     found None e h = let none = h.1 in absurd (cc)
-    found (Some (ClassCell decl encl holder' over)) e h = let none = h.1 in absurd (cc)
+    found (Some (ClassCell decl base encl holder' over)) e h = let none = h.1 in absurd (cc)
     found (Some (BlockCell body env home receiver holder')) e h = let none = h.1 in absurd (cc)
     found (Some (EnvironmentCell parent locals)) e h = let none = h.1 in absurd (cc)
     found (Some (ArrayCell items)) e h = let none = h.1 in absurd (cc)

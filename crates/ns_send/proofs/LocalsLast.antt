@@ -49,7 +49,7 @@ parent_is : (world : World) (code : CodeProgram) (number : ℕ) → IsLawful wor
 parent_is world code number lawful (Some (EnvironmentCell parent locals)) e = (lawful.cells number (EnvironmentCell parent locals) e).0
 parent_is world code number lawful None e = tt
 parent_is world code number lawful (Some (ObjectCell class entries)) e = tt
-parent_is world code number lawful (Some (ClassCell decl encl holder over)) e = tt
+parent_is world code number lawful (Some (ClassCell decl base encl holder over)) e = tt
 parent_is world code number lawful (Some (BlockCell body env home receiver holder)) e = tt
 parent_is world code number lawful (Some (ArrayCell items)) e = tt
 parent_is world code number lawful (Some (TextCell bytes)) e = tt

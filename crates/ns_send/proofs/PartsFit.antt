@@ -87,7 +87,7 @@ above_has world code (Ref at) holder over lawful has super is = object (find_cel
         let (k, inside, same) = h.0 class refl in
         (object_holders world code at class lawful (ap class_of_object e) fine.class_is over (above_too world.cells class holder over k (lawful_order world code lawful) fine.class_is inside same own)).0
     object None e h = let none = h.1 in absurd (cc)
-    object (Some (ClassCell decl encl holder' over')) e h = let none = h.1 in absurd (cc)
+    object (Some (ClassCell decl base encl holder' over')) e h = let none = h.1 in absurd (cc)
     object (Some (BlockCell body env home receiver holder')) e h = let none = h.1 in absurd (cc)
     object (Some (EnvironmentCell parent locals)) e h = let none = h.1 in absurd (cc)
     object (Some (ArrayCell items)) e h = let none = h.1 in absurd (cc)
@@ -181,8 +181,8 @@ super_initialises : (world : World) (code : CodeProgram) (self : Value) (holder 
 super_initialises world code self holder lawful has class super = found (find_cell world.cells holder) refl super
   where
     found : (o : Option Cell) → find_cell world.cells holder ≡ o → superclass_in o ≡ Ref class → Initialises world code self class
-    found (Some (ClassCell decl encl holder' over)) e s =
-        let l = linked world.cells holder decl encl holder' over lawful.ordered e in
+    found (Some (ClassCell decl base encl holder' over)) e s =
+        let l = linked world.cells holder decl base encl holder' over lawful.ordered e in
         let is : is_class (find_cell world.cells class) ≡ true = ap (λ v. is_superclass world.cells v) (sym s) ∙ l.superclass in
         let at : superclass_of world.cells holder ≡ class = ap (λ v. declared_class v) super in
         initialiser_runs world code self class lawful (above_has world code self holder class lawful has at is) is

@@ -109,7 +109,7 @@ block_body code (new.Block body env home receiver holder) arguments site progres
         (λ next d. body_opened body code activation arguments (in_world progress next) refl))
     tested false = tt
 block_body code (new.Object class words) arguments site progress = tt
-block_body code (new.Class decl encl holder over) arguments site progress = tt
+block_body code (new.Class decl base encl holder over) arguments site progress = tt
 block_body code (new.Environment parent locals) arguments site progress = tt
 block_body code (new.Array size) arguments site progress = tt
 block_body code (new.Text bytes) arguments site progress = tt

@@ -85,7 +85,7 @@ super_object world code at holder sel lawful live has = object (find_cell world.
         (λ other c. object_holders world code at class lawful (ap class_of_object e) fine.class_is other (above_too world.cells class holder other k (lawful_order world code lawful) fine.class_is inside is c))
         (instance_belongs world.cells code (superclass_of world.cells holder) sel Inner) ((found_by world.cells code (start.Instance (superclass_of world.cells holder)) sel Inner).takes lawful.classes)
     object None e h = let none = h.1 in absurd (cc)
-    object (Some (ClassCell decl encl holder' over)) e h = let none = h.1 in absurd (cc)
+    object (Some (ClassCell decl base encl holder' over)) e h = let none = h.1 in absurd (cc)
     object (Some (BlockCell body env home receiver holder')) e h = let none = h.1 in absurd (cc)
     object (Some (EnvironmentCell parent locals)) e h = let none = h.1 in absurd (cc)
     object (Some (ArrayCell items)) e h = let none = h.1 in absurd (cc)

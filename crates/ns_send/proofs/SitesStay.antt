@@ -80,7 +80,7 @@ entered_at code (new.Block body env home receiver holder) arguments site progres
         (λ next d. opened_at (length arguments ≤ 255) site home code (Enter FromBody) (record { self = receiver; holder = holder; body = body; home = home; env = env; site = site }) arguments (in_world progress next) (λ env' locals last. (refl, refl))))
     tested false = tt
 entered_at code (new.Object class words) arguments site progress = tt
-entered_at code (new.Class decl encl holder over) arguments site progress = tt
+entered_at code (new.Class decl base encl holder over) arguments site progress = tt
 entered_at code (new.Environment parent locals) arguments site progress = tt
 entered_at code (new.Array size) arguments site progress = tt
 entered_at code (new.Text bytes) arguments site progress = tt

@@ -81,7 +81,7 @@ pub record Place : Type 0 where
 
 -- the object and the holder that enclose a class; nil and 0 where the cell is none
 abbrev pub enclosing_place : NewCell → Place
-enclosing_place (new.Class decl encl holder over) = record { object = encl; holder = cell_number holder }
+enclosing_place (new.Class decl base encl holder over) = record { object = encl; holder = cell_number holder }
 enclosing_place cell = record { object = Nil; holder = 0 }
 
 -- self and the holder, and so many declarations further out the enclosing object and its holder

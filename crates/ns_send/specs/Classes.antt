@@ -12,12 +12,12 @@ use Rattle.ns_world.specs.declared.cell.NewCell.{NewCell}
 use Rattle.ns_world.specs.declared.cell.NewCell.TheVariants as new
 use Rattle.ns_world.specs.declared.ending.Kind.TheVariants.{InitMismatch, NotAClass}
 use Rattle.ns_world.specs.declared.ending.LimitKind.TheVariants.{Cells, Depth}
-use Rattle.ns_world.specs.Cell.{Cell, ObjectCell, ClassCell}
+use Rattle.ns_world.specs.Cell.{Cell, ObjectCell}
 use Rattle.ns_world.specs.Heap.{Heap, heap_size, find_cell, superclass_in}
 use Rattle.ns_world.specs.World.{World, made, entered, written}
 use Rattle.ns_world.specs.Layout.{declaration_of, layout_of, entry_word}
 use Rattle.ns_classes.specs.declared.apply.MakeFault.{MakeFault}
-use Rattle.ns_classes.specs.Apply.{class_fault}
+use Rattle.ns_classes.specs.Apply.{class_fault, class_cell}
 use Rattle.ns_classes.specs.Nested.{kept_class, nested_entry}
 use Rattle.ns_kdata.specs.Rows.{stored}
 use Rattle.ns_send.specs.declared.site.Site.{Site}
@@ -34,10 +34,10 @@ class_made cell None site progress go = charged Halts Cells (made progress.world
 
 -- Mixin application: a new class of the mixin's declaration and enclosing object over another superclass
 -- (this profile's spelling of it is `<:`).
-abbrev pub mixed : NewCell → Value → Site → Progress → After
-mixed (new.Class decl encl holder under) over site progress =
-    class_made (ClassCell decl encl holder over) (class_fault progress.world.cells over) site progress (λ number progress. Gives (Ref number) progress)
-mixed cell over site progress = Halts (error NotAClass site) progress
+abbrev pub mixed : CodeProgram → NewCell → Value → Site → Progress → After
+mixed code (new.Class decl base encl holder under) over site progress =
+    class_made (class_cell progress.world.cells code decl encl holder over) (class_fault progress.world.cells over) site progress (λ number progress. Gives (Ref number) progress)
+mixed code cell over site progress = Halts (error NotAClass site) progress
 
 -- ---- nested classes
 
@@ -49,7 +49,7 @@ keeping code object holder class number world =
 -- A nested class over a superclass, where none is kept: it is checked, made and kept.
 abbrev pub newly_kept : CodeProgram → ℕ → ℕ → ℕ → Value → Site → Progress → After
 newly_kept code object holder class over site progress =
-    class_made (ClassCell class (Ref object) (Ref holder) over) (class_fault progress.world.cells over) site progress
+    class_made (class_cell progress.world.cells code class (Ref object) (Ref holder) over) (class_fault progress.world.cells over) site progress
     (λ number progress. Gives (Ref number) (in_world progress (keeping code object holder class number progress.world)))
 
 -- the class that is kept, or else a new one

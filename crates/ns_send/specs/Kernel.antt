@@ -81,7 +81,7 @@ row_reached code (row.Mirror mirrors) sel receiver arguments site progress =
 row_reached code (row.Method method) sel receiver arguments site progress =
     method_begun method receiver (argument arguments 0) (argument arguments 1) site progress
 row_reached code row.Apply sel receiver arguments site progress =
-    Now (mixed (shape_of_value progress.world.cells receiver) (argument arguments 0) site progress)
+    Now (mixed code (shape_of_value progress.world.cells receiver) (argument arguments 0) site progress)
 row_reached code row.Value sel receiver arguments site progress = Evaluate receiver arguments site progress
 row_reached code row.ValueWithArguments sel receiver arguments site progress = value_with_arguments receiver (argument arguments 0) site progress
 row_reached code row.NumArgs sel receiver arguments site progress = gives (Int (pos (block_arity code progress.world.cells receiver))) progress

@@ -31,7 +31,7 @@ kernel_class_text Array = codes "class Array"
 -- a cell: a string in quotes, a class by its name, and all else by the name of its class
 abbrev pub cell_text : CodeProgram → Option Cell → List ℕ → List ℕ
 cell_text code (Some (TextCell bytes)) class = quoted bytes
-cell_text code (Some (ClassCell decl encl holder over)) class = codes "class " ++ declared_text code decl
+cell_text code (Some (ClassCell decl base encl holder over)) class = codes "class " ++ declared_text code decl
 cell_text code cell class = codes "object " ++ class
 
 -- a value

@@ -35,7 +35,7 @@ facets_of grants =
 
 -- a class of a declaration over the kernel's Object, where the declaration is a top-level one
 abbrev pub top_if : Option ℕ → ℕ → List Cell
-top_if None decl = ClassCell decl Nil Nil (Kernel Object) ∷ []
+top_if None decl = ClassCell decl 0 Nil Nil (Kernel Object) ∷ []
 top_if (Some outer) decl = []
 
 -- the classes of the top-level declarations, of which the first has this number

@@ -97,7 +97,7 @@ small_cells =
     ∷ ObjectCell 8 (Nil ∷ Nil ∷ Nil ∷ Nil ∷ [])
     ∷ ObjectCell 4 (Nil ∷ Nil ∷ [])
     ∷ ObjectCell 0 []
-    ∷ ClassCell 1 Nil Nil (Ref 4) ∷ ClassCell 1 Nil Nil (Kernel Object) ∷ ClassCell 0 Nil Nil (Kernel Object)
+    ∷ ClassCell 1 2 Nil Nil (Ref 4) ∷ ClassCell 1 0 Nil Nil (Kernel Object) ∷ ClassCell 0 0 Nil Nil (Kernel Object)
     ∷ []
 
 -- a world of these cells in which nothing was charged but them

@@ -71,6 +71,7 @@ fn make_top_if(world: &mut World, outer: Option<u32>, decl: u32) -> Result<(), C
             world,
             NewCell::Class {
                 decl,
+                base: 0,
                 encl: Value::Nil,
                 holder: Value::Nil,
                 over: Value::Kernel(KClass::Object),

@@ -21,10 +21,10 @@ mapped (value ∷ values) (suc k) d h = mapped values k d (omega arith)
 -- a word behind a head holds the cell's value
 pub value_in_cell : (cell : Cell) (k : ℕ) (d : Word) → k < length (cell_words cell) → value_in (get_or (words_of cell) (suc k) d) ≡ get_or (cell_words cell) k Nil
 value_in_cell (ObjectCell class entries) k d h = mapped entries k d h
-value_in_cell (ClassCell decl encl holder over) zero d h = value_in-word_of encl
-value_in_cell (ClassCell decl encl holder over) (suc zero) d h = value_in-word_of holder
-value_in_cell (ClassCell decl encl holder over) (suc (suc zero)) d h = value_in-word_of over
-value_in_cell (ClassCell decl encl holder over) (suc (suc (suc k))) d h = absurd (omega arith)
+value_in_cell (ClassCell decl base encl holder over) zero d h = value_in-word_of encl
+value_in_cell (ClassCell decl base encl holder over) (suc zero) d h = value_in-word_of holder
+value_in_cell (ClassCell decl base encl holder over) (suc (suc zero)) d h = value_in-word_of over
+value_in_cell (ClassCell decl base encl holder over) (suc (suc (suc k))) d h = absurd (omega arith)
 value_in_cell (BlockCell body env home receiver holder) zero d h = value_in-word_of receiver
 value_in_cell (BlockCell body env home receiver holder) (suc zero) d h = value_in-word_beside holder env
 value_in_cell (BlockCell body env home receiver holder) (suc (suc k)) d h = absurd (omega arith)
@@ -39,7 +39,7 @@ value_in_cell (MessageCell sel args) (suc k) d h = absurd (omega arith)
 
 words_fit : (cell : Cell) → 1 + length (cell_words cell) ≤ cell_size cell
 words_fit (ObjectCell class entries) = omega arith
-words_fit (ClassCell decl encl holder over) = omega arith
+words_fit (ClassCell decl base encl holder over) = omega arith
 words_fit (BlockCell body env home receiver holder) = omega arith
 words_fit (EnvironmentCell parent locals) = omega arith
 words_fit (ArrayCell items) = omega arith
@@ -75,7 +75,7 @@ reads_word heap words n k laid h = found (find_cell heap n) refl
 -- a written word changes one word of the cell
 pub words_of-with_word : (cell : Cell) (k : ℕ) (value : Value) → k < length (open_words cell) → words_of (with_word cell k value) ≡ set (words_of cell) (suc k) (word_of value)
 words_of-with_word (ObjectCell class entries) k value h = rw (length-set entries k value, map-set word_of entries k value) refl
-words_of-with_word (ClassCell decl encl holder over) k value h = absurd (omega arith)
+words_of-with_word (ClassCell decl base encl holder over) k value h = absurd (omega arith)
 words_of-with_word (BlockCell body env home receiver holder) k value h = absurd (omega arith)
 words_of-with_word (EnvironmentCell parent locals) k value h = rw (length-set locals k value, map-set word_of locals k value) refl
 words_of-with_word (ArrayCell items) k value h = rw (length-set items k value, map-set word_of items k value) refl
@@ -87,7 +87,7 @@ words_of-with_word (MessageCell sel args) k value h = absurd (omega arith)
 -- a cell with a word written takes its place
 pub with_word-replaces : (cell : Cell) (k : ℕ) (value : Value) → k < length (open_words cell) → Replaces cell (with_word cell k value)
 with_word-replaces (ObjectCell class entries) k value h = record { size_stays = ap (λ n. 1 + n) (length-set entries k value); old_plain = refl; new_plain = refl }
-with_word-replaces (ClassCell decl encl holder over) k value h = absurd (omega arith)
+with_word-replaces (ClassCell decl base encl holder over) k value h = absurd (omega arith)
 with_word-replaces (BlockCell body env home receiver holder) k value h = absurd (omega arith)
 with_word-replaces (EnvironmentCell parent locals) k value h = record { size_stays = ap (λ n. 1 + n) (length-set locals k value); old_plain = refl; new_plain = refl }
 with_word-replaces (ArrayCell items) k value h = record { size_stays = ap (λ n. 1 + n) (length-set items k value); old_plain = refl; new_plain = refl }
@@ -98,7 +98,7 @@ with_word-replaces (MessageCell sel args) k value h = absurd (omega arith)
 
 open_fits : (cell : Cell) → 1 + length (open_words cell) ≤ cell_size cell
 open_fits (ObjectCell class entries) = omega arith
-open_fits (ClassCell decl encl holder over) = omega arith
+open_fits (ClassCell decl base encl holder over) = omega arith
 open_fits (BlockCell body env home receiver holder) = omega arith
 open_fits (EnvironmentCell parent locals) = omega arith
 open_fits (ArrayCell items) = omega arith

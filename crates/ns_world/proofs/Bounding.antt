@@ -14,21 +14,21 @@ use Rattle.ns_world.specs.View.{AreFirstsBelow}
 use Rattle.ns_world.specs.laws.Chains.{both_of, size_above}
 use Rattle.ns_world.specs.laws.Firsts.{first_without, first_behind, first_within}
 
-class_no_first : (heap : Heap) (decl : ℕ) (encl holder over : Value) (s : Sought) → (is_nil encl && is_none (first_such (is_top decl) heap)) ≡ false → first_such (is_sought s) (ClassCell decl encl holder over ∷ heap) ≡ first_such (is_sought s) heap
-class_no_first heap decl encl holder over (sought.Facet kind) e = first_without (is_sought (sought.Facet kind)) heap (ClassCell decl encl holder over) refl
-class_no_first heap decl encl holder over (sought.Top other) e = tested (is_top other (ClassCell decl encl holder over)) refl
+class_no_first : (heap : Heap) (decl base : ℕ) (encl holder over : Value) (s : Sought) → (is_nil encl && is_none (first_such (is_top decl) heap)) ≡ false → first_such (is_sought s) (ClassCell decl base encl holder over ∷ heap) ≡ first_such (is_sought s) heap
+class_no_first heap decl base encl holder over (sought.Facet kind) e = first_without (is_sought (sought.Facet kind)) heap (ClassCell decl base encl holder over) refl
+class_no_first heap decl base encl holder over (sought.Top other) e = tested (is_top other (ClassCell decl base encl holder over)) refl
   where
     some : (o : Option ℕ) → is_none o ≡ false → IsSome o
     some None e = absurd (cc)
     some (Some n) e = refl
 
-    tested : (b : Bool) → is_top other (ClassCell decl encl holder over) ≡ b → first_such (is_top other) (ClassCell decl encl holder over ∷ heap) ≡ first_such (is_top other) heap
-    tested false t = first_without (is_top other) heap (ClassCell decl encl holder over) t
+    tested : (b : Bool) → is_top other (ClassCell decl base encl holder over) ≡ b → first_such (is_top other) (ClassCell decl base encl holder over ∷ heap) ≡ first_such (is_top other) heap
+    tested false t = first_without (is_top other) heap (ClassCell decl base encl holder over) t
     tested true t =
         let parts = both_of (eqb other decl) (is_nil encl) t in
         let is : other ≡ decl = eqb-true other decl parts.0 in
         let there : is_none (first_such (is_top decl) heap) ≡ false = ap (λ b. b && is_none (first_such (is_top decl) heap)) (sym parts.1) ∙ e in
-        first_behind (is_top other) heap (ClassCell decl encl holder over) (ap (λ d. is_some (first_such (is_top d) heap)) is ∙ some (first_such (is_top decl) heap) there)
+        first_behind (is_top other) heap (ClassCell decl base encl holder over) (ap (λ d. is_some (first_such (is_top d) heap)) is ∙ some (first_such (is_top decl) heap) there)
 
 -- a cell that is no facet and no class is never sought
 pub no_first_cell : (heap : Heap) (cell : Cell) (s : Sought) → ((kind : FacetKind) → is_facet kind cell ≡ false) → ((decl : ℕ) → is_top decl cell ≡ false) → first_such (is_sought s) (cell ∷ heap) ≡ first_such (is_sought s) heap
@@ -37,7 +37,7 @@ no_first_cell heap cell (sought.Top decl) f t = first_without (is_top decl) heap
 
 -- a cell that can't be a first one changes none
 no_first : (heap : Heap) (new : NewCell) (s : Sought) → may_be_first heap new ≡ false → first_such (is_sought s) (fresh new ∷ heap) ≡ first_such (is_sought s) heap
-no_first heap (Class decl encl holder over) s e = class_no_first heap decl encl holder over s e
+no_first heap (Class decl base encl holder over) s e = class_no_first heap decl base encl holder over s e
 no_first heap (Facet kind) s e = absurd (cc)
 no_first heap (Object class words) s e = no_first_cell heap (fresh (Object class words)) s (λ kind. refl) (λ decl. refl)
 no_first heap (Block body env home receiver holder) s e = no_first_cell heap (fresh (Block body env home receiver holder)) s (λ kind. refl) (λ decl. refl)

@@ -105,7 +105,7 @@ reads_byte heap words n p laid h = found (find_cell heap n) refl
     found None e = absurd (omega (arith, let here : p < length (bytes_at heap n) = h in rw e at here))
     found (Some (TextCell bytes)) e = reads_text heap words n p bytes laid e (rw e at h)
     found (Some (ObjectCell class entries)) e = absurd (omega (arith, let here : p < length (bytes_at heap n) = h in rw e at here))
-    found (Some (ClassCell decl encl holder over)) e = absurd (omega (arith, let here : p < length (bytes_at heap n) = h in rw e at here))
+    found (Some (ClassCell decl base encl holder over)) e = absurd (omega (arith, let here : p < length (bytes_at heap n) = h in rw e at here))
     found (Some (BlockCell body env home receiver holder)) e = absurd (omega (arith, let here : p < length (bytes_at heap n) = h in rw e at here))
     found (Some (EnvironmentCell parent locals)) e = absurd (omega (arith, let here : p < length (bytes_at heap n) = h in rw e at here))
     found (Some (ArrayCell items)) e = absurd (omega (arith, let here : p < length (bytes_at heap n) = h in rw e at here))
@@ -152,7 +152,7 @@ reads_row heap words n q laid h = found (find_cell heap n) refl
     found None e = absurd (omega (arith, let here : 8 * q + 8 ≤ length (bytes_at heap n) = h in rw e at here))
     found (Some (TextCell bytes)) e = in_text bytes e
     found (Some (ObjectCell class entries)) e = absurd (omega (arith, let here : 8 * q + 8 ≤ length (bytes_at heap n) = h in rw e at here))
-    found (Some (ClassCell decl encl holder over)) e = absurd (omega (arith, let here : 8 * q + 8 ≤ length (bytes_at heap n) = h in rw e at here))
+    found (Some (ClassCell decl base encl holder over)) e = absurd (omega (arith, let here : 8 * q + 8 ≤ length (bytes_at heap n) = h in rw e at here))
     found (Some (BlockCell body env home receiver holder)) e = absurd (omega (arith, let here : 8 * q + 8 ≤ length (bytes_at heap n) = h in rw e at here))
     found (Some (EnvironmentCell parent locals)) e = absurd (omega (arith, let here : 8 * q + 8 ≤ length (bytes_at heap n) = h in rw e at here))
     found (Some (ArrayCell items)) e = absurd (omega (arith, let here : 8 * q + 8 ≤ length (bytes_at heap n) = h in rw e at here))

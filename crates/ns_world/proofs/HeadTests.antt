@@ -8,9 +8,9 @@ use Rattle.ns_world.specs.declared.cell.NewCell.TheVariants.{Object, Class, Bloc
 use Rattle.ns_world.specs.declared.word.Word.{Word}
 use Rattle.ns_world.specs.declared.word.Word.TheVariants as word
 use Rattle.ns_world.specs.Cell.{Cell, shape_of, ObjectCell, ClassCell, BlockCell, EnvironmentCell, ArrayCell, TextCell, FacetCell, MirrorCell, MessageCell}
-use Rattle.ns_world.specs.Head.{head_of_shape, head_at, is_class_head, declared_at_head, start_at_head}
+use Rattle.ns_world.specs.Head.{head_of_shape, head_at, is_class_head, declared_at_head, base_at_head, start_at_head}
 use Rattle.ns_world.specs.Heap.{Heap, find_cell, is_class, shape_at}
-use Rattle.ns_world.specs.Layout.{declaration_of}
+use Rattle.ns_world.specs.Layout.{declaration_of, base_in, base_of}
 use Rattle.ns_world.specs.Starts.{start_of_cell, declaration_in}
 use Rattle.ns_world.specs.Words.{laid_out, shape_in, head_in}
 use Rattle.ns_world.specs.laws.Chains.{found_below}
@@ -20,7 +20,7 @@ use Rattle.ns_world.proofs.Shapes.{shape_told}
 class_head : (o : Option Cell) → is_class_head (head_of_shape (option_map_or shape_of o (Mirror Nil))) ≡ is_class o
 class_head None = refl
 class_head (Some (ObjectCell class entries)) = refl
-class_head (Some (ClassCell decl encl holder over)) = refl
+class_head (Some (ClassCell decl base encl holder over)) = refl
 class_head (Some (BlockCell body env home receiver holder)) = refl
 class_head (Some (EnvironmentCell parent locals)) = refl
 class_head (Some (ArrayCell items)) = refl
@@ -35,7 +35,7 @@ class_told heap number = class_head (find_cell heap number)
 
 declared_head : (shape : NewCell) → declared_at_head (head_of_shape shape) ≡ declaration_in shape
 declared_head (Object class words) = refl
-declared_head (Class decl encl holder over) = refl
+declared_head (Class decl base encl holder over) = refl
 declared_head (Block body env home receiver holder) = refl
 declared_head (Environment parent locals) = refl
 declared_head (Array size) = refl
@@ -48,9 +48,24 @@ declared_head (Message sel args) = refl
 pub declaration_told : (heap : Heap) (class : ℕ) → declared_at_head (head_at heap class) ≡ declaration_of heap class
 declaration_told heap class = declared_head (shape_at heap class)
 
+base_head : (shape : NewCell) → base_at_head (head_of_shape shape) ≡ base_in shape
+base_head (Object class words) = refl
+base_head (Class decl base encl holder over) = refl
+base_head (Block body env home receiver holder) = refl
+base_head (Environment parent locals) = refl
+base_head (Array size) = refl
+base_head (Text bytes) = refl
+base_head (Facet kind) = refl
+base_head (Mirror mirrored) = refl
+base_head (Message sel args) = refl
+
+-- the base of a class stands in its head
+pub base_told : (heap : Heap) (class : ℕ) → base_at_head (head_at heap class) ≡ base_of heap class
+base_told heap class = base_head (shape_at heap class)
+
 start_head : (shape : NewCell) (at : ℕ) → start_at_head (head_of_shape shape) at ≡ start_of_cell shape at
 start_head (Object class words) at = refl
-start_head (Class decl encl holder over) at = refl
+start_head (Class decl base encl holder over) at = refl
 start_head (Block body env home receiver holder) at = refl
 start_head (Environment parent locals) at = refl
 start_head (Array size) at = refl
@@ -80,7 +95,7 @@ head_of_word (word.KernelWith beside class) words = refl
 head_of_word (word.RefWith beside at) words = refl
 head_of_word (word.Bytes bytes) words = refl
 head_of_word (word.Object class count) words = refl
-head_of_word (word.Class decl) words = refl
+head_of_word (word.Class decl base) words = refl
 head_of_word (word.Block body home) words = refl
 head_of_word (word.Array size) words = refl
 head_of_word (word.Text bytes) words = refl

@@ -55,7 +55,7 @@ environment_of (Ref at) locals rest = ap (EnvironmentCell (Ref at)) (values_in-m
 -- a cell's words stand for the cell
 pub cell_of-words : (cell : Cell) (rest : List Word) → cell_of (head_of cell) (body_of cell ++ rest) ≡ cell
 cell_of-words (ObjectCell class entries) rest = ap (ObjectCell class) (values_in-map entries rest)
-cell_of-words (ClassCell decl encl holder over) rest = grind (arith, value_in-word_of encl, value_in-word_of holder, value_in-word_of over)
+cell_of-words (ClassCell decl base encl holder over) rest = grind (arith, value_in-word_of encl, value_in-word_of holder, value_in-word_of over)
 cell_of-words (BlockCell body env home receiver holder) rest = grind (arith, value_in-word_of receiver, value_in-word_beside holder env, beside_in-word_beside holder env)
 cell_of-words (EnvironmentCell parent locals) rest = environment_of parent locals rest
 cell_of-words (ArrayCell items) rest = ap ArrayCell (values_in-map items rest)
@@ -76,7 +76,7 @@ words_behind-parent (Ref at) n = refl
 -- a head knows how many words stand behind it
 pub words_behind-head : (cell : Cell) → words_behind (head_of cell) ≡ length (body_of cell)
 words_behind-head (ObjectCell class entries) = sym (length-map entries word_of)
-words_behind-head (ClassCell decl encl holder over) = refl
+words_behind-head (ClassCell decl base encl holder over) = refl
 words_behind-head (BlockCell body env home receiver holder) = refl
 words_behind-head (EnvironmentCell parent locals) = words_behind-parent parent (length locals) ∙ sym (length-map locals word_of)
 words_behind-head (ArrayCell items) = sym (length-map items word_of)
@@ -88,7 +88,7 @@ words_behind-head (MessageCell sel args) = refl
 -- a cell takes as many words as it costs
 pub length-words : (cell : Cell) → length (words_of cell) ≡ cell_size cell
 length-words (ObjectCell class entries) = omega (arith, length-map entries word_of)
-length-words (ClassCell decl encl holder over) = refl
+length-words (ClassCell decl base encl holder over) = refl
 length-words (BlockCell body env home receiver holder) = refl
 length-words (EnvironmentCell parent locals) = omega (arith, length-map locals word_of)
 length-words (ArrayCell items) = omega (arith, length-map items word_of)

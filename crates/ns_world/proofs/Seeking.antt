@@ -81,7 +81,7 @@ not_parent (Top decl) n (Ref at) next = refl
 -- the words of a cell tell whether it is sought
 sought_cell : (sought : Sought) (cell : Cell) (rest : List Word) → is_sought_at sought (head_of cell) (get_or (words_of cell ++ rest) 1 NilWord) ≡ is_sought sought cell
 sought_cell (Facet kind) (ObjectCell class entries) rest = refl
-sought_cell (Facet kind) (ClassCell decl encl holder over) rest = refl
+sought_cell (Facet kind) (ClassCell decl base encl holder over) rest = refl
 sought_cell (Facet kind) (BlockCell body env home receiver holder) rest = refl
 sought_cell (Facet kind) (EnvironmentCell parent locals) rest = not_parent (Facet kind) (length locals) parent (get_or (words_of (EnvironmentCell parent locals) ++ rest) 1 NilWord)
 sought_cell (Facet kind) (ArrayCell items) rest = refl
@@ -90,7 +90,7 @@ sought_cell (Facet kind) (FacetCell other) rest = refl
 sought_cell (Facet kind) (MirrorCell mirrored) rest = refl
 sought_cell (Facet kind) (MessageCell sel args) rest = refl
 sought_cell (Top decl) (ObjectCell class entries) rest = refl
-sought_cell (Top decl) (ClassCell other encl holder over) rest = rw (nil_at encl) refl
+sought_cell (Top decl) (ClassCell other base encl holder over) rest = rw (nil_at encl) refl
 sought_cell (Top decl) (BlockCell body env home receiver holder) rest = refl
 sought_cell (Top decl) (EnvironmentCell parent locals) rest = not_parent (Top decl) (length locals) parent (get_or (words_of (EnvironmentCell parent locals) ++ rest) 1 NilWord)
 sought_cell (Top decl) (ArrayCell items) rest = refl

@@ -26,7 +26,7 @@ three at = at 1 ∷ at 2 ∷ at 3 ∷ []
 
 shape_in-cell : (cell : Cell) (at : ℕ → Word) → ((j : ℕ) → j < cell_size cell → at j ≡ get_or (words_of cell) j NilWord) → shape_in (at 0) (three at) ≡ shape_of cell
 shape_in-cell (ObjectCell class entries) at e = rw (e 0 (omega arith)) refl
-shape_in-cell (ClassCell decl encl holder over) at e =
+shape_in-cell (ClassCell decl base encl holder over) at e =
     rw (e 0 (omega arith), e 1 (omega arith), e 2 (omega arith), e 3 (omega arith), value_in-word_of encl, value_in-word_of holder, value_in-word_of over) refl
 shape_in-cell (BlockCell body env home receiver holder) at e =
     rw (e 0 (omega arith), e 1 (omega arith), e 2 (omega arith), value_in-word_of receiver, value_in-word_beside holder env, beside_in-word_beside holder env) refl

@@ -40,7 +40,7 @@ AlikeNumber pairs first second = ⊥
 -- Two cells are equal after renaming; the homes of blocks aren't compared.
 abbrev pub AlikeCell : Renaming → Cell → Cell → Type 0
 AlikeCell pairs (ObjectCell class entries) (ObjectCell class' entries') = AlikeClass pairs class class' × AlikeValues pairs entries entries'
-AlikeCell pairs (ClassCell decl encl holder over) (ClassCell decl' encl' holder' over') =
+AlikeCell pairs (ClassCell decl base encl holder over) (ClassCell decl' base' encl' holder' over') =
     (decl ≡ decl') × AlikeValues pairs (encl ∷ holder ∷ over ∷ []) (encl' ∷ holder' ∷ over' ∷ [])
 AlikeCell pairs (BlockCell body env home receiver holder) (BlockCell body' env' home' receiver' holder') =
     (body ≡ body') × AlikeValues pairs (env ∷ receiver ∷ []) (env' ∷ receiver' ∷ []) × AlikeClass pairs holder holder'

@@ -7,10 +7,10 @@ use Rattle.ns_world.specs.declared.cell.FacetKind.{FacetKind}
 use Rattle.ns_world.specs.declared.cell.NewCell.{NewCell}
 use Rattle.ns_world.specs.declared.cell.NewCell.TheVariants.{Object, Class, Block, Environment, Array, Text, Facet, Mirror, Message}
 
--- a cell with all that it holds
+-- A cell with all that it holds. The base of a class is how many entries the classes above it have.
 pub data Cell : Type 0 where
   ObjectCell : (class : ℕ) (entries : List Value) → Cell
-  ClassCell : (decl : ℕ) (encl holder over : Value) → Cell
+  ClassCell : (decl base : ℕ) (encl holder over : Value) → Cell
   BlockCell : (body : ℕ) (env : Value) (home : ℕ) (receiver : Value) (holder : ℕ) → Cell
   EnvironmentCell : (parent : Value) (locals : List Value) → Cell
   ArrayCell : (items : List Value) → Cell
@@ -26,7 +26,7 @@ text_words bytes = (bytes + 7) / 8
 -- what a cell costs
 abbrev pub cell_size : Cell → ℕ
 cell_size (ObjectCell class entries) = 1 + length entries
-cell_size (ClassCell decl encl holder over) = 4
+cell_size (ClassCell decl base encl holder over) = 4
 cell_size (BlockCell body env home receiver holder) = 3
 cell_size (EnvironmentCell parent locals) = 1 + length locals
 cell_size (ArrayCell items) = 1 + length items
@@ -38,7 +38,7 @@ cell_size (MessageCell sel args) = 3
 -- the cell as it is made: its words are nil and its bytes 0
 abbrev pub fresh : NewCell → Cell
 fresh (Object class words) = ObjectCell class (replicate words Nil)
-fresh (Class decl encl holder over) = ClassCell decl encl holder over
+fresh (Class decl base encl holder over) = ClassCell decl base encl holder over
 fresh (Block body env home receiver holder) = BlockCell body env home receiver holder
 fresh (Environment parent locals) = EnvironmentCell parent (replicate locals Nil)
 fresh (Array size) = ArrayCell (replicate size Nil)
@@ -54,7 +54,7 @@ filled_environment parent first others = EnvironmentCell parent (first ++ replic
 -- the kind, the sizes and the fixed parts with which a cell was made
 abbrev pub shape_of : Cell → NewCell
 shape_of (ObjectCell class entries) = Object class (length entries)
-shape_of (ClassCell decl encl holder over) = Class decl encl holder over
+shape_of (ClassCell decl base encl holder over) = Class decl base encl holder over
 shape_of (BlockCell body env home receiver holder) = Block body env home receiver holder
 shape_of (EnvironmentCell parent locals) = Environment parent (length locals)
 shape_of (ArrayCell items) = Array (length items)
@@ -66,7 +66,7 @@ shape_of (MessageCell sel args) = Message sel args
 -- the values behind a cell's head, in the order of their words
 abbrev pub cell_words : Cell → List Value
 cell_words (ObjectCell class entries) = entries
-cell_words (ClassCell decl encl holder over) = encl ∷ holder ∷ over ∷ []
+cell_words (ClassCell decl base encl holder over) = encl ∷ holder ∷ over ∷ []
 cell_words (BlockCell body env home receiver holder) = receiver ∷ env ∷ []
 cell_words (EnvironmentCell parent locals) = locals
 cell_words (ArrayCell items) = items

@@ -30,7 +30,7 @@ set_cell (cell ∷ earlier) number new =
 
 -- whether a cell is a class
 abbrev pub is_class : Option Cell → Bool
-is_class (Some (ClassCell decl encl holder over)) = true
+is_class (Some (ClassCell decl base encl holder over)) = true
 is_class _ = false
 
 -- whether a superclass is the kernel's Object or a class made before
@@ -41,7 +41,7 @@ is_superclass earlier _ = false
 
 -- whether a cell, if it is a class, has such a superclass
 abbrev pub has_superclass : Heap → Cell → Bool
-has_superclass earlier (ClassCell decl encl holder over) = is_superclass earlier over
+has_superclass earlier (ClassCell decl base encl holder over) = is_superclass earlier over
 has_superclass earlier _ = true
 
 -- whether each class has a superclass made before it
@@ -56,7 +56,7 @@ chain_above _ chain = []
 
 -- a class and those above it, by the chains of the cells made before
 abbrev pub chain_at : Cell → ℕ → (ℕ → List ℕ) → List ℕ
-chain_at (ClassCell decl encl holder over) number chain = number ∷ chain_above over chain
+chain_at (ClassCell decl base encl holder over) number chain = number ∷ chain_above over chain
 chain_at _ number chain = []
 
 -- the class of that number, its superclass and so on, while these are declared
@@ -67,7 +67,7 @@ chain_of (cell ∷ earlier) class =
 
 -- the superclass of a class, nil where the cell is none
 abbrev pub superclass_in : Option Cell → Value
-superclass_in (Some (ClassCell decl encl holder over)) = over
+superclass_in (Some (ClassCell decl base encl holder over)) = over
 superclass_in _ = Nil
 
 -- the number of the cell that a value refers to, 0 where it refers to none

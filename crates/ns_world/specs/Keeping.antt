@@ -8,7 +8,7 @@ use Rattle.ns_world.specs.declared.value.Value.{Value}
 use Rattle.ns_world.specs.declared.cell.NewCell.{NewCell}
 use Rattle.ns_world.specs.declared.cell.NewCell.TheVariants.{Object, Class, Block, Environment, Array, Text, Facet, Mirror, Message}
 use Rattle.ns_world.specs.Heap.{Heap, find_cell, is_chain_start, chain_of, chain_above}
-use Rattle.ns_world.specs.Layout.{declaration_of, layout_of, entry_word}
+use Rattle.ns_world.specs.Layout.{declaration_of, layout_of, entries_above, entry_word}
 use Rattle.ns_world.specs.Lawful.{IsLiveValue, IsEnvironmentOrNil, HasEnclosing, IsKept, BlockIsLawful, MessageIsLawful, class_of_object}
 
 -- The declaration is one of the code, and the enclosing two are those that it asks for.
@@ -17,12 +17,13 @@ IsEnclosed heap code decl encl holder =
     IsSome (slice_get code.classes decl) × ForSome (slice_get code.classes decl) (λ (class : ClassCode). HasEnclosing heap code class.outer encl holder)
 
 -- A cell may be made: an object has as many words as its class lays out; a class has a declaration, the
--- enclosing two that it asks for and at most 255 classes above it; what a block, an environment, a mirror
+-- enclosing two that it asks for, the entries of its superclass as its base and at most 255 classes above it; what a block, an environment, a mirror
 -- or a message holds is of the kind that is asked for there.
 abbrev pub MayBeMade : Heap → CodeProgram → NewCell → Type 0
 MayBeMade heap code (Object class words) = IsTrue (is_chain_start heap class) × (words ≡ layout_of heap code class)
-MayBeMade heap code (Class decl encl holder over) =
-    IsEnclosed heap code decl encl holder × (length (chain_above over (chain_of heap)) ≤ 255)
+MayBeMade heap code (Class decl base encl holder over) =
+    IsEnclosed heap code decl encl holder × (base ≡ entries_above heap code over)
+    × (length (chain_above over (chain_of heap)) ≤ 255)
 MayBeMade heap code (Block body env home receiver holder) = BlockIsLawful heap code body env receiver holder
 MayBeMade heap code (Environment parent locals) = IsEnvironmentOrNil heap parent
 MayBeMade heap code (Array size) = Unit {0}

@@ -12,7 +12,7 @@ use Rattle.ns_code.specs.Soundness.{has_sound_classes, are_parents_earlier, bloc
 use Rattle.ns_world.specs.declared.value.Value.{Value}
 use Rattle.ns_world.specs.declared.value.Value.TheVariants.{Nil, Sym, Ref}
 use Rattle.ns_world.specs.Cell.{Cell, ObjectCell, ClassCell, BlockCell, EnvironmentCell, ArrayCell, TextCell, FacetCell, MirrorCell, MessageCell}
-use Rattle.ns_world.specs.Heap.{Heap, find_cell, is_class, chain_of, no_class, is_ordered}
+use Rattle.ns_world.specs.Heap.{Heap, find_cell, is_class, chain_of, superclass_of, no_class, is_ordered}
 use Rattle.ns_world.specs.World.{World, IsWithin}
 use Rattle.ns_world.specs.Starts.{is_receiver}
 use Rattle.ns_world.specs.Layout.{declaration_of, layout_of, entry_word}
@@ -57,15 +57,17 @@ HasEnclosing heap code (Some outer) encl (Ref holder) =
     HasHolder heap encl holder × IsTrue (is_class (find_cell heap holder)) × (declaration_of heap holder ≡ outer)
 HasEnclosing heap code (Some outer) encl _ = ⊥
 
--- A class: its declaration is one of the code, its chain is at most 256 long, and its enclosing two fit.
-pub record ClassIsLawful (heap : Heap) (code : CodeProgram) (number decl : ℕ) (encl holder : Value) : Type 0 where
+-- A class: its declaration is one of the code, its base is how many entries the classes above it have, its chain is
+-- at most 256 long, and its enclosing two fit.
+pub record ClassIsLawful (heap : Heap) (code : CodeProgram) (number decl base : ℕ) (encl holder : Value) : Type 0 where
   pub declared : IsSome (slice_get code.classes decl)
+  pub based : base ≡ layout_of heap code (superclass_of heap number)
   pub short : length (chain_of heap number) ≤ 256
   pub enclosing : ForSome (slice_get code.classes decl) (λ (class : ClassCode). HasEnclosing heap code class.outer encl holder)
 
 -- a class of that declaration that is enclosed by this object and holder
 abbrev pub IsKeptCell : ℕ → ℕ → ℕ → Option Cell → Type 0
-IsKeptCell object holder decl (Some (ClassCell other encl holder' over)) = (other ≡ decl) × (encl ≡ Ref object) × (holder' ≡ Ref holder)
+IsKeptCell object holder decl (Some (ClassCell other base encl holder' over)) = (other ≡ decl) × (encl ≡ Ref object) × (holder' ≡ Ref holder)
 IsKeptCell object holder decl _ = ⊥
 
 -- what a word for a nested class holds: nil, or a class of that declaration that is enclosed by this object and holder
@@ -131,7 +133,7 @@ MessageIsLawful heap code sel _ = ⊥
 -- what is asked of one cell
 abbrev pub CellIsLawful : Heap → CodeProgram → ℕ → Cell → Type 0
 CellIsLawful heap code number (ObjectCell class entries) = ObjectIsLawful heap code number class entries × All (IsLiveValue heap code) entries
-CellIsLawful heap code number (ClassCell decl encl holder over) = ClassIsLawful heap code number decl encl holder
+CellIsLawful heap code number (ClassCell decl base encl holder over) = ClassIsLawful heap code number decl base encl holder
 CellIsLawful heap code number (BlockCell body env home receiver holder) = BlockIsLawful heap code body env receiver holder
 CellIsLawful heap code number (EnvironmentCell parent locals) = IsEnvironmentOrNil heap parent × All (IsLiveValue heap code) locals
 CellIsLawful heap code number (ArrayCell items) = All (IsLiveValue heap code) items

@@ -9,7 +9,7 @@ use Rattle.ns_world.specs.Seek.{is_nil, first_such, is_facet, is_top}
 
 -- the enclosing object and the enclosing holder of a class
 abbrev pub enclosing_in : Option Cell → Value × Value
-enclosing_in (Some (ClassCell decl encl holder over)) = (encl, holder)
+enclosing_in (Some (ClassCell decl base encl holder over)) = (encl, holder)
 enclosing_in _ = (Nil, Nil)
 
 -- self and holder, seen from so many levels further out
@@ -21,7 +21,7 @@ lexical heap (suc level) self holder =
 -- the first class of each declaration whose enclosing object is nil, which Manifest holds
 abbrev pub tops_of : Heap → List ℕ
 tops_of [] = []
-tops_of (ClassCell decl encl holder over ∷ earlier) =
+tops_of (ClassCell decl base encl holder over ∷ earlier) =
     if is_nil encl && is_none (first_such (is_top decl) earlier) then heap_size earlier ∷ tops_of earlier else tops_of earlier
 tops_of (cell ∷ earlier) = tops_of earlier
 
@@ -52,7 +52,7 @@ facets_of heap =
 -- the cells that a cell holds: Platform the facets that were granted, Manifest the top-level classes
 abbrev pub held : Heap → Cell → List ℕ
 held heap (ObjectCell class entries) = class_held class ++ all_referred entries
-held heap (ClassCell decl encl holder over) = referred encl ++ (referred holder ++ referred over)
+held heap (ClassCell decl base encl holder over) = referred encl ++ (referred holder ++ referred over)
 held heap (BlockCell body env home receiver holder) = referred env ++ (referred receiver ++ class_held holder)
 held heap (EnvironmentCell parent locals) = referred parent ++ all_referred locals
 held heap (ArrayCell items) = all_referred items

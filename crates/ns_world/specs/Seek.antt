@@ -34,7 +34,7 @@ is_facet kind _ = false
 
 -- whether a cell is a class of that declaration with nil as its enclosing object
 abbrev pub is_top : ℕ → Cell → Bool
-is_top decl (ClassCell other encl holder over) = decl == other && is_nil encl
+is_top decl (ClassCell other base encl holder over) = decl == other && is_nil encl
 is_top decl _ = false
 
 -- whether a cell is sought
@@ -56,7 +56,7 @@ first_such test (cell ∷ earlier) = earlier_or (first_such test earlier) (if te
 -- declaration of which no class was made
 abbrev pub may_be_first : Heap → NewCell → Bool
 may_be_first heap (new.Facet kind) = true
-may_be_first heap (new.Class decl encl holder over) = is_nil encl && is_none (first_such (is_top decl) heap)
+may_be_first heap (new.Class decl base encl holder over) = is_nil encl && is_none (first_such (is_top decl) heap)
 may_be_first heap cell = false
 
 -- the same tests on words
@@ -69,7 +69,7 @@ is_facet_at kind (FacetWord other) = facet_number kind == facet_number other
 is_facet_at kind _ = false
 
 abbrev pub is_top_at : ℕ → Word → Word → Bool
-is_top_at decl (Class other) next = decl == other && is_nil_at next
+is_top_at decl (Class other base) next = decl == other && is_nil_at next
 is_top_at decl _ next = false
 
 abbrev pub is_sought_at : Sought → Word → Word → Bool

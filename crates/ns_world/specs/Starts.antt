@@ -34,7 +34,7 @@ kernel_class_row Array = row.ArrayClass
 -- where the lookup starts for a cell; an environment is no receiver
 abbrev pub start_of_cell : NewCell → ℕ → Start
 start_of_cell (new.Object class words) at = start.Instance class
-start_of_cell (new.Class decl encl holder over) at = start.ClassSide at true
+start_of_cell (new.Class decl base encl holder over) at = start.ClassSide at true
 start_of_cell (new.Block body env home receiver holder) at = start.Kernel row.Block
 start_of_cell (new.Environment parent locals) at = start.Kernel row.Object
 start_of_cell (new.Array size) at = start.Kernel row.Array
@@ -66,7 +66,7 @@ is_receiver heap value = true
 
 -- the declaration of a class, 0 where the cell is none
 abbrev pub declaration_in : NewCell → ℕ
-declaration_in (new.Class decl encl holder over) = decl
+declaration_in (new.Class decl base encl holder over) = decl
 declaration_in cell = 0
 
 -- the class of a start, by which an error names its receiver
@@ -82,7 +82,7 @@ class_name_of heap value = class_name_at heap (start_of heap value)
 
 -- whether a shape is that of a class
 abbrev pub is_class_shape : NewCell → Bool
-is_class_shape (new.Class decl encl holder over) = true
+is_class_shape (new.Class decl base encl holder over) = true
 is_class_shape cell = false
 
 -- whether the class of a start is there, or is none

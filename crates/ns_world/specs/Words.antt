@@ -78,7 +78,7 @@ unpacked (_ ∷ words) = []
 -- the first word of a cell
 abbrev pub head_of : Cell → Word
 head_of (ObjectCell class entries) = Object class (length entries)
-head_of (ClassCell decl encl holder over) = Class decl
+head_of (ClassCell decl base encl holder over) = Class decl base
 head_of (BlockCell body env home receiver holder) = Block body home
 head_of (EnvironmentCell parent locals) = word_beside (length locals) parent
 head_of (ArrayCell items) = Array (length items)
@@ -90,7 +90,7 @@ head_of (MessageCell sel args) = Message sel
 -- the words behind it
 abbrev pub body_of : Cell → List Word
 body_of (ObjectCell class entries) = map word_of entries
-body_of (ClassCell decl encl holder over) = word_of encl ∷ word_of holder ∷ word_of over ∷ []
+body_of (ClassCell decl base encl holder over) = word_of encl ∷ word_of holder ∷ word_of over ∷ []
 body_of (BlockCell body env home receiver holder) = word_of receiver ∷ word_beside holder env ∷ []
 body_of (EnvironmentCell parent locals) = map word_of locals
 body_of (ArrayCell items) = map word_of items
@@ -112,7 +112,7 @@ laid_out (cell ∷ earlier) = laid_out earlier ++ words_of cell
 abbrev pub words_behind : Word → ℕ
 words_behind (Bytes bytes) = 0
 words_behind (Object class words) = words
-words_behind (Class decl) = 3
+words_behind (Class decl base) = 3
 words_behind (Block body home) = 2
 words_behind (Array size) = size
 words_behind (Text bytes) = text_words bytes
@@ -133,7 +133,7 @@ values_in count words = map value_in (take count words)
 abbrev pub cell_of : Word → List Word → Cell
 cell_of (Bytes bytes) words = FacetCell Manifest
 cell_of (Object class count) words = ObjectCell class (values_in count words)
-cell_of (Class decl) words = ClassCell decl (value_at words 0) (value_at words 1) (value_at words 2)
+cell_of (Class decl base) words = ClassCell decl base (value_at words 0) (value_at words 1) (value_at words 2)
 cell_of (Block body home) words =
     BlockCell body (value_at words 1) home (value_at words 0) (beside_in (slice_index_or words 1 NilWord))
 cell_of (Array size) words = ArrayCell (values_in size words)
@@ -157,7 +157,7 @@ cells_in words = reverse (cells_from 0 words)
 abbrev pub shape_in : Word → List Word → NewCell
 shape_in (Bytes bytes) words = new.Mirror Nil
 shape_in (Object class count) words = new.Object class count
-shape_in (Class decl) words = new.Class decl (value_at words 0) (value_at words 1) (value_at words 2)
+shape_in (Class decl base) words = new.Class decl base (value_at words 0) (value_at words 1) (value_at words 2)
 shape_in (Block body home) words =
     new.Block body (value_at words 1) home (value_at words 0) (beside_in (slice_index_or words 1 NilWord))
 shape_in (Array size) words = new.Array size
@@ -171,7 +171,7 @@ shape_in parent words = new.Environment (value_in parent) (beside_in parent)
 abbrev pub head_in : Word → Head
 head_in (Bytes bytes) = head.Mirror
 head_in (Object class words) = head.Object class words
-head_in (Class decl) = head.Class decl
+head_in (Class decl base) = head.Class decl base
 head_in (Block body home) = head.Block body home
 head_in (Array size) = head.Array size
 head_in (Text bytes) = head.Text bytes

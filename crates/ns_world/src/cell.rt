@@ -4,7 +4,8 @@ use crate::value::Value;
 use ns_base::selector::Sel;
 
 /// A cell to be made: its kind, its size and its fixed parts. The words of an object, an
-/// environment and an array begin as nil, the bytes of a text as 0.
+/// environment and an array begin as nil, the bytes of a text as 0. The base of a class is how many
+/// entries the classes above it have, so that nothing has to count them again.
 #[derive(Clone, Copy, Debug, PartialEq, Eq)]
 pub enum NewCell {
     Object {
@@ -13,6 +14,7 @@ pub enum NewCell {
     },
     Class {
         decl: u32,
+        base: u32,
         encl: Value,
         holder: Value,
         over: Value,

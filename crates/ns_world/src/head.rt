@@ -1,7 +1,7 @@
 //! What the first word of a cell tells, and what is known of the cell by it alone.
 
 ghost use Rattle.std.specs.Prelude.{◌≡◌};
-ghost use Rattle.ns_world.specs.Head.{is_class_head, declared_at_head, start_at_head};
+ghost use Rattle.ns_world.specs.Head.{is_class_head, declared_at_head, base_at_head, start_at_head};
 ghost use Rattle.ns_world.specs.Starts.{kernel_class_row, facet_row};
 
 use crate::cell::FacetKind;
@@ -13,7 +13,7 @@ use ns_base::selector::Sel;
 #[derive(Clone, Copy, Debug, PartialEq, Eq)]
 pub enum Head {
     Object { class: u32, words: u32 },
-    Class { decl: u32 },
+    Class { decl: u32, base: u32 },
     Block { body: u32, home: u64 },
     Environment { locals: u32 },
     Array { size: u32 },
@@ -39,7 +39,18 @@ pub fn declared_at_head(head: Head) -> u32
     ensures { result ≡ declared_at_head head }
 {
     match head {
-        Head::Class { decl } => decl,
+        Head::Class { decl, .. } => decl,
+        _ => 0,
+    }
+}
+
+/// The base of a class, 0 where the head is that of another cell.
+#[inline(always)]
+pub fn base_at_head(head: Head) -> u32
+    ensures { result ≡ base_at_head head }
+{
+    match head {
+        Head::Class { base, .. } => base,
         _ => 0,
     }
 }

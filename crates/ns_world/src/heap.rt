@@ -322,8 +322,9 @@ fn shape_in(head: Word, next: Word, second: Word, third: Word) -> NewCell
     match head {
         Word::Bytes(_) => NewCell::Mirror(Value::Nil),
         Word::Object { class, words } => NewCell::Object { class, words },
-        Word::Class { decl } => NewCell::Class {
+        Word::Class { decl, base } => NewCell::Class {
             decl,
+            base,
             encl: value_in(next),
             holder: value_in(second),
             over: value_in(third),
@@ -358,7 +359,7 @@ fn head_in(head: Word) -> Head
     match head {
         Word::Bytes(_) => Head::Mirror,
         Word::Object { class, words } => Head::Object { class, words },
-        Word::Class { decl } => Head::Class { decl },
+        Word::Class { decl, base } => Head::Class { decl, base },
         Word::Block { body, home } => Head::Block { body, home },
         Word::Array { size } => Head::Array { size },
         Word::Text { bytes } => Head::Text { bytes },

@@ -50,10 +50,11 @@ pub fn lay(words: &mut Vec<Word>, cell: NewCell)
         } => lay_object(words, class, count),
         NewCell::Class {
             decl,
+            base,
             encl,
             holder,
             over,
-        } => lay_class(words, decl, encl, holder, over),
+        } => lay_class(words, decl, base, encl, holder, over),
         NewCell::Block {
             body,
             env,
@@ -89,12 +90,12 @@ fn lay_object(words: &mut Vec<Word>, class: u32, count: u32)
     );
 }
 
-fn lay_class(words: &mut Vec<Word>, decl: u32, encl: Value, holder: Value, over: Value)
+fn lay_class(words: &mut Vec<Word>, decl: u32, base: u32, encl: Value, holder: Value, over: Value)
     requires { vec_len words.old + 4 ≤ vec_capacity words.old }
-    ensures items { words.new.items ≡ words.old.items ++ words_of (ClassCell decl encl holder over) }
+    ensures items { words.new.items ≡ words.old.items ++ words_of (ClassCell decl base encl holder over) }
     ensures capacity { vec_capacity words.old ≤ vec_capacity words.new }
 {
-    let head = Word::Class { decl };
+    let head = Word::Class { decl, base };
     put(
         words,
         &[head, word_of(encl), word_of(holder), word_of(over)],

@@ -50,7 +50,7 @@ fn is_top_at(decl: u32, head: Word, next: Word) -> bool
     ensures { result ≡ is_top_at decl head next }
 {
     match head {
-        Word::Class { decl: other } => decl == other && is_nil_at(next),
+        Word::Class { decl: other, .. } => decl == other && is_nil_at(next),
         _ => false,
     }
 }

@@ -24,7 +24,7 @@ pub enum Word {
     Ref(u32),
     Bytes([u8; 8]),
     Object { class: u32, words: u32 },
-    Class { decl: u32 },
+    Class { decl: u32, base: u32 },
     Block { body: u32, home: u64 },
     Array { size: u32 },
     Text { bytes: u32 },

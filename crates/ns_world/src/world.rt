@@ -9,12 +9,14 @@ ghost use Rattle.ns_world.specs.Seek.{first_such, is_facet, is_top};
 ghost use Rattle.ns_world.specs.Head.{head_at};
 ghost use Rattle.ns_world.specs.Starts.{has_class, class_name_at, is_receiver, start_of};
 ghost use Rattle.ns_world.specs.declared.kernel.Start.TheVariants.{Instance};
-ghost use Rattle.ns_world.specs.Layout.{declaration_of};
+ghost use Rattle.ns_world.specs.Layout.{declaration_of, base_of};
 ghost use Rattle.ns_world.specs.World.{SameRoom, MakesCell, Charges, empty_world, counters_of, stepped, entered, left, printed, written, byte_written};
 
 use crate::cell::{CellLimit, FacetKind, NewCell};
 use crate::ending::{Counters, LimitKind};
-use crate::head::{Head, declared_at_head, is_class_head, kernel_class_row, start_at_head};
+use crate::head::{
+    Head, base_at_head, declared_at_head, is_class_head, kernel_class_row, start_at_head,
+};
 use crate::heap::Heap;
 use crate::kernel::{ClassName, KernelRow, NO_CLASS, Start};
 use crate::lay::{size_of_cell, text_words};
@@ -241,6 +243,16 @@ impl World {
         ensures { result ≡ declaration_of self.now.world.cells class }
     {
         declared_at_head(self.heap.head(class))
+    }
+
+    /// The base of a class: in a lawful world how many entries the classes above it have.
+    #[inline(always)]
+    #[tactic(auto, using(crate::proofs::HeadTests::base_told))]
+    pub fn base(&self, class: u32) -> u32
+        requires { IsTrue (is_class (find_cell self.now.world.cells class)) }
+        ensures { result ≡ base_of self.now.world.cells class }
+    {
+        base_at_head(self.heap.head(class))
     }
 
     /// Where the lookup of a send to this value starts. An environment is no receiver.

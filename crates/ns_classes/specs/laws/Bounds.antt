@@ -41,7 +41,7 @@ class_short world code class lawful h = found (find_cell world.cells class) refl
   where
     found : (o : Option Cell) → find_cell world.cells class ≡ o → is_class o ≡ true → length (chain_of world.cells class) ≤ 256
     found None e h = absurd (cc)
-    found (Some (ClassCell decl encl holder over)) e h = (lawful.cells class (ClassCell decl encl holder over) e).short
+    found (Some (ClassCell decl base encl holder over)) e h = (lawful.cells class (ClassCell decl base encl holder over) e).short
     found (Some (ObjectCell class' entries)) e h = absurd (cc)
     found (Some (BlockCell body env home receiver holder)) e h = absurd (cc)
     found (Some (EnvironmentCell parent locals)) e h = absurd (cc)
@@ -69,5 +69,5 @@ pub layout_step : (heap : Heap) (code : CodeProgram) (class next : ℕ) → chai
 layout_step heap code class next e = ap (entries_along heap code) e
 
 -- past the end of a chain there are no entries
-layout_end : (heap : Heap) (code : CodeProgram) (class : ℕ) → chain_of heap class ≡ [] → layout_of heap code class ≡ 0
+pub layout_end : (heap : Heap) (code : CodeProgram) (class : ℕ) → chain_of heap class ≡ [] → layout_of heap code class ≡ 0
 layout_end heap code class e = ap (entries_along heap code) e

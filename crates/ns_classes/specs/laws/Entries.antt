@@ -67,7 +67,7 @@ entry_inside world code object holder entry lawful h within = found (find_cell w
         let a = along world code k.0 class holder lawful l.class_is k.1 k.2 in
         rw e (omega (arith, a, l.words, within))
     found None e c s = absurd (cc)
-    found (Some (ClassCell decl encl holder' over)) e c s = absurd (cc)
+    found (Some (ClassCell decl base encl holder' over)) e c s = absurd (cc)
     found (Some (BlockCell body env home receiver holder')) e c s = absurd (cc)
     found (Some (EnvironmentCell parent locals)) e c s = absurd (cc)
     found (Some (ArrayCell items)) e c s = absurd (cc)

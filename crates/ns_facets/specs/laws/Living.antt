@@ -55,7 +55,7 @@ first_passes test (cell ∷ earlier) number e = tested (first_such test earlier)
 
 facet_receiver : (kind : FacetKind) (cell : Cell) → is_facet kind cell ≡ true → is_receiver_cell (Some cell) ≡ true
 facet_receiver kind (ObjectCell class entries) e = refl
-facet_receiver kind (ClassCell decl encl holder over) e = refl
+facet_receiver kind (ClassCell decl base encl holder over) e = refl
 facet_receiver kind (BlockCell body env home receiver holder) e = refl
 facet_receiver kind (EnvironmentCell parent locals) e = absurd (cc)
 facet_receiver kind (ArrayCell items) e = refl
@@ -66,7 +66,7 @@ facet_receiver kind (MessageCell sel args) e = refl
 
 top_receiver : (number : ℕ) (cell : Cell) → is_top number cell ≡ true → is_receiver_cell (Some cell) ≡ true
 top_receiver number (ObjectCell class entries) e = refl
-top_receiver number (ClassCell decl encl holder over) e = refl
+top_receiver number (ClassCell decl base encl holder over) e = refl
 top_receiver number (BlockCell body env home receiver holder) e = refl
 top_receiver number (EnvironmentCell parent locals) e = absurd (cc)
 top_receiver number (ArrayCell items) e = refl

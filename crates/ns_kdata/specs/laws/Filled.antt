@@ -72,7 +72,7 @@ filled_keeps world after code (ArrayCell items) lawful s m live e =
     let k : KeepsCells world.cells (ArrayCell items ∷ world.cells) = making_keeps_cells world.cells (ArrayCell items) (lawful_order world code lawful) in
     lawful_cell_keeps world after code (ArrayCell items) lawful s (values_stay world.cells (ArrayCell items ∷ world.cells) code items k live) e
 filled_keeps world after code (TextCell bytes) lawful s m h e = lawful_cell_keeps world after code (TextCell bytes) lawful s tt e
-filled_keeps world after code (ClassCell decl encl holder over) lawful s m h e = making_keeps world after code (Class decl encl holder over) lawful s m e
+filled_keeps world after code (ClassCell decl base encl holder over) lawful s m h e = making_keeps world after code (Class decl base encl holder over) lawful s m e
 filled_keeps world after code (BlockCell body env home receiver holder) lawful s m h e = making_keeps world after code (Block body env home receiver holder) lawful s m e
 filled_keeps world after code (FacetCell kind) lawful s m h e = making_keeps world after code (Facet kind) lawful s m e
 filled_keeps world after code (MirrorCell mirrored) lawful s m h e = making_keeps world after code (Mirror mirrored) lawful s m e

@@ -9,7 +9,7 @@ use Rattle.ns_kdata.specs.Arguments.{array_items, items_of}
 items_of_cell : (o : Option Cell) (place : ℕ) → place < length (array_items o) → (option_map_or cell_words o [] ≡ array_items o) × (option_map_or open_words o [] ≡ array_items o)
 items_of_cell None place h = absurd (omega arith)
 items_of_cell (Some (ObjectCell class entries)) place h = absurd (omega arith)
-items_of_cell (Some (ClassCell decl encl holder over)) place h = absurd (omega arith)
+items_of_cell (Some (ClassCell decl base encl holder over)) place h = absurd (omega arith)
 items_of_cell (Some (BlockCell body env home receiver holder)) place h = absurd (omega arith)
 items_of_cell (Some (EnvironmentCell parent locals)) place h = absurd (omega arith)
 items_of_cell (Some (ArrayCell items)) place h = (refl, refl)

@@ -28,7 +28,7 @@ get_live P (item ∷ items) (suc place) all nil = get_live P items place (λ k d
 pub cell_items_live : (world : World) (code : CodeProgram) (at : ℕ) → IsLawful world code → (o : Option Cell) → find_cell world.cells at ≡ o → All (IsLiveValue world.cells code) (array_items o)
 cell_items_live world code at lawful None e = λ k d h. absurd (omega (arith, h))
 cell_items_live world code at lawful (Some (ObjectCell class entries)) e = λ k d h. absurd (omega (arith, h))
-cell_items_live world code at lawful (Some (ClassCell decl encl holder over)) e = λ k d h. absurd (omega (arith, h))
+cell_items_live world code at lawful (Some (ClassCell decl base encl holder over)) e = λ k d h. absurd (omega (arith, h))
 cell_items_live world code at lawful (Some (BlockCell body env home receiver holder)) e = λ k d h. absurd (omega (arith, h))
 cell_items_live world code at lawful (Some (EnvironmentCell parent locals)) e = λ k d h. absurd (omega (arith, h))
 cell_items_live world code at lawful (Some (ArrayCell items)) e = lawful.cells at (ArrayCell items) e
@@ -53,7 +53,7 @@ item_live world code items (Err fault) all = tt
 
 same_receiver : (cell : Cell) (place : ℕ) (value : Value) → is_receiver_cell (Some (with_word cell place value)) ≡ is_receiver_cell (Some cell)
 same_receiver (ObjectCell class entries) place value = refl
-same_receiver (ClassCell decl encl holder over) place value = refl
+same_receiver (ClassCell decl base encl holder over) place value = refl
 same_receiver (BlockCell body env home receiver holder) place value = refl
 same_receiver (EnvironmentCell parent locals) place value = refl
 same_receiver (ArrayCell items) place value = refl

@@ -25,7 +25,7 @@ sel_of_message heap code sel (Ref at) lawful = (lawful.0, refl)
 array_there : (code : CodeProgram) (sel : Sel) (o : Option Cell) → HasArguments code sel o → IsSome o × (is_receiver_cell o ≡ true)
 array_there code sel None h = absurd h
 array_there code sel (Some (ObjectCell class entries)) h = absurd h
-array_there code sel (Some (ClassCell decl encl holder over)) h = absurd h
+array_there code sel (Some (ClassCell decl base encl holder over)) h = absurd h
 array_there code sel (Some (BlockCell body env home receiver holder)) h = absurd h
 array_there code sel (Some (EnvironmentCell parent locals)) h = absurd h
 array_there code sel (Some (ArrayCell items)) h = (refl, refl)
@@ -46,7 +46,7 @@ args_of_message heap code sel (Ref at) lawful = array_there code sel (find_cell 
 selector_cell : (world : World) (code : CodeProgram) (at : ℕ) → IsLawful world code → (o : Option Cell) → find_cell world.cells at ≡ o → IsLiveValue world.cells code (selector_in (option_map_or shape_of o (new.Mirror Nil)))
 selector_cell world code at lawful None e = (tt, refl)
 selector_cell world code at lawful (Some (ObjectCell class entries)) e = (tt, refl)
-selector_cell world code at lawful (Some (ClassCell decl encl holder over)) e = (tt, refl)
+selector_cell world code at lawful (Some (ClassCell decl base encl holder over)) e = (tt, refl)
 selector_cell world code at lawful (Some (BlockCell body env home receiver holder)) e = (tt, refl)
 selector_cell world code at lawful (Some (EnvironmentCell parent locals)) e = (tt, refl)
 selector_cell world code at lawful (Some (ArrayCell items)) e = (tt, refl)
@@ -67,7 +67,7 @@ selector_live world code (Ref at) lawful = selector_cell world code at lawful (f
 arguments_cell : (world : World) (code : CodeProgram) (at : ℕ) → IsLawful world code → (o : Option Cell) → find_cell world.cells at ≡ o → IsLiveValue world.cells code (arguments_in (option_map_or shape_of o (new.Mirror Nil)))
 arguments_cell world code at lawful None e = (tt, refl)
 arguments_cell world code at lawful (Some (ObjectCell class entries)) e = (tt, refl)
-arguments_cell world code at lawful (Some (ClassCell decl encl holder over)) e = (tt, refl)
+arguments_cell world code at lawful (Some (ClassCell decl base encl holder over)) e = (tt, refl)
 arguments_cell world code at lawful (Some (BlockCell body env home receiver holder)) e = (tt, refl)
 arguments_cell world code at lawful (Some (EnvironmentCell parent locals)) e = (tt, refl)
 arguments_cell world code at lawful (Some (ArrayCell items)) e = (tt, refl)

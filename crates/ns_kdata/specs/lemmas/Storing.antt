@@ -43,7 +43,7 @@ place_below (Ref at) size place e = absurd (cc)
 items_of_none : (o : Option Cell) (place class : ℕ) → place < length (array_items o) → class_of_object o ≡ Some class → ⊥
 items_of_none (Some (ObjectCell class' entries)) place class h e = omega (arith, h)
 items_of_none None place class h e = cc
-items_of_none (Some (ClassCell decl encl holder over)) place class h e = cc
+items_of_none (Some (ClassCell decl base encl holder over)) place class h e = cc
 items_of_none (Some (BlockCell body env home receiver holder)) place class h e = cc
 items_of_none (Some (EnvironmentCell parent locals)) place class h e = cc
 items_of_none (Some (ArrayCell items)) place class h e = cc

@@ -43,7 +43,7 @@ array_cell_live : (heap : Heap) (code : CodeProgram) (sel : Sel) (at : ℕ) → 
 array_cell_live heap code sel at (Some (ArrayCell items)) e t h = (items, e, h)
 array_cell_live heap code sel at None e t h = absurd (cc)
 array_cell_live heap code sel at (Some (ObjectCell class entries)) e t h = absurd (cc)
-array_cell_live heap code sel at (Some (ClassCell decl encl holder over)) e t h = absurd (cc)
+array_cell_live heap code sel at (Some (ClassCell decl base encl holder over)) e t h = absurd (cc)
 array_cell_live heap code sel at (Some (BlockCell body env home receiver holder)) e t h = absurd (cc)
 array_cell_live heap code sel at (Some (EnvironmentCell parent locals)) e t h = absurd (cc)
 array_cell_live heap code sel at (Some (TextCell bytes)) e t h = absurd (cc)

@@ -15,7 +15,7 @@ use Rattle.ns_mirror.specs.Looking.{enclosing, enclosing_in, enclosing_of_class,
 object_there : (heap : Heap) (code : CodeProgram) (at : ℕ) → (o : Option Cell) → find_cell heap at ≡ o → IsSome (class_of_object o) → IsLiveValue heap code (Ref at)
 object_there heap code at (Some (ObjectCell class entries)) e h = (rw e refl, rw e refl)
 object_there heap code at None e h = absurd (let t : false ≡ true = h in cc)
-object_there heap code at (Some (ClassCell decl encl holder over)) e h = absurd (let t : false ≡ true = h in cc)
+object_there heap code at (Some (ClassCell decl base encl holder over)) e h = absurd (let t : false ≡ true = h in cc)
 object_there heap code at (Some (BlockCell body env home receiver holder)) e h = absurd (let t : false ≡ true = h in cc)
 object_there heap code at (Some (EnvironmentCell parent locals)) e h = absurd (let t : false ≡ true = h in cc)
 object_there heap code at (Some (ArrayCell items)) e h = absurd (let t : false ≡ true = h in cc)
@@ -48,8 +48,8 @@ class_encl_live heap code encl holder None there h = absurd (let t : false ≡ t
 class_encl_live heap code encl holder (Some class) there h = enclosed_live heap code class.outer encl holder (h class refl)
 
 class_cell_live : (world : World) (code : CodeProgram) (at : ℕ) → IsLawful world code → (o : Option Cell) → find_cell world.cells at ≡ o → IsLiveValue world.cells code (enclosing_in (option_map_or shape_of o (new.Mirror Nil)))
-class_cell_live world code at lawful (Some (ClassCell decl encl holder over)) e =
-    let l = lawful.cells at (ClassCell decl encl holder over) e in
+class_cell_live world code at lawful (Some (ClassCell decl base encl holder over)) e =
+    let l = lawful.cells at (ClassCell decl base encl holder over) e in
     class_encl_live world.cells code encl holder (slice_get code.classes decl) l.declared l.enclosing
 class_cell_live world code at lawful None e = (tt, refl)
 class_cell_live world code at lawful (Some (ObjectCell class entries)) e = (tt, refl)
@@ -71,7 +71,7 @@ of_class_live world code class lawful = tested (eqb class no_class)
 shape_live : (world : World) (code : CodeProgram) (at : ℕ) → IsLawful world code → (o : Option Cell) → find_cell world.cells at ≡ o → IsLiveValue world.cells code (enclosing_of_shape world.cells (option_map_or shape_of o (new.Mirror Nil)))
 shape_live world code at lawful (Some (ObjectCell class entries)) e = of_class_live world code class lawful
 shape_live world code at lawful None e = (tt, refl)
-shape_live world code at lawful (Some (ClassCell decl encl holder over)) e = class_cell_live world code at lawful (Some (ClassCell decl encl holder over)) e
+shape_live world code at lawful (Some (ClassCell decl base encl holder over)) e = class_cell_live world code at lawful (Some (ClassCell decl base encl holder over)) e
 shape_live world code at lawful (Some (BlockCell body env home receiver holder)) e = class_cell_live world code at lawful (Some (BlockCell body env home receiver holder)) e
 shape_live world code at lawful (Some (EnvironmentCell parent locals)) e = class_cell_live world code at lawful (Some (EnvironmentCell parent locals)) e
 shape_live world code at lawful (Some (ArrayCell items)) e = class_cell_live world code at lawful (Some (ArrayCell items)) e

@@ -24,7 +24,7 @@ slot_cell_live : (world : World) (code : CodeProgram) (at : ℕ) (sel : Sel) (pl
 slot_cell_live world code at sel place lawful (Some (ObjectCell class entries)) e f =
     get_live (IsLiveValue world.cells code) entries place.word ((lawful.cells at (ObjectCell class entries) e).1) (tt, refl)
 slot_cell_live world code at sel place lawful None e f = absurd (no_slot world code sel place lawful f)
-slot_cell_live world code at sel place lawful (Some (ClassCell decl encl holder over)) e f = absurd (no_slot world code sel place lawful f)
+slot_cell_live world code at sel place lawful (Some (ClassCell decl base encl holder over)) e f = absurd (no_slot world code sel place lawful f)
 slot_cell_live world code at sel place lawful (Some (BlockCell body env home receiver holder)) e f = absurd (no_slot world code sel place lawful f)
 slot_cell_live world code at sel place lawful (Some (EnvironmentCell parent locals)) e f = absurd (no_slot world code sel place lawful f)
 slot_cell_live world code at sel place lawful (Some (ArrayCell items)) e f = absurd (no_slot world code sel place lawful f)

@@ -132,7 +132,7 @@ of_class_live heap code class sound = tested (eqb class no_class)
 -- the selectors that a mirror shows
 pub shown_selectors_live : (heap : Heap) (code : CodeProgram) (shape : NewCell) → has_sound_classes code ≡ true → All (IsLiveValue heap code) (public_selectors (methods_of_shape heap code shape))
 shown_selectors_live heap code (new.Object class words) sound = of_class_live heap code class sound
-shown_selectors_live heap code (new.Class decl encl holder over) sound = side_methods_live heap code decl sound
+shown_selectors_live heap code (new.Class decl base encl holder over) sound = side_methods_live heap code decl sound
 shown_selectors_live heap code (new.Block body env home receiver holder) sound = All-nil (IsLiveValue heap code)
 shown_selectors_live heap code (new.Environment parent locals) sound = All-nil (IsLiveValue heap code)
 shown_selectors_live heap code (new.Array size) sound = All-nil (IsLiveValue heap code)

@@ -71,7 +71,7 @@ in_chain : (world : World) (code : CodeProgram) (sel : Sel) (place : SlotPlace) 
 in_chain world code sel place lawful (Some (ObjectCell class entries)) f holder contained =
     (λ other e. let is : class ≡ other = cc in subst (λ n. Contains (chain_of world.cells n) holder) is contained, refl)
 in_chain world code sel place lawful None f holder contained = absurd (no_slot world code sel place lawful f)
-in_chain world code sel place lawful (Some (ClassCell decl encl holder' over)) f holder contained = absurd (no_slot world code sel place lawful f)
+in_chain world code sel place lawful (Some (ClassCell decl base encl holder' over)) f holder contained = absurd (no_slot world code sel place lawful f)
 in_chain world code sel place lawful (Some (BlockCell body env home receiver holder')) f holder contained = absurd (no_slot world code sel place lawful f)
 in_chain world code sel place lawful (Some (EnvironmentCell parent locals)) f holder contained = absurd (no_slot world code sel place lawful f)
 in_chain world code sel place lawful (Some (ArrayCell items)) f holder contained = absurd (no_slot world code sel place lawful f)

@@ -56,7 +56,7 @@ block_onward named code (new.Block body env home receiver holder) arguments site
         (λ next. opened_onward named code (Enter FromBody) _ arguments next (λ running locals last. onward_not named last)))
     tested false = onward_not named progress
 block_onward named code (new.Object class words) arguments site progress = onward_not named progress
-block_onward named code (new.Class decl encl holder over) arguments site progress = onward_not named progress
+block_onward named code (new.Class decl base encl holder over) arguments site progress = onward_not named progress
 block_onward named code (new.Environment parent locals) arguments site progress = onward_not named progress
 block_onward named code (new.Array size) arguments site progress = onward_not named progress
 block_onward named code (new.Text bytes) arguments site progress = onward_not named progress

@@ -18,10 +18,10 @@ use Rattle.ns_world.specs.Heap.{Heap, heap_size, find_cell, superclass_in, is_cl
 use Rattle.ns_world.specs.Seek.{first_such, earlier_or, is_nil, is_top, may_be_first}
 use Rattle.ns_world.specs.Later.{MayCome}
 use Rattle.ns_world.specs.World.{entered, left}
-use Rattle.ns_world.specs.Layout.{declaration_of, layout_of, entry_word}
+use Rattle.ns_world.specs.Layout.{declaration_of, layout_of, entries_above, entry_word}
 use Rattle.ns_classes.specs.declared.apply.MakeFault.{MakeFault}
 use Rattle.ns_classes.specs.declared.apply.MakeFault.TheVariants.{NotAClass}
-use Rattle.ns_classes.specs.Apply.{class_fault, chain_fault}
+use Rattle.ns_classes.specs.Apply.{class_fault, class_cell, chain_fault}
 use Rattle.ns_kdata.specs.Arguments.{shape_of_value}
 use Rattle.ns_classes.specs.Nested.{kept_class, nested_entry}
 use Rattle.ns_kdata.specs.Leading.{is_common}
@@ -74,22 +74,22 @@ first_there test (newest ∷ earlier) number cell e t = tested (eqb number (heap
     tested false e below = before (first_such test earlier) (cond (test newest) (Some (heap_size earlier)) None) (below e t)
 
 -- a class that has the declaration and the enclosing object of one that is there is no first
-no_first : (heap : Heap) (receiver : Value) (decl : ℕ) (encl holder under over : Value) → shape_of_value heap receiver ≡ new.Class decl encl holder under → may_be_first heap (new.Class decl encl holder over) ≡ false
-no_first heap (Ref at) decl encl holder under over e = found (find_cell heap at) refl e
+no_first : (heap : Heap) (receiver : Value) (decl base made : ℕ) (encl holder under over : Value) → shape_of_value heap receiver ≡ new.Class decl base encl holder under → may_be_first heap (new.Class decl made encl holder over) ≡ false
+no_first heap (Ref at) decl base made encl holder under over e = found (find_cell heap at) refl e
   where
     both : (nil : Bool) → is_nil encl ≡ nil → (nil ≡ true → is_none (first_such (is_top decl) heap) ≡ false) → (nil && is_none (first_such (is_top decl) heap)) ≡ false
     both true n h = h refl
     both false n h = refl
 
-    top : (other : ℕ) (encl' holder' over' : Value) → find_cell heap at ≡ Some (ClassCell other encl' holder' over') → new.Class other encl' holder' over' ≡ new.Class decl encl holder under → is_nil encl ≡ true → is_none (first_such (is_top decl) heap) ≡ false
-    top other encl' holder' over' f c n =
+    top : (other base' : ℕ) (encl' holder' over' : Value) → find_cell heap at ≡ Some (ClassCell other base' encl' holder' over') → new.Class other base' encl' holder' over' ≡ new.Class decl base encl holder under → is_nil encl ≡ true → is_none (first_such (is_top decl) heap) ≡ false
+    top other base' encl' holder' over' f c n =
         let same : decl ≡ other = cc in
         let nil : is_nil encl' ≡ true = ap is_nil (let q : encl' ≡ encl = cc in q) ∙ n in
-        let t : is_top decl (ClassCell other encl' holder' over') ≡ true = rw (eq-eqb decl other same, nil) refl in
-        first_there (is_top decl) heap at (ClassCell other encl' holder' over') f t
+        let t : is_top decl (ClassCell other base' encl' holder' over') ≡ true = rw (eq-eqb decl other same, nil) refl in
+        first_there (is_top decl) heap at (ClassCell other base' encl' holder' over') f t
 
-    found : (o : Option Cell) → find_cell heap at ≡ o → option_map_or shape_of o (new.Mirror Nil) ≡ new.Class decl encl holder under → (is_nil encl && is_none (first_such (is_top decl) heap)) ≡ false
-    found (Some (ClassCell other encl' holder' over')) f c = both (is_nil encl) refl (λ n. top other encl' holder' over' f c n)
+    found : (o : Option Cell) → find_cell heap at ≡ o → option_map_or shape_of o (new.Mirror Nil) ≡ new.Class decl base encl holder under → (is_nil encl && is_none (first_such (is_top decl) heap)) ≡ false
+    found (Some (ClassCell other base' encl' holder' over')) f c = both (is_nil encl) refl (λ n. top other base' encl' holder' over' f c n)
     found (Some (ObjectCell class entries)) f c = absurd (cc)
     found (Some (BlockCell body env home self holder')) f c = absurd (cc)
     found (Some (EnvironmentCell parent locals)) f c = absurd (cc)
@@ -99,25 +99,25 @@ no_first heap (Ref at) decl encl holder under over e = found (find_cell heap at)
     found (Some (MirrorCell mirrored)) f c = absurd (cc)
     found (Some (MessageCell sel args)) f c = absurd (cc)
     found None f c = absurd (cc)
-no_first heap Nil decl encl holder under over e = absurd (cc)
-no_first heap True decl encl holder under over e = absurd (cc)
-no_first heap False decl encl holder under over e = absurd (cc)
-no_first heap (Int number) decl encl holder under over e = absurd (cc)
-no_first heap (Sym sel) decl encl holder under over e = absurd (cc)
-no_first heap (Kernel class) decl encl holder under over e = absurd (cc)
+no_first heap Nil decl base made encl holder under over e = absurd (cc)
+no_first heap True decl base made encl holder under over e = absurd (cc)
+no_first heap False decl base made encl holder under over e = absurd (cc)
+no_first heap (Int number) decl base made encl holder under over e = absurd (cc)
+no_first heap (Sym sel) decl base made encl holder under over e = absurd (cc)
+no_first heap (Kernel class) decl base made encl holder under over e = absurd (cc)
 
-pub mixed_onward : (named : List Value) (receiver : Value) (cell : NewCell) (over : Value) (site : Site) (progress : Progress) → shape_of_value progress.world.cells receiver ≡ cell → Going named progress (after_reached (mixed cell over site progress))
-mixed_onward named receiver' (new.Class decl encl holder under) over site progress is =
-    made_onward named (ClassCell decl encl holder over) (class_fault progress.world.cells over) site progress (λ number progress. Gives (Ref number) progress)
-    (λ e. may_come progress.world.cells (ClassCell decl encl holder over) (passed progress.world.cells over e) (no_first progress.world.cells receiver' decl encl holder under over is)) refl (λ number next. onward_not named next)
-mixed_onward named receiver' (new.Object class words) over site progress is = onward_not named progress
-mixed_onward named receiver' (new.Block body env home receiver holder) over site progress is = onward_not named progress
-mixed_onward named receiver' (new.Environment parent locals) over site progress is = onward_not named progress
-mixed_onward named receiver' (new.Array size) over site progress is = onward_not named progress
-mixed_onward named receiver' (new.Text bytes) over site progress is = onward_not named progress
-mixed_onward named receiver' (new.Facet kind) over site progress is = onward_not named progress
-mixed_onward named receiver' (new.Mirror shown) over site progress is = onward_not named progress
-mixed_onward named receiver' (new.Message sel args) over site progress is = onward_not named progress
+pub mixed_onward : (named : List Value) (code : CodeProgram) (receiver : Value) (cell : NewCell) (over : Value) (site : Site) (progress : Progress) → shape_of_value progress.world.cells receiver ≡ cell → Going named progress (after_reached (mixed code cell over site progress))
+mixed_onward named code receiver' (new.Class decl base encl holder under) over site progress is =
+    made_onward named (class_cell progress.world.cells code decl encl holder over) (class_fault progress.world.cells over) site progress (λ number progress. Gives (Ref number) progress)
+    (λ e. may_come progress.world.cells (class_cell progress.world.cells code decl encl holder over) (passed progress.world.cells over e) (no_first progress.world.cells receiver' decl base (entries_above progress.world.cells code over) encl holder under over is)) refl (λ number next. onward_not named next)
+mixed_onward named code receiver' (new.Object class words) over site progress is = onward_not named progress
+mixed_onward named code receiver' (new.Block body env home receiver holder) over site progress is = onward_not named progress
+mixed_onward named code receiver' (new.Environment parent locals) over site progress is = onward_not named progress
+mixed_onward named code receiver' (new.Array size) over site progress is = onward_not named progress
+mixed_onward named code receiver' (new.Text bytes) over site progress is = onward_not named progress
+mixed_onward named code receiver' (new.Facet kind) over site progress is = onward_not named progress
+mixed_onward named code receiver' (new.Mirror shown) over site progress is = onward_not named progress
+mixed_onward named code receiver' (new.Message sel args) over site progress is = onward_not named progress
 
 kept_onward : (named : List Value) (kept : Option ℕ) (progress : Progress) (new : After) → Going named progress (after_reached new) → Going named progress (after_reached (kept_or kept progress new))
 kept_onward named (Some class) progress new goes = onward_not named progress
@@ -127,9 +127,9 @@ over_onward : (named : List Value) (code : CodeProgram) (object holder class : �
     → Going named progress (after_reached (class_over code object holder class over site progress))
 over_onward named code object holder class over site progress has =
     kept_onward named (kept_class progress.world.cells code object holder class) progress (newly_kept code object holder class over site progress)
-    (made_onward named (ClassCell class (Ref object) (Ref holder) over) (class_fault progress.world.cells over) site progress
+    (made_onward named (class_cell progress.world.cells code class (Ref object) (Ref holder) over) (class_fault progress.world.cells over) site progress
     (λ number progress. Gives (Ref number) (in_world progress (keeping code object holder class number progress.world)))
-    (λ e. may_come progress.world.cells (ClassCell class (Ref object) (Ref holder) over) (passed progress.world.cells over e) refl) refl
+    (λ e. may_come progress.world.cells (class_cell progress.world.cells code class (Ref object) (Ref holder) over) (passed progress.world.cells over e) refl) refl
     (λ number next. onward_in named next (keeping code object holder class number next.world)
     (writing_moves named next.world object (entry_word next.world.cells code holder (nested_entry code (declaration_of next.world.cells holder) class)) (Ref number) has)))
 

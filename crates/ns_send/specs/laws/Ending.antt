@@ -25,7 +25,7 @@ use Rattle.ns_world.specs.Layout.{declaration_of, layout_of}
 use Rattle.ns_world.specs.Starts.{start_of}
 use Rattle.ns_world.specs.laws.Charging.{step_keeps}
 use Rattle.ns_classes.specs.declared.apply.MakeFault.{MakeFault}
-use Rattle.ns_classes.specs.Apply.{class_fault}
+use Rattle.ns_classes.specs.Apply.{class_fault, class_cell}
 use Rattle.ns_classes.specs.Nested.{kept_class}
 use Rattle.ns_find.specs.declared.found.Found.{Found}
 use Rattle.ns_find.specs.declared.found.Found.TheVariants as found
@@ -111,7 +111,7 @@ module _ (code : CodeProgram) (site : Site) (fits : FitsSite code site) where
           → EndsControl code (message_refused (Fails (fault.Kind kind.NotUnderstood)) (selector_in (option_map_or shape_of o (new.Mirror value.Nil))) site progress)
       cell (Some (MessageCell sel args)) e = named sel args (lawful.cells at (MessageCell sel args) e)
       cell (Some (ObjectCell class entries)) e = error_fits kind.NotUnderstood
-      cell (Some (ClassCell decl encl holder over)) e = error_fits kind.NotUnderstood
+      cell (Some (ClassCell decl base encl holder over)) e = error_fits kind.NotUnderstood
       cell (Some (BlockCell body env home receiver holder)) e = error_fits kind.NotUnderstood
       cell (Some (EnvironmentCell parent locals)) e = error_fits kind.NotUnderstood
       cell (Some (ArrayCell items)) e = error_fits kind.NotUnderstood
@@ -186,9 +186,9 @@ module _ (code : CodeProgram) (site : Site) (fits : FitsSite code site) where
   made_ends cell (Some f) progress go goes = fault_fits (make_fault f)
   made_ends cell None progress go goes = charged_all (EndsAfter code) Halts Cells (made progress.world cell) progress (go (heap_size progress.world.cells)) tt (λ world e. goes (heap_size progress.world.cells) (in_world progress world))
 
-  mixed_ends : (cell : NewCell) (over : Value) (progress : Progress) → EndsAfter code (mixed cell over site progress)
-  mixed_ends (new.Class decl encl holder under) over progress =
-      made_ends (ClassCell decl encl holder over) (class_fault progress.world.cells over) progress (λ number progress. Gives (value.Ref number) progress) (λ number next. tt)
+  mixed_ends : (cell : NewCell) (over : Value) (progress : Progress) → EndsAfter code (mixed code cell over site progress)
+  mixed_ends (new.Class decl base encl holder under) over progress =
+      made_ends (class_cell progress.world.cells code decl encl holder over) (class_fault progress.world.cells over) progress (λ number progress. Gives (value.Ref number) progress) (λ number next. tt)
   mixed_ends (new.Object class words) over progress = error_fits kind.NotAClass
   mixed_ends (new.Block body env home receiver holder) over progress = error_fits kind.NotAClass
   mixed_ends (new.Environment parent locals) over progress = error_fits kind.NotAClass
@@ -205,7 +205,7 @@ module _ (code : CodeProgram) (site : Site) (fits : FitsSite code site) where
   over_ends : (object holder class : ℕ) (over : Value) (progress : Progress) → EndsAfter code (class_over code object holder class over site progress)
   over_ends object holder class over progress =
       kept_ends (kept_class progress.world.cells code object holder class) progress (newly_kept code object holder class over site progress)
-      (made_ends (ClassCell class (value.Ref object) (value.Ref holder) over) (class_fault progress.world.cells over) progress
+      (made_ends (class_cell progress.world.cells code class (value.Ref object) (value.Ref holder) over) (class_fault progress.world.cells over) progress
       (λ number progress. Gives (value.Ref number) (in_world progress (keeping code object holder class number progress.world))) (λ number next. tt))
 
   row_ends : (r : Row) (sel : Sel) (receiver : Value) (arguments : List Value) (progress : Progress) → LawfulRun code progress → EndsControl code (row_reached code r sel receiver arguments site progress)
@@ -332,7 +332,7 @@ module _ (code : CodeProgram) (site : Site) (fits : FitsSite code site) where
           (λ next d. opened_ends (Enter FromBody) (record { self = receiver; holder = holder; body = body; home = home; env = env; site = site }) list (in_world progress next) (λ running locals last. tt)))
       tested false = error_fits kind.WrongArity
   entered_ends (new.Object class words) list progress = error_fits kind.WrongKind
-  entered_ends (new.Class decl encl holder over) list progress = error_fits kind.WrongKind
+  entered_ends (new.Class decl base encl holder over) list progress = error_fits kind.WrongKind
   entered_ends (new.Environment parent locals) list progress = error_fits kind.WrongKind
   entered_ends (new.Array size) list progress = error_fits kind.WrongKind
   entered_ends (new.Text bytes) list progress = error_fits kind.WrongKind

@@ -40,7 +40,7 @@ environment_fits (suc depth) heap code (Some body) (Ref at) e = found (find_cell
     found (Some (EnvironmentCell parent locals)) h = refl
     found None h = absurd (cc)
     found (Some (ObjectCell class entries)) h = absurd (cc)
-    found (Some (ClassCell decl encl holder over)) h = absurd (cc)
+    found (Some (ClassCell decl base encl holder over)) h = absurd (cc)
     found (Some (BlockCell body env home receiver holder)) h = absurd (cc)
     found (Some (ArrayCell items)) h = absurd (cc)
     found (Some (TextCell bytes)) h = absurd (cc)
@@ -119,7 +119,7 @@ block_cell code (Some (BlockCell body env home receiver holder)) number argument
     tested false = lawful
 block_cell code None number arguments site progress lawful e live = lawful
 block_cell code (Some (ObjectCell class entries)) number arguments site progress lawful e live = lawful
-block_cell code (Some (ClassCell decl encl holder over)) number arguments site progress lawful e live = lawful
+block_cell code (Some (ClassCell decl base encl holder over)) number arguments site progress lawful e live = lawful
 block_cell code (Some (EnvironmentCell parent locals)) number arguments site progress lawful e live = lawful
 block_cell code (Some (ArrayCell items)) number arguments site progress lawful e live = lawful
 block_cell code (Some (TextCell bytes)) number arguments site progress lawful e live = lawful

@@ -71,7 +71,7 @@ slot_lawful code activation slot value progress lawful fits live = told activati
 no_object : (o : Option Cell) → is_environment o ≡ true → class_of_object o ≡ None
 no_object None e = refl
 no_object (Some (ObjectCell class entries)) e = absurd (cc)
-no_object (Some (ClassCell decl encl holder over)) e = refl
+no_object (Some (ClassCell decl base encl holder over)) e = refl
 no_object (Some (BlockCell body env home receiver holder)) e = refl
 no_object (Some (EnvironmentCell parent locals)) e = refl
 no_object (Some (ArrayCell items)) e = refl

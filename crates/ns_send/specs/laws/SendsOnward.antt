@@ -130,7 +130,7 @@ row_onward named code (row.Mirror m) sel receiver arguments site progress has se
     (mirror_leads (Moving named progress.world) progress.world (allows named progress.world) code m (mirrored progress.world.cells (cell_number receiver)) (argument arguments 0) (argument arguments 1)
     (writes named progress.world (mirrored progress.world.cells (cell_number receiver)) seen))
 row_onward named code (row.Method m) sel receiver arguments site progress has seen = begun_onward named m receiver (argument arguments 0) (argument arguments 1) site progress
-row_onward named code row.Apply sel receiver arguments site progress has seen = mixed_onward named receiver (shape_of_value progress.world.cells receiver) (argument arguments 0) site progress refl
+row_onward named code row.Apply sel receiver arguments site progress has seen = mixed_onward named code receiver (shape_of_value progress.world.cells receiver) (argument arguments 0) site progress refl
 row_onward named code row.Value sel receiver arguments site progress has seen = onward_not named progress
 row_onward named code row.ValueWithArguments sel receiver arguments site progress has seen = array_onward named receiver (argument arguments 0) site progress
 row_onward named code row.NumArgs sel receiver arguments site progress has seen = onward_not named progress

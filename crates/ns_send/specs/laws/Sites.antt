@@ -50,7 +50,7 @@ class_named world code (value.Ref at) lawful = cell (find_cell world.cells at) r
     cell : (o : Option Cell) → find_cell world.cells at ≡ o → names_class code (class_name_at world.cells (start_of_cell (option_map_or shape_of o (new.Mirror value.Nil)) at)) ≡ true
     cell None e = refl
     cell (Some (ObjectCell class entries)) e = instance_named world code class lawful (lawful.cells at (ObjectCell class entries) e).0.class_is
-    cell (Some (ClassCell decl encl holder over)) e = declared world code at lawful (ap is_class e)
+    cell (Some (ClassCell decl base encl holder over)) e = declared world code at lawful (ap is_class e)
     cell (Some (BlockCell body env home receiver holder)) e = refl
     cell (Some (EnvironmentCell parent locals)) e = refl
     cell (Some (ArrayCell items)) e = refl

@@ -22,7 +22,7 @@ use Rattle.ns_world.specs.World.{World, made, stepped, entered, left, written}
 use Rattle.ns_world.specs.Layout.{declaration_of, layout_of, entry_word}
 use Rattle.ns_world.specs.Starts.{start_of}
 use Rattle.ns_classes.specs.declared.apply.MakeFault.{MakeFault}
-use Rattle.ns_classes.specs.Apply.{class_fault}
+use Rattle.ns_classes.specs.Apply.{class_fault, class_cell}
 use Rattle.ns_classes.specs.Nested.{kept_class}
 use Rattle.ns_find.specs.declared.found.Found.{Found}
 use Rattle.ns_find.specs.declared.found.Found.TheVariants as found
@@ -147,22 +147,22 @@ over_all P code object holder class over site progress stops goes = kept (kept_c
     kept : (o : Option ℕ) → P (kept_or o progress (newly_kept code object holder class over site progress))
     kept (Some number) = goes (value.Ref number) progress.world (counts_not progress.world)
     kept None =
-        made_all P (ClassCell class (value.Ref object) (value.Ref holder) over) (class_fault progress.world.cells over) site progress
+        made_all P (class_cell progress.world.cells code class (value.Ref object) (value.Ref holder) over) (class_fault progress.world.cells over) site progress
         (λ number progress. Gives (value.Ref number) (in_world progress (keeping code object holder class number progress.world))) stops
         (λ number world same. goes (value.Ref number) (keeping code object holder class number world) (record { steps = same.steps; depth = same.depth }))
 
-mixed_spends : (steps : ℕ) (old : Progress) (cell : NewCell) (over : Value) (site : Site) (progress : Progress) → Charged steps 0 0 old progress → ControlSpends steps old (Now (mixed cell over site progress))
-mixed_spends steps old (new.Class decl encl holder under) over site progress was =
-    made_all (λ after. ControlSpends steps old (Now after)) (ClassCell decl encl holder over) (class_fault progress.world.cells over) site progress (λ number progress. Gives (value.Ref number) progress)
+mixed_spends : (code : CodeProgram) (steps : ℕ) (old : Progress) (cell : NewCell) (over : Value) (site : Site) (progress : Progress) → Charged steps 0 0 old progress → ControlSpends steps old (Now (mixed code cell over site progress))
+mixed_spends code steps old (new.Class decl base encl holder under) over site progress was =
+    made_all (λ after. ControlSpends steps old (Now after)) (class_cell progress.world.cells code decl encl holder over) (class_fault progress.world.cells over) site progress (λ number progress. Gives (value.Ref number) progress)
     (λ ending. stopped_here steps old progress was) (λ number world same. still_charged steps 0 0 old progress world was same)
-mixed_spends steps old (new.Object class words) over site progress was = stopped_here steps old progress was
-mixed_spends steps old (new.Block body env home receiver holder) over site progress was = stopped_here steps old progress was
-mixed_spends steps old (new.Environment parent locals) over site progress was = stopped_here steps old progress was
-mixed_spends steps old (new.Array size) over site progress was = stopped_here steps old progress was
-mixed_spends steps old (new.Text bytes) over site progress was = stopped_here steps old progress was
-mixed_spends steps old (new.Facet kind) over site progress was = stopped_here steps old progress was
-mixed_spends steps old (new.Mirror shown) over site progress was = stopped_here steps old progress was
-mixed_spends steps old (new.Message sel args) over site progress was = stopped_here steps old progress was
+mixed_spends code steps old (new.Object class words) over site progress was = stopped_here steps old progress was
+mixed_spends code steps old (new.Block body env home receiver holder) over site progress was = stopped_here steps old progress was
+mixed_spends code steps old (new.Environment parent locals) over site progress was = stopped_here steps old progress was
+mixed_spends code steps old (new.Array size) over site progress was = stopped_here steps old progress was
+mixed_spends code steps old (new.Text bytes) over site progress was = stopped_here steps old progress was
+mixed_spends code steps old (new.Facet kind) over site progress was = stopped_here steps old progress was
+mixed_spends code steps old (new.Mirror shown) over site progress was = stopped_here steps old progress was
+mixed_spends code steps old (new.Message sel args) over site progress was = stopped_here steps old progress was
 
 head_spends : (steps : ℕ) (old : Progress) (code : CodeProgram) (object holder class : ℕ) (clause : Option ℕ) (site : Site) (progress : Progress) → Charged steps 0 0 old progress → ControlSpends steps old (head code object holder class clause site progress)
 head_spends steps old code object holder class None site progress was =
@@ -234,7 +234,7 @@ row_spends steps old code (row.Mirror m) sel receiver arguments site progress wa
     reflected_spends steps old (mirror progress.world code m (cell_number receiver) arguments) site progress was
     (mirror_leads (SameCounts progress.world) progress.world (counts_allow progress.world) code m shown (argument arguments 0) (argument arguments 1) (counts_write progress.world shown))
 row_spends steps old code (row.Method m) sel receiver arguments site progress was = begun_spends steps old m receiver (argument arguments 0) (argument arguments 1) site progress was
-row_spends steps old code row.Apply sel receiver arguments site progress was = mixed_spends steps old (shape_of_value progress.world.cells receiver) (argument arguments 0) site progress was
+row_spends steps old code row.Apply sel receiver arguments site progress was = mixed_spends code steps old (shape_of_value progress.world.cells receiver) (argument arguments 0) site progress was
 row_spends steps old code row.Value sel receiver arguments site progress was = was
 row_spends steps old code row.ValueWithArguments sel receiver arguments site progress was = array_spends steps old receiver (argument arguments 0) site progress was
 row_spends steps old code row.NumArgs sel receiver arguments site progress was = was
@@ -341,7 +341,7 @@ block_spends code (new.Block body env home receiver holder) arguments site progr
     tested true = charged_all (ControlSpends 1 progress) halts Steps (stepped progress.world) progress framed (inl refl) (λ world s. within world s)
     tested false = inl refl
 block_spends code (new.Object class words) arguments site progress = inl refl
-block_spends code (new.Class decl encl holder over) arguments site progress = inl refl
+block_spends code (new.Class decl base encl holder over) arguments site progress = inl refl
 block_spends code (new.Environment parent locals) arguments site progress = inl refl
 block_spends code (new.Array size) arguments site progress = inl refl
 block_spends code (new.Text bytes) arguments site progress = inl refl

@@ -300,7 +300,7 @@ pub class_there : (world : World) (code : CodeProgram) (class : ℕ) → IsLawfu
 class_there world code class lawful is = found (find_cell world.cells class) refl is
   where
     found : (o : Option Cell) → find_cell world.cells class ≡ o → is_class o ≡ true → IsSome (slice_get code.classes (declaration_of world.cells class))
-    found (Some (ClassCell decl encl holder over)) e is = rw e (lawful.cells class (ClassCell decl encl holder over) e).declared
+    found (Some (ClassCell decl base encl holder over)) e is = rw e (lawful.cells class (ClassCell decl base encl holder over) e).declared
     found None e is = absurd (cc)
     found (Some (ObjectCell class' entries)) e is = absurd (cc)
     found (Some (BlockCell body env home receiver holder)) e is = absurd (cc)

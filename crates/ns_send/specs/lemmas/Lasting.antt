@@ -126,7 +126,7 @@ size_told : (o : Option Cell) → length (array_items o) ≡ array_size_in (opti
 size_told None = refl
 size_told (Some (ArrayCell items)) = refl
 size_told (Some (ObjectCell class entries)) = refl
-size_told (Some (ClassCell decl encl holder over)) = refl
+size_told (Some (ClassCell decl base encl holder over)) = refl
 size_told (Some (BlockCell body env home receiver holder)) = refl
 size_told (Some (EnvironmentCell parent locals)) = refl
 size_told (Some (TextCell bytes)) = refl

@@ -12,12 +12,12 @@ use Rattle.ns_world.specs.declared.ending.LimitKind.TheVariants.{Cells}
 use Rattle.ns_world.specs.Cell.{Cell, ObjectCell, ClassCell, BlockCell, EnvironmentCell, ArrayCell, TextCell, FacetCell, MirrorCell, MessageCell, cell_words, shape_of}
 use Rattle.ns_world.specs.Heap.{Heap, heap_size, find_cell, is_class, is_chain_start, word_at}
 use Rattle.ns_world.specs.World.{World, made, written}
-use Rattle.ns_world.specs.Layout.{declaration_of, layout_of, entry_word}
+use Rattle.ns_world.specs.Layout.{declaration_of, layout_of, entries_above, entry_word}
 use Rattle.ns_world.specs.Lawful.{IsLawful, IsLiveValue, IsKept, HasHolder, HasEnclosing, class_of_object}
 use Rattle.ns_world.specs.Keeping.{IsEnclosed}
 use Rattle.ns_world.specs.laws.Making.{making_keeps}
 use Rattle.ns_classes.specs.declared.apply.MakeFault.{MakeFault}
-use Rattle.ns_classes.specs.Apply.{class_fault}
+use Rattle.ns_classes.specs.Apply.{class_fault, class_cell}
 use Rattle.ns_classes.specs.Nested.{place_of, nested_entry, kept_in, kept_class}
 use Rattle.ns_classes.specs.laws.Lawfully.{fits, class_kept}
 use Rattle.ns_kdata.specs.Arguments.{shape_of_value}
@@ -36,7 +36,7 @@ no_values : (heap : Heap) (code : CodeProgram) → All (IsLiveValue heap code) [
 no_values heap code = λ i d h. absurd (omega (arith, h))
 
 pub class_live : (heap : Heap) (code : CodeProgram) (o : Option Cell) (number : ℕ) → find_cell heap number ≡ o → is_class o ≡ true → IsLiveValue heap code (Ref number)
-class_live heap code (Some (ClassCell decl encl holder over)) number e t = (rw e refl, rw e refl)
+class_live heap code (Some (ClassCell decl base encl holder over)) number e t = (rw e refl, rw e refl)
 class_live heap code None number e t = absurd (cc)
 class_live heap code (Some (ObjectCell class entries)) number e t = absurd (cc)
 class_live heap code (Some (BlockCell body env home receiver holder)) number e t = absurd (cc)
@@ -75,28 +75,28 @@ instance_lawful code class arguments site progress lawful is live =
 
 -- a class that is made over a superclass without a fault
 made_lawful : (code : CodeProgram) (decl : ℕ) (encl holder over : Value) (site : Site) (progress : Progress) (go : ℕ → Progress → After) → LawfulRun code progress → IsEnclosed progress.world.cells code decl encl holder
-    → ((world : World) → Later code progress.world world → find_cell world.cells (heap_size progress.world.cells) ≡ Some (ClassCell decl encl holder over) → LawfulAfter code (go (heap_size progress.world.cells) (in_world progress world)))
-    → LawfulAfter code (class_made (ClassCell decl encl holder over) (class_fault progress.world.cells over) site progress go)
+    → ((world : World) → Later code progress.world world → find_cell world.cells (heap_size progress.world.cells) ≡ Some (class_cell progress.world.cells code decl encl holder over) → LawfulAfter code (go (heap_size progress.world.cells) (in_world progress world)))
+    → LawfulAfter code (class_made (class_cell progress.world.cells code decl encl holder over) (class_fault progress.world.cells over) site progress go)
 made_lawful code decl encl holder over site progress go lawful enclosed goes = by_fault (class_fault progress.world.cells over) refl
   where
     cell : Cell
-    cell = ClassCell decl encl holder over
+    cell = class_cell progress.world.cells code decl encl holder over
 
     fine : class_fault progress.world.cells over ≡ None → (world : World) → made progress.world cell ≡ Some world → LawfulAfter code (go (heap_size progress.world.cells) (in_world progress world))
     fine none world e =
         let f = fits progress.world.cells over none in
-        let after : IsLawful world code = making_keeps progress.world world code (new.Class decl encl holder over) lawful f.superclass (enclosed, f.short) e in
+        let after : IsLawful world code = making_keeps progress.world world code (new.Class decl (entries_above progress.world.cells code over) encl holder over) lawful f.superclass (enclosed, refl, f.short) e in
         goes world (later_made code progress.world world cell lawful after e) (new_found progress.world world cell e)
 
     by_fault : (o : Option MakeFault) → class_fault progress.world.cells over ≡ o → LawfulAfter code (class_made cell o site progress go)
     by_fault (Some fault) e = lawful
     by_fault None e = charged_all (LawfulAfter code) Halts Cells (made progress.world cell) progress (go (heap_size progress.world.cells)) lawful (λ world m. fine e world m)
 
-mixed_cell : (code : CodeProgram) (o : Option Cell) (number : ℕ) (over : Value) (site : Site) (progress : Progress) → LawfulRun code progress → find_cell progress.world.cells number ≡ o → LawfulAfter code (mixed (option_map_or shape_of o (new.Mirror Nil)) over site progress)
-mixed_cell code (Some (ClassCell decl encl holder under)) number over site progress lawful e =
-    let class = lawful.cells number (ClassCell decl encl holder under) e in
+mixed_cell : (code : CodeProgram) (o : Option Cell) (number : ℕ) (over : Value) (site : Site) (progress : Progress) → LawfulRun code progress → find_cell progress.world.cells number ≡ o → LawfulAfter code (mixed code (option_map_or shape_of o (new.Mirror Nil)) over site progress)
+mixed_cell code (Some (ClassCell decl base encl holder under)) number over site progress lawful e =
+    let class = lawful.cells number (ClassCell decl base encl holder under) e in
     made_lawful code decl encl holder over site progress (λ number progress. Gives (Ref number) progress) lawful (class.declared, class.enclosing)
-    (λ world later is. (later.lawful, class_live world.cells code (Some (ClassCell decl encl holder over)) (heap_size progress.world.cells) is refl))
+    (λ world later is. (later.lawful, class_live world.cells code (Some (class_cell progress.world.cells code decl encl holder over)) (heap_size progress.world.cells) is refl))
 mixed_cell code None number over site progress lawful e = lawful
 mixed_cell code (Some (ObjectCell class entries)) number over site progress lawful e = lawful
 mixed_cell code (Some (BlockCell body env home receiver holder)) number over site progress lawful e = lawful
@@ -108,7 +108,7 @@ mixed_cell code (Some (MirrorCell shown)) number over site progress lawful e = l
 mixed_cell code (Some (MessageCell sel args)) number over site progress lawful e = lawful
 
 -- mixin application, sent to any value
-pub mixed_lawful : (code : CodeProgram) (mixin over : Value) (site : Site) (progress : Progress) → LawfulRun code progress → LawfulAfter code (mixed (shape_of_value progress.world.cells mixin) over site progress)
+pub mixed_lawful : (code : CodeProgram) (mixin over : Value) (site : Site) (progress : Progress) → LawfulRun code progress → LawfulAfter code (mixed code (shape_of_value progress.world.cells mixin) over site progress)
 mixed_lawful code (Ref at) over site progress lawful = mixed_cell code (find_cell progress.world.cells at) at over site progress lawful refl
 mixed_lawful code Nil over site progress lawful = lawful
 mixed_lawful code True over site progress lawful = lawful
@@ -126,7 +126,7 @@ word_live world code at word lawful is = found (find_cell world.cells at) refl i
     found : (o : Option Cell) → find_cell world.cells at ≡ o → IsSome (class_of_object o) → IsLiveValue world.cells code (get_or (option_map_or cell_words o []) word Nil)
     found (Some (ObjectCell class entries)) e is = get_live (IsLiveValue world.cells code) entries word (lawful.cells at (ObjectCell class entries) e).1 (tt, refl)
     found None e is = absurd (cc)
-    found (Some (ClassCell decl encl holder over)) e is = absurd (cc)
+    found (Some (ClassCell decl base encl holder over)) e is = absurd (cc)
     found (Some (BlockCell body env home receiver holder)) e is = absurd (cc)
     found (Some (EnvironmentCell parent locals)) e is = absurd (cc)
     found (Some (ArrayCell items)) e is = absurd (cc)
@@ -161,9 +161,9 @@ enclosed world code object holder class lawful has =
     (rw there refl, λ (declared : ClassCode) e. let same : inner.inner ≡ declared = cc in subst (λ (c : ClassCode). HasEnclosing world.cells code c.outer (Ref object) (Ref holder)) same two)
 
 -- the object keeps a class that was made for it
-keeping_lawful : (code : CodeProgram) (old world : World) (object holder class number : ℕ) (over : Value) → IsLawful old code → HasClass old.cells code object holder class → Later code old world
-    → find_cell world.cells number ≡ Some (ClassCell class (Ref object) (Ref holder) over) → IsLawful (keeping code object holder class number world) code
-keeping_lawful code old world object holder class number over lawful has later is =
+keeping_lawful : (code : CodeProgram) (old world : World) (object holder class base number : ℕ) (over : Value) → IsLawful old code → HasClass old.cells code object holder class → Later code old world
+    → find_cell world.cells number ≡ Some (ClassCell class base (Ref object) (Ref holder) over) → IsLawful (keeping code object holder class number world) code
+keeping_lawful code old world object holder class base number over lawful has later is =
     let n = has.nested in
     let first = first_nested n.class.nested n.place n.nested n.nested_is in
     let decl : declaration_of world.cells holder ≡ declaration_of old.cells holder = later.declaration holder has.holder_is in
@@ -171,7 +171,7 @@ keeping_lawful code old world object holder class number over lawful has later i
     let place : ℕ = place_of n.class.nested class in
     let at : slice_get n.class.nested place ≡ Some first.one = ap (λ c. slice_get n.class.nested (place_of n.class.nested c)) (sym n.decl_is) ∙ first.one_is in
     let kept : IsKept world.cells object holder first.one.class (Ref number) = rw is (sym (first.class_is ∙ n.decl_is), refl, refl) in
-    let live = class_live world.cells code (Some (ClassCell class (Ref object) (Ref holder) over)) number is refl in
+    let live = class_live world.cells code (Some (ClassCell class base (Ref object) (Ref holder) over)) number is refl in
     let entry : nested_entry code (declaration_of world.cells holder) class ≡ length n.class.slots + place = rw declared refl in
     subst (λ e. IsLawful (written world object (entry_word world.cells code holder e) (Ref number)) code) (sym entry)
     (class_kept world code object holder place n.class first.one (Ref number) later.lawful (later.holder (Ref object) holder has.object_has) declared at live kept)
@@ -186,9 +186,9 @@ over_lawful code object holder class over site progress lawful has = kept (kept_
         made_lawful code class (Ref object) (Ref holder) over site progress (λ number progress. Gives (Ref number) (in_world progress (keeping code object holder class number progress.world))) lawful
         (enclosed progress.world code object holder class lawful has)
         (λ world later is. (
-          keeping_lawful code progress.world world object holder class (heap_size progress.world.cells) over lawful has later is,
+          keeping_lawful code progress.world world object holder class (entries_above progress.world.cells code over) (heap_size progress.world.cells) over lawful has later is,
           written_live world.cells code object (entry_word world.cells code holder (nested_entry code (declaration_of world.cells holder) class)) (Ref (heap_size progress.world.cells)) (Ref (heap_size progress.world.cells))
-              (class_live world.cells code (Some (ClassCell class (Ref object) (Ref holder) over)) (heap_size progress.world.cells) is refl),
+              (class_live world.cells code (Some (class_cell progress.world.cells code class (Ref object) (Ref holder) over)) (heap_size progress.world.cells) is refl),
         ))
 
 -- an object is live
@@ -198,7 +198,7 @@ object_live heap code at is = found (find_cell heap at) refl is
     found : (o : Option Cell) → find_cell heap at ≡ o → IsSome (class_of_object o) → IsLiveValue heap code (Ref at)
     found (Some (ObjectCell class entries)) e is = (rw e refl, rw e refl)
     found None e is = absurd (cc)
-    found (Some (ClassCell decl encl holder over)) e is = absurd (cc)
+    found (Some (ClassCell decl base encl holder over)) e is = absurd (cc)
     found (Some (BlockCell body env home receiver holder)) e is = absurd (cc)
     found (Some (EnvironmentCell parent locals)) e is = absurd (cc)
     found (Some (ArrayCell items)) e is = absurd (cc)

@@ -52,13 +52,13 @@ around world code encl holder None decl' e has = absurd (cc)
 
 outwards : (world : World) (code : CodeProgram) (number decl decl' : ℕ) (o : Option Cell) → IsLawful world code → find_cell world.cells number ≡ o → is_class o ≡ true → declaration_of world.cells number ≡ decl → outer_of code (Some decl) ≡ Some decl'
     → FitsPlace world.cells code InstanceSide (enclosing_place (option_map_or shape_of o (new.Mirror Nil))) decl'
-outwards world code number decl decl' (Some (ClassCell d encl holder over)) lawful e t is outer =
+outwards world code number decl decl' (Some (ClassCell d base encl holder over)) lawful e t is outer =
     let d_is : d ≡ decl = sym (rw e refl) ∙ is in
-    let class = lawful.cells number (ClassCell d encl holder over) e in
+    let class = lawful.cells number (ClassCell d base encl holder over) e in
     declared (slice_get code.classes d) refl class.declared class.enclosing (ap (λ n. outer_of code (Some n)) d_is ∙ outer)
   where
     declared : (r : Option ClassCode) → slice_get code.classes d ≡ r → IsSome r → ForSome r (λ (c : ClassCode). HasEnclosing world.cells code c.outer encl holder) → option_map_or (λ (c : ClassCode). c.outer) r None ≡ Some decl'
-        → FitsPlace world.cells code InstanceSide (enclosing_place (new.Class d encl holder over)) decl'
+        → FitsPlace world.cells code InstanceSide (enclosing_place (new.Class d base encl holder over)) decl'
     declared (Some c) f some encloses out = around world code encl holder c.outer decl' out (encloses c refl)
     declared None f some encloses out = absurd (cc)
 outwards world code number decl decl' None lawful e t is outer = absurd (cc)

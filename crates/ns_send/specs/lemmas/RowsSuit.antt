@@ -152,7 +152,7 @@ starts_as heap (value.Ref at) = cell (find_cell heap at) refl
     cell : (o : Option Cell) → find_cell heap at ≡ o → StartsAs heap (value.Ref at) (start_of_cell (option_map_or shape_of o (new.Mirror value.Nil)) at)
     cell None e = refl
     cell (Some (ObjectCell class entries)) e = tt
-    cell (Some (ClassCell decl encl holder over)) e = tt
+    cell (Some (ClassCell decl base encl holder over)) e = tt
     cell (Some (BlockCell body env home receiver holder)) e = rw e refl
     cell (Some (EnvironmentCell parent locals)) e = tt
     cell (Some (ArrayCell items)) e = rw e refl

@@ -120,7 +120,7 @@ found_runs world code (value.Ref at) sel kind lawful live = cell (find_cell worl
         instance_runs world.cells code at (chain_of world.cells class) sel (found_from world.cells code (start.Instance class) sel kind) live
         (object_holders world code at class lawful (ap class_of_object e) object.class_is) (instance_belongs world.cells code class sel kind)
         ((found_by world.cells code (start.Instance class) sel kind).takes lawful.classes)
-    cell (Some (ClassCell decl encl holder over)) e =
+    cell (Some (ClassCell decl base encl holder over)) e =
         let is : is_class (find_cell world.cells at) ≡ true = ap is_class e in
         let from : is_chain_start world.cells at ≡ true = rw is refl in
         side_runs world.cells code at (chain_of world.cells at) (at ∷ []) sel (found_from world.cells code (start.ClassSide at true) sel kind) live is

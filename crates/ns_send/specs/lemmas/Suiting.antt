@@ -81,7 +81,7 @@ found_suits world code (value.Ref at) sel kind lawful = cell (find_cell world.ce
         let object = (lawful.cells at (ObjectCell class entries) e).0 in
         instance_suits world.cells code (value.Ref at) (chain_of world.cells class) (found_from world.cells code (start.Instance class) sel kind)
         (object_holders world code at class lawful (ap class_of_object e) object.class_is) (instance_belongs world.cells code class sel kind)
-    cell (Some (ClassCell decl encl holder over)) e =
+    cell (Some (ClassCell decl base encl holder over)) e =
         side_suits world.cells code (value.Ref at) (chain_of world.cells at) (at ∷ []) (found_from world.cells code (start.ClassSide at true) sel kind)
         (λ class c. one_class world.cells class at (ap is_class e) c) (class_belongs world.cells code at true sel kind)
     cell (Some (BlockCell body env home receiver holder)) e = row_suits world.cells code (value.Ref at) row.Block sel kind
@@ -126,7 +126,7 @@ super_suits world code at holder sel lawful has = object (find_cell world.cells 
         (λ other c. object_holders world code at class lawful (ap class_of_object e) fine.class_is other (above_too world.cells class holder other k (lawful_order world code lawful) fine.class_is inside is c))
         (instance_belongs world.cells code (superclass_of world.cells holder) sel Inner)
     object None e h = let none = h.1 in absurd (cc)
-    object (Some (ClassCell decl encl holder' over)) e h = let none = h.1 in absurd (cc)
+    object (Some (ClassCell decl base encl holder' over)) e h = let none = h.1 in absurd (cc)
     object (Some (BlockCell body env home receiver holder')) e h = let none = h.1 in absurd (cc)
     object (Some (EnvironmentCell parent locals)) e h = let none = h.1 in absurd (cc)
     object (Some (ArrayCell items)) e h = let none = h.1 in absurd (cc)

@@ -23,7 +23,8 @@ pub record GoesOn (heap : Heap) (class : ℕ) : Type 0 where
   pub chain : chain_of heap class ≡ class ∷ chain_of heap (superclass_of heap class)
   pub start : is_chain_start heap (superclass_of heap class) ≡ true
 
-above : (heap : Heap) (over : Value) → heap_size heap ≤ no_class → is_superclass heap over ≡ true → chain_above over (chain_of heap) ≡ chain_of heap (declared_class over)
+-- the chain above a class is that of the number of its superclass
+pub above : (heap : Heap) (over : Value) → heap_size heap ≤ no_class → is_superclass heap over ≡ true → chain_above over (chain_of heap) ≡ chain_of heap (declared_class over)
 above heap (Ref class) small e = refl
 above heap Nil small e = absurd (cc)
 above heap True small e = absurd (cc)
@@ -32,7 +33,8 @@ above heap (Int number) small e = absurd (cc)
 above heap (Sym sel) small e = absurd (cc)
 above heap (Kernel class) small e = sym (chain_past heap no_class small)
 
-starts : (heap : Heap) (over : Value) → is_superclass heap over ≡ true → is_chain_start heap (declared_class over) ≡ true
+-- a chain can start at a superclass
+pub starts : (heap : Heap) (over : Value) → is_superclass heap over ≡ true → is_chain_start heap (declared_class over) ≡ true
 starts heap (Ref class) e = rw e refl
 starts heap Nil e = absurd (cc)
 starts heap True e = absurd (cc)
@@ -45,9 +47,9 @@ starts heap (Kernel class) e = no_start (is_class (find_cell heap no_class))
     no_start true = refl
     no_start false = refl
 
-class_goes_on : (heap : Heap) (class decl : ℕ) (encl holder over : Value) → is_ordered heap ≡ true → heap_size heap ≤ no_class → find_cell heap class ≡ Some (ClassCell decl encl holder over) → GoesOn heap class
-class_goes_on heap class decl encl holder over ordered small e =
-    let l = linked heap class decl encl holder over ordered e in
+class_goes_on : (heap : Heap) (class decl base : ℕ) (encl holder over : Value) → is_ordered heap ≡ true → heap_size heap ≤ no_class → find_cell heap class ≡ Some (ClassCell decl base encl holder over) → GoesOn heap class
+class_goes_on heap class decl base encl holder over ordered small e =
+    let l = linked heap class decl base encl holder over ordered e in
     let is : superclass_in (find_cell heap class) ≡ over = rw e refl in
     record {
       words = rw e refl;
@@ -62,7 +64,7 @@ goes_on heap class ordered small h = found (find_cell heap class) refl h
   where
     found : (o : Option Cell) → find_cell heap class ≡ o → is_class o ≡ true → GoesOn heap class
     found None e h = absurd (cc)
-    found (Some (ClassCell decl encl holder over)) e h = class_goes_on heap class decl encl holder over ordered small e
+    found (Some (ClassCell decl base encl holder over)) e h = class_goes_on heap class decl base encl holder over ordered small e
     found (Some (ObjectCell class' entries)) e h = absurd (cc)
     found (Some (BlockCell body env home receiver holder)) e h = absurd (cc)
     found (Some (EnvironmentCell parent locals)) e h = absurd (cc)

@@ -16,7 +16,7 @@ both_of false b e = absurd (cc)
 
 pub size_above : (cell : Cell) → 1 ≤ cell_size cell
 size_above (ObjectCell class entries) = omega arith
-size_above (ClassCell decl encl holder over) = omega arith
+size_above (ClassCell decl base encl holder over) = omega arith
 size_above (BlockCell body env home receiver holder) = omega arith
 size_above (EnvironmentCell parent locals) = omega arith
 size_above (ArrayCell items) = omega arith
@@ -79,15 +79,15 @@ pub record Linked (heap : Heap) (n : ℕ) (over : Value) : Type 0 where
   pub chain : chain_of heap n ≡ n ∷ chain_above over (chain_of heap)
 
 -- The superclass of a class is one, and the class's chain is the class and then its superclass's.
-pub linked : (heap : Heap) (n decl : ℕ) (encl holder over : Value) → is_ordered heap ≡ true → find_cell heap n ≡ Some (ClassCell decl encl holder over) → Linked heap n over
-linked [] n decl encl holder over o e = absurd (cc)
-linked (first ∷ earlier) n decl encl holder over o e =
+pub linked : (heap : Heap) (n decl base : ℕ) (encl holder over : Value) → is_ordered heap ≡ true → find_cell heap n ≡ Some (ClassCell decl base encl holder over) → Linked heap n over
+linked [] n decl base encl holder over o e = absurd (cc)
+linked (first ∷ earlier) n decl base encl holder over o e =
     let parts = both_of (has_superclass earlier first) (is_ordered earlier) o in
-    tested (eqb n (heap_size earlier)) refl e parts.0 (linked earlier n decl encl holder over parts.1)
+    tested (eqb n (heap_size earlier)) refl e parts.0 (linked earlier n decl base encl holder over parts.1)
   where
-    tested : (b : Bool) → eqb n (heap_size earlier) ≡ b → cond b (Some first) (find_cell earlier n) ≡ Some (ClassCell decl encl holder over) → has_superclass earlier first ≡ true → (find_cell earlier n ≡ Some (ClassCell decl encl holder over) → Linked earlier n over) → Linked (first ∷ earlier) n over
+    tested : (b : Bool) → eqb n (heap_size earlier) ≡ b → cond b (Some first) (find_cell earlier n) ≡ Some (ClassCell decl base encl holder over) → has_superclass earlier first ≡ true → (find_cell earlier n ≡ Some (ClassCell decl base encl holder over) → Linked earlier n over) → Linked (first ∷ earlier) n over
     tested true t e s below =
-        let is : first ≡ ClassCell decl encl holder over = cc in
+        let is : first ≡ ClassCell decl base encl holder over = cc in
         let super : is_superclass earlier over ≡ true = ap (has_superclass earlier) (sym is) ∙ s in
         record {
           superclass = superclass_in_more first earlier over super;

@@ -37,7 +37,7 @@ above_short (Sym sel) chain most h = omega arith
 above_short (Kernel class) chain most h = omega arith
 
 chain_at_short : (cell : Cell) (class : ℕ) (chain : ℕ → List ℕ) (most : ℕ) → ((n : ℕ) → length (chain n) ≤ most) → length (chain_at cell class chain) ≤ most + cell_size cell
-chain_at_short (ClassCell decl encl holder over) class chain most h = omega (arith, above_short over chain most h)
+chain_at_short (ClassCell decl base encl holder over) class chain most h = omega (arith, above_short over chain most h)
 chain_at_short (ObjectCell class' entries) class chain most h = omega arith
 chain_at_short (BlockCell body env home receiver holder) class chain most h = omega arith
 chain_at_short (EnvironmentCell parent locals) class chain most h = omega arith
@@ -139,7 +139,7 @@ changing_leaves heap at change plainly = found (find_cell heap at) refl
 
 word_size : (word : ℕ) (value : Value) (cell : Cell) → cell_size (with_word cell word value) ≡ cell_size cell
 word_size word value (ObjectCell class entries) = ap (λ n. 1 + n) (length-set entries word value)
-word_size word value (ClassCell decl encl holder over) = refl
+word_size word value (ClassCell decl base encl holder over) = refl
 word_size word value (BlockCell body env home receiver holder) = refl
 word_size word value (EnvironmentCell parent locals) = ap (λ n. 1 + n) (length-set locals word value)
 word_size word value (ArrayCell items) = ap (λ n. 1 + n) (length-set items word value)
@@ -149,7 +149,7 @@ word_size word value (MirrorCell mirrored) = refl
 word_size word value (MessageCell sel args) = refl
 
 word_class : (word : ℕ) (value : Value) (cell : Cell) → is_class (Some cell) ≡ true → with_word cell word value ≡ cell
-word_class word value (ClassCell decl encl holder over) e = refl
+word_class word value (ClassCell decl base encl holder over) e = refl
 word_class word value (ObjectCell class entries) e = absurd (cc)
 word_class word value (BlockCell body env home receiver holder) e = absurd (cc)
 word_class word value (EnvironmentCell parent locals) e = absurd (cc)
@@ -160,7 +160,7 @@ word_class word value (MirrorCell mirrored) e = absurd (cc)
 word_class word value (MessageCell sel args) e = absurd (cc)
 
 word_plain : (word : ℕ) (value : Value) (cell : Cell) → is_class (Some cell) ≡ false → is_class (Some (with_word cell word value)) ≡ false
-word_plain word value (ClassCell decl encl holder over) e = absurd (cc)
+word_plain word value (ClassCell decl base encl holder over) e = absurd (cc)
 word_plain word value (ObjectCell class entries) e = refl
 word_plain word value (BlockCell body env home receiver holder) e = refl
 word_plain word value (EnvironmentCell parent locals) e = refl
@@ -176,7 +176,7 @@ word_plainly word value = record { size = word_size word value; class = word_cla
 
 byte_size : (place byte : ℕ) (cell : Cell) → cell_size (with_byte cell place byte) ≡ cell_size cell
 byte_size place byte (ObjectCell class entries) = refl
-byte_size place byte (ClassCell decl encl holder over) = refl
+byte_size place byte (ClassCell decl base encl holder over) = refl
 byte_size place byte (BlockCell body env home receiver holder) = refl
 byte_size place byte (EnvironmentCell parent locals) = refl
 byte_size place byte (ArrayCell items) = refl
@@ -186,7 +186,7 @@ byte_size place byte (MirrorCell mirrored) = refl
 byte_size place byte (MessageCell sel args) = refl
 
 byte_class : (place byte : ℕ) (cell : Cell) → is_class (Some cell) ≡ true → with_byte cell place byte ≡ cell
-byte_class place byte (ClassCell decl encl holder over) e = refl
+byte_class place byte (ClassCell decl base encl holder over) e = refl
 byte_class place byte (ObjectCell class entries) e = absurd (cc)
 byte_class place byte (BlockCell body env home receiver holder) e = absurd (cc)
 byte_class place byte (EnvironmentCell parent locals) e = absurd (cc)
@@ -197,7 +197,7 @@ byte_class place byte (MirrorCell mirrored) e = absurd (cc)
 byte_class place byte (MessageCell sel args) e = absurd (cc)
 
 byte_plain : (place byte : ℕ) (cell : Cell) → is_class (Some cell) ≡ false → is_class (Some (with_byte cell place byte)) ≡ false
-byte_plain place byte (ClassCell decl encl holder over) e = absurd (cc)
+byte_plain place byte (ClassCell decl base encl holder over) e = absurd (cc)
 byte_plain place byte (ObjectCell class entries) e = refl
 byte_plain place byte (BlockCell body env home receiver holder) e = refl
 byte_plain place byte (EnvironmentCell parent locals) e = refl

@@ -109,12 +109,16 @@ entries_stay before after code order same (head ∷ rest) class c s =
 pub layout_stays : (before after : Heap) (code : CodeProgram) (class : ℕ) → IsInOrder before → SameClasses before after → is_chain_start before class ≡ true → layout_of after code class ≡ layout_of before code class
 layout_stays before after code class order same s = ap (entries_along after code) (same.chains class s) ∙ entries_stay before after code order same (chain_of before class) class refl s
 
+-- the classes above a class have as many entries as before
+pub base_stays : (before after : Heap) (code : CodeProgram) (class : ℕ) → IsInOrder before → SameClasses before after → is_class (find_cell before class) ≡ true → layout_of after code (superclass_of after class) ≡ layout_of before code (superclass_of before class)
+base_stays before after code class order same h =
+    let g = goes_on before class order.ordered (omega (arith, order.small)) h in
+    ap (layout_of after code) (superclass_stays before after class (same.classes class h))
+    ∙ layout_stays before after code (superclass_of before class) order same g.start
+
 -- an entry has the word that it had
 pub word_stays : (before after : Heap) (code : CodeProgram) (holder entry : ℕ) → IsInOrder before → SameClasses before after → is_class (find_cell before holder) ≡ true → entry_word after code holder entry ≡ entry_word before code holder entry
-word_stays before after code holder entry order same h =
-    let g = goes_on before holder order.ordered (omega (arith, order.small)) h in
-    ap (λ n. layout_of after code n + entry) (superclass_stays before after holder (same.classes holder h))
-    ∙ ap (λ m. m + entry) (layout_stays before after code (superclass_of before holder) order same g.start)
+word_stays before after code holder entry order same h = ap (λ base. base + entry) (base_stays before after code holder order same h)
 
 -- one cell more
 pub same_after_making : (heap : Heap) (cell : Cell) → IsInOrder heap → SameClasses heap (cell ∷ heap)

@@ -58,7 +58,7 @@ first_changed test heap at change plainly t = found (find_cell heap at) refl
 
 facet_word : (kind : FacetKind) (word : ℕ) (value : Value) (cell : Cell) → is_facet kind (with_word cell word value) ≡ is_facet kind cell
 facet_word kind word value (ObjectCell class entries) = refl
-facet_word kind word value (ClassCell decl encl holder over) = refl
+facet_word kind word value (ClassCell decl base encl holder over) = refl
 facet_word kind word value (BlockCell body env home receiver holder) = refl
 facet_word kind word value (EnvironmentCell parent locals) = refl
 facet_word kind word value (ArrayCell items) = refl
@@ -69,7 +69,7 @@ facet_word kind word value (MessageCell sel args) = refl
 
 top_word : (decl word : ℕ) (value : Value) (cell : Cell) → is_top decl (with_word cell word value) ≡ is_top decl cell
 top_word decl word value (ObjectCell class entries) = refl
-top_word decl word value (ClassCell other encl holder over) = refl
+top_word decl word value (ClassCell other base encl holder over) = refl
 top_word decl word value (BlockCell body env home receiver holder) = refl
 top_word decl word value (EnvironmentCell parent locals) = refl
 top_word decl word value (ArrayCell items) = refl
@@ -80,7 +80,7 @@ top_word decl word value (MessageCell sel args) = refl
 
 facet_byte : (kind : FacetKind) (place byte : ℕ) (cell : Cell) → is_facet kind (with_byte cell place byte) ≡ is_facet kind cell
 facet_byte kind place byte (ObjectCell class entries) = refl
-facet_byte kind place byte (ClassCell decl encl holder over) = refl
+facet_byte kind place byte (ClassCell decl base encl holder over) = refl
 facet_byte kind place byte (BlockCell body env home receiver holder) = refl
 facet_byte kind place byte (EnvironmentCell parent locals) = refl
 facet_byte kind place byte (ArrayCell items) = refl
@@ -91,7 +91,7 @@ facet_byte kind place byte (MessageCell sel args) = refl
 
 top_byte : (decl place byte : ℕ) (cell : Cell) → is_top decl (with_byte cell place byte) ≡ is_top decl cell
 top_byte decl place byte (ObjectCell class entries) = refl
-top_byte decl place byte (ClassCell other encl holder over) = refl
+top_byte decl place byte (ClassCell other base encl holder over) = refl
 top_byte decl place byte (BlockCell body env home receiver holder) = refl
 top_byte decl place byte (EnvironmentCell parent locals) = refl
 top_byte decl place byte (ArrayCell items) = refl

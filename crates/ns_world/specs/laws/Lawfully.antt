@@ -10,7 +10,7 @@ use Rattle.ns_world.specs.Heap.{Heap, find_cell, is_class, is_chain_start, chain
 use Rattle.ns_world.specs.Layout.{declaration_of, entry_word}
 use Rattle.ns_world.specs.Lawful.{ClassIsLawful, ObjectIsLawful, FitsBody, environment_in, FitsEnvironment, BlockIsLawful, HasArguments, MessageIsLawful, CellIsLawful}
 use Rattle.ns_world.specs.Keeping.{KeepsWord}
-use Rattle.ns_world.specs.laws.Classes.{class_stays, start_stays, class_in_chain, layout_stays, word_stays}
+use Rattle.ns_world.specs.laws.Classes.{class_stays, start_stays, class_in_chain, layout_stays, base_stays, word_stays}
 use Rattle.ns_world.specs.laws.Twins.{TellsLocals, KeepsCells}
 use Rattle.ns_world.specs.laws.Staying.{value_stays, values_stay, environment_stays, contained_stays, holder_stays, declared_stays, enclosing_stays, kept_stays}
 
@@ -47,11 +47,12 @@ object_lawful before after code number class entries k l = record {
       (l.kept holder was.contained declared (ap (slice_get code.classes) was.declared ∙ d) i nested value n (ap (slice_get entries) (was.words (length declared.slots + i)) ∙ v));
 }
 
-class_lawful : (before after : Heap) (code : CodeProgram) (number decl : ℕ) (encl holder : Value) → KeepsCells before after → is_class (find_cell before number) ≡ true → ClassIsLawful before code number decl encl holder → ClassIsLawful after code number decl encl holder
-class_lawful before after code number decl encl holder k is l =
+class_lawful : (before after : Heap) (code : CodeProgram) (number decl base : ℕ) (encl holder : Value) → KeepsCells before after → is_class (find_cell before number) ≡ true → ClassIsLawful before code number decl base encl holder → ClassIsLawful after code number decl base encl holder
+class_lawful before after code number decl base encl holder k is l =
     let start : is_chain_start before number ≡ true = rw is refl in
     record {
       declared = l.declared;
+      based = l.based ∙ sym (base_stays before after code number k.order k.same is);
       short = omega (arith, l.short, ap length (k.same.chains number start));
       enclosing = λ class e. enclosing_stays before after code class.outer encl holder k (l.enclosing class e);
     }
@@ -131,7 +132,7 @@ message_lawful before after code sel (Kernel class) k h = h
 -- a cell that was lawful is lawful later
 pub cell_lawful : (before after : Heap) (code : CodeProgram) (number : ℕ) (cell : Cell) → KeepsCells before after → find_cell before number ≡ Some cell → CellIsLawful before code number cell → CellIsLawful after code number cell
 cell_lawful before after code number (ObjectCell class entries) k e l = (object_lawful before after code number class entries k l.0, values_stay before after code entries k l.1)
-cell_lawful before after code number (ClassCell decl encl holder over) k e l = class_lawful before after code number decl encl holder k (ap is_class e) l
+cell_lawful before after code number (ClassCell decl base encl holder over) k e l = class_lawful before after code number decl base encl holder k (ap is_class e) l
 cell_lawful before after code number (BlockCell body env home receiver holder) k e l = block_lawful before after code body env receiver holder k l
 cell_lawful before after code number (EnvironmentCell parent locals) k e l = (environment_stays before after parent k l.0, values_stay before after code locals k l.1)
 cell_lawful before after code number (ArrayCell items) k e l = values_stay before after code items k l

@@ -44,20 +44,20 @@ stays_on second third number cell later one =
     let two = later.cells number one.now one.there in
     record { now = two.now; there = two.there; shape = two.shape ∙ one.shape; bytes = two.bytes ∙ one.bytes }
 
-is_of_shape : (decl : ℕ) (encl holder over : Value) (now : Cell) → shape_of now ≡ shape_of (ClassCell decl encl holder over) → now ≡ ClassCell decl encl holder over
-is_of_shape decl encl holder over (ClassCell decl' encl' holder' over') e = cc
-is_of_shape decl encl holder over (ObjectCell class entries) e = absurd (cc)
-is_of_shape decl encl holder over (BlockCell body env home receiver holder') e = absurd (cc)
-is_of_shape decl encl holder over (EnvironmentCell parent locals) e = absurd (cc)
-is_of_shape decl encl holder over (ArrayCell items) e = absurd (cc)
-is_of_shape decl encl holder over (TextCell bytes) e = absurd (cc)
-is_of_shape decl encl holder over (FacetCell kind) e = absurd (cc)
-is_of_shape decl encl holder over (MirrorCell mirrored) e = absurd (cc)
-is_of_shape decl encl holder over (MessageCell sel args) e = absurd (cc)
+is_of_shape : (decl base : ℕ) (encl holder over : Value) (now : Cell) → shape_of now ≡ shape_of (ClassCell decl base encl holder over) → now ≡ ClassCell decl base encl holder over
+is_of_shape decl base encl holder over (ClassCell decl' base' encl' holder' over') e = cc
+is_of_shape decl base encl holder over (ObjectCell class entries) e = absurd (cc)
+is_of_shape decl base encl holder over (BlockCell body env home receiver holder') e = absurd (cc)
+is_of_shape decl base encl holder over (EnvironmentCell parent locals) e = absurd (cc)
+is_of_shape decl base encl holder over (ArrayCell items) e = absurd (cc)
+is_of_shape decl base encl holder over (TextCell bytes) e = absurd (cc)
+is_of_shape decl base encl holder over (FacetCell kind) e = absurd (cc)
+is_of_shape decl base encl holder over (MirrorCell mirrored) e = absurd (cc)
+is_of_shape decl base encl holder over (MessageCell sel args) e = absurd (cc)
 
 -- a class stays as it is
 same_class : (cell now : Cell) → is_class (Some cell) ≡ true → shape_of now ≡ shape_of cell → now ≡ cell
-same_class (ClassCell decl encl holder over) now is e = is_of_shape decl encl holder over now e
+same_class (ClassCell decl base encl holder over) now is e = is_of_shape decl base encl holder over now e
 same_class (ObjectCell class entries) now is e = absurd (cc)
 same_class (BlockCell body env home receiver holder) now is e = absurd (cc)
 same_class (EnvironmentCell parent locals) now is e = absurd (cc)
@@ -113,7 +113,7 @@ cells_after_making heap cell super = record {
 no_facet : (heap : Heap) (cell : Cell) (kind : FacetKind) → may_be_first heap (shape_of cell) ≡ false → is_facet kind cell ≡ false
 no_facet heap (FacetCell other) kind e = absurd (cc)
 no_facet heap (ObjectCell class entries) kind e = refl
-no_facet heap (ClassCell decl encl holder over) kind e = refl
+no_facet heap (ClassCell decl base encl holder over) kind e = refl
 no_facet heap (BlockCell body env home receiver holder) kind e = refl
 no_facet heap (EnvironmentCell parent locals) kind e = refl
 no_facet heap (ArrayCell items) kind e = refl
@@ -127,7 +127,7 @@ not_none true None e n = absurd (cc)
 not_none false o e n = absurd (cc)
 
 behind : (heap : Heap) (cell : Cell) (decl : ℕ) → may_be_first heap (shape_of cell) ≡ false → is_top decl cell ≡ true → IsSome (first_such (is_top decl) heap)
-behind heap (ClassCell other encl holder over) decl e t =
+behind heap (ClassCell other base encl holder over) decl e t =
     let both = both_of (eqb decl other) (is_nil encl) t in
     subst (λ n. IsSome (first_such (is_top n) heap)) (sym (eqb-true decl other both.0)) (not_none (is_nil encl) (first_such (is_top other) heap) e both.1)
 behind heap (ObjectCell class entries) decl e t = absurd (cc)
@@ -194,7 +194,7 @@ later_printed world after bytes e =
 
 word_bytes : (word : ℕ) (value : Value) (cell : Cell) → cell_bytes (with_word cell word value) ≡ cell_bytes cell
 word_bytes word value (ObjectCell class entries) = refl
-word_bytes word value (ClassCell decl encl holder over) = refl
+word_bytes word value (ClassCell decl base encl holder over) = refl
 word_bytes word value (BlockCell body env home receiver holder) = refl
 word_bytes word value (EnvironmentCell parent locals) = refl
 word_bytes word value (ArrayCell items) = refl

@@ -12,10 +12,13 @@ use Rattle.ns_world.specs.declared.value.Value.TheVariants.{Nil}
 use Rattle.ns_world.specs.declared.cell.NewCell.{NewCell}
 use Rattle.ns_world.specs.declared.cell.NewCell.TheVariants.{Object, Class, Block, Environment, Array, Text, Facet, Mirror, Message}
 use Rattle.ns_world.specs.Cell.{Cell, ClassCell, cell_size, fresh}
-use Rattle.ns_world.specs.Heap.{Heap, heap_size, find_cell, has_superclass, chain_of, chain_above}
+use Rattle.ns_world.specs.Heap.{Heap, heap_size, find_cell, has_superclass, chain_of, chain_above, superclass_in, superclass_of, declared_class}
 use Rattle.ns_world.specs.World.{World, made}
 use Rattle.ns_world.specs.Lawful.{IsLiveValue, IsKept, ObjectIsLawful, CellIsLawful, IsLawful}
 use Rattle.ns_world.specs.Keeping.{MayBeMade}
+use Rattle.ns_world.specs.Layout.{entries_along, entries_above, layout_of}
+use Rattle.ns_world.specs.laws.Above.{above, starts}
+use Rattle.ns_world.specs.laws.Changing.{found_new}
 use Rattle.ns_world.specs.laws.Ordered.{ordered_more}
 use Rattle.ns_world.specs.laws.Classes.{IsInOrder, lawful_order, start_stays, layout_stays}
 use Rattle.ns_world.specs.laws.Twins.{making_keeps_cells}
@@ -31,12 +34,20 @@ nil_entry P words k value e nil =
 nils_live : (heap : Heap) (code : CodeProgram) (words : ℕ) → All (IsLiveValue heap code) (replicate words Nil)
 nils_live heap code words = All-replicate (IsLiveValue heap code) words Nil (tt, refl)
 
-new_chain : (heap : Heap) (decl : ℕ) (encl holder over : Value) → chain_of (ClassCell decl encl holder over ∷ heap) (heap_size heap) ≡ heap_size heap ∷ chain_above over (chain_of heap)
-new_chain heap decl encl holder over = rw (eq-eqb (heap_size heap) (heap_size heap) refl) refl
+new_chain : (heap : Heap) (decl base : ℕ) (encl holder over : Value) → chain_of (ClassCell decl base encl holder over ∷ heap) (heap_size heap) ≡ heap_size heap ∷ chain_above over (chain_of heap)
+new_chain heap decl base encl holder over = rw (eq-eqb (heap_size heap) (heap_size heap) refl) refl
+
+-- the classes above a new class have the entries of its superclass
+new_base : (heap : Heap) (code : CodeProgram) (decl base : ℕ) (encl holder over : Value) → IsInOrder heap → has_superclass heap (ClassCell decl base encl holder over) ≡ true → layout_of (ClassCell decl base encl holder over ∷ heap) code (superclass_of (ClassCell decl base encl holder over ∷ heap) (heap_size heap)) ≡ entries_above heap code over
+new_base heap code decl base encl holder over order s =
+    let cell = ClassCell decl base encl holder over in
+    ap (λ o. layout_of (cell ∷ heap) code (declared_class (superclass_in o))) (found_new heap cell)
+    ∙ layout_stays heap (cell ∷ heap) code (declared_class over) order (making_keeps_cells heap cell order).same (starts heap over s)
+    ∙ sym (ap (entries_along heap code) (above heap over (omega (arith, order.small)) s))
 
 -- what is asked of a new cell holds once it is there
-new_lawful : (heap : Heap) (code : CodeProgram) (new : NewCell) → IsInOrder heap → MayBeMade heap code new → CellIsLawful (fresh new ∷ heap) code (heap_size heap) (fresh new)
-new_lawful heap code (Object class words) order m =
+new_lawful : (heap : Heap) (code : CodeProgram) (new : NewCell) → IsInOrder heap → has_superclass heap (fresh new) ≡ true → MayBeMade heap code new → CellIsLawful (fresh new ∷ heap) code (heap_size heap) (fresh new)
+new_lawful heap code (Object class words) order s m =
     let after : Heap = fresh (Object class words) ∷ heap in
     let k = making_keeps_cells heap (fresh (Object class words)) order in
     let object : ObjectIsLawful after code (heap_size heap) class (replicate words Nil) = record {
@@ -45,30 +56,31 @@ new_lawful heap code (Object class words) order m =
       kept = λ holder c declared d i nested value n v. nil_entry (IsKept after (heap_size heap) holder nested.class) words _ value v tt;
     } in
     (object, nils_live after code words)
-new_lawful heap code (Class decl encl holder over) order m =
-    let after : Heap = fresh (Class decl encl holder over) ∷ heap in
-    let k = making_keeps_cells heap (fresh (Class decl encl holder over)) order in
+new_lawful heap code (Class decl base encl holder over) order s m =
+    let after : Heap = fresh (Class decl base encl holder over) ∷ heap in
+    let k = making_keeps_cells heap (fresh (Class decl base encl holder over)) order in
     record {
       declared = m.0.0;
-      short = omega (arith, m.1, ap length (new_chain heap decl encl holder over));
+      based = m.1 ∙ sym (new_base heap code decl base encl holder over order s);
+      short = omega (arith, m.2, ap length (new_chain heap decl base encl holder over));
       enclosing = λ (class : ClassCode) e. enclosing_stays heap after code class.outer encl holder k (m.0.1 class e);
     }
-new_lawful heap code (Block body env home receiver holder) order m =
+new_lawful heap code (Block body env home receiver holder) order s m =
     block_lawful heap (fresh (Block body env home receiver holder) ∷ heap) code body env receiver holder (making_keeps_cells heap (fresh (Block body env home receiver holder)) order) m
-new_lawful heap code (Environment parent locals) order m =
+new_lawful heap code (Environment parent locals) order s m =
     let k = making_keeps_cells heap (fresh (Environment parent locals)) order in
     (environment_stays heap (fresh (Environment parent locals) ∷ heap) parent k m, nils_live (fresh (Environment parent locals) ∷ heap) code locals)
-new_lawful heap code (Array size) order m = nils_live (fresh (Array size) ∷ heap) code size
-new_lawful heap code (Text bytes) order m = tt
-new_lawful heap code (Facet kind) order m = tt
-new_lawful heap code (Mirror mirrored) order m =
+new_lawful heap code (Array size) order s m = nils_live (fresh (Array size) ∷ heap) code size
+new_lawful heap code (Text bytes) order s m = tt
+new_lawful heap code (Facet kind) order s m = tt
+new_lawful heap code (Mirror mirrored) order s m =
     value_stays heap (fresh (Mirror mirrored) ∷ heap) code mirrored (making_keeps_cells heap (fresh (Mirror mirrored)) order) m
-new_lawful heap code (Message sel args) order m =
+new_lawful heap code (Message sel args) order s m =
     message_lawful heap (fresh (Message sel args) ∷ heap) code sel args (making_keeps_cells heap (fresh (Message sel args)) order) m
 
 -- a heap with one lawful cell more
-more_lawful : (world : World) (code : CodeProgram) (new : NewCell) → IsLawful world code → MayBeMade world.cells code new → (number : ℕ) (cell : Cell) → find_cell (fresh new ∷ world.cells) number ≡ Some cell → CellIsLawful (fresh new ∷ world.cells) code number cell
-more_lawful world code new lawful m number cell e = tested (eqb number (heap_size world.cells)) refl e
+more_lawful : (world : World) (code : CodeProgram) (new : NewCell) → IsLawful world code → has_superclass world.cells (fresh new) ≡ true → MayBeMade world.cells code new → (number : ℕ) (cell : Cell) → find_cell (fresh new ∷ world.cells) number ≡ Some cell → CellIsLawful (fresh new ∷ world.cells) code number cell
+more_lawful world code new lawful s m number cell e = tested (eqb number (heap_size world.cells)) refl e
   where
     order : IsInOrder world.cells
     order = lawful_order world code lawful
@@ -78,7 +90,7 @@ more_lawful world code new lawful m number cell e = tested (eqb number (heap_siz
         let number_is : heap_size world.cells ≡ number = sym (eqb-true number (heap_size world.cells) t) in
         let cell_is : fresh new ≡ cell = cc in
         subst (λ c. CellIsLawful (fresh new ∷ world.cells) code number c) cell_is
-        (subst (λ n. CellIsLawful (fresh new ∷ world.cells) code n (fresh new)) number_is (new_lawful world.cells code new order m))
+        (subst (λ n. CellIsLawful (fresh new ∷ world.cells) code n (fresh new)) number_is (new_lawful world.cells code new order s m))
     tested false t e = cell_lawful world.cells (fresh new ∷ world.cells) code number cell (making_keeps_cells world.cells (fresh new) order) e (lawful.cells number cell e)
 
 -- a lawful world in which a cell is made that may be made is lawful
@@ -95,7 +107,7 @@ making_keeps world after code new lawful s m e = tested (nat_le (heap_size world
       fits = lawful.fits;
       parents = lawful.parents;
       classes = lawful.classes;
-      cells = more_lawful world code new lawful m;
+      cells = more_lawful world code new lawful s m;
     }
 
     tested : (b : Bool) → nat_le (heap_size world.cells + cell_size (fresh new)) world.limits.cells ≡ b → cond b (Some more) None ≡ Some after → IsLawful after code

@@ -10,7 +10,7 @@ use Rattle.ns_world.specs.Starts.{is_class_shape}
 class_shape : (o : Option Cell) → is_class_shape (option_map_or shape_of o (Mirror Nil)) ≡ is_class o
 class_shape None = refl
 class_shape (Some (ObjectCell class entries)) = refl
-class_shape (Some (ClassCell decl encl holder over)) = refl
+class_shape (Some (ClassCell decl base encl holder over)) = refl
 class_shape (Some (BlockCell body env home receiver holder)) = refl
 class_shape (Some (EnvironmentCell parent locals)) = refl
 class_shape (Some (ArrayCell items)) = refl

@@ -16,7 +16,7 @@ named_cell : (world : World) (code : CodeProgram) (at : ℕ) → IsLawful world 
 named_cell world code at lawful None e = refl
 named_cell world code at lawful (Some (ObjectCell class entries)) e = (lawful.cells at (ObjectCell class entries) e).0.class_is
 named_cell world code at lawful (Some (MirrorCell value)) e = refl
-named_cell world code at lawful (Some (ClassCell decl encl holder over)) e = ap is_class e
+named_cell world code at lawful (Some (ClassCell decl base encl holder over)) e = ap is_class e
 named_cell world code at lawful (Some (BlockCell body env home receiver holder)) e = refl
 named_cell world code at lawful (Some (EnvironmentCell parent locals)) e = refl
 named_cell world code at lawful (Some (ArrayCell items)) e = refl

@@ -108,7 +108,7 @@ enclosing_stays before after code (Some outer) encl (Kernel class) k h = h
 
 kept_is_class : (object holder decl : ℕ) (o : Option Cell) → IsKeptCell object holder decl o → is_class o ≡ true
 kept_is_class object holder decl None h = absurd h
-kept_is_class object holder decl (Some (ClassCell other encl holder' over)) h = refl
+kept_is_class object holder decl (Some (ClassCell other base encl holder' over)) h = refl
 kept_is_class object holder decl (Some (ObjectCell class entries)) h = absurd h
 kept_is_class object holder decl (Some (BlockCell body env home receiver holder')) h = absurd h
 kept_is_class object holder decl (Some (EnvironmentCell parent locals)) h = absurd h

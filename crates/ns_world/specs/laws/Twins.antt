@@ -56,7 +56,7 @@ counted e = (e.0, length e.1)
 
 receiver_told : (cell : Cell) → is_receiver_cell (Some cell) ≡ receiver_shape (shape_of cell)
 receiver_told (ObjectCell class entries) = refl
-receiver_told (ClassCell decl encl holder over) = refl
+receiver_told (ClassCell decl base encl holder over) = refl
 receiver_told (BlockCell body env home receiver holder) = refl
 receiver_told (EnvironmentCell parent locals) = refl
 receiver_told (ArrayCell items) = refl
@@ -67,7 +67,7 @@ receiver_told (MessageCell sel args) = refl
 
 object_told : (cell : Cell) → class_of_object (Some cell) ≡ object_shape (shape_of cell)
 object_told (ObjectCell class entries) = refl
-object_told (ClassCell decl encl holder over) = refl
+object_told (ClassCell decl base encl holder over) = refl
 object_told (BlockCell body env home receiver holder) = refl
 object_told (EnvironmentCell parent locals) = refl
 object_told (ArrayCell items) = refl
@@ -78,7 +78,7 @@ object_told (MessageCell sel args) = refl
 
 is_environment_told : (cell : Cell) → is_environment (Some cell) ≡ is_some (environment_shape (shape_of cell))
 is_environment_told (ObjectCell class entries) = refl
-is_environment_told (ClassCell decl encl holder over) = refl
+is_environment_told (ClassCell decl base encl holder over) = refl
 is_environment_told (BlockCell body env home receiver holder) = refl
 is_environment_told (EnvironmentCell parent locals) = refl
 is_environment_told (ArrayCell items) = refl
@@ -89,7 +89,7 @@ is_environment_told (MessageCell sel args) = refl
 
 locals_told : (cell : Cell) → option_map counted (environment_in (Some cell)) ≡ environment_shape (shape_of cell)
 locals_told (ObjectCell class entries) = refl
-locals_told (ClassCell decl encl holder over) = refl
+locals_told (ClassCell decl base encl holder over) = refl
 locals_told (BlockCell body env home receiver holder) = refl
 locals_told (EnvironmentCell parent locals) = refl
 locals_told (ArrayCell items) = refl
@@ -104,7 +104,7 @@ SameSize code sel cell = (HasArguments code sel (Some cell) → HasSize code sel
 
 arguments_told : (code : CodeProgram) (sel : Sel) (cell : Cell) → SameSize code sel cell
 arguments_told code sel (ObjectCell class entries) = (λ h. h, λ h. h)
-arguments_told code sel (ClassCell decl encl holder over) = (λ h. h, λ h. h)
+arguments_told code sel (ClassCell decl base encl holder over) = (λ h. h, λ h. h)
 arguments_told code sel (BlockCell body env home receiver holder) = (λ h. h, λ h. h)
 arguments_told code sel (EnvironmentCell parent locals) = (λ h. h, λ h. h)
 arguments_told code sel (ArrayCell items) = (λ h. h, λ h. h)
@@ -144,7 +144,7 @@ twin_of_itself cell = twins_of_shape cell cell refl
 -- a word or a byte that is written leaves the shape
 pub word_shape : (word : ℕ) (value : Value) (cell : Cell) → shape_of (with_word cell word value) ≡ shape_of cell
 word_shape word value (ObjectCell class entries) = ap (new.Object class) (length-set entries word value)
-word_shape word value (ClassCell decl encl holder over) = refl
+word_shape word value (ClassCell decl base encl holder over) = refl
 word_shape word value (BlockCell body env home receiver holder) = refl
 word_shape word value (EnvironmentCell parent locals) = ap (new.Environment parent) (length-set locals word value)
 word_shape word value (ArrayCell items) = ap new.Array (length-set items word value)
@@ -155,7 +155,7 @@ word_shape word value (MessageCell sel args) = refl
 
 pub byte_shape : (place byte : ℕ) (cell : Cell) → shape_of (with_byte cell place byte) ≡ shape_of cell
 byte_shape place byte (ObjectCell class entries) = refl
-byte_shape place byte (ClassCell decl encl holder over) = refl
+byte_shape place byte (ClassCell decl base encl holder over) = refl
 byte_shape place byte (BlockCell body env home receiver holder) = refl
 byte_shape place byte (EnvironmentCell parent locals) = refl
 byte_shape place byte (ArrayCell items) = refl

@@ -55,7 +55,7 @@ word_lawful heap code number (ObjectCell class entries) word value l live keeps 
     (object_word heap code number class entries word value l.0 (keeps class refl), All-set (IsLiveValue heap code) entries word value live l.1)
 word_lawful heap code number (EnvironmentCell parent locals) word value l live keeps = (l.0, All-set (IsLiveValue heap code) locals word value live l.1)
 word_lawful heap code number (ArrayCell items) word value l live keeps = All-set (IsLiveValue heap code) items word value live l
-word_lawful heap code number (ClassCell decl encl holder over) word value l live keeps = l
+word_lawful heap code number (ClassCell decl base encl holder over) word value l live keeps = l
 word_lawful heap code number (BlockCell body env home receiver holder) word value l live keeps = l
 word_lawful heap code number (TextCell bytes) word value l live keeps = l
 word_lawful heap code number (FacetCell kind) word value l live keeps = l
@@ -67,7 +67,7 @@ byte_lawful heap code number (TextCell bytes) place byte l = tt
 byte_lawful heap code number (ObjectCell class entries) place byte l = l
 byte_lawful heap code number (EnvironmentCell parent locals) place byte l = l
 byte_lawful heap code number (ArrayCell items) place byte l = l
-byte_lawful heap code number (ClassCell decl encl holder over) place byte l = l
+byte_lawful heap code number (ClassCell decl base encl holder over) place byte l = l
 byte_lawful heap code number (BlockCell body env home receiver holder) place byte l = l
 byte_lawful heap code number (FacetCell kind) place byte l = l
 byte_lawful heap code number (MirrorCell mirrored) place byte l = l
@@ -115,7 +115,7 @@ object_starts world code at class lawful h = found (find_cell world.cells at) re
     found : (o : Option Cell) → find_cell world.cells at ≡ o → class_of_object o ≡ Some class → is_chain_start world.cells class ≡ true
     found (Some (ObjectCell other entries)) e h = let is : other ≡ class = cc in ap (is_chain_start world.cells) (sym is) ∙ (lawful.cells at (ObjectCell other entries) e).0.class_is
     found None e h = absurd (cc)
-    found (Some (ClassCell decl encl holder over)) e h = absurd (cc)
+    found (Some (ClassCell decl base encl holder over)) e h = absurd (cc)
     found (Some (BlockCell body env home receiver holder)) e h = absurd (cc)
     found (Some (EnvironmentCell parent locals)) e h = absurd (cc)
     found (Some (ArrayCell items)) e h = absurd (cc)

@@ -42,7 +42,7 @@ superclass_replaced later earlier old new (Kernel kernel.Array) r = refl
 superclass_replaced later earlier old new (Ref class) r = class_replaced later earlier old new class r
 
 has_superclass_replaced : (later earlier : Heap) (old new cell : Cell) → Replaces old new → has_superclass (later ++ new ∷ earlier) cell ≡ has_superclass (later ++ old ∷ earlier) cell
-has_superclass_replaced later earlier old new (ClassCell decl encl holder over) r = superclass_replaced later earlier old new over r
+has_superclass_replaced later earlier old new (ClassCell decl base encl holder over) r = superclass_replaced later earlier old new over r
 has_superclass_replaced later earlier old new (ObjectCell class entries) r = refl
 has_superclass_replaced later earlier old new (BlockCell body env home receiver holder) r = refl
 has_superclass_replaced later earlier old new (EnvironmentCell parent locals) r = refl
@@ -54,7 +54,7 @@ has_superclass_replaced later earlier old new (MessageCell sel args) r = refl
 
 -- a cell that is no class asks for no superclass
 no_superclass : (earlier : Heap) (cell : Cell) → is_class (Some cell) ≡ false → has_superclass earlier cell ≡ true
-no_superclass earlier (ClassCell decl encl holder over) e = absurd (cc)
+no_superclass earlier (ClassCell decl base encl holder over) e = absurd (cc)
 no_superclass earlier (ObjectCell class entries) e = refl
 no_superclass earlier (BlockCell body env home receiver holder) e = refl
 no_superclass earlier (EnvironmentCell parent locals) e = refl
@@ -73,7 +73,7 @@ ordered_replaced (cell ∷ later) earlier old new r =
 
 -- a cell that is no class has no chain
 pub no_chain : (cell : Cell) (n : ℕ) (chain : ℕ → List ℕ) → is_class (Some cell) ≡ false → chain_at cell n chain ≡ []
-no_chain (ClassCell decl encl holder over) n chain e = absurd (cc)
+no_chain (ClassCell decl base encl holder over) n chain e = absurd (cc)
 no_chain (ObjectCell class entries) n chain e = refl
 no_chain (BlockCell body env home receiver holder) n chain e = refl
 no_chain (EnvironmentCell parent locals) n chain e = refl
@@ -84,7 +84,7 @@ no_chain (MirrorCell mirrored) n chain e = refl
 no_chain (MessageCell sel args) n chain e = refl
 
 chain_at_same : (cell : Cell) (n : ℕ) (f g : ℕ → List ℕ) → ((m : ℕ) → f m ≡ g m) → chain_at cell n f ≡ chain_at cell n g
-chain_at_same (ClassCell decl encl holder over) n f g e = ap (λ ms. n ∷ ms) (above over)
+chain_at_same (ClassCell decl base encl holder over) n f g e = ap (λ ms. n ∷ ms) (above over)
   where
     above : (over : Value) → chain_above over f ≡ chain_above over g
     above (Ref class) = e class

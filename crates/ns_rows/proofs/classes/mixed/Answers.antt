@@ -5,4 +5,4 @@ use Rattle.ns_rows.proofs.classes.mixed.Goals as goal
 pub apply-requires-clause-enclosed : goal.apply-requires-clause-enclosed
 apply-requires-clause-enclosed c =
     let at = c.in-Class in
-    mixin_enclosed c.args.world.now.world c.args.code.now c.args.mixin at.decl at.encl at.holder at.over c.requires.lawful (sym at.ensures)
+    mixin_enclosed c.args.world.now.world c.args.code.now c.args.mixin at.decl at.base at.encl at.holder at.over c.requires.lawful (sym at.ensures)
