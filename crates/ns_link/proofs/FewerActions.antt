@@ -17,7 +17,7 @@ use Rattle.ns_world.specs.declared.ending.Ending.{Ending}
 use Rattle.ns_world.specs.declared.ending.Ending.TheVariants.{Limit}
 use Rattle.ns_world.specs.declared.ending.Kind.TheVariants.{WrongArity, InitMismatch}
 use Rattle.ns_world.specs.declared.ending.LimitKind.TheVariants.{Steps, Depth, Cells}
-use Rattle.ns_world.specs.Cell.{Cell, ObjectCell, ClassCell, EnvironmentCell, ArrayCell, MessageCell}
+use Rattle.ns_world.specs.Cell.{Cell, ObjectCell, EnvironmentCell, ArrayCell, MessageCell}
 use Rattle.ns_world.specs.Heap.{heap_size, find_cell, superclass_in}
 use Rattle.ns_world.specs.Layout.{declaration_of, layout_of, entry_word}
 use Rattle.ns_world.specs.Starts.{start_of}

@@ -16,7 +16,7 @@ use Rattle.ns_world.specs.declared.ending.Fault.TheVariants as fault
 use Rattle.ns_world.specs.declared.ending.Kind.TheVariants.{FixedSlot, WrongArity, WrongKind}
 use Rattle.ns_world.specs.declared.ending.LimitKind.{LimitKind}
 use Rattle.ns_world.specs.declared.ending.LimitKind.TheVariants.{Cells, Depth}
-use Rattle.ns_world.specs.Cell.{Cell, ArrayCell, ClassCell, TextCell, MirrorCell, ObjectCell, cell_size}
+use Rattle.ns_world.specs.Cell.{Cell, ArrayCell, TextCell, MirrorCell, ObjectCell, cell_size}
 use Rattle.ns_world.specs.Heap.{heap_size, no_class, chain_of, cell_number}
 use Rattle.ns_world.specs.Starts.{class_name_of}
 use Rattle.ns_world.specs.World.{World, made, entered, printed}

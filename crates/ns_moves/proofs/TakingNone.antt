@@ -8,7 +8,7 @@ use Rattle.ns_world.specs.declared.value.Value.{Value}
 use Rattle.ns_world.specs.declared.value.Value.TheVariants as value
 use Rattle.ns_world.specs.declared.ending.Kind.TheVariants.{InitMismatch, DeadReturn}
 use Rattle.ns_world.specs.declared.ending.LimitKind.TheVariants.{Depth, Cells}
-use Rattle.ns_world.specs.Cell.{Cell, ClassCell}
+use Rattle.ns_world.specs.Cell.{Cell}
 use Rattle.ns_world.specs.World.{made, entered, left}
 use Rattle.ns_world.specs.Layout.{declaration_of}
 use Rattle.ns_world.specs.Heap.{find_cell, superclass_in}

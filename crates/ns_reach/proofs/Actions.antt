@@ -13,7 +13,7 @@ use Rattle.ns_world.specs.declared.ending.Kind.TheVariants as kind
 use Rattle.ns_world.specs.declared.ending.LimitKind.TheVariants.{Steps, Cells, Depth}
 use Rattle.ns_world.specs.declared.cell.NewCell.{NewCell}
 use Rattle.ns_world.specs.declared.cell.NewCell.TheVariants as new
-use Rattle.ns_world.specs.Cell.{Cell, ObjectCell, ClassCell, EnvironmentCell}
+use Rattle.ns_world.specs.Cell.{Cell, ObjectCell, EnvironmentCell}
 use Rattle.ns_world.specs.Heap.{heap_size, find_cell, superclass_in, word_at}
 use Rattle.ns_world.specs.Layout.{declaration_of, layout_of, entry_word}
 use Rattle.ns_world.specs.World.{World, made, stepped, entered, left}

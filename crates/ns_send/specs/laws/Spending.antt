@@ -16,7 +16,7 @@ use Rattle.ns_world.specs.declared.ending.Kind.TheVariants.{WrongArity, WrongKin
 use Rattle.ns_world.specs.declared.ending.LimitKind.TheVariants.{Steps, Depth, Cells}
 use Rattle.ns_world.specs.declared.cell.NewCell.{NewCell}
 use Rattle.ns_world.specs.declared.cell.NewCell.TheVariants as new
-use Rattle.ns_world.specs.Cell.{Cell, ObjectCell, ClassCell, BlockCell, ArrayCell, TextCell, MessageCell}
+use Rattle.ns_world.specs.Cell.{Cell, ObjectCell, BlockCell, ArrayCell, TextCell, MessageCell}
 use Rattle.ns_world.specs.Heap.{heap_size, find_cell, superclass_in, cell_number}
 use Rattle.ns_world.specs.World.{World, made, stepped, entered, left, written}
 use Rattle.ns_world.specs.Layout.{declaration_of, layout_of, entry_word}
