@@ -41,9 +41,6 @@ straight-preserved-in-Straight c =
 
 -- ---- straight on, with one charged
 
-pub overflow_sub-rest : goal.overflow_sub-rest
-overflow_sub-rest c = c.straight.invariant.some
-
 pub returns-then-rest-eq0 : goal.returns-then-rest-eq0
 returns-then-rest-eq0 c =
     body_gone c.args.code.now (c.moves_go_along.ensures c.args.code.now) c.args.plan.now c.args.own c.args.left c.straight.rest c.args.core.now
