@@ -42,6 +42,7 @@ pub fn jump(code: &CodeProgram, core: &mut Core, at: Registers, target: u32) -> 
     match take(code, core, at, target) {
         Led::Straight(to) => Led::Straight(to),
         Led::On(to) => Led::On(to),
+        Led::Answered(to) => Led::Answered(to),
         Led::Nowhere => Led::Nowhere,
     }
 }
@@ -58,6 +59,7 @@ pub fn jump_false(code: &CodeProgram, core: &mut Core, at: Registers, target: u3
         Value::False => match take(code, core, below, target) {
             Led::Straight(to) => Led::Straight(to),
             Led::On(to) => Led::On(to),
+            Led::Answered(to) => Led::Answered(to),
             Led::Nowhere => Led::Nowhere,
         },
         Value::True => Led::Straight(below),
@@ -77,6 +79,7 @@ pub fn jump_true(code: &CodeProgram, core: &mut Core, at: Registers, target: u32
         Value::True => match take(code, core, below, target) {
             Led::Straight(to) => Led::Straight(to),
             Led::On(to) => Led::On(to),
+            Led::Answered(to) => Led::Answered(to),
             Led::Nowhere => Led::Nowhere,
         },
         Value::False => Led::Straight(below),
