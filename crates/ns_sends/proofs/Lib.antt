@@ -18,3 +18,4 @@ pub mod Valued
 pub mod Members
 pub mod Begun
 pub mod IntegerSends
+pub mod BooleanSends

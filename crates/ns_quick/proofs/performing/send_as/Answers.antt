@@ -2,15 +2,20 @@ use Rattle.std.proofs.Common.{subst, sym, slice_get}
 use Rattle.ns_plan.specs.Steps.{send_instr}
 use Rattle.ns_engine.specs.declared.state.Core.{Core}
 use Rattle.ns_engine.specs.Doing.{CanDo}
-use Rattle.ns_engine.specs.Tried.{DoesOrNot}
+use Rattle.ns_engine.specs.Tried.{Leads, led_on}
+use Rattle.ns_engine.specs.laws.Straight.{tried_on}
 use Rattle.ns_quick.proofs.performing.send_as.Goals as goal
 
 pub send_found-requires : goal.send_found-requires
 send_found-requires c =
-    subst (λ (core : Core). CanDo c.args.code.now core c.args.at (send_instr c.args.kind c.args.sel c.args.argc)) (sym c.in-None.ensures) c.requires.can
+    subst (λ (core : Core). CanDo c.args.code.now core c.args.at (send_instr c.args.kind c.args.sel c.args.argc)) (sym c.in-Nowhere.ensures) c.requires.can
 
-pub returns-in-None : goal.returns-in-None
-returns-in-None c =
-    subst (λ (core : Core).
-    DoesOrNot c.args.code.now (send_instr c.args.kind c.args.sel c.args.argc) (slice_get core.places c.args.place) core c.args.at c.send_found.new.core
-    c.send_found.result) c.in-None.ensures c.send_found.ensures
+pub returns-in-Nowhere : goal.returns-in-Nowhere
+returns-in-Nowhere c =
+    rw c.led_on.ensures
+    (subst (λ (core : Core).
+    Leads c.args.code.now (send_instr c.args.kind c.args.sel c.args.argc) (slice_get core.places c.args.place) core c.args.at c.send_found.new.core
+    (led_on c.send_found.result))
+    c.in-Nowhere.ensures
+    (tried_on c.args.code.now (send_instr c.args.kind c.args.sel c.args.argc) (slice_get c.send_spelled.new.core.places c.args.place) c.send_spelled.new.core c.args.at
+    c.send_found.new.core c.send_found.result c.send_found.ensures))
