@@ -1,13 +1,13 @@
 -- What a move keeps of a machine.
-use Rattle.std.proofs.Common.{◌≡◌, ◌+◌, List, ap, sym, ◌∙◌, subst, Option, All}
+use Rattle.std.proofs.Common.{◌≡◌, ℕ, ◌+◌, List, ap, sym, ◌∙◌, subst, Option, All}
 use Rattle.ns_code.specs.declared.program.CodeProgram.{CodeProgram}
 use Rattle.ns_facets.specs.declared.row.Grants.{Grants}
 use Rattle.ns_world.specs.Later.{IsLater, Lasts}
 use Rattle.ns_find.specs.declared.memo.Kept.{Kept}
 use Rattle.ns_find.specs.Memo.{IsRight}
-use Rattle.ns_moves.specs.State.{progress_of}
+use Rattle.ns_moves.specs.State.{State, progress_of}
 use Rattle.ns_moves.specs.Steps.{Step}
-use Rattle.ns_moves.specs.Move.{move}
+use Rattle.ns_moves.specs.Move.{moves}
 use Rattle.ns_moves.specs.Onward.{MovesGoOnward}
 use Rattle.ns_moves.specs.Standing.{MovesKeepValid}
 use Rattle.ns_moves.specs.Valid.{Valid}
@@ -20,30 +20,42 @@ use Rattle.ns_frames.specs.Stack.{in_use, stood}
 use Rattle.ns_engine.specs.Shown.{phase_shown, progress_in, shown}
 use Rattle.ns_engine.specs.Doing.{CanDo, Does}
 use Rattle.ns_engine.specs.Moving.{behind, IsNextStep}
+use Rattle.ns_engine.specs.Passing.{Passes, DoesTwice, MovesTwice}
 use Rattle.ns_engine.specs.Ready.{IsReady, Moves}
+use Rattle.ns_engine.specs.Standing.{StandAt, Stays, KeepsRightIn}
 use Rattle.ns_engine.proofs.Framed.{HeightsKnown, valid_framed, framed_behind}
 use Rattle.ns_engine.specs.laws.Kept.{shown_progress, ready_lawful, rooms_stay}
 
-pub keeps_ready : (valid : (code : CodeProgram) (grants : Grants) → MovesKeepValid code grants) → ((code : CodeProgram) → MovesGoOnward code)
-    → ((places : List (Option Kept)) → Lasts (λ heap code. All (IsRight heap code) places))
-    → (code : CodeProgram) (grants : Grants) (old new : Core) (from n : Next) → IsReady code grants old from → Moves code old from new n → IsReady code grants new n
-keeps_ready keeps onward memos code grants old new from n ready moved =
-    let after : Valid code grants (shown code new n) = subst (Valid code grants) (sym moved.state) (keeps code grants 1 (shown code old from) ready.valid) in
-    let on = onward code 1 (shown code old from) in
-    let whole : progress_of (move code (shown code old from)) ≡ progress_in new = ap progress_of (sym moved.state) ∙ shown_progress code new n in
-    record {
-      valid = after;
-      rooms = rooms_stay code old new ready.rooms moved.stays;
-      stand = moved.stand;
-      kept = memos new.run.memo code (progress_in old).world (progress_in new).world
-          (record {
-            before = ready_lawful code grants old from ready.valid;
-            after = ready_lawful code grants new n after;
-            later = subst (λ (p : Progress). IsLater p.world (progress_in new).world) (shown_progress code old from)
-                (subst (λ (p : Progress). IsLater (progress_of (shown code old from)).world p.world) whole on.later);
-          })
-          moved.kept;
-    }
+-- so many moves leave a machine ready whose memory is as it was
+module _ (keeps : (code : CodeProgram) (grants : Grants) → MovesKeepValid code grants) (onward : (code : CodeProgram) → MovesGoOnward code)
+    (memos : (places : List (Option Kept)) → Lasts (λ heap code. All (IsRight heap code) places)) where
+  ready_after : (count : ℕ) (code : CodeProgram) (grants : Grants) (old new : Core) (from n : Next) → IsReady code grants old from
+      → shown code new n ≡ moves code count (shown code old from) → StandAt code new n → Stays old new → KeepsRightIn code old new → IsReady code grants new n
+  ready_after count code grants old new from n ready state stand stays kept =
+      let after : Valid code grants (shown code new n) = subst (Valid code grants) (sym state) (keeps code grants count (shown code old from) ready.valid) in
+      let on = onward code count (shown code old from) in
+      let whole : progress_of (moves code count (shown code old from)) ≡ progress_in new = ap progress_of (sym state) ∙ shown_progress code new n in
+      record {
+        valid = after;
+        rooms = rooms_stay code old new ready.rooms stays;
+        stand = stand;
+        kept = memos new.run.memo code (progress_in old).world (progress_in new).world
+            (record {
+              before = ready_lawful code grants old from ready.valid;
+              after = ready_lawful code grants new n after;
+              later = subst (λ (p : Progress). IsLater p.world (progress_in new).world) (shown_progress code old from)
+                  (subst (λ (p : Progress). IsLater (progress_of (shown code old from)).world p.world) whole on.later);
+            })
+            kept;
+      }
+
+  pub keeps_ready : (code : CodeProgram) (grants : Grants) (old new : Core) (from n : Next) → IsReady code grants old from → Moves code old from new n
+      → IsReady code grants new n
+  keeps_ready code grants old new from n ready moved = ready_after 1 code grants old new from n ready moved.state moved.stand moved.stays moved.kept
+
+  pub passing_keeps_ready : (code : CodeProgram) (grants : Grants) (old new : Core) (from n : Next) → IsReady code grants old from
+      → MovesTwice code old from new n → IsReady code grants new n
+  passing_keeps_ready code grants old new from n ready passed = ready_after 2 code grants old new from n ready passed.state passed.stand passed.stays passed.kept
 
 pub can_be_done : ((code : CodeProgram) → HeightsKnown code) → (code : CodeProgram) (grants : Grants) (core : Core) (at : Registers) (step : Step) → IsReady code grants core (next.On at)
     → IsNextStep code core at step → CanDo code core (behind at) step.0
@@ -75,3 +87,7 @@ done_moves code old new at n step is does = record {
   stays = does.stays;
   kept = does.kept;
 }
+
+pub done_passes : (code : CodeProgram) (old new : Core) (at : Registers) (n : Next) (step : Step) → IsNextStep code old at step
+    → DoesTwice code step.0 step.1 old (behind at) new n → MovesTwice code old (next.On at) new n
+done_passes code old new at n step is passed = subst (λ (between : State). Passes code between old new n) (sym is.moves) passed

@@ -5,6 +5,7 @@ pub mod Tried
 pub mod Standing
 pub mod Moving
 pub mod Ready
+pub mod Passing
 pub mod Arriving
 pub mod Turning
 pub mod Entering

@@ -5,12 +5,13 @@ use Rattle.ns_code.specs.declared.program.CodeProgram.{CodeProgram}
 use Rattle.ns_code.specs.declared.instruction.Instr.{Instr}
 use Rattle.ns_frames.specs.declared.registers.Registers.{Registers}
 use Rattle.ns_engine.specs.declared.led.Led.{Led}
-use Rattle.ns_engine.specs.declared.led.Led.TheVariants.{Straight, Charged, On as OnTop, Nowhere}
+use Rattle.ns_engine.specs.declared.led.Led.TheVariants.{Straight, Charged, On as OnTop, Answered, Nowhere}
 use Rattle.ns_engine.specs.declared.state.Core.{Core}
 use Rattle.ns_engine.specs.declared.state.Next.TheVariants.{On}
 use Rattle.ns_engine.specs.Standing.{KeepsRightIn}
 use Rattle.ns_engine.specs.Doing.{Does}
 use Rattle.ns_engine.specs.Jumping.{Jumps}
+use Rattle.ns_engine.specs.Passing.{DoesTwice}
 use Rattle.ns_engine.specs.Straight.{GoesStraight, StaysOnTop}
 
 -- Nothing has changed but the lookups that are kept, which are right.
@@ -37,11 +38,12 @@ abbrev pub led_on : Option Registers → Led
 led_on (Some to) = OnTop to
 led_on None = Nowhere
 
--- The instruction is done, and leads there; or nothing is.
+-- The instruction is done, and leads there, or the move after it does; or nothing is.
 abbrev pub Leads : CodeProgram → Instr → Option SourcePlace → Core → Registers → Core → Led → Type 0
 Leads code instr place old at new (Straight to) = GoesStraight code 0 instr place old at new to
 Leads code instr place old at new (Charged to) = GoesStraight code 1 instr place old at new to
 Leads code instr place old at new (OnTop to) = Does code instr place old at new (On to)
+Leads code instr place old at new (Answered to) = DoesTwice code instr place old at new (On to)
 Leads code instr place old at new Nowhere = IsUntouched code old new
 
 -- The jump was taken, and leads there: straight on where nothing has changed, or a step was charged. Or it wasn't, and nothing has
@@ -50,4 +52,5 @@ abbrev pub JumpLeads : CodeProgram → Core → Registers → ℕ → Core → L
 JumpLeads code old at target new (Straight to) = Jumps code old at target new (On to) × (new ≡ old)
 JumpLeads code old at target new (Charged to) = Jumps code old at target new (On to) × StaysOnTop 1 old new
 JumpLeads code old at target new (OnTop to) = Jumps code old at target new (On to)
+JumpLeads code old at target new (Answered to) = ⊥
 JumpLeads code old at target new Nowhere = new ≡ old

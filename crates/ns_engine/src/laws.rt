@@ -5,6 +5,7 @@ ghost use Rattle.ns_facets.specs.declared.row.Grants.{Grants};
 ghost use Rattle.ns_engine.specs.Entering.{WhatIsReachedIsEntered};
 ghost use Rattle.ns_engine.specs.Framed.{ValidIsFramed, WaitingHasRoom, ArgumentsAreFew};
 ghost use Rattle.ns_engine.specs.Moving.{ValidHasNextStep};
+ghost use Rattle.ns_engine.specs.Passing.{PassingKeepsReady, DoneIsPassed};
 ghost use Rattle.ns_engine.specs.Turning.{TurnsBegin, FreeMovesGoOn, ChargedMovesGoOn, TurnsEnd, TurnsRest};
 ghost use Rattle.ns_engine.specs.Ready.{MovesKeepReady, StepsCanBeDone, DoneIsMoved};
 
@@ -26,6 +27,17 @@ pub fn moves_keep_machines_ready()
     ensures done { (code : CodeProgram) → DoneIsMoved code }
 {
     ns_verify::laws::heights_agree();
+    ns_moves::valid_frames::moves_keep_valid();
+    ns_moves::laws::moves_go_onward();
+    ns_find::laws::lookups_stay();
+}
+
+/// The same after two moves that were made as one; and an instruction that was done behind the next step, with the move
+/// after it, is two moves.
+pub fn passing_keeps_machines_ready()
+    ensures moves { (code : CodeProgram) (grants : Grants) → PassingKeepsReady code grants }
+    ensures done { (code : CodeProgram) → DoneIsPassed code }
+{
     ns_moves::valid_frames::moves_keep_valid();
     ns_moves::laws::moves_go_onward();
     ns_find::laws::lookups_stay();

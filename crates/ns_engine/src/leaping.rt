@@ -45,6 +45,7 @@ pub fn jump(code: &CodeProgram, core: &mut Core, at: Registers, target: u32) -> 
         Led::Straight(to) => Led::Straight(to),
         Led::Charged(to) => Led::Charged(to),
         Led::On(to) => Led::On(to),
+        Led::Answered(to) => Led::Answered(to),
         Led::Nowhere => Led::Nowhere,
     }
 }
@@ -62,6 +63,7 @@ pub fn jump_false(code: &CodeProgram, core: &mut Core, at: Registers, target: u3
             Led::Straight(to) => Led::Straight(to),
             Led::Charged(to) => Led::Charged(to),
             Led::On(to) => Led::On(to),
+            Led::Answered(to) => Led::Answered(to),
             Led::Nowhere => Led::Nowhere,
         },
         Value::True => Led::Straight(below),
@@ -82,6 +84,7 @@ pub fn jump_true(code: &CodeProgram, core: &mut Core, at: Registers, target: u32
             Led::Straight(to) => Led::Straight(to),
             Led::Charged(to) => Led::Charged(to),
             Led::On(to) => Led::On(to),
+            Led::Answered(to) => Led::Answered(to),
             Led::Nowhere => Led::Nowhere,
         },
         Value::False => Led::Straight(below),

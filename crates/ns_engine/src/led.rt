@@ -6,12 +6,14 @@ ghost use Rattle.ns_engine.specs.Tried as spec;
 use ns_frames::registers::Registers;
 
 /// Straight on: the body that runs stays on top, and no step was charged. Charged: it stays on top too, and one step was.
-/// On, with the frame that is topmost then. Or nowhere: nothing was done.
+/// On, with the frame that is topmost then. Answered: on too, where a method of the kernel that was sent for has answered at
+/// once, which are two moves. Or nowhere: nothing was done.
 #[derive(Clone, Copy)]
 pub enum Led {
     Straight(Registers),
     Charged(Registers),
     On(Registers),
+    Answered(Registers),
     Nowhere,
 }
 

@@ -2,7 +2,7 @@
 use Rattle.std.specs.Prelude.{◌≡◌, ℕ, ◌∷◌, List, Option, Some}
 use Rattle.ns_code.specs.declared.program.CodeProgram.{CodeProgram}
 use Rattle.ns_code.specs.Selector.{selector_text}
-use Rattle.ns_world.specs.declared.kernel.KernelRow.TheVariants.{Integer}
+use Rattle.ns_world.specs.declared.kernel.KernelRow.TheVariants.{Boolean, Integer}
 use Rattle.ns_world.specs.declared.kernel.Start.{Start}
 use Rattle.ns_world.specs.declared.kernel.Start.TheVariants as start
 use Rattle.ns_world.specs.Cell.{Cell}
@@ -16,7 +16,7 @@ use Rattle.ns_find.specs.declared.members.Side.{Side}
 use Rattle.ns_find.specs.Find.{found_from}
 use Rattle.ns_find.specs.Belonging.{Belongs}
 use Rattle.ns_find.specs.Memo.{IsRight, AddsNoRow}
-use Rattle.ns_find.specs.Rows.{spelled_row, integer_texts}
+use Rattle.ns_find.specs.Rows.{spelled_row, boolean_texts, integer_texts}
 
 -- A lookup that is kept in a lawful world is right in the cells that a change leaves.
 abbrev pub StaysRight : (Heap → Heap) → Type 0
@@ -40,3 +40,9 @@ abbrev pub IntegersFind : Heap → CodeProgram → ℕ → Sending → Type 0
 IntegersFind heap code sel kind =
     (number : ℕ) → spelled_row (selector_text code sel) 20 integer_texts ≡ Some (Kernel number)
     → found_from heap code (start.Kernel Integer) sel kind ≡ Kernel number
+
+-- A Boolean finds the row of Boolean that a selector spells.
+abbrev pub BooleansFind : Heap → CodeProgram → ℕ → Sending → Type 0
+BooleansFind heap code sel kind =
+    (number : ℕ) → spelled_row (selector_text code sel) 10 boolean_texts ≡ Some (Kernel number)
+    → found_from heap code (start.Kernel Boolean) sel kind ≡ Kernel number

@@ -16,7 +16,7 @@ ghost use Rattle.ns_find.specs.Find.{found_from, found_private, CanStart};
 ghost use Rattle.ns_find.specs.Belonging.{Belongs, factories_at};
 ghost use Rattle.ns_find.specs.Named.{FoundBy, FindsBy};
 ghost use Rattle.ns_find.specs.Memo.{IsRight};
-ghost use Rattle.ns_find.specs.Stated.{StaysRight, MakingKeepsRight, FromBelongs, IntegersFind};
+ghost use Rattle.ns_find.specs.Stated.{StaysRight, MakingKeepsRight, FromBelongs, BooleansFind, IntegersFind};
 
 /// A kept lookup stays right whatever is made and written, as long as no facet and no first class
 /// of a top-level declaration is made.
@@ -57,4 +57,9 @@ pub fn what_is_found_is_named()
 /// An Integer finds the row of Integer that its selector spells, however it is sent.
 pub fn integers_find_their_rows()
     ensures { (heap : Heap) (code : CodeProgram) (sel : ℕ) (kind : Sending) → IntegersFind heap code sel kind }
+{}
+
+/// A Boolean finds the row of Boolean that its selector spells, however it is sent.
+pub fn booleans_find_their_rows()
+    ensures { (heap : Heap) (code : CodeProgram) (sel : ℕ) (kind : Sending) → BooleansFind heap code sel kind }
 {}

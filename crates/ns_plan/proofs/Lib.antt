@@ -9,5 +9,5 @@ mod Sorting
 mod Named
 mod Sending
 mod Outward
-mod IntegerRows
+mod SpelledRows
 pub mod Admitted

@@ -1,4 +1,6 @@
 pub mod Integers
+pub mod Booleans
+pub mod Spelled
 pub mod Privates
 pub mod Members
 pub mod Outers

@@ -15,6 +15,7 @@ use Rattle.ns_world.specs.World.{World}
 use Rattle.ns_find.specs.declared.found.Found.TheVariants as found
 use Rattle.ns_find.specs.declared.found.Sending.{Sending}
 use Rattle.ns_world.specs.Layout.{declaration_of, entries_of}
+use Rattle.ns_kcode.specs.declared.state.KMethod.{KMethod}
 use Rattle.ns_kint.specs.declared.row.IntRow.{IntRow}
 use Rattle.ns_send.specs.Bodies.{enclosing, locals_of, height_in, greatest_of}
 use Rattle.ns_send.specs.Control.{Progress, Activation}
@@ -26,6 +27,7 @@ use Rattle.ns_moves.specs.Steps.{steps_from}
 use Rattle.ns_moves.specs.ValidFrames.{Nothing, RunningIsValid}
 use Rattle.ns_plan.specs.declared.step.Step.{Step}
 use Rattle.ns_plan.specs.declared.step.Member.TheVariants.{Absent}
+use Rattle.ns_plan.specs.Booleans.{FindsBoolean, method_of_send}
 use Rattle.ns_plan.specs.Integers.{FindsInteger, row_of_send}
 use Rattle.ns_plan.specs.Privates.{IsAmong, found_in, member_at}
 use Rattle.ns_plan.specs.Steps.{instr_of}
@@ -89,9 +91,14 @@ PrivateSendsFind code =
     → IsUsable code activation.body b at (SendPrivate level sel argc)
     → found_at world.cells code activation (ToPrivate level) sel.0 ≢ found.Absent
 
--- An Integer finds the row of Integer that a selector names, however it is sent.
+-- An Integer finds the row of Integer that a selector spells, however it is sent.
 abbrev pub IntegersFindRows : Heap → CodeProgram → Type 0
 IntegersFindRows heap code = (sel : Sel) (kind : Sending) (row : IntRow) → row_of_send code sel ≡ Some row → FindsInteger heap code sel kind row
+
+-- A Boolean finds the method of Boolean that a selector spells, however it is sent.
+abbrev pub BooleansFindRows : Heap → CodeProgram → Type 0
+BooleansFindRows heap code =
+    (sel : Sel) (kind : Sending) (method : KMethod) → method_of_send code sel ≡ Some method → FindsBoolean heap code sel kind method
 
 -- No body has more locals and operands than the greatest frame.
 abbrev pub FramesAreWithin : CodeProgram → Type 0

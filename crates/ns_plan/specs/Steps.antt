@@ -11,8 +11,8 @@ use Rattle.ns_find.specs.declared.found.Sending.TheVariants.{Plain, Inner}
 use Rattle.ns_moves.specs.Steps as moves
 use Rattle.ns_plan.specs.declared.step.Step.{Step}
 use Rattle.ns_plan.specs.declared.step.Step.TheVariants.{PushNil, PushTrue, PushFalse, PushInt, PushSym, PushText, PushSelf, PushOuter, PushLocal, StoreLocal, PushBlock, MakeArray, Pop, Pick, Send, SendPrivate, SendSuper, InitSuper, StoreSlot, Return, ReturnSelf, ReturnHome, Jump, JumpFalse, JumpTrue}
-use Rattle.ns_plan.specs.Integers.{row_of_send}
 use Rattle.ns_plan.specs.Privates.{member_at}
+use Rattle.ns_plan.specs.Spelled.{spelled_by}
 
 -- the number of no place
 abbrev pub no_place : ℕ
@@ -39,8 +39,8 @@ step_of code body place (instr.PushBlock block) = PushBlock block
 step_of code body place (instr.MakeArray count) = MakeArray count
 step_of code body place instr.Pop = Pop
 step_of code body place (instr.Pick number) = Pick number
-step_of code body place (instr.Send sel argc) = Send sel argc Plain place (row_of_send code sel)
-step_of code body place (instr.SendInner sel argc) = Send sel argc Inner place (row_of_send code sel)
+step_of code body place (instr.Send sel argc) = Send sel argc Plain place (spelled_by code sel)
+step_of code body place (instr.SendInner sel argc) = Send sel argc Inner place (spelled_by code sel)
 step_of code body place (instr.SendPrivate level sel argc) = SendPrivate level sel argc place (member_at code body level sel)
 step_of code body place (instr.SendSuper sel argc) = SendSuper sel argc place
 step_of code body place (instr.InitSuper argc) = InitSuper argc place
@@ -123,8 +123,9 @@ place_of places other = None
 abbrev pub step_shown : List SourcePlace → Step → moves.Step
 step_shown places step = (instr_of step, place_of places step)
 
--- A private send has the private member of the declaration around the body that it names, and a send to a value the row of Integer.
+-- A private send has the private member of the declaration around the body that it names, and a send to a value the row that
+-- its selector spells.
 abbrev pub HasItsMember : CodeProgram → BodyCode → Step → Type 0
-HasItsMember code body (Send sel argc kind place row) = row ≡ row_of_send code sel
+HasItsMember code body (Send sel argc kind place row) = row ≡ spelled_by code sel
 HasItsMember code body (SendPrivate level sel argc place member) = member ≡ member_at code body level sel
 HasItsMember code body other = Unit {0}

@@ -1,2 +1,3 @@
 -- Laws of these definitions, for the crates above.
+pub mod Spelled
 pub mod Steps

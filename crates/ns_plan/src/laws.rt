@@ -2,9 +2,9 @@
 
 ghost use Rattle.ns_code.specs.declared.program.CodeProgram.{CodeProgram};
 ghost use Rattle.ns_world.specs.Heap.{Heap};
-ghost use Rattle.ns_plan.specs.Stated.{BodiesBegin, StepsGoOn, JumpsLand, StepsAreUsable, RunningHasStep, MembersAreFound, MembersAreEntries, PrivateSendsHaveMembers, PrivateSendsFind, IntegersFindRows, FramesAreWithin};
+ghost use Rattle.ns_plan.specs.Stated.{BodiesBegin, StepsGoOn, JumpsLand, StepsAreUsable, RunningHasStep, MembersAreFound, MembersAreEntries, PrivateSendsHaveMembers, PrivateSendsFind, IntegersFindRows, BooleansFindRows, FramesAreWithin};
 
-use ns_find::laws::integers_find_their_rows;
+use ns_find::laws::{booleans_find_their_rows, integers_find_their_rows};
 use ns_send::finding::enclosing_objects_are_there;
 use ns_verify::laws::{heights_agree, sound_code_has_no_cause, sound_instructions_are_usable};
 
@@ -52,6 +52,13 @@ pub fn integers_find_rows()
     ensures { (heap : Heap) (code : CodeProgram) → IntegersFindRows heap code }
 {
     integers_find_their_rows();
+}
+
+/// What a Boolean finds is the method of Boolean that was found for the send when the code was prepared, where one was.
+pub fn booleans_find_rows()
+    ensures { (heap : Heap) (code : CodeProgram) → BooleansFindRows heap code }
+{
+    booleans_find_their_rows();
 }
 
 /// No body has more locals and operands than the greatest frame.

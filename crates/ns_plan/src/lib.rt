@@ -2,7 +2,6 @@
 #![tactic(auto)]
 
 mod index;
-mod integers;
 pub mod laws;
 mod making;
 mod members;
@@ -10,5 +9,6 @@ mod outers;
 pub mod plan;
 mod privates;
 pub mod row;
+mod spelled;
 pub mod step;
 mod steps;

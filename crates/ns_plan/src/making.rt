@@ -5,12 +5,12 @@ ghost use Rattle.ns_code.specs.Fits.{BodyFits};
 ghost use Rattle.ns_plan.specs.Steps.{no_place, places_in};
 ghost use Rattle.ns_plan.specs.Rows.{row_of};
 ghost use Rattle.ns_plan.specs.Making.{IsAdded, SendsAName};
-ghost use Rattle.ns_plan.specs.Integers.{AreRowsOf};
+ghost use Rattle.ns_plan.specs.Spelled.{AreRowsOf};
 ghost use Rattle.ns_plan.specs.Members.{ArePrivatesOf};
 
-use crate::integers::IntegerRows;
 use crate::members::Privates;
 use crate::row::Row;
+use crate::spelled::SpelledRows;
 use crate::step::{NO_PLACE, Step};
 use crate::steps::add_steps;
 use ns_base::no_memory::NoMemory;
@@ -49,7 +49,7 @@ impl Draft {
         &mut self,
         code: &CodeProgram,
         privates: &Privates,
-        rows: &IntegerRows,
+        rows: &SpelledRows,
         body: &BodyCode,
     ) -> Result<(), NoMemory>
         requires privates { ArePrivatesOf code.now privates.now }

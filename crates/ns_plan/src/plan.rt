@@ -10,10 +10,10 @@ ghost use Rattle.ns_plan.specs.Rows.{entry_of, IsRowOf};
 ghost use Rattle.ns_plan.specs.Steps.{places_of};
 ghost use Rattle.ns_send.specs.Bodies.{greatest_of};
 
-use crate::integers::IntegerRows;
 use crate::making::Draft;
 use crate::members::Privates;
 use crate::row::Row;
+use crate::spelled::SpelledRows;
 use crate::step::Step;
 use ns_base::items::Items;
 use ns_base::no_memory::NoMemory;
@@ -45,7 +45,7 @@ impl Plan {
         let code = verified.code();
         let selectors = SelectorTable::new(alloc, code)?;
         let privates = Privates::new(alloc, code)?;
-        let rows = IntegerRows::new(alloc, code)?;
+        let rows = SpelledRows::new(alloc, code)?;
         sound_instructions_are_usable();
         let mut draft = Draft::new(alloc);
         'bodies: for body in code.bodies.as_slice() {

@@ -2,6 +2,7 @@
 
 use ns_base::selector::Sel;
 use ns_find::found::Sending;
+use ns_kcode::state::KMethod;
 use ns_kint::row::IntRow;
 
 /// A private member of a declaration: a method by its body, the getter or the setter of a slot by the number of the
@@ -16,9 +17,17 @@ pub enum Member {
     Absent,
 }
 
+/// The row of the kernel that a selector spells: one of Integer, which an Integer finds, or a method of Boolean, which a
+/// Boolean finds. Whether the receiver is one is not known before it is sent.
+#[derive(Clone, Copy)]
+pub enum SpelledRow {
+    Integer(IntRow),
+    Boolean(KMethod),
+}
+
 /// One step of a body, which is an instruction. A send and the start of a superclass part have the number of their
 /// place among all places of the code, `NO_PLACE` where they have none. A private send has its member too, and a send
-/// to a value the row of Integer that its selector names, which an Integer finds.
+/// to a value the row of Integer or of Boolean that its selector spells.
 #[derive(Clone, Copy)]
 pub enum Step {
     PushNil,
@@ -46,7 +55,7 @@ pub enum Step {
         argc: u8,
         kind: Sending,
         place: u32,
-        row: Option<IntRow>,
+        row: Option<SpelledRow>,
     },
     SendPrivate {
         level: u8,

@@ -5,12 +5,12 @@ ghost use Rattle.ns_plan.specs.declared.step.Step.TheVariants as made;
 ghost use Rattle.ns_plan.specs.Members.{ArePrivatesOf};
 ghost use Rattle.ns_plan.specs.Privates.{member_at};
 ghost use Rattle.ns_plan.specs.Steps as spec;
-ghost use Rattle.ns_plan.specs.Integers.{AreRowsOf, row_of_send};
+ghost use Rattle.ns_plan.specs.Spelled.{AreRowsOf, spelled_by};
 ghost use Rattle.ns_plan.specs.Making.{AreFrom, SendsAName, number_at, behind};
 
-use crate::integers::IntegerRows;
 use crate::members::Privates;
 use crate::privates::member_at;
+use crate::spelled::SpelledRows;
 use crate::step::{NO_PLACE, Step};
 use ns_base::no_memory::NoMemory;
 use ns_base::place::Place;
@@ -25,7 +25,7 @@ pub fn add_steps(
     steps: &mut Vec<Step>,
     code: &CodeProgram,
     privates: &Privates,
-    rows: &IntegerRows,
+    rows: &SpelledRows,
     body: &BodyCode,
     first: u32,
 ) -> Result<(), NoMemory>
@@ -80,7 +80,7 @@ fn behind(left: &[(u32, Place)], at: u32) -> &[(u32, Place)]
 fn step_of(
     code: &CodeProgram,
     privates: &Privates,
-    rows: &IntegerRows,
+    rows: &SpelledRows,
     body: &BodyCode,
     place: u32,
     instr: Instr,
@@ -122,17 +122,17 @@ fn step_of(
     }
 }
 
-/// A send to a value, with the row of Integer that its selector names.
+/// A send to a value, with the row of Integer or of Boolean that its selector spells.
 fn send(
     code: &CodeProgram,
-    rows: &IntegerRows,
+    rows: &SpelledRows,
     kind: Sending,
     sel: Sel,
     argc: u8,
     place: u32,
 ) -> Step
     requires { AreRowsOf code.now rows.now }
-    ensures { result ≡ made.Send sel argc kind place (row_of_send code.now sel) }
+    ensures { result ≡ made.Send sel argc kind place (spelled_by code.now sel) }
 {
     Step::Send {
         sel,

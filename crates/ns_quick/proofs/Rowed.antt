@@ -1,6 +1,7 @@
--- The row of a send in the body that runs.
+-- The row of a send in the body that runs, and what was tried by it.
 use Rattle.std.proofs.Common.{◌≡◌, List, [], ◌∷◌, take, refl, Option, Some, None}
 use Rattle.std.specs.Prelude.{slice_get, IsSome}
+use Rattle.ns_base.specs.declared.place.Place.{Place as SourcePlace}
 use Rattle.ns_code.specs.declared.body.BodyCode.{BodyCode}
 use Rattle.ns_code.specs.declared.program.CodeProgram.{CodeProgram}
 use Rattle.ns_code.specs.declared.instruction.Instr.{Instr}
@@ -13,7 +14,10 @@ use Rattle.ns_plan.specs.declared.step.Step.{Step}
 use Rattle.ns_engine.specs.declared.state.Core.{Core}
 use Rattle.ns_engine.specs.Shown.{progress_in}
 use Rattle.ns_engine.specs.Doing.{Finds, CanDo}
+use Rattle.ns_engine.specs.Tried.{led_charged}
 use Rattle.ns_plan.specs.Steps.{HasItsMember}
+use Rattle.ns_sends.specs.Booleans.{LeadsOrNothing}
+use Rattle.ns_sends.specs.Integers.{DoesOrNothing}
 use Rattle.ns_quick.specs.Above.{HasMemberAbove}
 
 -- A body runs, and the step has its member there.
@@ -36,3 +40,9 @@ body_above code core at instr step can above = by_frames core.stack.frames.items
     by_frames (Looping frame ∷ frames) finds above = absurd finds
     by_frames (Running frame ∷ frames) finds above =
         by_body frame (slice_get code.bodies frame.activation.body) refl finds.fits.there (λ b is. above frame frames b refl is)
+
+-- What was tried by a row leads straight on with one step charged, or nothing has changed.
+pub nothing_charged : (code : CodeProgram) (i : Instr) (place : Option SourcePlace) (old : Core) (at : Registers) (new : Core) (done : Option Registers)
+    → DoesOrNothing code i place old at new done → LeadsOrNothing code i place old at new (led_charged done)
+nothing_charged code i place old at new (Some to) does = does
+nothing_charged code i place old at new None same = same

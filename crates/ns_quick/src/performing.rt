@@ -1,18 +1,19 @@
 //! A step by the quick way.
 
 ghost use Rattle.ns_plan.specs.Steps.{instr_of, place_of, send_instr};
-ghost use Rattle.std.specs.Prelude.{◌≡◌, slice_get};
-ghost use Rattle.ns_plan.specs.Integers.{row_of_send};
+ghost use Rattle.std.specs.Prelude.{◌≡◌, Some, slice_get};
+ghost use Rattle.ns_plan.specs.Spelled.{spelled_by};
 ghost use Rattle.ns_engine.specs.Doing.{CanDo};
 ghost use Rattle.ns_engine.specs.Straight.{IsOnTop};
 ghost use Rattle.ns_engine.specs.Tried.{Leads};
+ghost use Rattle.ns_sends.specs.Booleans.{LeadsOrNothing};
 ghost use Rattle.ns_quick.specs.Above.{HasMemberAbove};
 
 use ns_base::selector::Sel;
 use ns_code::program::CodeProgram;
 use ns_engine::blocks::push_block;
 use ns_engine::leaping::{jump, jump_false, jump_true};
-use ns_engine::led::{Led, led_on, led_straight};
+use ns_engine::led::{Led, led_charged, led_on, led_straight};
 use ns_engine::locals::{push_local_of, store_local_of};
 use ns_engine::on_top::OnTop;
 use ns_engine::pushing::{
@@ -23,10 +24,10 @@ use ns_engine::storing::store_slot;
 use ns_engine::taking::{pick, pop};
 use ns_find::found::Sending;
 use ns_frames::registers::Registers;
-use ns_kint::row::IntRow;
-use ns_plan::step::Step;
+use ns_plan::step::{SpelledRow, Step};
 use ns_returns::answering::{return_self, return_value};
 use ns_returns::unwinding::return_home;
+use ns_sends::booleans::send_boolean;
 use ns_sends::giving::{send, send_inner};
 use ns_sends::integers::send_integer;
 use ns_sends::private::send_private;
@@ -83,8 +84,7 @@ pub fn perform(code: &CodeProgram, core: &mut Core, at: Registers, top: OnTop, s
     }
 }
 
-/// Sends to the operand below the arguments: to an Integer by the row that its step has, which goes straight on, else by what is
-/// found.
+/// Sends to the operand below the arguments: to an Integer or a Boolean by the row that its step has, else by what is found.
 #[inline(always)]
 fn send_as(
     code: &CodeProgram,
@@ -94,15 +94,73 @@ fn send_as(
     argc: u8,
     kind: Sending,
     place: u32,
-    row: Option<IntRow>,
+    row: Option<SpelledRow>,
 ) -> Led
     requires can { CanDo code.now core.old at (send_instr kind sel argc) }
-    requires row { row ≡ row_of_send code.now sel }
+    requires row { row ≡ spelled_by code.now sel }
     ensures { Leads code.now (send_instr kind sel argc) (slice_get core.old.places place) core.old at core.new result }
 {
-    match send_integer(code, core, at, sel, argc, kind, place, row) {
-        Some(to) => Led::Charged(to),
-        None => send_found(code, core, at, sel, argc, kind, place),
+    match send_spelled(code, core, at, sel, argc, kind, place, row) {
+        Led::Straight(to) => Led::Straight(to),
+        Led::Charged(to) => Led::Charged(to),
+        Led::On(to) => Led::On(to),
+        Led::Answered(to) => Led::Answered(to),
+        Led::Nowhere => send_found(code, core, at, sel, argc, kind, place),
+    }
+}
+
+/// Sends by the row that the selector spells, if it spells one, where the receiver finds it and that does the send; else
+/// nothing has changed.
+#[inline(always)]
+fn send_spelled(
+    code: &CodeProgram,
+    core: &mut Core,
+    at: Registers,
+    sel: Sel,
+    argc: u8,
+    kind: Sending,
+    place: u32,
+    row: Option<SpelledRow>,
+) -> Led
+    requires can { CanDo code.now core.old at (send_instr kind sel argc) }
+    requires row { row ≡ spelled_by code.now sel }
+    ensures { LeadsOrNothing code.now (send_instr kind sel argc) (slice_get core.old.places place) core.old at core.new result }
+{
+    match row {
+        Some(row) => send_row(code, core, at, sel, argc, kind, place, row),
+        None => Led::Nowhere,
+    }
+}
+
+/// The same by that row.
+#[inline(always)]
+#[tactic(auto, using(crate::proofs::Rowed::nothing_charged, ns_plan::specs::laws::Spelled::integer_spelled))]
+fn send_row(
+    code: &CodeProgram,
+    core: &mut Core,
+    at: Registers,
+    sel: Sel,
+    argc: u8,
+    kind: Sending,
+    place: u32,
+    row: SpelledRow,
+) -> Led
+    requires can { CanDo code.now core.old at (send_instr kind sel argc) }
+    requires row { spelled_by code.now sel ≡ Some row }
+    ensures { LeadsOrNothing code.now (send_instr kind sel argc) (slice_get core.old.places place) core.old at core.new result }
+{
+    match row {
+        SpelledRow::Integer(row) => led_charged(send_integer(
+            code,
+            core,
+            at,
+            sel,
+            argc,
+            kind,
+            place,
+            Some(row),
+        )),
+        SpelledRow::Boolean(method) => send_boolean(code, core, at, sel, argc, kind, place, method),
     }
 }
 

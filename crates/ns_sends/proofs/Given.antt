@@ -15,7 +15,7 @@ use Rattle.ns_frames.specs.declared.registers.Registers.{Registers}
 use Rattle.ns_frames.specs.Stack.{stood, with_top}
 use Rattle.ns_frames.specs.View.{site_shown, frames_shown}
 use Rattle.ns_engine.specs.declared.led.Led.{Led}
-use Rattle.ns_engine.specs.declared.led.Led.TheVariants.{Straight, Charged, On as OnTop, Nowhere}
+use Rattle.ns_engine.specs.declared.led.Led.TheVariants.{Straight, Charged, On as OnTop, Answered, Nowhere}
 use Rattle.ns_engine.specs.declared.state.Core.{Core}
 use Rattle.ns_engine.specs.declared.state.Next.{Next}
 use Rattle.ns_engine.specs.declared.state.Next.TheVariants.{On}
@@ -99,4 +99,5 @@ kept_leads code core new at sent receiver kind run (Charged to) rest is =
     (λ activation. kept_sends code core new at sent run activation (To receiver kind) (On to) rest (is.0 activation), kept_on_top 1 core new run rest is.1)
 kept_leads code core new at sent receiver kind run (OnTop to) rest is =
     λ activation. kept_sends code core new at sent run activation (To receiver kind) (On to) rest (is activation)
+kept_leads code core new at sent receiver kind run (Answered to) rest is = is
 kept_leads code core new at sent receiver kind run Nowhere rest is = kept_untouched code core new run rest is

@@ -19,3 +19,4 @@ pub mod Members
 pub mod Begun
 pub mod IntegerSends
 pub mod Privately
+pub mod BooleanSends

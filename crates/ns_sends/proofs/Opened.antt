@@ -89,7 +89,7 @@ none_else code site values (reached.Evaluates block given) progress none is = is
 none_else code site values (reached.Begins method state) progress none is = is
 none_else code site values (reached.Performs receiver sel array) progress none is = is
 
-depth_fits : (world : World) → world.depth < world.limits.depth → entered world ≡ Some (record world { depth = world.depth + 1 })
+pub depth_fits : (world : World) → world.depth < world.limits.depth → entered world ≡ Some (record world { depth = world.depth + 1 })
 depth_fits world low =
     ap (λ (b : Bool). if b then Some (let w : World = record world { depth = world.depth + 1 } in w) else None) (lt-ltb world.depth world.limits.depth low)
 

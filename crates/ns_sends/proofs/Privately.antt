@@ -12,7 +12,7 @@ use Rattle.ns_frames.specs.declared.registers.Registers.{Registers}
 use Rattle.ns_frames.specs.Stated.{AreTaken}
 use Rattle.ns_frames.specs.Standing.{below}
 use Rattle.ns_engine.specs.declared.led.Led.{Led}
-use Rattle.ns_engine.specs.declared.led.Led.TheVariants.{Straight, Charged, On as OnTop, Nowhere}
+use Rattle.ns_engine.specs.declared.led.Led.TheVariants.{Straight, Charged, On as OnTop, Answered, Nowhere}
 use Rattle.ns_engine.specs.declared.state.Core.{Core}
 use Rattle.ns_engine.specs.declared.state.Next.TheVariants.{On}
 use Rattle.ns_engine.specs.Doing.{CanDo, running_of}
@@ -45,4 +45,5 @@ private_leads taken code old new at level sel argc place class here running (Cha
     record { does = private_does taken code old new at level sel argc place class here running (On to) can top e is.0; stays = is.1 }
 private_leads taken code old new at level sel argc place class here running (OnTop to) can top e is =
     private_does taken code old new at level sel argc place class here running (On to) can top e is
+private_leads taken code old new at level sel argc place class here running (Answered to) can top e is = absurd is
 private_leads taken code old new at level sel argc place class here running Nowhere can top e is = is

@@ -25,16 +25,18 @@ use Rattle.ns_frames.specs.Stack.{stood, with_top, IsLaid}
 use Rattle.ns_frames.specs.View.{activation_shown, frames_shown}
 use Rattle.ns_frames.specs.laws.Taking.{taken_stood, taken_length}
 use Rattle.ns_engine.specs.declared.led.Led.{Led}
-use Rattle.ns_engine.specs.declared.led.Led.TheVariants.{Straight, Charged, On as OnTop, Nowhere}
+use Rattle.ns_engine.specs.declared.led.Led.TheVariants.{Straight, Charged, On as OnTop, Answered, Nowhere}
 use Rattle.ns_engine.specs.declared.state.Core.{Core}
 use Rattle.ns_engine.specs.declared.state.Next.{Next}
 use Rattle.ns_engine.specs.declared.state.Next.TheVariants.{On}
-use Rattle.ns_engine.specs.Shown.{phase_shown, progress_in, shown}
+use Rattle.ns_engine.specs.Shown.{phase_shown, progress_in}
 use Rattle.ns_engine.specs.Doing.{done, Finds, CanDo, Does}
+use Rattle.ns_engine.specs.Passing.{Passes, DoesTwice}
 use Rattle.ns_engine.specs.Tried.{Leads}
 use Rattle.ns_engine.specs.laws.Pushed.{runs, one_more}
 use Rattle.ns_engine.specs.laws.Taken.{some_operand}
 use Rattle.ns_sends.specs.declared.sent.Sent.{Sent}
+use Rattle.ns_sends.specs.Booleans.{AnswersAt, AnswersToTop}
 use Rattle.ns_sends.specs.Given.{SendLeads, ToTopLeads}
 use Rattle.ns_sends.specs.Sending.{CanSend, sent_at, Sends}
 use Rattle.ns_sends.specs.Operands.{topmost, SendsOperands, SendsToTop}
@@ -119,6 +121,20 @@ module _ (code : CodeProgram) (core : Core) (at : Registers) (sel : Sel) (argc :
     leads_to_top place class kind new (Charged to) same is = (sends_to_top place class kind new (On to) same is.0, is.1)
     leads_to_top place class kind new (OnTop to) same is = sends_to_top place class kind new (On to) same is
     leads_to_top place class kind new Nowhere same is = is
+    leads_to_top place class kind new (Answered to) same is = is
+
+    pub answers_to_top : (place : ℕ) (class : ClassName) (kind : Sending) (new : Core) (next : Next) → under ≡ stood core.stack (with_top (at.top - argc - 1) at)
+        → ((activation : Activation) → AnswersAt code core at (at.top - argc - 1) (sent_at code core at (sent_of at argc place class sel) activation (To receiver kind)) new next)
+        → AnswersToTop code core at sel argc place kind new next
+    answers_to_top place class kind new next same answers = record {
+      receiver = receiver;
+      under = under;
+      is = whole;
+      many = many;
+      passes = λ activation. subst (λ (s : List Stood). Passes code
+          (arrived code (phase_shown core.phase) (sent_at code core at (sent_of at argc place class sel) activation (To receiver kind)) (frames_shown code core.places s))
+          core new next) (sym same) (answers activation);
+    }
 
 -- ---- the instructions
 
@@ -167,57 +183,76 @@ DoesSend code old instr place sel values receiver kind =
     (frames_shown code old.places (Runs frame locals stack ∷ others))
     ≡ done code old.places (phase_shown old.phase) instr place (pushed_all values (pushed receiver (Runs frame locals stack ∷ others))) (progress_in old)
 
-top_does : (code : CodeProgram) (old new : Core) (at : Registers) (instr : Instr) (sel : Sel) (argc place : ℕ) (kind : Sending) (next : Next) → CanDo code old at instr
-    → (is : SendsToTop code old at sel argc place kind new next) → DoesSend code old instr (slice_get old.places place) sel (topmost old at argc) is.receiver kind
-    → Does code instr (slice_get old.places place) old at new next
-top_does code old new at instr sel argc place kind next can is does = record {
-  state = by_stood is.under (subst (λ (s : List Stood). Finds code old.places instr s (progress_in old)) is.is can.finds) (λ activation. is.state activation)
-      ∙ ap (λ (s : List Stood). done code old.places (phase_shown old.phase) instr (slice_get old.places place) s (progress_in old)) (sym is.is);
-  stand = is.stand;
-  stays = is.stays;
-  kept = is.kept;
-}
-  where
-    by_stood : (under : List Stood) → Finds code old.places instr (pushed_all (topmost old at argc) (pushed is.receiver under)) (progress_in old)
-        → ((activation : Activation) → shown code new next ≡
-        arrived code (phase_shown old.phase) (sent code activation (To is.receiver kind) sel (topmost old at argc) (slice_get old.places place) (progress_in old))
-        (frames_shown code old.places under))
-        → shown code new next
-        ≡ done code old.places (phase_shown old.phase) instr (slice_get old.places place) (pushed_all (topmost old at argc) (pushed is.receiver under)) (progress_in old)
-    by_stood [] finds state = absurd finds
-    by_stood (Loops frame ∷ s) finds state = absurd finds
-    by_stood (Runs frame locals stack ∷ s) finds state = state (activation_shown old.places frame.activation) ∙ does frame locals stack s
+-- code runs by which the instruction is such a send
+record IsSentBy (code : CodeProgram) (old : Core) (instr : Instr) (place : Option SourcePlace) (sel : Sel) (values : List Value) (receiver : Value) (kind : Sending)
+    (under : List Stood) : Type 0 where
+  pub activation : Activation
+  pub is : arrived code (phase_shown old.phase) (sent code activation (To receiver kind) sel values place (progress_in old)) (frames_shown code old.places under)
+      ≡ done code old.places (phase_shown old.phase) instr place (pushed_all values (pushed receiver under)) (progress_in old)
 
-pub send_does : ((missing : State) → AreTaken missing) → (code : CodeProgram) (old new : Core) (at : Registers) (sel : Sel) (argc place : ℕ) (next : Next)
-    → CanDo code old at (instr.Send sel argc) → SendsToTop code old at sel argc place Plain new next → Does code (instr.Send sel argc) (slice_get old.places place) old at new next
-send_does taken code old new at sel argc place next can is =
-    top_does code old new at (instr.Send sel argc) sel argc place Plain next can is
-    (λ frame locals stack others.
+sent_by : (code : CodeProgram) (old : Core) (instr : Instr) (place : Option SourcePlace) (sel : Sel) (values : List Value) (receiver : Value) (kind : Sending)
+    (under : List Stood) → Finds code old.places instr (pushed_all values (pushed receiver under)) (progress_in old)
+    → DoesSend code old instr place sel values receiver kind → IsSentBy code old instr place sel values receiver kind under
+sent_by code old instr place sel values receiver kind [] finds does = absurd finds
+sent_by code old instr place sel values receiver kind (Loops frame ∷ s) finds does = absurd finds
+sent_by code old instr place sel values receiver kind (Runs frame locals stack ∷ s) finds does =
+    record { activation = activation_shown old.places frame.activation; is = does frame locals stack s }
+
+-- each kind of instruction is
+send_is : ((missing : State) → AreTaken missing) → (code : CodeProgram) (old : Core) (at : Registers) (sel : Sel) (argc : ℕ) (place : Option SourcePlace)
+    (receiver : Value) (kind : Sending) → length (topmost old at argc) ≡ argc
+    → DoesSend code old (send_instr kind sel argc) place sel (topmost old at argc) receiver kind
+send_is taken code old at sel argc place receiver Plain many frame locals stack others =
     subst (λ (n : ℕ). arrived code (phase_shown old.phase)
-    (sent code (activation_shown old.places frame.activation) (To is.receiver Plain) sel (topmost old at argc) (slice_get old.places place) (progress_in old))
+    (sent code (activation_shown old.places frame.activation) (To receiver Plain) sel (topmost old at argc) place (progress_in old))
     (frames_shown code old.places (Runs frame locals stack ∷ others))
-    ≡ done code old.places (phase_shown old.phase) (instr.Send sel n) (slice_get old.places place)
-    (pushed_all (topmost old at argc) (pushed is.receiver (Runs frame locals stack ∷ others))) (progress_in old)) is.many
-    (sym (taken (Stuck (progress_in old)) (topmost old at argc) (is.receiver ∷ stack) _)))
-
-pub inner_does : ((missing : State) → AreTaken missing) → (code : CodeProgram) (old new : Core) (at : Registers) (sel : Sel) (argc place : ℕ) (next : Next)
-    → CanDo code old at (instr.SendInner sel argc) → SendsToTop code old at sel argc place Inner new next
-    → Does code (instr.SendInner sel argc) (slice_get old.places place) old at new next
-inner_does taken code old new at sel argc place next can is =
-    top_does code old new at (instr.SendInner sel argc) sel argc place Inner next can is
-    (λ frame locals stack others.
+    ≡ done code old.places (phase_shown old.phase) (instr.Send sel n) place
+    (pushed_all (topmost old at argc) (pushed receiver (Runs frame locals stack ∷ others))) (progress_in old)) many
+    (sym (taken (Stuck (progress_in old)) (topmost old at argc) (receiver ∷ stack) _))
+send_is taken code old at sel argc place receiver Inner many frame locals stack others =
     subst (λ (n : ℕ). arrived code (phase_shown old.phase)
-    (sent code (activation_shown old.places frame.activation) (To is.receiver Inner) sel (topmost old at argc) (slice_get old.places place) (progress_in old))
+    (sent code (activation_shown old.places frame.activation) (To receiver Inner) sel (topmost old at argc) place (progress_in old))
     (frames_shown code old.places (Runs frame locals stack ∷ others))
-    ≡ done code old.places (phase_shown old.phase) (instr.SendInner sel n) (slice_get old.places place)
-    (pushed_all (topmost old at argc) (pushed is.receiver (Runs frame locals stack ∷ others))) (progress_in old)) is.many
-    (sym (taken (Stuck (progress_in old)) (topmost old at argc) (is.receiver ∷ stack) _)))
+    ≡ done code old.places (phase_shown old.phase) (instr.SendInner sel n) place
+    (pushed_all (topmost old at argc) (pushed receiver (Runs frame locals stack ∷ others))) (progress_in old)) many
+    (sym (taken (Stuck (progress_in old)) (topmost old at argc) (receiver ∷ stack) _))
 
-pub kind_does : ((missing : State) → AreTaken missing) → (code : CodeProgram) (old new : Core) (at : Registers) (sel : Sel) (argc place : ℕ) (kind : Sending) (next : Next)
-    → CanDo code old at (send_instr kind sel argc) → SendsToTop code old at sel argc place kind new next
-    → Does code (send_instr kind sel argc) (slice_get old.places place) old at new next
-kind_does taken code old new at sel argc place Plain next can is = send_does taken code old new at sel argc place next can is
-kind_does taken code old new at sel argc place Inner next can is = inner_does taken code old new at sel argc place next can is
+module _ (taken : (missing : State) → AreTaken missing) (code : CodeProgram) (old new : Core) (at : Registers) (sel : Sel) (argc place : ℕ) where
+  module _ (kind : Sending) (can : CanDo code old at (send_instr kind sel argc)) (receiver : Value) (under : List Stood)
+      (is : stood old.stack at ≡ pushed_all (topmost old at argc) (pushed receiver under)) (many : length (topmost old at argc) ≡ argc) where
+    by : IsSentBy code old (send_instr kind sel argc) (slice_get old.places place) sel (topmost old at argc) receiver kind under
+    by = sent_by code old (send_instr kind sel argc) (slice_get old.places place) sel (topmost old at argc) receiver kind under
+        (subst (λ (s : List Stood). Finds code old.places (send_instr kind sel argc) s (progress_in old)) is can.finds)
+        (send_is taken code old at sel argc (slice_get old.places place) receiver kind many)
+
+    leads_so : arrived code (phase_shown old.phase) (sent code by.activation (To receiver kind) sel (topmost old at argc) (slice_get old.places place) (progress_in old))
+        (frames_shown code old.places under)
+        ≡ done code old.places (phase_shown old.phase) (send_instr kind sel argc) (slice_get old.places place) (stood old.stack at) (progress_in old)
+    leads_so = by.is
+        ∙ ap (λ (s : List Stood). done code old.places (phase_shown old.phase) (send_instr kind sel argc) (slice_get old.places place) s (progress_in old)) (sym is)
+
+  pub kind_does : (kind : Sending) (next : Next) → CanDo code old at (send_instr kind sel argc) → SendsToTop code old at sel argc place kind new next
+      → Does code (send_instr kind sel argc) (slice_get old.places place) old at new next
+  kind_does kind next can is = record {
+    state = is.state (by kind can is.receiver is.under is.is is.many).activation ∙ leads_so kind can is.receiver is.under is.is is.many;
+    stand = is.stand;
+    stays = is.stays;
+    kept = is.kept;
+  }
+
+  pub send_does : (next : Next) → CanDo code old at (instr.Send sel argc) → SendsToTop code old at sel argc place Plain new next
+      → Does code (instr.Send sel argc) (slice_get old.places place) old at new next
+  send_does next can is = kind_does Plain next can is
+
+  pub inner_does : (next : Next) → CanDo code old at (instr.SendInner sel argc) → SendsToTop code old at sel argc place Inner new next
+      → Does code (instr.SendInner sel argc) (slice_get old.places place) old at new next
+  inner_does next can is = kind_does Inner next can is
+
+  pub kind_answers : (kind : Sending) (next : Next) → CanDo code old at (send_instr kind sel argc) → AnswersToTop code old at sel argc place kind new next
+      → DoesTwice code (send_instr kind sel argc) (slice_get old.places place) old at new next
+  kind_answers kind next can is =
+      subst (λ (between : State). Passes code between old new next) (leads_so kind can is.receiver is.under is.is is.many)
+      (is.passes (by kind can is.receiver is.under is.is is.many).activation)
 
 -- Where it leads, the instruction leads.
 pub kind_leads : ((missing : State) → AreTaken missing) → (code : CodeProgram) (old new : Core) (at : Registers) (sel : Sel) (argc place : ℕ) (kind : Sending) (led : Led)
@@ -229,3 +264,4 @@ kind_leads taken code old new at sel argc place kind (Charged to) can is =
     record { does = kind_does taken code old new at sel argc place kind (On to) can is.0; stays = is.1 }
 kind_leads taken code old new at sel argc place kind (OnTop to) can is = kind_does taken code old new at sel argc place kind (On to) can is
 kind_leads taken code old new at sel argc place kind Nowhere can is = is
+kind_leads taken code old new at sel argc place kind (Answered to) can is = absurd is

@@ -35,11 +35,12 @@ use Rattle.ns_engine.specs.declared.state.Core.{Core}
 use Rattle.ns_engine.specs.declared.state.Next.{Next}
 use Rattle.ns_engine.specs.declared.state.Next.TheVariants as next
 use Rattle.ns_engine.specs.Shown.{phase_shown, progress_in}
-use Rattle.ns_engine.specs.Standing.{HasRooms}
+use Rattle.ns_engine.specs.Standing.{HasRooms, Stays, KeepsRightIn}
 use Rattle.ns_engine.specs.laws.Charged.{step_is}
 use Rattle.ns_engine.specs.laws.Pushed.{ended_stays}
 use Rattle.ns_engine.specs.laws.Worlds.{in_other}
 use Rattle.ns_sends.specs.declared.sent.Sent.{Sent}
+use Rattle.ns_sends.specs.Booleans.{AnswersAt}
 use Rattle.ns_sends.specs.Going.{arguments_in, GoesOn, IsLeft, answered_at, CanAnswer, Leads}
 use Rattle.ns_sends.specs.Sending.{CanSend, looked_up, sent_at, Sends}
 use Rattle.ns_sends.proofs.Goes.{SendsKnown, send_goes}
@@ -129,6 +130,24 @@ step_goes known steps code core at sent receiver activation target world e to fi
     (send_goes known code activation target sent.site.sel (arguments_in core at sent) (site_shown core.places sent.site).place (length core.stack.frames.items)
     (progress_in core) can.lawful fits can.selector can.few can.depth)
 
+-- what stays after its step stays
+pub step_stays : (core new : Core) (world : WorldView) → stepped core.run.world.world ≡ Some world.world → SameRoom core.run.world world
+    → Stays (in_other core world) new → Stays core new
+step_stays core new world e room stays = record {
+  world = record {
+    limits = stays.world.limits ∙ ap (λ (w : World). w.limits) (step_is core.run.world.world world.world e);
+    room = (stays.world.room.0 ∙ room.0, stays.world.room.1 ∙ room.1);
+  };
+  values = stays.values;
+  frames = stays.frames;
+  places = stays.places;
+}
+
+pub step_kept : (code : CodeProgram) (core new : Core) (world : WorldView) → stepped core.run.world.world ≡ Some world.world
+    → KeepsRightIn code (in_other core world) new → KeepsRightIn code core new
+step_kept code core new world e kept =
+    subst (λ (h : Heap). All (IsRight h code) new.run.memo) (ap (λ (w : World). w.cells) (step_is core.run.world.world world.world e)) kept
+
 -- with the step it is the send
 pub step_sends : StepAndAnswer → (code : CodeProgram) (core new : Core) (at : Registers) (sent : Sent) (receiver : Value) (activation : Activation) (target : Target)
     (world : WorldView) (next : Next) → stepped core.run.world.world ≡ Some world.world → SameRoom core.run.world world
@@ -140,20 +159,27 @@ step_sends steps code core new at sent receiver activation target world next e r
       ∙ ap (λ (c : Control). arrived code (phase_shown core.phase) c (frames_shown code core.places (stood core.stack (with_top sent.floor at))))
       (sym (sent_stepped steps code core at sent receiver activation target world e to can.named));
   stand = is.stand;
-  stays = record {
-    world = record {
-      limits = is.stays.world.limits ∙ ap (λ (w : World). w.limits) same;
-      room = (is.stays.world.room.0 ∙ room.0, is.stays.world.room.1 ∙ room.1);
-    };
-    values = is.stays.values;
-    frames = is.stays.frames;
-    places = is.stays.places;
-  };
-  kept = subst (λ (h : Heap). All (IsRight h code) new.run.memo) (ap (λ (w : World). w.cells) same) is.kept;
+  stays = step_stays core new world e room is.stays;
+  kept = step_kept code core new world e is.kept;
 }
-  where
-    same : world.world ≡ record core.run.world.world { steps = core.run.world.world.steps + 1 }
-    same = step_is core.run.world.world world.world e
+
+-- and so it is where the move after it is made too
+pub step_answers : StepAndAnswer → (code : CodeProgram) (core new : Core) (at : Registers) (sent : Sent) (receiver : Value) (activation : Activation) (target : Target)
+    (world : WorldView) (next : Next) → stepped core.run.world.world ≡ Some world.world → SameRoom core.run.world world
+    → receiver_of core.run.world.world.cells activation target ≡ receiver → CanSend code core at sent receiver
+    → AnswersAt code (in_other core world) at sent.floor (looked_up code (in_other core world) at sent activation target) new next
+    → AnswersAt code core at sent.floor (sent_at code core at sent activation target) new next
+step_answers steps code core new at sent receiver activation target world next e room to can is =
+    subst (λ (c : Control). AnswersAt code core at sent.floor c new next)
+    (sym (sent_stepped steps code core at sent receiver activation target world e to can.named))
+    (record {
+      state = is.state;
+      goes = is.goes;
+      free = is.free;
+      stand = is.stand;
+      stays = step_stays core new world e room is.stays;
+      kept = step_kept code core new world e is.kept;
+    })
 
 -- without a step left it ends the run
 pub no_step_sends : StepAndAnswer → (code : CodeProgram) (core : Core) (at : Registers) (sent : Sent) (receiver : Value) (activation : Activation) (target : Target)

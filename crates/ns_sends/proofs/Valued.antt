@@ -77,7 +77,7 @@ data_gives code heap row receiver first value is arguments site progress same ce
 -- ---- the send
 
 -- what a lookup that found a row answers
-row_looked_up : (code : CodeProgram) (core : Core) (at : Registers) (sent : Sent) (receiver : Value) (kind : Sending) (row : Row) (activation : Activation)
+pub row_looked_up : (code : CodeProgram) (core : Core) (at : Registers) (sent : Sent) (receiver : Value) (kind : Sending) (row : Row) (activation : Activation)
     → FindsRow code core sent receiver kind row
     → looked_up code core at sent activation (To receiver kind)
     ≡ row_reached code row sent.site.sel receiver (arguments_in core at sent) (site_shown core.places sent.site) (progress_in core)

@@ -8,7 +8,7 @@ use Rattle.ns_send.specs.Control.{Activation}
 use Rattle.ns_send.specs.Sends.{To}
 use Rattle.ns_frames.specs.declared.registers.Registers.{Registers}
 use Rattle.ns_engine.specs.declared.led.Led.{Led}
-use Rattle.ns_engine.specs.declared.led.Led.TheVariants.{Straight, Charged, On as OnTop, Nowhere}
+use Rattle.ns_engine.specs.declared.led.Led.TheVariants.{Straight, Charged, On as OnTop, Answered, Nowhere}
 use Rattle.ns_engine.specs.declared.state.Core.{Core}
 use Rattle.ns_engine.specs.declared.state.Next.TheVariants.{On}
 use Rattle.ns_engine.specs.Straight.{StaysOnTop}
@@ -40,6 +40,7 @@ SendLeads code old at sent receiver kind new (Straight to) = SendsOnTop 0 code o
 SendLeads code old at sent receiver kind new (Charged to) = SendsOnTop 1 code old at sent receiver kind new to
 SendLeads code old at sent receiver kind new (OnTop to) =
     (activation : Activation) → Sends code old at sent.floor (sent_at code old at sent activation (To receiver kind)) new (On to)
+SendLeads code old at sent receiver kind new (Answered to) = ⊥
 SendLeads code old at sent receiver kind new Nowhere = IsUntouched code old new
 
 -- The same of operands that are sent to the receiver below them.
@@ -47,4 +48,5 @@ abbrev pub ToTopLeads : CodeProgram → Core → Registers → Sel → ℕ → �
 ToTopLeads code old at sel argc place kind new (Straight to) = SendsToTop code old at sel argc place kind new (On to) × StaysOnTop 0 old new
 ToTopLeads code old at sel argc place kind new (Charged to) = SendsToTop code old at sel argc place kind new (On to) × StaysOnTop 1 old new
 ToTopLeads code old at sel argc place kind new (OnTop to) = SendsToTop code old at sel argc place kind new (On to)
+ToTopLeads code old at sel argc place kind new (Answered to) = ⊥
 ToTopLeads code old at sel argc place kind new Nowhere = IsUntouched code old new

@@ -1,6 +1,7 @@
 pub mod Going
 pub mod Given
 pub mod Integers
+pub mod Booleans
 pub mod Looping
 pub mod Opening
 pub mod Rows

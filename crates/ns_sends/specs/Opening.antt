@@ -26,7 +26,7 @@ use Rattle.ns_plan.specs.declared.step.Member.{Member}
 use Rattle.ns_plan.specs.Privates.{member_at}
 use Rattle.ns_frames.specs.View.{site_shown}
 use Rattle.ns_engine.specs.declared.led.Led.{Led}
-use Rattle.ns_engine.specs.declared.led.Led.TheVariants.{Straight, Charged, On as OnTop, Nowhere}
+use Rattle.ns_engine.specs.declared.led.Led.TheVariants.{Straight, Charged, On as OnTop, Answered, Nowhere}
 use Rattle.ns_engine.specs.declared.state.Core.{Core}
 use Rattle.ns_engine.specs.declared.state.Next.TheVariants.{On}
 use Rattle.ns_engine.specs.Shown.{progress_in}
@@ -96,6 +96,7 @@ AroundLeads code old at sent running level new (Charged to) =
     Sends code old at sent.floor (sent_at code old at sent (code_of running) (ToPrivate level)) new (On to) × StaysOnTop 1 old new
 AroundLeads code old at sent running level new (OnTop to) =
     Sends code old at sent.floor (sent_at code old at sent (code_of running) (ToPrivate level)) new (On to)
+AroundLeads code old at sent running level new (Answered to) = ⊥
 AroundLeads code old at sent running level new Nowhere = IsUntouched code old new
 
 -- The member is the private one of that name of the declaration so many levels out from a body.

@@ -3,6 +3,7 @@
 
 pub mod around;
 mod arriving;
+pub mod booleans;
 mod ending;
 mod entering;
 mod evaluating;

@@ -7,9 +7,11 @@ ghost use Rattle.ns_send.specs.Rows.{row_at};
 ghost use Rattle.ns_send.specs.Sends.{To};
 ghost use Rattle.ns_engine.specs.declared.state.Next.TheVariants as next;
 ghost use Rattle.ns_sends.specs.Given.{SendsOrNot};
+ghost use Rattle.ns_sends.specs.Integers.{SendsOrNothing};
 ghost use Rattle.ns_sends.specs.Looping.{CanLoop, loops};
 ghost use Rattle.ns_sends.specs.Sending.{CanSend, looked_up, Sends};
 ghost use Rattle.ns_sends.specs.Opening.{FindsKernel};
+ghost use Rattle.ns_sends.specs.Rows.{FindsRow};
 
 use crate::sent::Sent;
 use ns_act::laws::{a_send_is_its_step_and_its_answer, live_values_are_there};
@@ -49,28 +51,29 @@ pub fn send_looping(
     ensures { SendsOrNot code.now core.old at sent receiver kind core.new result }
 {
     match row_of(number) {
-        Row::Method(method) => { send_method(code, core, at, sent, receiver, kind, number, method) }
+        Row::Method(method) => match send_method(code, core, at, sent, receiver, kind, method) {
+            Some(to) => Some(to),
+            None => None,
+        },
         _ => None,
     }
 }
 
 /// The same by the method: its arguments are those that it asks for, a step is left, and the limit on depth leaves room for
-/// its frame; else nothing is done.
+/// its frame; else nothing has changed.
 #[inline(always)]
-fn send_method(
+pub fn send_method(
     code: &CodeProgram,
     core: &mut Core,
     at: Registers,
     sent: Sent,
     receiver: Value,
     kind: Sending,
-    number: u32,
     method: KMethod,
 ) -> Option<Registers>
     requires can { CanSend code.now core.old at sent receiver }
-    requires finds { FindsKernel code.now core.old sent receiver kind number }
-    requires row { row_at number ≡ row_is.Method method }
-    ensures { SendsOrNot code.now core.old at sent receiver kind core.new result }
+    requires finds { FindsRow code.now core.old sent receiver kind (row_is.Method method) }
+    ensures { SendsOrNothing code.now core.old at sent receiver kind core.new result }
 {
     a_send_is_its_step_and_its_answer();
     charging_keeps_lawful();
@@ -78,14 +81,14 @@ fn send_method(
         return None;
     }
     match core.run.world.step() {
-        Ok(()) => Some(begin(code, core, at, sent, receiver, kind, number, method)),
+        Ok(()) => Some(begin(code, core, at, sent, receiver, kind, method)),
         Err(_) => None,
     }
 }
 
 /// Whether the limit on depth leaves room for the frame of a method, and its arguments are those that it asks for.
 #[inline(always)]
-fn can_loop(
+pub fn can_loop(
     code: &CodeProgram,
     core: &Core,
     at: Registers,
@@ -118,18 +121,15 @@ fn begin(
     sent: Sent,
     receiver: Value,
     kind: Sending,
-    number: u32,
     method: KMethod,
 ) -> Registers
     requires can { CanSend code.now core.old at sent receiver }
-    requires finds { FindsKernel code.now core.old sent receiver kind number }
-    requires row { row_at number ≡ row_is.Method method }
+    requires finds { FindsRow code.now core.old sent receiver kind (row_is.Method method) }
     requires loops { CanLoop core.old at sent method }
     ensures { (activation : Activation) → Sends code.now core.old at sent.floor (looked_up code.now core.old at sent activation (To receiver kind)) core.new (next.On result) }
 {
     live_values_are_there();
     let _kind = kind;
-    let _number = number;
     let arguments = core.stack.from(at, sent.first);
     let state = beginning(
         &core.run.world,

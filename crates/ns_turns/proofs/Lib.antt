@@ -3,4 +3,5 @@ pub mod Charged
 pub mod Turned
 pub mod Resent
 pub mod Along
+pub mod Passed
 pub mod Untouched

@@ -12,6 +12,7 @@ use Rattle.ns_engine.specs.declared.state.Next.{Next}
 use Rattle.ns_engine.specs.Own.{AreOwn}
 use Rattle.ns_engine.specs.Shown.{shown}
 use Rattle.ns_engine.specs.Standing.{Stays}
+use Rattle.ns_engine.specs.Passing.{MovesTwice}
 use Rattle.ns_engine.specs.Ready.{IsReady, Moves}
 use Rattle.ns_engine.specs.Turning.{IsWithin}
 use Rattle.ns_turns.specs.Prepared.{IsPrepared, CanRun}
@@ -66,3 +67,10 @@ MovesGoAlong code =
     (plan : Plan) (sends : OwnSends) (left : ℕ) (old now new : Core) (from here next : Next)
     → GoesAlong code plan sends left old from now here → is_still (shown code old from) ≡ false → is_still (shown code now here) ≡ false
     → now.run.world.world.steps - old.run.world.world.steps < left → Moves code now here new next → HasGone code plan sends left old from new next
+
+-- So do two moves that are made as one.
+abbrev pub PassingGoesAlong : CodeProgram → Type 0
+PassingGoesAlong code =
+    (plan : Plan) (sends : OwnSends) (left : ℕ) (old now new : Core) (from here next : Next)
+    → GoesAlong code plan sends left old from now here → is_still (shown code old from) ≡ false → is_still (shown code now here) ≡ false
+    → now.run.world.world.steps - old.run.world.world.steps < left → MovesTwice code now here new next → HasGone code plan sends left old from new next

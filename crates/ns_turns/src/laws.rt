@@ -1,9 +1,9 @@
 //! Laws of turns. Each function does nothing but name the laws that it rests on, and its contract is the law.
 
 ghost use Rattle.ns_code.specs.declared.program.CodeProgram.{CodeProgram};
-ghost use Rattle.ns_turns.specs.Turning.{MovesGoAlong};
+ghost use Rattle.ns_turns.specs.Turning.{MovesGoAlong, PassingGoesAlong};
 
-use ns_engine::laws::{moves_keep_machines_ready, turns_go_by_moves};
+use ns_engine::laws::{moves_keep_machines_ready, passing_keeps_machines_ready, turns_go_by_moves};
 use ns_falling::laws::moves_lower;
 use ns_moves::laws::{moves_charge_as_told, moves_go_onward};
 use ns_moves::valid_frames::moves_keep_valid;
@@ -16,6 +16,18 @@ pub fn moves_go_along()
     moves_charge_as_told();
     moves_keep_valid();
     moves_keep_machines_ready();
+    moves_go_onward();
+    moves_lower();
+}
+
+/// Two moves that are made as one go along too, where a step was left before them: the second charges none.
+pub fn passing_goes_along()
+    ensures { (code : CodeProgram) → PassingGoesAlong code }
+{
+    turns_go_by_moves();
+    moves_charge_as_told();
+    moves_keep_valid();
+    passing_keeps_machines_ready();
     moves_go_onward();
     moves_lower();
 }

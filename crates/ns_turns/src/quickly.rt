@@ -9,7 +9,7 @@ ghost use Rattle.ns_turns.specs.Quickly.{MovesOrNot};
 
 use crate::fetching::fetch_from;
 use ns_code::program::CodeProgram;
-use ns_engine::laws::moves_keep_machines_ready;
+use ns_engine::laws::{moves_keep_machines_ready, passing_keeps_machines_ready};
 use ns_engine::led::Led;
 use ns_engine::on_top::OnTop;
 use ns_engine::state::Core;
@@ -35,6 +35,7 @@ pub fn go_quickly(
     ensures { MovesOrNot code.now core.old at core.new result }
 {
     moves_keep_machines_ready();
+    passing_keeps_machines_ready();
     let step = fetch_from(plan, code, core, at, top.body, entry);
     let behind = Registers {
         next: at.next + 1,
@@ -44,6 +45,7 @@ pub fn go_quickly(
         Led::Straight(to) => Led::Straight(to),
         Led::Charged(to) => Led::Charged(to),
         Led::On(to) => Led::On(to),
+        Led::Answered(to) => Led::Answered(to),
         Led::Nowhere => Led::Nowhere,
     }
 }

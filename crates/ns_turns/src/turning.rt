@@ -15,7 +15,7 @@ ghost use Rattle.ns_turns.specs.Turning.{RunsBy, HasGone};
 
 use crate::acting::act_along;
 use crate::charging::charges;
-use crate::laws::moves_go_along;
+use crate::laws::{moves_go_along, passing_goes_along};
 use crate::moving::{step, take_up};
 use crate::quickly::go_quickly;
 use crate::stepping::run_on;
@@ -181,6 +181,7 @@ fn go_straight(
     ensures { HasGone code.now plan.now own left core.old (next.On at) core.new result }
 {
     moves_go_along();
+    passing_goes_along();
     running_bodies_have_steps();
     let row = plan.row(code, body);
     let entry = row.entry;
@@ -201,6 +202,7 @@ fn go_straight(
                 here = to;
             }
             Led::On(to) => return Next::On(to),
+            Led::Answered(to) => return Next::On(to),
             Led::Nowhere => return as_value(go_apart(plan, code, core, here, rest, own)),
         }
     }

@@ -1,4 +1,4 @@
-use Rattle.ns_plan.proofs.IntegerRows.{integers_find}
+use Rattle.ns_plan.proofs.SpelledRows.{integers_find}
 use Rattle.ns_plan.proofs.laws.integers_find_rows.Goals as goal
 
 pub returns : goal.returns

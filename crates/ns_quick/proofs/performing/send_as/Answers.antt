@@ -7,10 +7,10 @@ use Rattle.ns_quick.proofs.performing.send_as.Goals as goal
 
 pub send_found-requires : goal.send_found-requires
 send_found-requires c =
-    subst (λ (core : Core). CanDo c.args.code.now core c.args.at (send_instr c.args.kind c.args.sel c.args.argc)) (sym c.in-None.ensures) c.requires.can
+    subst (λ (core : Core). CanDo c.args.code.now core c.args.at (send_instr c.args.kind c.args.sel c.args.argc)) (sym c.in-Nowhere.ensures) c.requires.can
 
-pub returns-in-None : goal.returns-in-None
-returns-in-None c =
+pub returns-in-Nowhere : goal.returns-in-Nowhere
+returns-in-Nowhere c =
     subst (λ (core : Core).
     Leads c.args.code.now (send_instr c.args.kind c.args.sel c.args.argc) (slice_get core.places c.args.place) core c.args.at c.send_found.new.core
-    c.send_found.result) c.in-None.ensures c.send_found.ensures
+    c.send_found.result) c.in-Nowhere.ensures c.send_found.ensures

@@ -72,6 +72,14 @@ returns-in-On c =
     c.straight.core c.go_quickly.new.core c.args.at c.straight.here (On c.in-On.to) c.straight.invariant.some c.straight.invariant.rest
     c.straight.invariant.along c.in-On.ensures
 
+pub returns-in-Answered : goal.returns-in-Answered
+returns-in-Answered c =
+    let some = c.straight.invariant.some in
+    let rest = c.straight.invariant.rest in
+    let few : c.straight.core.run.world.world.steps - c.args.core.now.run.world.world.steps < c.args.left = omega (arith, some, rest) in
+    c.passing_goes_along.ensures c.args.code.now c.args.plan.now c.args.own c.args.left c.args.core.now c.straight.core c.go_quickly.new.core
+    (On c.args.at) (On c.straight.here) (On c.in-Answered.to) c.straight.invariant.along refl refl few c.in-Answered.ensures
+
 pub go_apart-requires-clause-runs : goal.go_apart-requires-clause-runs
 go_apart-requires-clause-runs c =
     (untouched_along c.args.code.now c.args.plan.now c.args.own c.args.left c.args.core.now (On c.args.at) c.straight.core c.go_quickly.new.core

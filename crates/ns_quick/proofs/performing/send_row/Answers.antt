@@ -1,0 +1,10 @@
+use Rattle.std.proofs.Common.{◌≡◌, Some, subst}
+use Rattle.ns_plan.specs.declared.step.SpelledRow.{SpelledRow}
+use Rattle.ns_plan.specs.Spelled.{spelled_by}
+use Rattle.ns_plan.specs.laws.Spelled.{boolean_spelled}
+use Rattle.ns_quick.proofs.performing.send_row.Goals as goal
+
+pub send_boolean-requires-clause-method : goal.send_boolean-requires-clause-method
+send_boolean-requires-clause-method c =
+    boolean_spelled c.args.code.now c.args.sel c.in-Boolean.method
+    (subst (λ (row : SpelledRow). spelled_by c.args.code.now c.args.sel ≡ Some row) c.in-Boolean.is c.requires.row)
