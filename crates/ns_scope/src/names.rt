@@ -22,14 +22,14 @@ pub struct Declared<V> {
 }
 
 /// A parameter or local of a body: its number in the body, and whether it can be set.
-#[derive(Clone, Copy, Debug, PartialEq, Eq)]
+#[derive(Clone, Copy)]
 pub struct Local {
     pub index: u32,
     pub setting: Setting,
 }
 
 /// Whether a local can be set.
-#[derive(Clone, Copy, Debug, PartialEq, Eq)]
+#[derive(Clone, Copy)]
 pub enum Setting {
     Fixed,
     Mutable,
