@@ -17,7 +17,7 @@ use ns_world::value::{Value, cell_number};
 use ns_world::world::World;
 
 /// An object, and the class in its chain by which it is meant.
-#[derive(Clone, Copy, Debug, PartialEq, Eq)]
+#[derive(Clone, Copy)]
 pub struct Surrounding {
     pub object: Value,
     pub holder: u32,

@@ -17,7 +17,7 @@ use ns_world::world::World;
 
 /// What a method of the kernel does next: it waits in a state for the value of a block, which is
 /// evaluated with an argument if there is one; or it ends, with a value or by a fault.
-#[derive(Clone, Copy, Debug, PartialEq, Eq)]
+#[derive(Clone, Copy)]
 pub enum Waited {
     Evaluates {
         block: Value,

@@ -10,7 +10,7 @@ use ns_world::value::Value;
 /// Running code, as far as it doesn't change while its body runs: self, the holder of its
 /// declaration, its body, the home to which a block returns, and the environment around its body,
 /// or that of its body where it has one.
-#[derive(Clone, Copy, Debug, PartialEq, Eq)]
+#[derive(Clone, Copy)]
 pub struct Running {
     pub me: Value,
     pub holder: u32,

@@ -33,7 +33,7 @@ use ns_world::world::World;
 
 /// What a send comes to with what it finds; or the number of the row of the kernel that answers it,
 /// which is still to do so, and nothing has changed.
-#[derive(Clone, Copy, Debug, PartialEq, Eq)]
+#[derive(Clone, Copy)]
 pub enum Answered {
     Comes(Reached),
     Row(u32),

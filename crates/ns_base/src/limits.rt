@@ -5,7 +5,7 @@ ghost use Rattle.ns_base.specs.Limits.{InRange, IsFrom1To};
 
 /// How much a run may use: steps, heap cells, live frames, and bytes of output. A function that
 /// takes limits asks that they are in range, which `Limits::are_in_range` tells.
-#[derive(Clone, Copy, Debug, PartialEq, Eq)]
+#[derive(Clone, Copy)]
 pub struct Limits {
     pub steps: u64,
     pub cells: u64,

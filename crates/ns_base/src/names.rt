@@ -16,7 +16,7 @@ use std::marker::Model;
 pub const MOST_NAMES: usize = 65_536;
 
 /// Why a name got no number.
-#[derive(Clone, Copy, Debug, PartialEq, Eq)]
+#[derive(Clone, Copy, PartialEq, Eq)]
 pub enum NamesFault {
     Full,
     Memory,

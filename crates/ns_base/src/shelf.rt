@@ -8,7 +8,7 @@ ghost use Rattle.ns_base.specs.Shelf.{AnswersLoad, AnswersStore};
 use std::alloc::Global;
 
 /// Why a shelf did not do what it was asked to.
-#[derive(Clone, Copy, Debug, PartialEq, Eq)]
+#[derive(Clone, Copy, PartialEq, Eq)]
 pub enum ShelfFault {
     /// There is no file of that name. Only a load answers so.
     Missing,

@@ -8,7 +8,7 @@ ghost use Rattle.ns_base.specs.Sink.{WrotePrefix, with_bytes};
 pub const PIECE: usize = 4096;
 
 /// A piece was not taken whole.
-#[derive(Clone, Copy, Debug, PartialEq, Eq)]
+#[derive(Clone, Copy)]
 pub struct SinkFailed;
 
 /// A stream of bytes. Its count never falls, and where it stands at the greatest number of 64 bits

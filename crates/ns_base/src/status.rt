@@ -4,7 +4,7 @@ ghost use Rattle.std.specs.Prelude.{◌≡◌};
 ghost use Rattle.ns_base.specs.Status.{exit_code};
 
 /// How a command ended. In the order written, these are the exit statuses 0 to 6.
-#[derive(Clone, Copy, Debug, PartialEq, Eq)]
+#[derive(Clone, Copy)]
 pub enum Status {
     /// The command did what it was asked to.
     Done,

@@ -18,7 +18,7 @@ use ns_world::world::World;
 /// Why a class isn't made, in the order in which the causes are tried: its superclass is no class,
 /// or a kernel class other than Object; its chain would have 257 declared classes; its cell doesn't
 /// fit.
-#[derive(Clone, Copy, Debug, PartialEq, Eq)]
+#[derive(Clone, Copy, PartialEq, Eq)]
 pub enum MakeFault {
     NotAClass,
     KernelSuper,

@@ -21,7 +21,7 @@ pub struct ClassCode {
 }
 
 /// A slot. Access is 0 for public, 1 for protected and 2 for private, here and below.
-#[derive(Clone, Copy, Debug, PartialEq, Eq)]
+#[derive(Clone, Copy)]
 pub struct SlotCode {
     pub name: Sel,
     pub access: u8,
@@ -29,14 +29,14 @@ pub struct SlotCode {
 }
 
 /// A nested class, by the number of its declaration.
-#[derive(Clone, Copy, Debug, PartialEq, Eq)]
+#[derive(Clone, Copy)]
 pub struct NestedCode {
     pub class: u32,
     pub access: u8,
 }
 
 /// A method, by the number of its body.
-#[derive(Clone, Copy, Debug, PartialEq, Eq)]
+#[derive(Clone, Copy)]
 pub struct MethodCode {
     pub sel: Sel,
     pub access: u8,

@@ -4,7 +4,7 @@ use ns_base::selector::Sel;
 
 /// One instruction. A level counts enclosing classes outwards from the code's own, hops count
 /// bodies outwards from the running one, and `argc` is the number of arguments.
-#[derive(Clone, Copy, Debug, PartialEq, Eq)]
+#[derive(Clone, Copy)]
 pub enum Instr {
     PushNil,
     PushTrue,

@@ -8,7 +8,7 @@ use crate::program::CodeProgram;
 use ns_base::selector::Sel;
 
 /// The machine's own selectors, in the order of their numbers behind the code's names.
-#[derive(Clone, Copy, Debug, PartialEq, Eq)]
+#[derive(Clone, Copy)]
 pub enum Own {
     PackageUsing,
     MainArgs,

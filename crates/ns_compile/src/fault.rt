@@ -3,7 +3,7 @@
 use ns_gen::size::SizeKind;
 
 /// A size of its code passes its limit, or there is no memory.
-#[derive(Clone, Copy, Debug, PartialEq, Eq)]
+#[derive(Clone, Copy)]
 pub enum LinkFault {
     TooLarge(SizeKind),
     Memory,

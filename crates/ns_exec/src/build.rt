@@ -19,7 +19,7 @@ use std::alloc::Global;
 
 /// Why a program has no image: a size of its code passes its limit, the image would be too large, or
 /// no memory was found.
-#[derive(Clone, Copy, Debug, PartialEq, Eq)]
+#[derive(Clone, Copy)]
 pub enum BuildFault {
     TooLarge(SizeKind),
     Image,

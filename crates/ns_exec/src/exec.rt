@@ -24,7 +24,7 @@ use std::alloc::Global;
 
 /// Why an image was not run: its bytes are no image (never for want of memory, which has its own
 /// variant), its code isn't admitted, or no memory was found.
-#[derive(Clone, Copy, Debug, PartialEq, Eq)]
+#[derive(Clone, Copy)]
 pub enum ExecFault {
     Image(ImageFault),
     Unsound { cause: VerifyCause, at: Where },

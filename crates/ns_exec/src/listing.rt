@@ -16,7 +16,7 @@ use std::alloc::Global;
 
 /// Why there is no listing: the bytes are no image (never for want of memory, which has its own
 /// variant), or no memory was found.
-#[derive(Clone, Copy, Debug, PartialEq, Eq)]
+#[derive(Clone, Copy)]
 pub enum ListFault {
     Image(ImageFault),
     Memory,

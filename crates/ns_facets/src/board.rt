@@ -9,7 +9,7 @@ use ns_world::ending::Fault;
 use ns_world::value::Value;
 
 /// A value that no cell belongs to.
-#[derive(Clone, Copy, Debug, PartialEq, Eq)]
+#[derive(Clone, Copy, PartialEq, Eq)]
 pub enum Plain {
     Nil,
     True,
@@ -18,7 +18,7 @@ pub enum Plain {
 }
 
 /// The board has 64 places.
-#[derive(Clone, Copy, Debug, PartialEq, Eq)]
+#[derive(Clone, Copy)]
 pub struct Board {
     pub places: [Plain; 64],
 }

@@ -5,7 +5,7 @@ use ns_base::selector::Sel;
 /// One for each selector: a class's name of Manifest; `console kernel mirrors board` of Platform;
 /// `Object Array` of Kernel; `print: printLine:` of Console; `at: at:put:` of Board. The row of
 /// Manifest carries the selector that was sent.
-#[derive(Clone, Copy, Debug, PartialEq, Eq)]
+#[derive(Clone, Copy, PartialEq, Eq)]
 pub enum FacetRow {
     Top(Sel),
     PlatformConsole,
@@ -21,7 +21,7 @@ pub enum FacetRow {
 }
 
 /// Which facets a program is granted beside the manifest and the platform.
-#[derive(Clone, Copy, Debug, PartialEq, Eq)]
+#[derive(Clone, Copy)]
 pub struct Grants {
     pub console: bool,
     pub kernel: bool,

@@ -2,7 +2,7 @@
 
 /// The names of a program, its bodies, the instructions of a body, or the operands of a body at one
 /// time.
-#[derive(Clone, Copy, Debug, PartialEq, Eq)]
+#[derive(Clone, Copy)]
 pub enum SizeKind {
     Names,
     Bodies,

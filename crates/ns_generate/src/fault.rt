@@ -7,7 +7,7 @@ use ns_base::no_memory::NoMemory;
 use ns_gen::size::SizeKind;
 
 /// A size passes its limit, or there is no memory.
-#[derive(Clone, Copy, Debug, PartialEq, Eq)]
+#[derive(Clone, Copy)]
 pub enum GenFault {
     TooLarge(SizeKind),
     Memory,

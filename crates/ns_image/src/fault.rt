@@ -8,7 +8,7 @@ use ns_base::no_memory::NoMemory;
 use std::alloc::{AllocError, AllocFailed};
 
 /// The first fault that is met from left to right, or `Memory`.
-#[derive(Clone, Copy, Debug, PartialEq, Eq)]
+#[derive(Clone, Copy, PartialEq, Eq)]
 pub enum ImageFault {
     /// The first four bytes aren't `NSPK`, or there are fewer.
     NotAnImage,

@@ -4,7 +4,7 @@ ghost use Rattle.std.specs.Prelude.{IfOk};
 ghost use Rattle.ns_code.specs.Fits.{Fits};
 ghost use Rattle.ns_image.specs.Read.{half};
 ghost use Rattle.ns_image.specs.Reading as spec;
-ghost use Rattle.ns_image.specs.Reads.{Answers, Reads};
+ghost use Rattle.ns_image.specs.Reads.{Answers, Reads, ReadsAs};
 
 use crate::fault::{Fault, ImageFault};
 use crate::read::body::{Body, OldBody};
@@ -125,31 +125,37 @@ fn with_files<B: Format<Value = BodyCode>>(
 ) -> Result<CodeProgram, Fault>
     ensures { Reads (spec.with_files (B.reader body.now) files input.old.rest.now) result input.new.rest.now }
 {
+    let names = names(alloc, input)?;
+    let texts = texts(alloc, input)?;
     let mut code = CodeProgram {
         files,
-        names: Items::from_vec(Vec::new(alloc)),
-        texts: Items::from_vec(Vec::new(alloc)),
+        names,
+        texts,
         classes: Items::from_vec(Vec::new(alloc)),
         bodies: Items::from_vec(Vec::new(alloc)),
     };
-    code.names = names(alloc, input)?;
-    code.texts = texts(alloc, input)?;
-    with_classes(alloc, input, body, code)
+    match read_classes(alloc, input, body, &mut code) {
+        Ok(()) => Ok(code),
+        Err(fault) => {
+            drop(code);
+            Err(fault)
+        }
+    }
 }
 
-/// A program with the classes and the bodies of a version, which follow it.
+/// Reads the classes and the bodies of a version into a program.
 #[tactic(auto, unfolding(crate::specs::Reading::with_classes))]
-fn with_classes<B: Format<Value = BodyCode>>(
+fn read_classes<B: Format<Value = BodyCode>>(
     alloc: Global,
     input: &mut Input<'_>,
     body: &B,
-    mut code: CodeProgram,
-) -> Result<CodeProgram, Fault>
-    ensures { Reads (spec.with_classes (B.reader body.now) code input.old.rest.now) result input.new.rest.now }
+    code: &mut CodeProgram,
+) -> Result<(), Fault>
+    ensures { ReadsAs (λ _. code.new) (spec.with_classes (B.reader body.now) code.old input.old.rest.now) result input.new.rest.now }
 {
     code.classes = up_to(alloc, input, &Class, MOST_CLASSES)?;
     code.bodies = up_to(alloc, input, body, MOST_BODIES)?;
-    Ok(code)
+    Ok(())
 }
 
 fn texts(alloc: Global, input: &mut Input<'_>) -> Result<Items<Text>, Fault>

@@ -5,7 +5,7 @@ use ns_world::value::Value;
 
 /// One for each selector: `and: or: ifTrue: ifFalse: ifTrue:ifFalse: ifFalse:ifTrue: whileTrue:
 /// whileFalse: to:do: timesRepeat: do:`.
-#[derive(Clone, Copy, Debug, PartialEq, Eq)]
+#[derive(Clone, Copy, PartialEq, Eq)]
 pub enum KMethod {
     And,
     Or,
@@ -22,7 +22,7 @@ pub enum KMethod {
 
 /// Where a method stands between two of its actions. The arguments that are to be blocks are
 /// blocks, and the end of `to:do:` is an Integer: that is checked before the method begins.
-#[derive(Clone, Copy, Debug, PartialEq, Eq)]
+#[derive(Clone, Copy)]
 pub struct KState {
     /// The receiver of the message.
     pub receiver: Value,
@@ -41,7 +41,7 @@ pub struct KState {
 }
 
 /// What a method does next.
-#[derive(Clone, Copy, Debug, PartialEq, Eq)]
+#[derive(Clone, Copy, PartialEq, Eq)]
 pub enum KAction {
     /// Evaluates a block, with an argument if there is one. Where a turn of a loop begins, its
     /// step is charged first. The state's count is then `count`.

@@ -5,7 +5,7 @@
 /// nil; `not printString & |` of Boolean; `printString` of Integer; `size at: copyFrom:to: , = <
 /// printString` of String; `size asString printString <` of Symbol; `size at: at:put:` of Array;
 /// `selector arguments` of Message.
-#[derive(Clone, Copy, Debug, PartialEq, Eq)]
+#[derive(Clone, Copy, PartialEq, Eq)]
 pub enum DataRow {
     Identical,
     Equal,

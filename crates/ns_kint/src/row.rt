@@ -1,7 +1,7 @@
 //! The rows of Integer.
 
 /// One for each selector: `+ - * // \\ < <= > >= = bitAnd: bitOr: bitXor: negated`.
-#[derive(Clone, Copy, Debug, PartialEq, Eq)]
+#[derive(Clone, Copy, PartialEq, Eq)]
 pub enum IntRow {
     Add,
     Subtract,

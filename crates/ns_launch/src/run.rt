@@ -33,7 +33,7 @@ pub struct Ran {
 }
 
 /// Why a program was not run: a size passes its limit, or no memory was found.
-#[derive(Clone, Copy, Debug, PartialEq, Eq)]
+#[derive(Clone, Copy)]
 pub enum RunFault {
     TooLarge(SizeKind),
     Memory,

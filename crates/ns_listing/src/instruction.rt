@@ -4,7 +4,7 @@ ghost use Rattle.std.specs.Prelude.{◌≡◌, ◌++◌, ◌∷◌, OnOk, codes}
 ghost use Rattle.std.specs.Fmt.{signed_decimal};
 ghost use Rattle.ns_listing.specs.Listing as spec;
 
-use crate::output::{put, put_name, put_number, put_signed, put_text};
+use crate::output::{put, put_counted, put_name, put_number, put_signed, put_text};
 use ns_base::no_memory::NoMemory;
 use ns_base::selector::Sel;
 use ns_code::instruction::Instr;
@@ -82,23 +82,20 @@ fn send_private(
 fn with_byte(out: &mut Vec<u8>, name: &[u8], operand: u8) -> Result<(), NoMemory>
     ensures { OnOk result (out.new.items ≡ out.old.items ++ (name.now ++ spec.number operand)) }
 {
-    put(out, name)?;
-    put_number(out, u64::from(operand))
+    put_counted(out, name, u64::from(operand))
 }
 
 fn with_bytes(out: &mut Vec<u8>, name: &[u8], first: u8, second: u8) -> Result<(), NoMemory>
     ensures { OnOk result (out.new.items ≡ out.old.items ++ (name.now ++ (spec.number first ++ spec.number second))) }
 {
-    put(out, name)?;
-    put_number(out, u64::from(first))?;
+    put_counted(out, name, u64::from(first))?;
     put_number(out, u64::from(second))
 }
 
 fn with_word(out: &mut Vec<u8>, name: &[u8], operand: u32) -> Result<(), NoMemory>
     ensures { OnOk result (out.new.items ≡ out.old.items ++ (name.now ++ spec.number operand)) }
 {
-    put(out, name)?;
-    put_number(out, u64::from(operand))
+    put_counted(out, name, u64::from(operand))
 }
 
 fn with_message(

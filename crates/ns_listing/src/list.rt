@@ -4,7 +4,7 @@ ghost use Rattle.std.specs.Prelude.{◌≡◌, ◌++◌, OnOk, IfOk};
 ghost use Rattle.ns_listing.specs.Listing as spec;
 
 use crate::instruction::put_instruction;
-use crate::output::{end_line, put, put_name, put_number};
+use crate::output::{end_line, put, put_counted, put_name};
 use ns_base::no_memory::NoMemory;
 use ns_base::text::Text;
 use ns_code::body::BodyCode;
@@ -42,8 +42,7 @@ fn put_class(
 ) -> Result<(), NoMemory>
     ensures { OnOk result (out.new.items ≡ out.old.items ++ spec.class_line code.now place class.now) }
 {
-    put(out, b"class")?;
-    put_number(out, place as u64)?;
+    put_counted(out, b"class", place as u64)?;
     put_name(out, code, class.name)?;
     end_line(out)
 }
@@ -73,8 +72,7 @@ fn put_body(
 fn put_body_line(out: &mut Vec<u8>, place: usize, body: &BodyCode) -> Result<(), NoMemory>
     ensures { OnOk result (out.new.items ≡ out.old.items ++ spec.body_line place body.now) }
 {
-    put(out, b"body")?;
-    put_number(out, place as u64)?;
+    put_counted(out, b"body", place as u64)?;
     put(out, b" ")?;
     put(out, kind_shown(body.kind))?;
     put_body_numbers(out, body)
@@ -84,12 +82,9 @@ fn put_body_line(out: &mut Vec<u8>, place: usize, body: &BodyCode) -> Result<(),
 fn put_body_numbers(out: &mut Vec<u8>, body: &BodyCode) -> Result<(), NoMemory>
     ensures { OnOk result (out.new.items ≡ out.old.items ++ spec.body_numbers body.now) }
 {
-    put(out, b" class")?;
-    put_number(out, u64::from(body.class))?;
-    put(out, b" params")?;
-    put_number(out, u64::from(body.params))?;
-    put(out, b" locals")?;
-    put_number(out, u64::from(body.locals))?;
+    put_counted(out, b" class", u64::from(body.class))?;
+    put_counted(out, b" params", u64::from(body.params))?;
+    put_counted(out, b" locals", u64::from(body.locals))?;
     end_line(out)
 }
 
@@ -129,8 +124,7 @@ fn put_locals(out: &mut Vec<u8>, names: &[Text]) -> Result<(), NoMemory>
 fn put_local(out: &mut Vec<u8>, place: usize, name: &[u8]) -> Result<(), NoMemory>
     ensures { OnOk result (out.new.items ≡ out.old.items ++ spec.local_line place name.now) }
 {
-    put(out, b"  local")?;
-    put_number(out, place as u64)?;
+    put_counted(out, b"  local", place as u64)?;
     put(out, b" ")?;
     put(out, name)?;
     end_line(out)
@@ -153,8 +147,7 @@ fn put_instr_line(
 ) -> Result<(), NoMemory>
     ensures { OnOk result (out.new.items ≡ out.old.items ++ spec.instr_line code.now place instr) }
 {
-    put(out, b" ")?;
-    put_number(out, place as u64)?;
+    put_counted(out, b" ", place as u64)?;
     put(out, b" ")?;
     put_instruction(out, code, instr)?;
     end_line(out)

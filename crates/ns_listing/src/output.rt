@@ -33,6 +33,14 @@ pub fn put_number(out: &mut Vec<u8>, number: u64) -> Result<(), NoMemory>
     put(out, digits.as_bytes())
 }
 
+/// A word, and a number in decimal behind a blank.
+pub fn put_counted(out: &mut Vec<u8>, word: &[u8], number: u64) -> Result<(), NoMemory>
+    ensures { OnOk result (out.new.items ≡ out.old.items ++ (word.now ++ spec.number number)) }
+{
+    put(out, word)?;
+    put_number(out, number)
+}
+
 /// A signed number in decimal, behind a blank.
 pub fn put_signed(out: &mut Vec<u8>, number: i64) -> Result<(), NoMemory>
     ensures { OnOk result (out.new.items ≡ out.old.items ++ 32 ∷ signed_decimal number) }

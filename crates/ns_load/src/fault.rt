@@ -8,7 +8,7 @@ use ns_base::place::Place;
 use std::alloc::{AllocError, AllocFailed};
 
 /// Why a file was refused.
-#[derive(Clone, Copy, Debug, PartialEq, Eq)]
+#[derive(Clone, Copy)]
 pub enum LoadCause {
     /// There is no file of that name.
     Missing,
@@ -23,7 +23,7 @@ pub enum LoadCause {
 }
 
 /// Why there is no program.
-#[derive(Clone, Copy, Debug, PartialEq, Eq)]
+#[derive(Clone, Copy)]
 pub enum LoadFault {
     /// The file of that number was refused.
     At { cause: LoadCause, file: u32 },

@@ -31,8 +31,7 @@ pub fn has_different_members(
     if !has_different_instance_members(alloc, code, names, class)? {
         return Ok(false);
     }
-    let different = has_different_side_members(alloc, code, names, class)?;
-    Ok(different)
+    has_different_side_members(alloc, code, names, class)
 }
 
 /// Whether no two members of the instance side have one selector.
@@ -50,8 +49,7 @@ fn has_different_instance_members(
     let nested = class.nested.as_slice();
     let methods = class.methods.as_slice();
     let numbers = numbers_of(alloc, code, names, slots, nested, methods)?;
-    let apart = are_apart(numbers)?;
-    Ok(apart)
+    are_apart(numbers)
 }
 
 /// Whether no two members of the class side have one selector.
@@ -66,8 +64,7 @@ fn has_different_side_members(
     ensures { IfOk result (λ different. different ≡ sound.are_different (sound.side_selectors code.now class.now)) }
 {
     let numbers = method_numbers(alloc, code, class.side_methods.as_slice())?;
-    let apart = are_apart(numbers)?;
-    Ok(apart)
+    are_apart(numbers)
 }
 
 /// The numbers of slots, nested classes and methods.
@@ -228,14 +225,14 @@ pub fn private_instance_numbers(
     let slots = private_slots(alloc, class.slots.as_slice())?;
     let nested = private_nested(alloc, class.nested.as_slice())?;
     let methods = private_methods(alloc, class.methods.as_slice())?;
-    Ok(numbers_of(
+    numbers_of(
         alloc,
         code,
         names,
         slots.as_slice(),
         nested.as_slice(),
         methods.as_slice(),
-    )?)
+    )
 }
 
 /// The numbers of the private members of the class side.
@@ -247,7 +244,7 @@ pub fn private_side_numbers(
     ensures { IfOk result (λ found. found.items ≡ spec.private_side_numbers code.now class.now) }
 {
     let methods = private_methods(alloc, class.side_methods.as_slice())?;
-    Ok(method_numbers(alloc, code, methods.as_slice())?)
+    method_numbers(alloc, code, methods.as_slice())
 }
 
 fn private_slots(alloc: Global, slots: &[SlotCode]) -> Result<Vec<SlotCode>, NoMemory>

@@ -119,9 +119,18 @@ fn setters_of(alloc: Global, names: &[Text]) -> Result<Vec<Option<u32>>, NoMemor
     ensures { IfOk result (λ found. found.items ≡ map (with_colon names.now) names.now) }
 {
     let table = table_of(alloc, names)?;
+    let found = setters_in(alloc, &table, names);
+    drop(table);
+    found
+}
+
+/// For each of some names the number of the one in a table that is its text with a colon.
+fn setters_in(alloc: Global, table: &Names, names: &[Text]) -> Result<Vec<Option<u32>>, NoMemory>
+    ensures { IfOk result (λ found. found.items ≡ map (with_colon table.now) names.now) }
+{
     let mut found = Vec::with_capacity(alloc, names.len())?;
     'names: for name in names {
-        found.push(with_colon(alloc, &table, name.bytes())?)?;
+        found.push(with_colon(alloc, table, name.bytes())?)?;
     }
     Ok(found)
 }

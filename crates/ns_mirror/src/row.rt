@@ -5,7 +5,7 @@ use ns_world::value::Value;
 
 /// One for each selector: `on:` of Mirrors; `className slotNames slot: slot:put: selectors enclosing
 /// perform:with:` of Mirror.
-#[derive(Clone, Copy, Debug, PartialEq, Eq)]
+#[derive(Clone, Copy, PartialEq, Eq)]
 pub enum MirrorRow {
     On,
     ClassName,
@@ -19,7 +19,7 @@ pub enum MirrorRow {
 
 /// An answer, or a plain send that is to be made: its arguments are the elements of the array of
 /// that number.
-#[derive(Clone, Copy, Debug, PartialEq, Eq)]
+#[derive(Clone, Copy, PartialEq, Eq)]
 pub enum Mirrored {
     Answer(Value),
     Perform {

@@ -133,8 +133,7 @@ fn equals_clause(
     ensures { Reads (option_map clause_of) (spec.equals_clause (exprs.primary depth)) result tokens.old tokens.new }
 {
     skip(tokens, Mark::Equals)?;
-    let clause = maybe_clause(alloc, tokens, depth)?;
-    Ok(clause)
+    maybe_clause(alloc, tokens, depth)
 }
 
 /// Reads slots and statements in parentheses.
@@ -150,8 +149,7 @@ fn body(
     skip(tokens, Mark::Open)?;
     let slots = bars(alloc, tokens, depth, holder)?;
     let body = statements(alloc, tokens, depth)?;
-    let parts = closed(tokens, Mark::Close, (slots, body))?;
-    Ok(parts)
+    closed(tokens, Mark::Close, (slots, body))
 }
 
 /// Reads a method.
@@ -242,8 +240,7 @@ fn what(
     ensures { Reads what_of (spec.what (exprs.primary depth) nesting) result tokens.old tokens.new }
 {
     if nesting == 0 {
-        let what = method_member(alloc, tokens, depth)?;
-        Ok(what)
+        method_member(alloc, tokens, depth)
     } else {
         let what = class_or_method(alloc, tokens, depth, nesting - 1)?;
         Ok(what)
@@ -266,8 +263,7 @@ fn class_or_method(
         let what = make::class_member(alloc, class)?;
         Ok(what)
     } else {
-        let what = method_member(alloc, tokens, depth)?;
-        Ok(what)
+        method_member(alloc, tokens, depth)
     }
 }
 
@@ -346,8 +342,7 @@ fn side(
 {
     skip(tokens, Mark::Open)?;
     let members = members(alloc, tokens, depth, nesting, side)?;
-    let members = closed(tokens, Mark::Close, members)?;
-    Ok(members)
+    closed(tokens, Mark::Close, members)
 }
 
 /// Reads the members of a side with their categories, as many as there are, and the categories behind
@@ -412,14 +407,8 @@ fn what_of(
     ensures { Reads what_of (spec.what_of (exprs.primary depth) (spec.what (exprs.primary depth) nesting) side) result tokens.old tokens.new }
 {
     match side {
-        SideOf::Instance => {
-            let what = what(alloc, tokens, depth, nesting)?;
-            Ok(what)
-        }
-        SideOf::ClassObject => {
-            let what = method_member(alloc, tokens, depth)?;
-            Ok(what)
-        }
+        SideOf::Instance => what(alloc, tokens, depth, nesting),
+        SideOf::ClassObject => method_member(alloc, tokens, depth),
     }
 }
 

@@ -23,8 +23,7 @@ pub fn put_unit(out: &mut Vec<u8>, unit: &Unit) -> Result<(), NoMemory>
 {
     put_marker(out, unit.marker)?;
     put_category(out, &unit.category)?;
-    put_class(out, &unit.class)?;
-    Ok(())
+    put_class(out, &unit.class)
 }
 
 fn put_marker(out: &mut Vec<u8>, marker: bool) -> Result<(), NoMemory>
@@ -69,8 +68,7 @@ fn put_head(out: &mut Vec<u8>, class: &Class) -> Result<(), NoMemory>
     put_factory(out, &class.factory)?;
     put(out, b"=")?;
     put_super(out, &class.clause)?;
-    put_body(out, &class.slots, &class.body)?;
-    Ok(())
+    put_body(out, &class.slots, &class.body)
 }
 
 #[cycle(declarations)]
@@ -80,8 +78,7 @@ fn put_side(out: &mut Vec<u8>, side: &Side) -> Result<(), NoMemory>
     put(out, b"(")?;
     put_members(out, &side.members)?;
     put_strings(out, &side.tail)?;
-    put(out, b")")?;
-    Ok(())
+    put(out, b")")
 }
 
 #[cycle(declarations)]
@@ -100,8 +97,7 @@ fn put_member(out: &mut Vec<u8>, member: &Member) -> Result<(), NoMemory>
 {
     put_strings(out, &member.categories)?;
     put_access(out, member.access)?;
-    put_what(out, &member.what)?;
-    Ok(())
+    put_what(out, &member.what)
 }
 
 #[cycle(declarations)]
@@ -119,8 +115,7 @@ fn put_method(out: &mut Vec<u8>, method: &Method) -> Result<(), NoMemory>
 {
     put_pattern(out, &method.pattern)?;
     put(out, b"=")?;
-    put_body(out, &method.slots, &method.body)?;
-    Ok(())
+    put_body(out, &method.slots, &method.body)
 }
 
 /// Slots and statements in parentheses.
@@ -131,8 +126,7 @@ fn put_body(out: &mut Vec<u8>, slots: &Option<Vec<Slot>>, body: &Statements) -> 
     put(out, b"(")?;
     put_bars(out, slots)?;
     put_statements(out, body)?;
-    put(out, b")")?;
-    Ok(())
+    put(out, b")")
 }
 
 fn put_bars(out: &mut Vec<u8>, slots: &Option<Vec<Slot>>) -> Result<(), NoMemory>

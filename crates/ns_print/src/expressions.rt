@@ -25,8 +25,7 @@ pub fn put_expr(out: &mut Vec<u8>, expr: &Expr) -> Result<(), NoMemory>
 {
     put_set_keys(out, &expr.sets)?;
     put_key_expr(out, &expr.first)?;
-    put_cascade(out, &expr.more)?;
-    Ok(())
+    put_cascade(out, &expr.more)
 }
 
 #[cycle(expressions)]
@@ -56,8 +55,7 @@ fn put_binary(out: &mut Vec<u8>, name: &Named, argument: &UnExpr) -> Result<(), 
     ensures { OnOk result (out.new.items ≡ out.old.items ++ lines (flat_message (p.binary name.now (un_of argument.now)))) }
 {
     put(out, name.text.bytes())?;
-    put_un(out, argument)?;
-    Ok(())
+    put_un(out, argument)
 }
 
 #[cycle(expressions)]
@@ -89,8 +87,7 @@ fn put_bin(out: &mut Vec<u8>, expr: &BinExpr) -> Result<(), NoMemory>
     ensures { OnOk result (out.new.items ≡ out.old.items ++ lines (flat_bin (bin_of expr.now))) }
 {
     put_un(out, &expr.first)?;
-    put_opers(out, &expr.more)?;
-    Ok(())
+    put_opers(out, &expr.more)
 }
 
 #[cycle(expressions)]
@@ -109,8 +106,7 @@ fn put_un(out: &mut Vec<u8>, expr: &UnExpr) -> Result<(), NoMemory>
     ensures { OnOk result (out.new.items ≡ out.old.items ++ lines (flat_un (un_of expr.now))) }
 {
     put_primary(out, &expr.primary)?;
-    put_names(out, &expr.names)?;
-    Ok(())
+    put_names(out, &expr.names)
 }
 
 #[cycle(expressions)]
@@ -156,8 +152,7 @@ fn put_paren(out: &mut Vec<u8>, inner: &Expr) -> Result<(), NoMemory>
 {
     put(out, b"(")?;
     put_expr(out, inner)?;
-    put(out, b")")?;
-    Ok(())
+    put(out, b")")
 }
 
 #[cycle(expressions)]
@@ -206,8 +201,7 @@ fn put_block_end(out: &mut Vec<u8>, body: &Statements) -> Result<(), NoMemory>
     ensures { OnOk result (out.new.items ≡ out.old.items ++ lines (flat_statements (statements_of body.now) ++ k.CloseBlock ∷ [])) }
 {
     put_statements(out, body)?;
-    put(out, b"]")?;
-    Ok(())
+    put(out, b"]")
 }
 
 fn put_params(out: &mut Vec<u8>, params: &[Named]) -> Result<(), NoMemory>
@@ -232,8 +226,7 @@ pub fn put_slots(out: &mut Vec<u8>, slots: &[Slot]) -> Result<(), NoMemory>
     for slot in slots {
         put_slot(out, slot)?;
     }
-    put(out, b"|")?;
-    Ok(())
+    put(out, b"|")
 }
 
 #[cycle(expressions)]
@@ -242,8 +235,7 @@ fn put_slot(out: &mut Vec<u8>, slot: &Slot) -> Result<(), NoMemory>
 {
     put_access(out, slot.access)?;
     put(out, slot.name.text.bytes())?;
-    put_init(out, &slot.init)?;
-    Ok(())
+    put_init(out, &slot.init)
 }
 
 #[cycle(expressions)]
@@ -263,8 +255,7 @@ fn put_fixed(out: &mut Vec<u8>, value: &Expr) -> Result<(), NoMemory>
 {
     put(out, b"=")?;
     put_expr(out, value)?;
-    put_stop(out)?;
-    Ok(())
+    put_stop(out)
 }
 
 #[cycle(expressions)]
@@ -273,8 +264,7 @@ fn put_mutable(out: &mut Vec<u8>, value: &Expr) -> Result<(), NoMemory>
 {
     put(out, b"::=")?;
     put_expr(out, value)?;
-    put_stop(out)?;
-    Ok(())
+    put_stop(out)
 }
 
 #[cycle(expressions)]
@@ -282,8 +272,7 @@ pub fn put_statements(out: &mut Vec<u8>, body: &Statements) -> Result<(), NoMemo
     ensures { OnOk result (out.new.items ≡ out.old.items ++ lines (flat_statements (statements_of body.now))) }
 {
     put_list(out, &body.list)?;
-    put_stop_if(out, body.stop)?;
-    Ok(())
+    put_stop_if(out, body.stop)
 }
 
 #[cycle(expressions)]
@@ -306,6 +295,5 @@ fn put_statement(out: &mut Vec<u8>, statement: &Statement) -> Result<(), NoMemor
     ensures { OnOk result (out.new.items ≡ out.old.items ++ lines (flat_statement (statement_of statement.now))) }
 {
     put_caret(out, statement.caret)?;
-    put_expr(out, &statement.expr)?;
-    Ok(())
+    put_expr(out, &statement.expr)
 }

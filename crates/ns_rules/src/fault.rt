@@ -3,7 +3,7 @@
 use ns_base::place::Place;
 
 /// What is wrong. Of two at one place, the one that stands first here is answered.
-#[derive(Clone, Copy, Debug, PartialEq, Eq)]
+#[derive(Clone, Copy)]
 pub enum StaticCause {
     DuplicateMember,
     DuplicateLocal,
@@ -19,7 +19,7 @@ pub enum StaticCause {
 }
 
 /// Of what there are too many. Of two at one place, the one that stands first here is answered.
-#[derive(Clone, Copy, Debug, PartialEq, Eq)]
+#[derive(Clone, Copy)]
 pub enum Many {
     Parameters,
     Locals,
@@ -29,14 +29,14 @@ pub enum Many {
 }
 
 /// A cause at its place.
-#[derive(Clone, Copy, Debug, PartialEq, Eq)]
+#[derive(Clone, Copy)]
 pub struct Placed {
     pub place: Place,
     pub cause: StaticCause,
 }
 
 /// Whether a message is sent to an expression.
-#[derive(Clone, Copy, Debug, PartialEq, Eq)]
+#[derive(Clone, Copy)]
 pub enum Role {
     Receiver,
     Value,

@@ -10,7 +10,7 @@ use crate::report::Report;
 use ns_base::shelf::{Shelf, ShelfFault};
 
 /// Why what is to be stored was not.
-#[derive(Clone, Copy, Debug, PartialEq, Eq)]
+#[derive(Clone, Copy)]
 pub enum Unkept {
     /// The file could not be written.
     Failed,

@@ -6,7 +6,7 @@ use crate::report::Report;
 use ns_base::no_memory::NoMemory;
 
 /// Why there is no report.
-#[derive(Clone, Copy, Debug, PartialEq, Eq)]
+#[derive(Clone, Copy)]
 pub enum Stop {
     /// A file could not be read.
     ReadFault,

@@ -22,14 +22,14 @@ pub struct Declared<V> {
 }
 
 /// A parameter or local of a body: its number in the body, and whether it can be set.
-#[derive(Clone, Copy, Debug, PartialEq, Eq)]
+#[derive(Clone, Copy)]
 pub struct Local {
     pub index: u32,
     pub setting: Setting,
 }
 
 /// Whether a local can be set.
-#[derive(Clone, Copy, Debug, PartialEq, Eq)]
+#[derive(Clone, Copy)]
 pub enum Setting {
     Fixed,
     Mutable,
@@ -253,8 +253,7 @@ fn put_side_members(
 ) -> Result<(), NoMemory>
     ensures { OnOk result (all.new.items ≡ all.old.items ++ side_members other (side_of side.now)) }
 {
-    put_members(all, other, &side.members)?;
-    Ok(())
+    put_members(all, other, &side.members)
 }
 
 fn put_members(
@@ -282,8 +281,7 @@ fn put_what(all: &mut Vec<Declared<Access>>, access: Access, what: &What) -> Res
 fn put_class(all: &mut Vec<Declared<Access>>, access: Access, class: &Class) -> Result<(), NoMemory>
     ensures { OnOk result (all.new.items ≡ all.old.items ++ what_member access (p.class_member (class_of class.now)) ∷ []) }
 {
-    put_member(all, class.name.text.bytes(), class.name.at, access)?;
-    Ok(())
+    put_member(all, class.name.text.bytes(), class.name.at, access)
 }
 
 fn put_method(
@@ -295,8 +293,7 @@ fn put_method(
 {
     let alloc = *all.allocator();
     let name = selector(alloc, &method.pattern.parts)?;
-    put_member(all, name.bytes(), start_of(&method.pattern.parts), access)?;
-    Ok(())
+    put_member(all, name.bytes(), start_of(&method.pattern.parts), access)
 }
 
 /// The parts of a pattern, joined.

@@ -15,7 +15,7 @@ use ns_tree::tree::{Access, Class, Named, Pattern, Slot};
 use std::alloc::Global;
 
 /// The side of a declaration to which code belongs.
-#[derive(Clone, Copy, Debug, PartialEq, Eq)]
+#[derive(Clone, Copy)]
 pub enum CodeSide {
     Instance,
     Class,

@@ -7,7 +7,7 @@ use ns_world::value::Value;
 
 /// Which arguments go on: those of the send as they stand, the one Message of that number, which
 /// was made of them, or the elements of the array of that number.
-#[derive(Clone, Copy, Debug, PartialEq, Eq)]
+#[derive(Clone, Copy)]
 pub enum Given {
     Listed,
     Message(u32),
@@ -16,7 +16,7 @@ pub enum Given {
 
 /// What the value of a body is for: a method's send, the evaluation of a block or the send of a
 /// factory, or the nested class of self and the holder that has that declaration.
-#[derive(Clone, Copy, Debug, PartialEq, Eq)]
+#[derive(Clone, Copy)]
 pub enum Exit {
     Method,
     Body,
@@ -26,7 +26,7 @@ pub enum Exit {
 /// A body that begins: self, the holder of its declaration, the body, the home to which its blocks
 /// return, its environment or the one around it, and which arguments it has. Its locals stand in
 /// its environment where the body has one, and else beside it: the arguments, and nils.
-#[derive(Clone, Copy, Debug, PartialEq, Eq)]
+#[derive(Clone, Copy)]
 pub struct Entered {
     pub me: Value,
     pub holder: u32,
@@ -40,7 +40,7 @@ pub struct Entered {
 /// or by NotUnderstood with a Message's selector in that site; into a body; into a block whose
 /// evaluation waits; into a method of the kernel that evaluates blocks; or into a send with the
 /// elements of an array, which waits.
-#[derive(Clone, Copy, Debug, PartialEq, Eq)]
+#[derive(Clone, Copy)]
 pub enum Reached {
     Gives(Value),
     Fails(Fault),
@@ -66,7 +66,7 @@ pub enum Reached {
 
 /// Where a superclass part goes: past it, for the kernel's Object; to the end of the run, by a
 /// fault at the site of the factory's send; or into the initialiser of a declared superclass.
-#[derive(Clone, Copy, Debug, PartialEq, Eq)]
+#[derive(Clone, Copy)]
 pub enum PartReached {
     Skips,
     Fails(Fault),

@@ -10,7 +10,7 @@ use ns_kint::row::IntRow;
 use ns_mirror::row::MirrorRow;
 
 /// A row of the kernel, by what answers it.
-#[derive(Clone, Copy, Debug, PartialEq, Eq)]
+#[derive(Clone, Copy, PartialEq, Eq)]
 pub enum Row {
     Data(DataRow),
     Integer(IntRow),

@@ -12,7 +12,7 @@ use ns_world::kernel::ClassName;
 /// The innermost send being answered: the place of its selector where it has one, the class of its
 /// receiver and its selector. What runs without a send of its own keeps the site of the send that
 /// it answers: superclass parts, heads of clauses, blocks and the kernel's loops.
-#[derive(Clone, Copy, Debug, PartialEq, Eq)]
+#[derive(Clone, Copy)]
 pub struct Site {
     pub place: Option<Place>,
     pub class: ClassName,

@@ -54,12 +54,18 @@ pub fn check(alloc: Global, program: Program) -> Result<Checked, StaticFault>
     ensures exact { MatchResult result (λ _. fault_of program ≡ None) (λ fault. Told (fault_of program) fault) }
 {
     match least_fault(alloc, &program) {
-        Err(_) => Err(StaticFault::Memory),
         Ok(None) => Ok(Checked { program }),
-        Ok(Some(least)) => Err(StaticFault::At {
-            cause: least.cause,
-            place: least.place,
-        }),
+        Ok(Some(least)) => {
+            drop(program);
+            Err(StaticFault::At {
+                cause: least.cause,
+                place: least.place,
+            })
+        }
+        Err(_) => {
+            drop(program);
+            Err(StaticFault::Memory)
+        }
     }
 }
 

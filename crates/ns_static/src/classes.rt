@@ -40,10 +40,11 @@ fn class_scope(checker: &mut Checker<'_>, class: &Class) -> Result<ClassScope, N
     ensures found { OnOk result (checker.new ≡ with_found checker.old (class_members_found (class_of class.now))) }
     ensures scope { IfOk result (λ scope. scope ≡ class_scope (class_of class.now)) }
 {
+    let name = Text::of(checker.alloc, class.name.text.bytes())?;
     let instance = instance_found(checker, &class.slots, &class.side)?;
     let class_side = class_side_found(checker, &class.class_side)?;
     Ok(ClassScope {
-        name: Text::of(checker.alloc, class.name.text.bytes())?,
+        name,
         instance,
         class_side,
     })

@@ -51,16 +51,14 @@ fn class_names(names: &mut Vec<u32>, class: &Class) -> Result<(), NoMemory>
     ensures { OnOk result (names.new.items ≡ names.old.items ++ class_names (class_of class.now)) }
 {
     names.push(class.name.at)?;
-    side_names(names, &class.side)?;
-    Ok(())
+    side_names(names, &class.side)
 }
 
 #[cycle(names)]
 fn side_names(names: &mut Vec<u32>, side: &Side) -> Result<(), NoMemory>
     ensures { OnOk result (names.new.items ≡ names.old.items ++ side_names (side_of side.now)) }
 {
-    members_names(names, &side.members)?;
-    Ok(())
+    members_names(names, &side.members)
 }
 
 #[cycle(names)]

@@ -26,8 +26,7 @@ pub fn class_faults(
     ensures { OnOk result (checker.new ≡ with_found checker.old (class_faults outer.now (class_of class.now))) }
 {
     let classes = enter_class(checker, outer, class)?;
-    class_inside_faults(checker, &classes, class)?;
-    Ok(())
+    class_inside_faults(checker, &classes, class)
 }
 
 /// What stands in a class.
@@ -74,8 +73,7 @@ fn side_faults(
 ) -> Result<(), NoMemory>
     ensures { OnOk result (checker.new ≡ with_found checker.old (side_faults classes.now code_side (side_of side.now))) }
 {
-    members_faults(checker, classes, code_side, &side.members)?;
-    Ok(())
+    members_faults(checker, classes, code_side, &side.members)
 }
 
 #[cycle(declarations)]

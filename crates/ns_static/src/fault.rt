@@ -4,7 +4,7 @@ use ns_base::place::Place;
 use ns_rules::fault::StaticCause;
 
 /// What the check of a program refuses it for: a fault at its place, or want of memory.
-#[derive(Clone, Copy, Debug, PartialEq, Eq)]
+#[derive(Clone, Copy)]
 pub enum StaticFault {
     At { cause: StaticCause, place: Place },
     Memory,

@@ -62,7 +62,9 @@ fn top_class_faults(
     top_name_found(checker, &mut before.names, &class.name)?;
     classes_found_in(checker, &mut before.classes, class)?;
     let outside = Chain::end(checker.alloc)?;
-    class_faults(checker, &outside, class)
+    let found = class_faults(checker, &outside, class);
+    drop(outside);
+    found
 }
 
 /// DuplicateTop, at the name of a top-level class that an earlier one has. Puts the name to those.

@@ -7,7 +7,7 @@ use ns_base::no_memory::NoMemory;
 use std::alloc::{AllocError, AllocFailed};
 
 /// The first two have the number of the token at which they stand.
-#[derive(Clone, Copy, Debug, PartialEq, Eq)]
+#[derive(Clone, Copy, PartialEq, Eq)]
 pub enum ParseFault {
     /// This token opens a bracket while 100 are open.
     TooDeep(usize),

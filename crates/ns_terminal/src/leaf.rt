@@ -207,8 +207,7 @@ pub fn leaf(alloc: Global, tokens: &mut Tokens<'_>) -> Result<Primary, ParseFaul
     ensures { Reads primary_of spec.leaf result tokens.old tokens.new }
 {
     if sees_simple(tokens) {
-        let primary = simple(alloc, tokens)?;
-        Ok(primary)
+        simple(alloc, tokens)
     } else if sees(tokens, Mark::Minus) {
         skip(tokens, Mark::Minus)?;
         let size = number(tokens)?;

@@ -145,8 +145,7 @@ fn param(alloc: Global, tokens: &mut Tokens<'_>) -> Result<Named, ParseFault>
     ensures { Reads (λ name. name) spec.param result tokens.old tokens.new }
 {
     skip(tokens, Mark::Colon)?;
-    let name = name(alloc, tokens, Sort::Ident)?;
-    Ok(name)
+    name(alloc, tokens, Sort::Ident)
 }
 
 /// Reads colons with names, as many as there are.

@@ -36,7 +36,7 @@ pub enum Kind {
 }
 
 /// The words that are no identifiers.
-#[derive(Clone, Copy, Debug, PartialEq, Eq)]
+#[derive(Clone, Copy)]
 pub enum Reserved {
     Class,
     Public,

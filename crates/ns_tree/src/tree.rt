@@ -19,7 +19,7 @@ pub struct Named {
 }
 
 /// Who reaches a member.
-#[derive(Clone, Copy, Debug, PartialEq, Eq)]
+#[derive(Clone, Copy)]
 pub enum Access {
     Public,
     Protected,

@@ -1,7 +1,7 @@
 //! What is wrong with code, and where.
 
 /// What is wrong. Of several at one place, the one that stands first here is answered.
-#[derive(Clone, Copy, Debug, PartialEq, Eq)]
+#[derive(Clone, Copy, PartialEq, Eq)]
 pub enum VerifyCause {
     /// A jump's target isn't there.
     BadJump,
@@ -18,21 +18,21 @@ pub enum VerifyCause {
 }
 
 /// Where it is: at a class, or at an instruction of a body, each by its number.
-#[derive(Clone, Copy, Debug, PartialEq, Eq)]
+#[derive(Clone, Copy, PartialEq, Eq)]
 pub enum Where {
     Class(u32),
     Body(u32, u32),
 }
 
 /// A cause at its place.
-#[derive(Clone, Copy, Debug, PartialEq, Eq)]
+#[derive(Clone, Copy, PartialEq, Eq)]
 pub struct Fault {
     pub cause: VerifyCause,
     pub at: Where,
 }
 
 /// Why code isn't admitted: its first fault, or want of memory.
-#[derive(Clone, Copy, Debug, PartialEq, Eq)]
+#[derive(Clone, Copy, PartialEq, Eq)]
 pub enum VerifyFault {
     At { cause: VerifyCause, at: Where },
     Memory,

@@ -30,11 +30,15 @@ pub fn first_fault(alloc: Global, code: &CodeProgram) -> Result<Option<Fault>, N
     ensures { IfOk result (λ fault. fault ≡ spec.fault_of code.now) }
 {
     let names = NameTable::new(alloc, code)?;
-    match first_class_fault(alloc, code, &names)? {
-        Some(fault) => Ok(Some(fault)),
-        None => {
-            let fault = first_body_fault(alloc, code, names)?;
-            Ok(fault)
+    match first_class_fault(alloc, code, &names) {
+        Ok(None) => first_body_fault(alloc, code, names),
+        Ok(Some(fault)) => {
+            drop(names);
+            Ok(Some(fault))
+        }
+        Err(error) => {
+            drop(names);
+            Err(error)
         }
     }
 }
@@ -54,10 +58,7 @@ fn first_class_fault(
             cause: VerifyCause::BadScope,
             at: Where::Class(0),
         })),
-        [_, ..] => {
-            let fault = classes_fault(alloc, code, names)?;
-            Ok(fault)
-        }
+        [_, ..] => classes_fault(alloc, code, names),
     }
 }
 
@@ -96,9 +97,23 @@ fn first_body_fault(
     ensures { IfOk result (λ fault. fault ≡ spec.bodies_fault code.now 0 code.now.bodies) }
 {
     let tables = Tables::new(alloc, code, names)?;
+    let fault = body_fault_by(alloc, code, &tables);
+    drop(tables);
+    fault
+}
+
+/// The first fault of the bodies, by the tables of the code.
+fn body_fault_by(
+    alloc: Global,
+    code: &CodeProgram,
+    tables: &Tables,
+) -> Result<Option<Fault>, NoMemory>
+    requires few { HasFewParts code.now }
+    requires tables { AreTablesOf code.now tables.now }
+    ensures { IfOk result (λ fault. fault ≡ spec.bodies_fault code.now 0 code.now.bodies) }
+{
     let homes = home_kinds(alloc, code.bodies.as_slice())?;
-    let fault = bodies_fault(alloc, code, &tables, homes.as_slice())?;
-    Ok(fault)
+    bodies_fault(alloc, code, tables, homes.as_slice())
 }
 
 fn bodies_fault(
@@ -143,8 +158,7 @@ fn body_fault(
         })),
         [_, ..] => {
             let around = Around::of(alloc, code, tables, number, body.class)?;
-            let fault = instrs_fault(alloc, code, tables, &around, number, body, home)?;
-            Ok(fault)
+            instrs_fault(alloc, code, tables, &around, number, body, home)
         }
     }
 }

@@ -55,11 +55,17 @@ pub fn verify(alloc: Global, code: CodeProgram) -> Result<Verified, VerifyFault>
     ensures exact { MatchResult result (λ _. IsSound code) (λ fault. Told (fault_of code) fault) }
 {
     match first_fault(alloc, &code) {
-        Err(_) => Err(VerifyFault::Memory),
         Ok(None) => Ok(Verified { code }),
-        Ok(Some(fault)) => Err(VerifyFault::At {
-            cause: fault.cause,
-            at: fault.at,
-        }),
+        Ok(Some(fault)) => {
+            drop(code);
+            Err(VerifyFault::At {
+                cause: fault.cause,
+                at: fault.at,
+            })
+        }
+        Err(_) => {
+            drop(code);
+            Err(VerifyFault::Memory)
+        }
     }
 }

@@ -19,8 +19,7 @@ fn put_expr(alloc: Global, all: &mut Vec<Scope>, scope: &Scope, expr: &Expr) -> 
     ensures { OnOk result (all.new.items ≡ all.old.items ++ expr_blocks scope.now (expr_of expr.now)) }
 {
     put_key_expr(alloc, all, scope, &expr.first)?;
-    put_cascade(alloc, all, scope, &expr.more)?;
-    Ok(())
+    put_cascade(alloc, all, scope, &expr.more)
 }
 
 #[cycle(blocks)]
@@ -97,8 +96,7 @@ fn put_bin(
     ensures { OnOk result (all.new.items ≡ all.old.items ++ bin_blocks scope.now (bin_of expr.now)) }
 {
     put_un(alloc, all, scope, &expr.first)?;
-    put_opers(alloc, all, scope, &expr.more)?;
-    Ok(())
+    put_opers(alloc, all, scope, &expr.more)
 }
 
 #[cycle(blocks)]
@@ -175,8 +173,7 @@ fn put_block(
 {
     let inner = Scope::block(alloc, scope, &block.params, &block.slots)?;
     put_scope(all, &inner)?;
-    put_inside(alloc, all, &inner, block)?;
-    Ok(())
+    put_inside(alloc, all, &inner, block)
 }
 
 /// The blocks in a block, which sees this.

@@ -32,8 +32,7 @@ fn put_unit(alloc: Global, all: &mut Vec<Scope>, unit: &Unit) -> Result<(), NoMe
     ensures { OnOk result (all.new.items ≡ all.old.items ++ unit_bodies (unit_of unit.now)) }
 {
     let outside = Chain::end(alloc)?;
-    put_class(alloc, all, &outside, &unit.class)?;
-    Ok(())
+    put_class(alloc, all, &outside, &unit.class)
 }
 
 /// The bodies of a class, and then those of the classes in it.
@@ -48,8 +47,7 @@ fn put_class(
 {
     let classes = Chain::inside(alloc, ClassScope::of(alloc, class)?, outer)?;
     put_clause(alloc, all, outer, &class.clause)?;
-    put_inside(alloc, all, &classes, class)?;
-    Ok(())
+    put_inside(alloc, all, &classes, class)
 }
 
 /// The bodies that stand in a class.
@@ -77,8 +75,7 @@ fn put_own(
 {
     put_initialiser(alloc, all, classes, class)?;
     put_side(alloc, all, classes, CodeSide::Instance, &class.side)?;
-    put_class_side(alloc, all, classes, &class.class_side)?;
-    Ok(())
+    put_class_side(alloc, all, classes, &class.class_side)
 }
 
 /// The clause of a nested class.

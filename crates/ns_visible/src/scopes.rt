@@ -9,7 +9,7 @@ use ns_scope::scope::Scope;
 use std::marker::Model;
 
 /// The number of a body in a program.
-#[derive(Clone, Copy, Debug, PartialEq, Eq)]
+#[derive(Clone, Copy)]
 pub struct BodyId(pub u32);
 
 /// What is seen from each body of a program, by the body's number.

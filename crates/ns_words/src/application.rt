@@ -13,7 +13,7 @@ use std::alloc::Global;
 const MOST_FILES: u32 = 16;
 
 /// What a word asks for: what the application is granted, and the names of its files, joined by `+`.
-#[derive(Clone, Copy, Debug, PartialEq, Eq)]
+#[derive(Clone, Copy)]
 pub struct Asked<'a> {
     pub console: bool,
     pub kernel: bool,

@@ -6,7 +6,7 @@ ghost use Rattle.ns_words.specs.Table as spec;
 use ns_base::limits::Limits;
 
 /// A command, which the first word of a line names.
-#[derive(Clone, Copy, Debug, PartialEq, Eq)]
+#[derive(Clone, Copy)]
 pub enum Verb {
     /// Says whether files are a program.
     Check,
@@ -31,7 +31,7 @@ pub enum Verb {
 }
 
 /// What each name of a command is.
-#[derive(Clone, Copy, Debug, PartialEq, Eq)]
+#[derive(Clone, Copy)]
 pub enum Item {
     /// The name of a file.
     File,
@@ -43,7 +43,7 @@ pub enum Item {
 
 /// What may stand behind the first word: options, in any order and each at most once; then names;
 /// then `--` and arguments.
-#[derive(Clone, Copy, Debug, PartialEq, Eq)]
+#[derive(Clone, Copy)]
 pub struct Form {
     /// The greatest limits that can be given, as `--steps=N` and so on, where they can.
     pub greatest: Option<Limits>,

@@ -14,7 +14,7 @@ use ns_base::limits::Limits;
 use ns_base::spelling::is_digit;
 
 /// What the options of a command line give.
-#[derive(Clone, Copy, Debug, PartialEq, Eq)]
+#[derive(Clone, Copy)]
 pub struct Given {
     pub steps: Option<u64>,
     pub cells: Option<u64>,
@@ -56,7 +56,7 @@ pub struct Line<'a> {
 
 /// The number of the first word, counted from 0, such that no form begins with the words up to it.
 /// Where the words begin a form and more are needed, it is the number of words.
-#[derive(Clone, Copy, Debug, PartialEq, Eq)]
+#[derive(Clone, Copy)]
 pub struct BadWord(pub u64);
 
 /// What the words say, or the first bad word. `form_of` has the form of each command.

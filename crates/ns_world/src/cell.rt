@@ -6,7 +6,7 @@ use ns_base::selector::Sel;
 /// A cell to be made: its kind, its size and its fixed parts. The words of an object, an
 /// environment and an array begin as nil, the bytes of a text as 0. The base of a class is how many
 /// entries the classes above it have, so that nothing has to count them again.
-#[derive(Clone, Copy, Debug, PartialEq, Eq)]
+#[derive(Clone, Copy, PartialEq, Eq)]
 pub enum NewCell {
     Object {
         class: u32,
@@ -45,7 +45,7 @@ pub enum NewCell {
 }
 
 /// The objects that stand for what the program may use of the outside.
-#[derive(Clone, Copy, Debug, PartialEq, Eq)]
+#[derive(Clone, Copy, PartialEq, Eq)]
 pub enum FacetKind {
     Manifest,
     Platform,
@@ -56,5 +56,5 @@ pub enum FacetKind {
 }
 
 /// The cell's size would pass the limit on cells.
-#[derive(Clone, Copy, Debug, PartialEq, Eq)]
+#[derive(Clone, Copy)]
 pub struct CellLimit;

@@ -6,7 +6,7 @@ use ns_base::place::Place;
 use ns_base::selector::Sel;
 
 /// How much was used of each limit.
-#[derive(Clone, Copy, Debug, PartialEq, Eq)]
+#[derive(Clone, Copy)]
 pub struct Counters {
     pub steps: u64,
     pub cells: u64,
@@ -15,7 +15,7 @@ pub struct Counters {
 }
 
 /// The kinds of errors of a run.
-#[derive(Clone, Copy, Debug, PartialEq, Eq)]
+#[derive(Clone, Copy, PartialEq, Eq)]
 pub enum Kind {
     NotUnderstood,
     NotPublic,
@@ -34,7 +34,7 @@ pub enum Kind {
 }
 
 /// The limits of a run.
-#[derive(Clone, Copy, Debug, PartialEq, Eq)]
+#[derive(Clone, Copy, PartialEq, Eq)]
 pub enum LimitKind {
     Steps,
     Cells,
@@ -43,7 +43,7 @@ pub enum LimitKind {
 }
 
 /// Why a kernel row gives no answer.
-#[derive(Clone, Copy, Debug, PartialEq, Eq)]
+#[derive(Clone, Copy, PartialEq, Eq)]
 pub enum Fault {
     Kind(Kind),
     Limit(LimitKind),
@@ -51,7 +51,7 @@ pub enum Fault {
 
 /// An error of a run, with the send that was being answered: its place, the class of its
 /// receiver and its selector.
-#[derive(Clone, Copy, Debug, PartialEq, Eq)]
+#[derive(Clone, Copy)]
 pub struct RunError {
     pub kind: Kind,
     pub place: Option<Place>,
@@ -60,7 +60,7 @@ pub struct RunError {
 }
 
 /// How a run ended.
-#[derive(Clone, Copy, Debug, PartialEq, Eq)]
+#[derive(Clone, Copy)]
 pub enum Ending {
     Done(Value),
     Error(RunError),

@@ -10,7 +10,7 @@ use crate::value::KClass;
 use ns_base::selector::Sel;
 
 /// The kind and the size of a cell, and the numbers that stand beside them.
-#[derive(Clone, Copy, Debug, PartialEq, Eq)]
+#[derive(Clone, Copy)]
 pub enum Head {
     Object { class: u32, words: u32 },
     Class { decl: u32, base: u32 },

@@ -2,7 +2,7 @@
 
 /// The classes whose instances and class objects the kernel answers for, in the order of its
 /// table of rows.
-#[derive(Clone, Copy, Debug, PartialEq, Eq)]
+#[derive(Clone, Copy, PartialEq, Eq)]
 pub enum KernelRow {
     Object,
     ObjectClass,
@@ -27,7 +27,7 @@ pub enum KernelRow {
 
 /// Where a lookup starts: at the instance side of a class, at the class side of one, with its
 /// factory or without, or at the rows of a kernel class.
-#[derive(Clone, Copy, Debug, PartialEq, Eq)]
+#[derive(Clone, Copy, PartialEq, Eq)]
 pub enum Start {
     Instance(u32),
     ClassSide { class: u32, factory: bool },
@@ -36,7 +36,7 @@ pub enum Start {
 
 /// Names the class of a receiver: an instance of that declaration, a class object of it, or a
 /// kernel value.
-#[derive(Clone, Copy, Debug, PartialEq, Eq)]
+#[derive(Clone, Copy)]
 pub enum ClassName {
     Declared(u32),
     ClassOf(u32),

@@ -7,7 +7,7 @@ ghost use Rattle.ns_world.specs.Heap as heap;
 use ns_base::selector::Sel;
 
 /// What a name, a slot or an operand holds. A reference is the number of a cell.
-#[derive(Clone, Copy, Debug, PartialEq, Eq)]
+#[derive(Clone, Copy, PartialEq, Eq)]
 pub enum Value {
     Nil,
     True,
@@ -19,7 +19,7 @@ pub enum Value {
 }
 
 /// The classes of the kernel.
-#[derive(Clone, Copy, Debug, PartialEq, Eq)]
+#[derive(Clone, Copy, PartialEq, Eq)]
 pub enum KClass {
     Object,
     Array,

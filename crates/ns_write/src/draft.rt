@@ -8,7 +8,7 @@ use ns_base::selector::Sel;
 use ns_code::instruction::Instr;
 
 /// How a send finds its method.
-#[derive(Clone, Copy, Debug, PartialEq, Eq)]
+#[derive(Clone, Copy)]
 pub enum SendWay {
     Plain,
     Inner,
@@ -17,7 +17,7 @@ pub enum SendWay {
 }
 
 /// A line of code.
-#[derive(Clone, Copy, Debug, PartialEq, Eq)]
+#[derive(Clone, Copy)]
 pub enum Draft {
     Does(Instr),
     Symbol(Sel),

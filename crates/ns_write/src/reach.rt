@@ -13,7 +13,7 @@ use ns_tree::tree::Access;
 /// Self, with the members that are not private; the enclosing object for the declaration at a
 /// level, with its members that are not private; or the private member of the declaration at a
 /// level, on the enclosing object for it.
-#[derive(Clone, Copy, Debug, PartialEq, Eq)]
+#[derive(Clone, Copy)]
 pub enum Reach {
     Own,
     Enclosing(u8),

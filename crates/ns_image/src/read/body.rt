@@ -1,7 +1,7 @@
 //! Bodies.
 
 ghost use Rattle.ns_image.specs.Reading as spec;
-ghost use Rattle.ns_image.specs.Reads.{Reads};
+ghost use Rattle.ns_image.specs.Reads.{Reads, ReadsAs};
 
 use crate::fault::Fault;
 use crate::read::format::{Format, times, up_to};
@@ -36,38 +36,44 @@ impl Format for Body {
 
     #[tactic(auto, unfolding(crate::specs::Reading::body))]
     fn read(&self, alloc: Global, input: &mut Input<'_>) -> Result<BodyCode, Fault> {
-        let body = head(alloc, input)?;
-        with_local_names(alloc, input, self.files, body)
+        let mut body = head(alloc, input)?;
+        match read_local_names(alloc, input, self.files, &mut body) {
+            Ok(()) => Ok(body),
+            Err(fault) => {
+                drop(body);
+                Err(fault)
+            }
+        }
     }
 }
 
-/// A body with the names of its locals and the places, which follow it.
+/// Reads the names of a body's locals, and the places that follow them, into the body.
 #[tactic(auto, unfolding(crate::specs::Reading::with_local_names))]
-fn with_local_names(
+fn read_local_names(
     alloc: Global,
     input: &mut Input<'_>,
     files: usize,
-    mut body: BodyCode,
-) -> Result<BodyCode, Fault>
-    ensures { Reads (spec.with_local_names files body input.old.rest.now) result input.new.rest.now }
+    body: &mut BodyCode,
+) -> Result<(), Fault>
+    ensures { ReadsAs (λ _. body.new) (spec.with_local_names files body.old input.old.rest.now) result input.new.rest.now }
 {
     let names = times(alloc, input, &LocalName, u32::from(body.locals))?;
     body.local_names = LocalNames::given(names);
-    with_places(alloc, input, files, body)
+    read_places(alloc, input, files, body)
 }
 
-/// A body with the places that follow it.
+/// Reads the places into a body.
 #[tactic(auto, unfolding(crate::specs::Reading::with_places))]
-fn with_places(
+fn read_places(
     alloc: Global,
     input: &mut Input<'_>,
     files: usize,
-    mut body: BodyCode,
-) -> Result<BodyCode, Fault>
-    ensures { Reads (spec.with_places files body input.old.rest.now) result input.new.rest.now }
+    body: &mut BodyCode,
+) -> Result<(), Fault>
+    ensures { ReadsAs (λ _. body.new) (spec.with_places files body.old input.old.rest.now) result input.new.rest.now }
 {
     body.places = places(alloc, input, files, body.instrs.as_slice())?;
-    Ok(body)
+    Ok(())
 }
 
 /// A body of version 1, whose locals get numbers for names.

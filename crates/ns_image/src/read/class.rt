@@ -1,7 +1,7 @@
 //! Class records.
 
 ghost use Rattle.ns_image.specs.Reading as spec;
-ghost use Rattle.ns_image.specs.Reads.{Reads};
+ghost use Rattle.ns_image.specs.Reads.{Reads, ReadsAs};
 
 use crate::fault::Fault;
 use crate::read::format::{Format, times};
@@ -113,7 +113,7 @@ fn class_from_clause(
     let clause = input.reference()?;
     let init = input.word()?;
     let super_sel = input.sel()?;
-    let class = ClassCode {
+    let mut class = ClassCode {
         name,
         outer,
         factory,
@@ -126,33 +126,31 @@ fn class_from_clause(
         methods: Items::from_vec(Vec::new(alloc)),
         side_methods: Items::from_vec(Vec::new(alloc)),
     };
-    with_members(alloc, input, class)
+    match read_members(alloc, input, &mut class) {
+        Ok(()) => Ok(class),
+        Err(fault) => {
+            drop(class);
+            Err(fault)
+        }
+    }
 }
 
-/// A class record with the members that follow it.
+/// Reads the members into a class record.
 #[tactic(auto, unfolding(crate::specs::Reading::with_members))]
-fn with_members(
-    alloc: Global,
-    input: &mut Input<'_>,
-    mut class: ClassCode,
-) -> Result<ClassCode, Fault>
-    ensures { Reads (spec.with_members class input.old.rest.now) result input.new.rest.now }
+fn read_members(alloc: Global, input: &mut Input<'_>, class: &mut ClassCode) -> Result<(), Fault>
+    ensures { ReadsAs (λ _. class.new) (spec.with_members class.old input.old.rest.now) result input.new.rest.now }
 {
     class.slots = counted(alloc, input, &Slot)?;
     class.nested = counted(alloc, input, &Nested)?;
-    with_methods(alloc, input, class)
+    read_methods(alloc, input, class)
 }
 
-/// A class record with the methods of both sides, which follow it.
+/// Reads the methods of both sides into a class record.
 #[tactic(auto, unfolding(crate::specs::Reading::with_methods))]
-fn with_methods(
-    alloc: Global,
-    input: &mut Input<'_>,
-    mut class: ClassCode,
-) -> Result<ClassCode, Fault>
-    ensures { Reads (spec.with_methods class input.old.rest.now) result input.new.rest.now }
+fn read_methods(alloc: Global, input: &mut Input<'_>, class: &mut ClassCode) -> Result<(), Fault>
+    ensures { ReadsAs (λ _. class.new) (spec.with_methods class.old input.old.rest.now) result input.new.rest.now }
 {
     class.methods = counted(alloc, input, &Method)?;
     class.side_methods = counted(alloc, input, &Method)?;
-    Ok(class)
+    Ok(())
 }

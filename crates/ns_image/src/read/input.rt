@@ -116,7 +116,6 @@ impl<'a> Input<'a> {
         ensures { ReadsAs (λ bytes. bytes.now) (spec.text self.old.rest.now) result self.new.rest.now }
     {
         let length = self.word()?;
-        let bytes = self.taken(length as usize)?;
-        Ok(bytes)
+        self.taken(length as usize)
     }
 }
