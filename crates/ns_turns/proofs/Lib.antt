@@ -5,3 +5,4 @@ pub mod Resent
 pub mod Along
 pub mod Passed
 pub mod Untouched
+pub mod Rowed

@@ -3,3 +3,4 @@ pub mod Charging
 pub mod Turning
 pub mod Resending
 pub mod Quickly
+pub mod Above

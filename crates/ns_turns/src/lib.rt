@@ -7,6 +7,7 @@ pub mod charging;
 pub mod fetching;
 pub mod laws;
 mod moving;
+mod performing;
 pub mod quickly;
 pub mod resending;
 pub mod stepping;

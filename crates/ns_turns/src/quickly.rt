@@ -8,6 +8,7 @@ ghost use Rattle.ns_turns.specs.Prepared.{IsPrepared, CanRun};
 ghost use Rattle.ns_turns.specs.Quickly.{MovesOrNot};
 
 use crate::fetching::fetch_from;
+use crate::performing::perform;
 use ns_code::program::CodeProgram;
 use ns_engine::laws::{moves_keep_machines_ready, passing_keeps_machines_ready};
 use ns_engine::led::Led;
@@ -15,7 +16,6 @@ use ns_engine::on_top::OnTop;
 use ns_engine::state::Core;
 use ns_frames::registers::Registers;
 use ns_plan::plan::Plan;
-use ns_quick::performing::perform;
 
 /// Does the next step of the body that runs in the topmost frame, where it is one of those that are taken most; else nothing
 /// has changed but lookups that are kept. The steps of the body begin at that entry.

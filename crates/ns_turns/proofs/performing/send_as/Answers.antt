@@ -3,7 +3,7 @@ use Rattle.ns_plan.specs.Steps.{send_instr}
 use Rattle.ns_engine.specs.declared.state.Core.{Core}
 use Rattle.ns_engine.specs.Doing.{CanDo}
 use Rattle.ns_engine.specs.Tried.{Leads}
-use Rattle.ns_quick.proofs.performing.send_as.Goals as goal
+use Rattle.ns_turns.proofs.performing.send_as.Goals as goal
 
 pub send_found-requires : goal.send_found-requires
 send_found-requires c =

@@ -2,7 +2,7 @@ use Rattle.std.proofs.Common.{◌≡◌, Some, subst}
 use Rattle.ns_plan.specs.declared.step.SpelledRow.{SpelledRow}
 use Rattle.ns_plan.specs.Spelled.{spelled_by}
 use Rattle.ns_plan.specs.laws.Spelled.{boolean_spelled}
-use Rattle.ns_quick.proofs.performing.send_row.Goals as goal
+use Rattle.ns_turns.proofs.performing.send_row.Goals as goal
 
 pub send_boolean-requires-clause-method : goal.send_boolean-requires-clause-method
 send_boolean-requires-clause-method c =

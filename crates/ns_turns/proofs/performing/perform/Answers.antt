@@ -3,8 +3,8 @@ use Rattle.ns_code.specs.declared.instruction.Instr.TheVariants as instr
 use Rattle.ns_engine.specs.laws.Straight.{plain_straight, tried_straight, tried_on}
 use Rattle.ns_plan.specs.declared.step.Step.{Step}
 use Rattle.ns_plan.specs.Steps.{HasItsMember, instr_of}
-use Rattle.ns_quick.proofs.Rowed.{body_above}
-use Rattle.ns_quick.proofs.performing.perform.Goals as goal
+use Rattle.ns_turns.proofs.Rowed.{body_above}
+use Rattle.ns_turns.proofs.performing.perform.Goals as goal
 
 -- ---- plain steps, which lead straight on
 

@@ -18,7 +18,7 @@ use Rattle.ns_engine.specs.Tried.{led_charged}
 use Rattle.ns_plan.specs.Steps.{HasItsMember}
 use Rattle.ns_sends.specs.Booleans.{LeadsOrNothing}
 use Rattle.ns_sends.specs.Integers.{DoesOrNothing}
-use Rattle.ns_quick.specs.Above.{HasMemberAbove}
+use Rattle.ns_turns.specs.Above.{HasMemberAbove}
 
 -- A body runs, and the step has its member there.
 pub record HasBody (code : CodeProgram) (step : Step) : Type 0 where

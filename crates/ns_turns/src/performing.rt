@@ -7,7 +7,7 @@ ghost use Rattle.ns_engine.specs.Doing.{CanDo};
 ghost use Rattle.ns_engine.specs.Straight.{IsOnTop};
 ghost use Rattle.ns_engine.specs.Tried.{Leads};
 ghost use Rattle.ns_sends.specs.Booleans.{LeadsOrNothing};
-ghost use Rattle.ns_quick.specs.Above.{HasMemberAbove};
+ghost use Rattle.ns_turns.specs.Above.{HasMemberAbove};
 
 use ns_base::selector::Sel;
 use ns_code::program::CodeProgram;
