@@ -115,14 +115,6 @@ module _ (code : CodeProgram) (core : Core) (at : Registers) (sel : Sel) (argc :
       kept = (sends no_one).kept;
     }
 
-    pub leads_to_top : (place : ℕ) (class : ClassName) (kind : Sending) (new : Core) (led : Led) → under ≡ stood core.stack (with_top (at.top - argc - 1) at)
-        → SendLeads code core at (sent_of at argc place class sel) receiver kind new led → ToTopLeads code core at sel argc place kind new led
-    leads_to_top place class kind new (Straight to) same is = (sends_to_top place class kind new (On to) same is.0, is.1)
-    leads_to_top place class kind new (Charged to) same is = (sends_to_top place class kind new (On to) same is.0, is.1)
-    leads_to_top place class kind new (OnTop to) same is = sends_to_top place class kind new (On to) same is
-    leads_to_top place class kind new Nowhere same is = is
-    leads_to_top place class kind new (Answered to) same is = is
-
     pub answers_to_top : (place : ℕ) (class : ClassName) (kind : Sending) (new : Core) (next : Next) → under ≡ stood core.stack (with_top (at.top - argc - 1) at)
         → ((activation : Activation) → AnswersAt code core at (at.top - argc - 1) (sent_at code core at (sent_of at argc place class sel) activation (To receiver kind)) new next)
         → AnswersToTop code core at sel argc place kind new next
@@ -135,6 +127,14 @@ module _ (code : CodeProgram) (core : Core) (at : Registers) (sel : Sel) (argc :
           (arrived code (phase_shown core.phase) (sent_at code core at (sent_of at argc place class sel) activation (To receiver kind)) (frames_shown code core.places s))
           core new next) (sym same) (answers activation);
     }
+
+    pub leads_to_top : (place : ℕ) (class : ClassName) (kind : Sending) (new : Core) (led : Led) → under ≡ stood core.stack (with_top (at.top - argc - 1) at)
+        → SendLeads code core at (sent_of at argc place class sel) receiver kind new led → ToTopLeads code core at sel argc place kind new led
+    leads_to_top place class kind new (Straight to) same is = (sends_to_top place class kind new (On to) same is.0, is.1)
+    leads_to_top place class kind new (Charged to) same is = (sends_to_top place class kind new (On to) same is.0, is.1)
+    leads_to_top place class kind new (OnTop to) same is = sends_to_top place class kind new (On to) same is
+    leads_to_top place class kind new (Answered to) same is = is
+    leads_to_top place class kind new Nowhere same is = is
 
 -- ---- the instructions
 
@@ -254,14 +254,11 @@ module _ (taken : (missing : State) → AreTaken missing) (code : CodeProgram) (
       subst (λ (between : State). Passes code between old new next) (leads_so kind can is.receiver is.under is.is is.many)
       (is.passes (by kind can is.receiver is.under is.is is.many).activation)
 
--- Where it leads, the instruction leads.
-pub kind_leads : ((missing : State) → AreTaken missing) → (code : CodeProgram) (old new : Core) (at : Registers) (sel : Sel) (argc place : ℕ) (kind : Sending) (led : Led)
-    → CanDo code old at (send_instr kind sel argc) → ToTopLeads code old at sel argc place kind new led
-    → Leads code (send_instr kind sel argc) (slice_get old.places place) old at new led
-kind_leads taken code old new at sel argc place kind (Straight to) can is =
-    record { does = kind_does taken code old new at sel argc place kind (On to) can is.0; stays = is.1 }
-kind_leads taken code old new at sel argc place kind (Charged to) can is =
-    record { does = kind_does taken code old new at sel argc place kind (On to) can is.0; stays = is.1 }
-kind_leads taken code old new at sel argc place kind (OnTop to) can is = kind_does taken code old new at sel argc place kind (On to) can is
-kind_leads taken code old new at sel argc place kind Nowhere can is = is
-kind_leads taken code old new at sel argc place kind (Answered to) can is = absurd is
+  -- Where it leads, the instruction leads.
+  pub kind_leads : (kind : Sending) (led : Led) → CanDo code old at (send_instr kind sel argc) → ToTopLeads code old at sel argc place kind new led
+      → Leads code (send_instr kind sel argc) (slice_get old.places place) old at new led
+  kind_leads kind (Straight to) can is = record { does = kind_does kind (On to) can is.0; stays = is.1 }
+  kind_leads kind (Charged to) can is = record { does = kind_does kind (On to) can is.0; stays = is.1 }
+  kind_leads kind (OnTop to) can is = kind_does kind (On to) can is
+  kind_leads kind (Answered to) can is = absurd is
+  kind_leads kind Nowhere can is = is

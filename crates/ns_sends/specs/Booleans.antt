@@ -23,8 +23,8 @@ use Rattle.ns_engine.specs.declared.state.Next.{Next}
 use Rattle.ns_engine.specs.declared.state.Next.TheVariants.{On}
 use Rattle.ns_engine.specs.Doing.{Does}
 use Rattle.ns_engine.specs.Passing.{Passes, DoesTwice}
-use Rattle.ns_engine.specs.Shown.{phase_shown, progress_in}
 use Rattle.ns_engine.specs.Straight.{GoesStraight}
+use Rattle.ns_engine.specs.Shown.{phase_shown, progress_in}
 use Rattle.ns_sends.specs.declared.sent.Sent.{Sent}
 use Rattle.ns_sends.specs.Operands.{topmost, SendsToTop}
 use Rattle.ns_sends.specs.Sending.{sent_at, Sends}
@@ -58,13 +58,13 @@ AnswersAt code old at floor control new next =
     Passes code (arrived code (phase_shown old.phase) control (frames_shown code old.places (stood old.stack (with_top floor at)))) old new next
 
 -- A send to a value has led on with the topmost frame at those registers, or has been answered there; or nothing has changed.
-abbrev pub BooleanLeads : CodeProgram → Core → Registers → Sent → Value → Sending → Core → Led → Type 0
-BooleanLeads code old at sent receiver kind new (OnTop to) =
+abbrev pub SendLeadsOrNothing : CodeProgram → Core → Registers → Sent → Value → Sending → Core → Led → Type 0
+SendLeadsOrNothing code old at sent receiver kind new (OnTop to) =
     (activation : Activation) → Sends code old at sent.floor (sent_at code old at sent activation (To receiver kind)) new (On to)
-BooleanLeads code old at sent receiver kind new (Answered to) =
+SendLeadsOrNothing code old at sent receiver kind new (Answered to) =
     (activation : Activation) → AnswersAt code old at sent.floor (sent_at code old at sent activation (To receiver kind)) new (On to)
-BooleanLeads code old at sent receiver kind new Nowhere = new ≡ old
-BooleanLeads code old at sent receiver kind new other = ⊥
+SendLeadsOrNothing code old at sent receiver kind new Nowhere = new ≡ old
+SendLeadsOrNothing code old at sent receiver kind new other = ⊥
 
 -- The operands were sent to the receiver below them, and the move after it was made too.
 pub record AnswersToTop (code : CodeProgram) (old : Core) (at : Registers) (sel : Sel) (argc place : ℕ) (kind : Sending) (new : Core) (next : Next) : Type 0 where
@@ -77,13 +77,14 @@ pub record AnswersToTop (code : CodeProgram) (old : Core) (at : Registers) (sel 
       (frames_shown code old.places under)) old new next
 
 -- The same of operands that are sent to the receiver below them.
-abbrev pub BooleanToTopLeads : CodeProgram → Core → Registers → Sel → ℕ → ℕ → Sending → Core → Led → Type 0
-BooleanToTopLeads code old at sel argc place kind new (OnTop to) = SendsToTop code old at sel argc place kind new (On to)
-BooleanToTopLeads code old at sel argc place kind new (Answered to) = AnswersToTop code old at sel argc place kind new (On to)
-BooleanToTopLeads code old at sel argc place kind new Nowhere = new ≡ old
-BooleanToTopLeads code old at sel argc place kind new other = ⊥
+abbrev pub ToTopLeadsOrNothing : CodeProgram → Core → Registers → Sel → ℕ → ℕ → Sending → Core → Led → Type 0
+ToTopLeadsOrNothing code old at sel argc place kind new (OnTop to) = SendsToTop code old at sel argc place kind new (On to)
+ToTopLeadsOrNothing code old at sel argc place kind new (Answered to) = AnswersToTop code old at sel argc place kind new (On to)
+ToTopLeadsOrNothing code old at sel argc place kind new Nowhere = new ≡ old
+ToTopLeadsOrNothing code old at sel argc place kind new other = ⊥
 
--- The instruction is done, and leads there, or the move after it is made too; or nothing has changed.
+-- The instruction is done, and leads straight on with one step charged, or on with the topmost frame, or the move after it is made
+-- too; or nothing has changed.
 abbrev pub LeadsOrNothing : CodeProgram → Instr → Option SourcePlace → Core → Registers → Core → Led → Type 0
 LeadsOrNothing code instr place old at new (Charged to) = GoesStraight code 1 instr place old at new to
 LeadsOrNothing code instr place old at new (OnTop to) = Does code instr place old at new (On to)

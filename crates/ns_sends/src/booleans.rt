@@ -10,7 +10,7 @@ ghost use Rattle.ns_plan.specs.Steps.{send_instr};
 ghost use Rattle.ns_engine.specs.declared.state.Next.TheVariants as next;
 ghost use Rattle.ns_engine.specs.Doing.{CanDo};
 ghost use Rattle.ns_sends.specs.Booleans as spec;
-ghost use Rattle.ns_sends.specs.Booleans.{AnswersAt, BooleanLeads, BooleanToTopLeads, LeadsOrNothing};
+ghost use Rattle.ns_sends.specs.Booleans.{AnswersAt, SendLeadsOrNothing, ToTopLeadsOrNothing, LeadsOrNothing};
 ghost use Rattle.ns_sends.specs.Looping.{CanLoop};
 ghost use Rattle.ns_sends.specs.Operands.{SendsOperands};
 ghost use Rattle.ns_sends.specs.Rows.{FindsRow};
@@ -76,7 +76,7 @@ fn send_operands(
 ) -> Led
     requires operands { SendsOperands code.now core.old at sel argc (argc + 1) }
     requires method { method_of_send code.now sel ≡ Some method }
-    ensures { BooleanToTopLeads code.now core.old at sel argc place kind core.new result }
+    ensures { ToTopLeadsOrNothing code.now core.old at sel argc place kind core.new result }
 {
     let first = at.top - u32::from(argc);
     let above = Registers { top: first, ..at };
@@ -124,7 +124,7 @@ fn send_to(
     requires can { CanSend code.now core.old at sent receiver }
     requires boolean { IsTrue (spec.is_boolean receiver) }
     requires method { method_of_send code.now sent.site.sel ≡ Some method }
-    ensures { BooleanLeads code.now core.old at sent receiver kind core.new result }
+    ensures { SendLeadsOrNothing code.now core.old at sent receiver kind core.new result }
 {
     booleans_find_rows();
     match answer_at_once(method, receiver) {
@@ -187,7 +187,7 @@ fn charge(
     requires can { CanSend code.now core.old at sent receiver }
     requires finds { FindsRow code.now core.old sent receiver kind (Method method) }
     requires answers { spec.answer_at_once method receiver ≡ Some value }
-    ensures { BooleanLeads code.now core.old at sent receiver kind core.new result }
+    ensures { SendLeadsOrNothing code.now core.old at sent receiver kind core.new result }
 {
     a_send_is_its_step_and_its_answer();
     charging_keeps_lawful();

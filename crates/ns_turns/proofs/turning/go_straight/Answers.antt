@@ -1,4 +1,4 @@
-use Rattle.std.proofs.Common.{refl, arith, sym, subst}
+use Rattle.std.proofs.Common.{◌-◌, ◌<◌, refl, arith, sym, subst}
 use Rattle.ns_engine.specs.declared.state.Next.{Next}
 use Rattle.ns_engine.specs.declared.state.Next.TheVariants.{On}
 use Rattle.ns_turns.specs.Turning.{HasGone}
