@@ -7,8 +7,7 @@ ghost use Rattle.ns_send.specs.Rows.{row_at};
 ghost use Rattle.ns_send.specs.Sends.{To};
 ghost use Rattle.ns_engine.specs.declared.state.Next.TheVariants as next;
 ghost use Rattle.ns_sends.specs.Given.{SendsOrNot};
-ghost use Rattle.ns_sends.specs.Integers.{SendsOrNothing};
-ghost use Rattle.ns_sends.specs.Looping.{CanLoop, loops};
+ghost use Rattle.ns_sends.specs.Looping.{BeginsOrNothing, CanLoop, loops};
 ghost use Rattle.ns_sends.specs.Sending.{CanSend, looked_up, Sends};
 ghost use Rattle.ns_sends.specs.Opening.{FindsKernel};
 ghost use Rattle.ns_sends.specs.Rows.{FindsRow};
@@ -73,7 +72,7 @@ pub fn send_method(
 ) -> Option<Registers>
     requires can { CanSend code.now core.old at sent receiver }
     requires finds { FindsRow code.now core.old sent receiver kind (row_is.Method method) }
-    ensures { SendsOrNothing code.now core.old at sent receiver kind core.new result }
+    ensures { BeginsOrNothing code.now core.old at sent receiver kind core.new result }
 {
     a_send_is_its_step_and_its_answer();
     charging_keeps_lawful();
