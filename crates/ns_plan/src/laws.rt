@@ -2,7 +2,8 @@
 
 ghost use Rattle.ns_code.specs.declared.program.CodeProgram.{CodeProgram};
 ghost use Rattle.ns_world.specs.Heap.{Heap};
-ghost use Rattle.ns_plan.specs.Stated.{BodiesBegin, StepsGoOn, JumpsLand, StepsAreUsable, RunningHasStep, MembersAreFound, MembersAreEntries, PrivateSendsHaveMembers, PrivateSendsFind, IntegersFindRows, BooleansFindRows, FramesAreWithin};
+ghost use Rattle.ns_plan.specs.Stated.{BodiesBegin, StepsGoOn, JumpsLand, StepsAreUsable, RunningHasStep, FramesAreWithin};
+ghost use Rattle.ns_plan.specs.Stated.{MembersAreFound, MembersAreEntries, PrivateSendsHaveMembers, PrivateSendsFind, IntegersFindRows, BooleansFindRows};
 
 use ns_find::laws::{booleans_find_their_rows, integers_find_their_rows};
 use ns_send::finding::enclosing_objects_are_there;

@@ -1,5 +1,5 @@
 -- A small program with a proxy, a module and a mixin, and a world of it, on which the actions are tried.
-use Rattle.std.specs.Prelude.{ℕ, List, [], ◌∷◌, true, false, Option, Some, None, codes, replicate}
+use Rattle.std.specs.Prelude.{ℕ, List, [], ◌∷◌, true, false, Option, Some, None, codes}
 use Rattle.ns_base.specs.declared.selector.Sel.{Sel}
 use Rattle.ns_code.specs.declared.program.CodeProgram.{CodeProgram}
 use Rattle.ns_code.specs.declared.class.ClassCode.{ClassCode}
@@ -13,10 +13,9 @@ use Rattle.ns_world.specs.declared.kernel.ClassName.TheVariants.{Declared}
 use Rattle.ns_world.specs.Cell.{ObjectCell, ClassCell, BlockCell, ArrayCell}
 use Rattle.ns_world.specs.Heap.{Heap}
 use Rattle.ns_world.specs.World.{World}
-use Rattle.ns_facets.specs.declared.board.Board.{Board}
-use Rattle.ns_facets.specs.declared.board.Plain.TheVariants as plain
 use Rattle.ns_send.specs.Control.{Progress, Activation}
 use Rattle.ns_send.specs.declared.site.Site.{Site}
+use Rattle.ns_send.specs.Start.{new_board}
 
 abbrev pub sel : ℕ → Sel
 sel number = record { 0 = number }
@@ -104,12 +103,9 @@ small_cells =
 abbrev pub small_world : Heap → World
 small_world cells = record { cells = cells; limits = record { steps = 10; cells = 2000; depth = 10; out = 10 }; steps = 0; depth = 0; output = [] }
 
-abbrev pub no_board : Board
-no_board = record { places = replicate 64 plain.Nil }
-
 -- five method activations have begun
 abbrev pub small_progress : Heap → Progress
-small_progress cells = record { world = small_world cells; board = no_board; begun = 5 }
+small_progress cells = record { world = small_world cells; board = new_board; begun = 5 }
 
 abbrev pub small_site : Site
 small_site = record { place = None; class = Declared 1; sel = sel 14 }

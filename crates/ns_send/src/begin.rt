@@ -23,7 +23,8 @@ pub fn is_block(world: &World, value: Value) -> bool
 }
 
 /// Whether a value is an Integer.
-fn is_integer(value: Value) -> bool
+#[inline(always)]
+pub fn is_integer(value: Value) -> bool
     ensures { result ≡ spec.is_integer value }
 {
     match value {

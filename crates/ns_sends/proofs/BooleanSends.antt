@@ -13,6 +13,7 @@ use Rattle.ns_world.specs.declared.value.Value.TheVariants as value
 use Rattle.ns_world.specs.Heap.{Heap}
 use Rattle.ns_world.specs.Starts.{start_of, class_name_of, class_name_at}
 use Rattle.ns_world.specs.World.{World, entered}
+use Rattle.ns_world.specs.Booleans.{is_boolean}
 use Rattle.ns_find.specs.declared.found.Sending.{Sending}
 use Rattle.ns_kcode.specs.declared.state.KAction.{KAction}
 use Rattle.ns_kcode.specs.declared.state.KAction.TheVariants as action
@@ -41,7 +42,7 @@ use Rattle.ns_engine.specs.declared.state.Next.{Next}
 use Rattle.ns_engine.specs.Doing.{IsSettled}
 use Rattle.ns_engine.specs.Shown.{phase_shown, progress_in}
 use Rattle.ns_sends.specs.declared.sent.Sent.{Sent}
-use Rattle.ns_sends.specs.Booleans.{is_boolean, where_true, where_false, answer_at_once, AnswersAt}
+use Rattle.ns_sends.specs.Booleans.{where_true, where_false, answer_at_once, AnswersAt}
 use Rattle.ns_sends.specs.Going.{arguments_in}
 use Rattle.ns_sends.specs.Looping.{CanLoop}
 use Rattle.ns_sends.specs.Rows.{FindsRow}

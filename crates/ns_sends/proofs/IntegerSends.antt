@@ -16,9 +16,9 @@ use Rattle.ns_kint.specs.declared.row.IntRow.{IntRow}
 use Rattle.ns_plan.specs.Integers.{FindsIn, FindsInteger}
 use Rattle.ns_send.specs.declared.row.Row.{Row}
 use Rattle.ns_send.specs.declared.row.Row.TheVariants.{Integer}
+use Rattle.ns_send.specs.Blocks.{is_integer}
 use Rattle.ns_engine.specs.declared.state.Core.{Core}
 use Rattle.ns_sends.specs.declared.sent.Sent.{Sent}
-use Rattle.ns_sends.specs.Integers.{is_integer}
 use Rattle.ns_sends.specs.Rows.{FindsRow}
 
 -- the lookup of an Integer starts at the rows of Integer

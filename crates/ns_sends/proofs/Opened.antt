@@ -33,6 +33,7 @@ use Rattle.ns_sends.specs.Going.{arguments_in, answered_at}
 use Rattle.ns_sends.specs.Opening.{HasRoomFor, begun_at}
 use Rattle.ns_sends.specs.Sending.{looked_up}
 use Rattle.ns_engine.specs.laws.Charged.{step_is}
+use Rattle.ns_engine.specs.laws.Worlds.{in_other}
 
 -- ---- what the send came to
 
@@ -54,17 +55,13 @@ method_found code core at sent receiver body holder activation target finds to =
     (site_shown core.places sent.site) (progress_in core)) finds
     ∙ ap (λ (r : Value). method_entered code body holder r (Listed (arguments_in core at sent)) (site_shown core.places sent.site) (progress_in core)) to
 
--- the machine in the world after a step
-abbrev pub stepped_to : Core → WorldView → Core
-stepped_to core world = record core { run = record core.run { world = world } }
-
 -- and so it does once its step is charged
 pub found_later : (code : CodeProgram) (core : Core) (at : Registers) (sent : Sent) (receiver : Value) (body holder : ℕ) (activation : Activation) (target : Target)
     (world : WorldView) → stepped core.run.world.world ≡ Some world.world
     → found_at core.run.world.world.cells code activation target sent.site.sel.0 ≡ Method body holder → receiver_of core.run.world.world.cells activation target ≡ receiver
-    → looked_up code (stepped_to core world) at sent activation target ≡ begun_at code (stepped_to core world) at sent receiver body holder
+    → looked_up code (in_other core world) at sent activation target ≡ begun_at code (in_other core world) at sent receiver body holder
 found_later code core at sent receiver body holder activation target world e finds to =
-    method_found code (stepped_to core world) at sent receiver body holder activation target (rw cells finds) (rw cells to)
+    method_found code (in_other core world) at sent receiver body holder activation target (rw cells finds) (rw cells to)
   where
     cells : world.world.cells ≡ core.run.world.world.cells
     cells = ap (λ (w : World). w.cells) (step_is core.run.world.world world.world e)

@@ -29,11 +29,11 @@ use Rattle.ns_engine.specs.Shown.{phase_shown, progress_in}
 use Rattle.ns_engine.specs.Straight.{StaysOnTop}
 use Rattle.ns_engine.specs.laws.Charged.{step_is, given_on_top}
 use Rattle.ns_engine.specs.laws.Straight.{slot_charges_none}
+use Rattle.ns_engine.specs.laws.Worlds.{in_other}
 use Rattle.ns_sends.specs.declared.sent.Sent.{Sent}
 use Rattle.ns_sends.specs.Going.{arguments_in}
 use Rattle.ns_sends.specs.Opening.{got_at, set_at}
 use Rattle.ns_sends.specs.Sending.{CanSend, looked_up, Sends}
-use Rattle.ns_sends.proofs.Opened.{stepped_to}
 
 -- ---- the word
 
@@ -91,9 +91,9 @@ setter_found code core at sent receiver holder word activation target finds to =
 pub getter_later : (code : CodeProgram) (core : Core) (at : Registers) (sent : Sent) (receiver : Value) (holder word : ℕ) (activation : Activation) (target : Target)
     (world : WorldView) → stepped core.run.world.world ≡ Some world.world
     → found_at core.run.world.world.cells code activation target sent.site.sel.0 ≡ Getter holder word → receiver_of core.run.world.world.cells activation target ≡ receiver
-    → looked_up code (stepped_to core world) at sent activation target ≡ got_at (stepped_to core world) receiver word
+    → looked_up code (in_other core world) at sent activation target ≡ got_at (in_other core world) receiver word
 getter_later code core at sent receiver holder word activation target world e finds to =
-    getter_found code (stepped_to core world) at sent receiver holder word activation target (rw cells finds) (rw cells to)
+    getter_found code (in_other core world) at sent receiver holder word activation target (rw cells finds) (rw cells to)
   where
     cells : world.world.cells ≡ core.run.world.world.cells
     cells = ap (λ (w : World). w.cells) (step_is core.run.world.world world.world e)
@@ -101,9 +101,9 @@ getter_later code core at sent receiver holder word activation target world e fi
 pub setter_later : (code : CodeProgram) (core : Core) (at : Registers) (sent : Sent) (receiver : Value) (holder word : ℕ) (activation : Activation) (target : Target)
     (world : WorldView) → stepped core.run.world.world ≡ Some world.world
     → found_at core.run.world.world.cells code activation target sent.site.sel.0 ≡ Setter holder word → receiver_of core.run.world.world.cells activation target ≡ receiver
-    → looked_up code (stepped_to core world) at sent activation target ≡ set_at (stepped_to core world) at sent receiver word
+    → looked_up code (in_other core world) at sent activation target ≡ set_at (in_other core world) at sent receiver word
 setter_later code core at sent receiver holder word activation target world e finds to =
-    setter_found code (stepped_to core world) at sent receiver holder word activation target (rw cells finds) (rw cells to)
+    setter_found code (in_other core world) at sent receiver holder word activation target (rw cells finds) (rw cells to)
   where
     cells : world.world.cells ≡ core.run.world.world.cells
     cells = ap (λ (w : World). w.cells) (step_is core.run.world.world world.world e)
@@ -162,18 +162,18 @@ setter_sends code core new at sent receiver word v values next can all same is =
 -- A word that is given leaves it on top, with the step charged that the send has,
 pub got_on_top : (code : CodeProgram) (core new : Core) (at to : Registers) (floor : ℕ) (receiver : Value) (word : ℕ) (world : WorldView)
     → stepped core.run.world.world ≡ Some world.world
-    → Sends code (stepped_to core world) at floor (got_at (stepped_to core world) receiver word) new (On to) → StaysOnTop 1 core new
+    → Sends code (in_other core world) at floor (got_at (in_other core world) receiver word) new (On to) → StaysOnTop 1 core new
 got_on_top code core new at to floor receiver word world e is =
-    given_on_top code 1 core new (with_top floor at) to (word_of_object world.world.cells receiver word) (progress_in (stepped_to core world))
+    given_on_top code 1 core new (with_top floor at) to (word_of_object world.world.cells receiver word) (progress_in (in_other core world))
     (ap (λ (w : World). w.steps) (step_is core.run.world.world world.world e)) is.state
 
 -- so does one that is stored,
 pub set_on_top : (code : CodeProgram) (core new : Core) (at to : Registers) (sent : Sent) (receiver : Value) (word : ℕ) (world : WorldView)
     → stepped core.run.world.world ≡ Some world.world
-    → Sends code (stepped_to core world) at sent.floor (set_at (stepped_to core world) at sent receiver word) new (On to) → StaysOnTop 1 core new
+    → Sends code (in_other core world) at sent.floor (set_at (in_other core world) at sent receiver word) new (On to) → StaysOnTop 1 core new
 set_on_top code core new at to sent receiver word world e is =
     given_on_top code 1 core new (with_top sent.floor at) to receiver
-    (in_world (progress_in (stepped_to core world)) (stored world.world receiver word (first_of (arguments_in core at sent))))
+    (in_world (progress_in (in_other core world)) (stored world.world receiver word (first_of (arguments_in core at sent))))
     (slot_charges_none world.world receiver word (first_of (arguments_in core at sent))
     ∙ ap (λ (w : World). w.steps) (step_is core.run.world.world world.world e)) is.state
 

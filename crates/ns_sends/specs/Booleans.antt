@@ -1,5 +1,5 @@
 -- Sends to Booleans, by the quick way. Where one isn't made nothing has changed, since nothing is looked up.
-use Rattle.std.specs.Prelude.{◌≡◌, ℕ, List, length, Bool, true, false, Option, Some, None, slice_get}
+use Rattle.std.specs.Prelude.{◌≡◌, ℕ, List, length, Option, Some, None, slice_get}
 use Rattle.ns_base.specs.declared.place.Place.{Place as SourcePlace}
 use Rattle.ns_base.specs.declared.selector.Sel.{Sel}
 use Rattle.ns_code.specs.declared.program.CodeProgram.{CodeProgram}
@@ -28,12 +28,6 @@ use Rattle.ns_engine.specs.Shown.{phase_shown, progress_in}
 use Rattle.ns_sends.specs.declared.sent.Sent.{Sent}
 use Rattle.ns_sends.specs.Operands.{topmost, SendsToTop}
 use Rattle.ns_sends.specs.Sending.{sent_at, Sends}
-
--- whether a value is a Boolean
-abbrev pub is_boolean : Value → Bool
-is_boolean True = true
-is_boolean False = true
-is_boolean other = false
 
 -- a value, where the receiver is true, and where it is false
 abbrev pub where_true : Value → Value → Option Value

@@ -1,12 +1,11 @@
 -- Sends to Integers, by the quick way: the body that runs goes on, with one step charged. Where one isn't made nothing has changed,
 -- since nothing is looked up.
-use Rattle.std.specs.Prelude.{◌≡◌, ℕ, Bool, true, false, Option, Some, None}
+use Rattle.std.specs.Prelude.{◌≡◌, ℕ, Option, Some, None}
 use Rattle.ns_base.specs.declared.place.Place.{Place as SourcePlace}
 use Rattle.ns_base.specs.declared.selector.Sel.{Sel}
 use Rattle.ns_code.specs.declared.program.CodeProgram.{CodeProgram}
 use Rattle.ns_code.specs.declared.instruction.Instr.{Instr}
 use Rattle.ns_world.specs.declared.value.Value.{Value}
-use Rattle.ns_world.specs.declared.value.Value.TheVariants.{Int}
 use Rattle.ns_find.specs.declared.found.Sending.{Sending}
 use Rattle.ns_send.specs.Control.{Activation}
 use Rattle.ns_send.specs.Sends.{To}
@@ -17,11 +16,6 @@ use Rattle.ns_engine.specs.Straight.{StaysOnTop, GoesStraight}
 use Rattle.ns_sends.specs.declared.sent.Sent.{Sent}
 use Rattle.ns_sends.specs.Operands.{SendsToTop}
 use Rattle.ns_sends.specs.Sending.{sent_at, Sends}
-
--- whether a value is an Integer
-abbrev pub is_integer : Value → Bool
-is_integer (Int number) = true
-is_integer other = false
 
 -- A send to a value has led straight on to those registers, with one step charged; or nothing has changed.
 abbrev pub SendsOrNothing : CodeProgram → Core → Registers → Sent → Value → Sending → Core → Option Registers → Type 0

@@ -2,6 +2,7 @@
 //! without evaluating a block has no frame.
 
 ghost use Rattle.std.specs.Prelude.{◌≡◌, ◌+◌, Some, IsTrue, slice_get};
+ghost use Rattle.ns_world.specs.Booleans.{is_boolean};
 ghost use Rattle.ns_send.specs.declared.row.Row.TheVariants.{Method};
 ghost use Rattle.ns_send.specs.Control.{Activation};
 ghost use Rattle.ns_send.specs.Sends.{To};
@@ -102,7 +103,7 @@ fn send_operands(
 /// Whether a value is a Boolean.
 #[inline(always)]
 fn is_boolean(value: Value) -> bool
-    ensures { result ≡ spec.is_boolean value }
+    ensures { result ≡ is_boolean value }
 {
     match value {
         Value::True | Value::False => true,
@@ -122,7 +123,7 @@ fn send_to(
     method: KMethod,
 ) -> Led
     requires can { CanSend code.now core.old at sent receiver }
-    requires boolean { IsTrue (spec.is_boolean receiver) }
+    requires boolean { IsTrue (is_boolean receiver) }
     requires method { method_of_send code.now sent.site.sel ≡ Some method }
     ensures { SendLeadsOrNothing code.now core.old at sent receiver kind core.new result }
 {

@@ -4,11 +4,12 @@
 ghost use Rattle.std.specs.Prelude.{◌≡◌, ◌+◌, Some, IsTrue, slice_get};
 ghost use Rattle.ns_kdata.specs.Arguments.{argument as argument_at};
 ghost use Rattle.ns_send.specs.declared.row.Row.TheVariants.{Integer};
+ghost use Rattle.ns_send.specs.Blocks.{is_integer};
 ghost use Rattle.ns_plan.specs.Integers.{row_of_send};
 ghost use Rattle.ns_plan.specs.Steps.{send_instr};
 ghost use Rattle.ns_engine.specs.Doing.{CanDo};
 ghost use Rattle.ns_sends.specs.Going.{arguments_in};
-ghost use Rattle.ns_sends.specs.Integers.{is_integer, SendsOrNothing, ToTopOrNothing, DoesOrNothing};
+ghost use Rattle.ns_sends.specs.Integers.{SendsOrNothing, ToTopOrNothing, DoesOrNothing};
 ghost use Rattle.ns_sends.specs.Operands.{SendsOperands};
 ghost use Rattle.ns_sends.specs.Rows.{FindsRow, RowGives};
 ghost use Rattle.ns_sends.specs.Sending.{CanSend};
@@ -26,38 +27,17 @@ use ns_frames::registers::Registers;
 use ns_kdata::arguments::argument;
 use ns_kint::row::IntRow;
 use ns_plan::laws::integers_find_rows;
+use ns_send::begin::is_integer;
 use ns_send::row::Row;
 use ns_world::kernel::{ClassName, KernelRow};
 use ns_world::lawful::charging_keeps_lawful;
 use ns_world::value::Value;
 
-/// Sends to a value, where its selector names a row of Integer, it is an Integer to which that row gives a value, and a
-/// step is left; else nothing has changed.
-#[inline(always)]
-pub fn send_integer(
-    code: &CodeProgram,
-    core: &mut Core,
-    at: Registers,
-    sel: Sel,
-    argc: u8,
-    kind: Sending,
-    place: u32,
-    row: Option<IntRow>,
-) -> Option<Registers>
-    requires can { CanDo code.now core.old at (send_instr kind sel argc) }
-    requires row { row ≡ row_of_send code.now sel }
-    ensures { DoesOrNothing code.now (send_instr kind sel argc) (slice_get core.old.places place) core.old at core.new result }
-{
-    match row {
-        Some(row) => send_row(code, core, at, sel, argc, kind, place, row),
-        None => None,
-    }
-}
-
-/// Sends to a value by the row of Integer that its selector names.
+/// Sends to a value by the row of Integer that its selector names, where it is an Integer to which that row gives a value, and
+/// a step is left; else nothing has changed.
 #[inline(always)]
 #[tactic(auto, using(crate::proofs::Received::kind_operands))]
-fn send_row(
+pub fn send_integer(
     code: &CodeProgram,
     core: &mut Core,
     at: Registers,
@@ -109,17 +89,6 @@ fn send_operands(
     match send_to(code, core, at, sent, receiver, kind, row) {
         Some(to) => Some(to),
         None => None,
-    }
-}
-
-/// Whether a value is an Integer.
-#[inline(always)]
-fn is_integer(value: Value) -> bool
-    ensures { result ≡ is_integer value }
-{
-    match value {
-        Value::Int(_) => true,
-        _ => false,
     }
 }
 

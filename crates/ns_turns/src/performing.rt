@@ -134,7 +134,7 @@ fn send_spelled(
 
 /// The same by that row.
 #[inline(always)]
-#[tactic(auto, using(crate::proofs::Rowed::nothing_charged, ns_plan::specs::laws::Spelled::integer_spelled))]
+#[tactic(auto, using(crate::proofs::Rowed::nothing_charged))]
 fn send_row(
     code: &CodeProgram,
     core: &mut Core,
@@ -151,14 +151,7 @@ fn send_row(
 {
     match row {
         SpelledRow::Integer(row) => led_charged(send_integer(
-            code,
-            core,
-            at,
-            sel,
-            argc,
-            kind,
-            place,
-            Some(row),
+            code, core, at, sel, argc, kind, place, row,
         )),
         SpelledRow::Boolean(method) => send_boolean(code, core, at, sel, argc, kind, place, method),
     }

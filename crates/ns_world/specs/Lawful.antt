@@ -12,10 +12,10 @@ use Rattle.ns_code.specs.Soundness.{has_sound_classes, are_parents_earlier, bloc
 use Rattle.ns_world.specs.declared.value.Value.{Value}
 use Rattle.ns_world.specs.declared.value.Value.TheVariants.{Nil, Sym, Ref}
 use Rattle.ns_world.specs.Cell.{Cell, ObjectCell, ClassCell, BlockCell, EnvironmentCell, ArrayCell, TextCell, FacetCell, MirrorCell, MessageCell}
-use Rattle.ns_world.specs.Heap.{Heap, find_cell, is_class, chain_of, superclass_of, no_class, is_ordered}
+use Rattle.ns_world.specs.Heap.{Heap, find_cell, is_class, chain_of, no_class, is_ordered}
 use Rattle.ns_world.specs.World.{World, IsWithin}
 use Rattle.ns_world.specs.Starts.{is_receiver}
-use Rattle.ns_world.specs.Layout.{declaration_of, layout_of, entry_word}
+use Rattle.ns_world.specs.Layout.{declaration_of, layout_of, layout_above, entry_word}
 
 -- A reference names a cell, and a symbol is a name of the code or one of the machine's own.
 abbrev pub IsLive : Heap → CodeProgram → Value → Type 0
@@ -61,7 +61,7 @@ HasEnclosing heap code (Some outer) encl _ = ⊥
 -- at most 256 long, and its enclosing two fit.
 pub record ClassIsLawful (heap : Heap) (code : CodeProgram) (number decl base : ℕ) (encl holder : Value) : Type 0 where
   pub declared : IsSome (slice_get code.classes decl)
-  pub based : base ≡ layout_of heap code (superclass_of heap number)
+  pub based : base ≡ layout_above heap code number
   pub short : length (chain_of heap number) ≤ 256
   pub enclosing : ForSome (slice_get code.classes decl) (λ (class : ClassCode). HasEnclosing heap code class.outer encl holder)
 

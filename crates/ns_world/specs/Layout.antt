@@ -35,10 +35,14 @@ entries_along heap code (class ∷ classes) = entries_of code (declaration_of he
 abbrev pub layout_of : Heap → CodeProgram → ℕ → ℕ
 layout_of heap code class = entries_along heap code (chain_of heap class)
 
+-- how many entries the classes above a class have
+abbrev pub layout_above : Heap → CodeProgram → ℕ → ℕ
+layout_above heap code class = layout_of heap code (superclass_of heap class)
+
 -- how many entries the instances of a superclass have, none where it isn't declared
 abbrev pub entries_above : Heap → CodeProgram → Value → ℕ
 entries_above heap code over = entries_along heap code (chain_above over (chain_of heap))
 
 -- the word of an entry of a holder, in every object whose chain has that holder
 abbrev pub entry_word : Heap → CodeProgram → ℕ → ℕ → ℕ
-entry_word heap code holder entry = layout_of heap code (superclass_of heap holder) + entry
+entry_word heap code holder entry = layout_above heap code holder + entry

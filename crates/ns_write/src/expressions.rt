@@ -4,7 +4,8 @@ ghost use Rattle.std.specs.Prelude.{◌≡◌, ◌+◌, true, length, IfOk, OnOk
 ghost use Rattle.ns_tree.specs.PlainOf.{expr_of, key_expr_of, keys_of, bin_of, opers_of, un_of, primary_of, exprs_of, cascade_of, message_of};
 ghost use Rattle.ns_scope.specs.Bodies.{expr_blocks, key_expr_blocks, keys_blocks, bin_blocks, opers_blocks, un_blocks, primary_blocks, items_blocks, cascade_blocks, message_blocks};
 ghost use Rattle.ns_meant.specs.Program as m;
-ghost use Rattle.ns_meant.specs.Expressions.{as_receiver, as_value, name_sent, one, un_node, un_said, bin_said, key_expr_said, keys_nodes, keys_sent, items_nodes, primary_receiver, implicit_send, expr_node, message_said};
+ghost use Rattle.ns_meant.specs.Expressions.{as_receiver, as_value, name_sent, one, un_node, un_said, bin_said};
+ghost use Rattle.ns_meant.specs.Expressions.{key_expr_said, keys_nodes, keys_sent, items_nodes, primary_receiver, implicit_send, expr_node, message_said};
 ghost use Rattle.ns_write.specs.Cascading.{unset_node, with_rest, with_first, said_kept, is_said};
 ghost use Rattle.ns_write.specs.Sending.{standing, with_node, with_nodes, with_receiver, with_message, with_one_message, with_opers, with_keywords, with_value, opers_left, keys_left, kept};
 

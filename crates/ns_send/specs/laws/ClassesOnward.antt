@@ -74,14 +74,17 @@ first_there test (newest ∷ earlier) number cell e t = tested (eqb number (heap
     tested false e below = before (first_such test earlier) (cond (test newest) (Some (heap_size earlier)) None) (below e t)
 
 -- a class that has the declaration and the enclosing object of one that is there is no first
-no_first : (heap : Heap) (receiver : Value) (decl base made : ℕ) (encl holder under over : Value) → shape_of_value heap receiver ≡ new.Class decl base encl holder under → may_be_first heap (new.Class decl made encl holder over) ≡ false
+no_first : (heap : Heap) (receiver : Value) (decl base made : ℕ) (encl holder under over : Value)
+    → shape_of_value heap receiver ≡ new.Class decl base encl holder under → may_be_first heap (new.Class decl made encl holder over) ≡ false
 no_first heap (Ref at) decl base made encl holder under over e = found (find_cell heap at) refl e
   where
     both : (nil : Bool) → is_nil encl ≡ nil → (nil ≡ true → is_none (first_such (is_top decl) heap) ≡ false) → (nil && is_none (first_such (is_top decl) heap)) ≡ false
     both true n h = h refl
     both false n h = refl
 
-    top : (other base' : ℕ) (encl' holder' over' : Value) → find_cell heap at ≡ Some (ClassCell other base' encl' holder' over') → new.Class other base' encl' holder' over' ≡ new.Class decl base encl holder under → is_nil encl ≡ true → is_none (first_such (is_top decl) heap) ≡ false
+    top : (other base' : ℕ) (encl' holder' over' : Value) → find_cell heap at ≡ Some (ClassCell other base' encl' holder' over')
+        → new.Class other base' encl' holder' over' ≡ new.Class decl base encl holder under → is_nil encl ≡ true
+        → is_none (first_such (is_top decl) heap) ≡ false
     top other base' encl' holder' over' f c n =
         let same : decl ≡ other = cc in
         let nil : is_nil encl' ≡ true = ap is_nil (let q : encl' ≡ encl = cc in q) ∙ n in
@@ -106,10 +109,14 @@ no_first heap (Int number) decl base made encl holder under over e = absurd (cc)
 no_first heap (Sym sel) decl base made encl holder under over e = absurd (cc)
 no_first heap (Kernel class) decl base made encl holder under over e = absurd (cc)
 
-pub mixed_onward : (named : List Value) (code : CodeProgram) (receiver : Value) (cell : NewCell) (over : Value) (site : Site) (progress : Progress) → shape_of_value progress.world.cells receiver ≡ cell → Going named progress (after_reached (mixed code cell over site progress))
+pub mixed_onward : (named : List Value) (code : CodeProgram) (receiver : Value) (cell : NewCell) (over : Value) (site : Site) (progress : Progress)
+    → shape_of_value progress.world.cells receiver ≡ cell → Going named progress (after_reached (mixed code cell over site progress))
 mixed_onward named code receiver' (new.Class decl base encl holder under) over site progress is =
-    made_onward named (class_cell progress.world.cells code decl encl holder over) (class_fault progress.world.cells over) site progress (λ number progress. Gives (Ref number) progress)
-    (λ e. may_come progress.world.cells (class_cell progress.world.cells code decl encl holder over) (passed progress.world.cells over e) (no_first progress.world.cells receiver' decl base (entries_above progress.world.cells code over) encl holder under over is)) refl (λ number next. onward_not named next)
+    let heap = progress.world.cells in
+    let cell = class_cell heap code decl encl holder over in
+    made_onward named cell (class_fault heap over) site progress (λ number progress. Gives (Ref number) progress)
+    (λ e. may_come heap cell (passed heap over e) (no_first heap receiver' decl base (entries_above heap code over) encl holder under over is)) refl
+    (λ number next. onward_not named next)
 mixed_onward named code receiver' (new.Object class words) over site progress is = onward_not named progress
 mixed_onward named code receiver' (new.Block body env home receiver holder) over site progress is = onward_not named progress
 mixed_onward named code receiver' (new.Environment parent locals) over site progress is = onward_not named progress

@@ -151,9 +151,12 @@ over_all P code object holder class over site progress stops goes = kept (kept_c
         (λ number progress. Gives (value.Ref number) (in_world progress (keeping code object holder class number progress.world))) stops
         (λ number world same. goes (value.Ref number) (keeping code object holder class number world) (record { steps = same.steps; depth = same.depth }))
 
-mixed_spends : (code : CodeProgram) (steps : ℕ) (old : Progress) (cell : NewCell) (over : Value) (site : Site) (progress : Progress) → Charged steps 0 0 old progress → ControlSpends steps old (Now (mixed code cell over site progress))
+mixed_spends : (code : CodeProgram) (steps : ℕ) (old : Progress) (cell : NewCell) (over : Value) (site : Site) (progress : Progress)
+    → Charged steps 0 0 old progress → ControlSpends steps old (Now (mixed code cell over site progress))
 mixed_spends code steps old (new.Class decl base encl holder under) over site progress was =
-    made_all (λ after. ControlSpends steps old (Now after)) (class_cell progress.world.cells code decl encl holder over) (class_fault progress.world.cells over) site progress (λ number progress. Gives (value.Ref number) progress)
+    let heap = progress.world.cells in
+    made_all (λ after. ControlSpends steps old (Now after)) (class_cell heap code decl encl holder over) (class_fault heap over) site progress
+    (λ number progress. Gives (value.Ref number) progress)
     (λ ending. stopped_here steps old progress was) (λ number world same. still_charged steps 0 0 old progress world was same)
 mixed_spends code steps old (new.Object class words) over site progress was = stopped_here steps old progress was
 mixed_spends code steps old (new.Block body env home receiver holder) over site progress was = stopped_here steps old progress was

@@ -75,7 +75,9 @@ instance_lawful code class arguments site progress lawful is live =
 
 -- a class that is made over a superclass without a fault
 made_lawful : (code : CodeProgram) (decl : ℕ) (encl holder over : Value) (site : Site) (progress : Progress) (go : ℕ → Progress → After) → LawfulRun code progress → IsEnclosed progress.world.cells code decl encl holder
-    → ((world : World) → Later code progress.world world → find_cell world.cells (heap_size progress.world.cells) ≡ Some (class_cell progress.world.cells code decl encl holder over) → LawfulAfter code (go (heap_size progress.world.cells) (in_world progress world)))
+    → ((world : World) → Later code progress.world world
+    → find_cell world.cells (heap_size progress.world.cells) ≡ Some (class_cell progress.world.cells code decl encl holder over)
+    → LawfulAfter code (go (heap_size progress.world.cells) (in_world progress world)))
     → LawfulAfter code (class_made (class_cell progress.world.cells code decl encl holder over) (class_fault progress.world.cells over) site progress go)
 made_lawful code decl encl holder over site progress go lawful enclosed goes = by_fault (class_fault progress.world.cells over) refl
   where
@@ -92,7 +94,8 @@ made_lawful code decl encl holder over site progress go lawful enclosed goes = b
     by_fault (Some fault) e = lawful
     by_fault None e = charged_all (LawfulAfter code) Halts Cells (made progress.world cell) progress (go (heap_size progress.world.cells)) lawful (λ world m. fine e world m)
 
-mixed_cell : (code : CodeProgram) (o : Option Cell) (number : ℕ) (over : Value) (site : Site) (progress : Progress) → LawfulRun code progress → find_cell progress.world.cells number ≡ o → LawfulAfter code (mixed code (option_map_or shape_of o (new.Mirror Nil)) over site progress)
+mixed_cell : (code : CodeProgram) (o : Option Cell) (number : ℕ) (over : Value) (site : Site) (progress : Progress) → LawfulRun code progress
+    → find_cell progress.world.cells number ≡ o → LawfulAfter code (mixed code (option_map_or shape_of o (new.Mirror Nil)) over site progress)
 mixed_cell code (Some (ClassCell decl base encl holder under)) number over site progress lawful e =
     let class = lawful.cells number (ClassCell decl base encl holder under) e in
     made_lawful code decl encl holder over site progress (λ number progress. Gives (Ref number) progress) lawful (class.declared, class.enclosing)

@@ -5,7 +5,8 @@ use Rattle.ns_tree.specs.Forms.{once_or_more_of, listed_of}
 use Rattle.ns_tree.specs.Rule.{Rule, ◌&◌, many, mapped, Listed, none, last, next, listed, flat_listed, GoodListed, once_or_more}
 use Rattle.ns_tree.specs.Tree.{AllHaveText}
 use Rattle.ns_tree.specs.Made.{listed_items}
-use Rattle.ns_terminal.specs.Read.{Outcome, Reader, got, fault, and_then, begins, read_many, read_turns, put, read_listed, read_list_turns, behind, put_next, ends_separated, Labelled, tail, item, read_labelled, read_label_turns, put_item}
+use Rattle.ns_terminal.specs.Read.{Outcome, Reader, got, fault, and_then, begins, read_many, read_turns, put, behind, put_next, ends_separated}
+use Rattle.ns_terminal.specs.Read.{read_listed, read_list_turns, Labelled, tail, item, read_labelled, read_label_turns, put_item}
 use Rattle.ns_terminal.specs.laws.Sound.{Took, Spelled, Sound, SoundIf, left_told, nothing, took_both, by_test}
 
 -- ---- any number of times

@@ -85,9 +85,13 @@ linked (first ∷ earlier) n decl base encl holder over o e =
     let parts = both_of (has_superclass earlier first) (is_ordered earlier) o in
     tested (eqb n (heap_size earlier)) refl e parts.0 (linked earlier n decl base encl holder over parts.1)
   where
-    tested : (b : Bool) → eqb n (heap_size earlier) ≡ b → cond b (Some first) (find_cell earlier n) ≡ Some (ClassCell decl base encl holder over) → has_superclass earlier first ≡ true → (find_cell earlier n ≡ Some (ClassCell decl base encl holder over) → Linked earlier n over) → Linked (first ∷ earlier) n over
+    class : Cell
+    class = ClassCell decl base encl holder over
+
+    tested : (b : Bool) → eqb n (heap_size earlier) ≡ b → cond b (Some first) (find_cell earlier n) ≡ Some class → has_superclass earlier first ≡ true
+        → (find_cell earlier n ≡ Some class → Linked earlier n over) → Linked (first ∷ earlier) n over
     tested true t e s below =
-        let is : first ≡ ClassCell decl base encl holder over = cc in
+        let is : first ≡ class = cc in
         let super : is_superclass earlier over ≡ true = ap (has_superclass earlier) (sym is) ∙ s in
         record {
           superclass = superclass_in_more first earlier over super;

@@ -10,7 +10,7 @@ use Rattle.ns_world.specs.Heap.{Heap, heap_size, find_cell, is_class, is_ordered
 use Rattle.ns_world.specs.Starts.{declaration_in}
 use Rattle.ns_world.specs.World.{World}
 use Rattle.ns_world.specs.Lawful.{IsLawful}
-use Rattle.ns_world.specs.Layout.{declaration_of, entries_of, entries_along, layout_of, entry_word}
+use Rattle.ns_world.specs.Layout.{declaration_of, entries_of, entries_along, layout_of, layout_above, entry_word}
 use Rattle.ns_world.specs.laws.Above.{GoesOn, goes_on, chain_none, class_of_start}
 use Rattle.ns_world.specs.laws.Chains.{class_below, found_in_more, chain_in_more}
 use Rattle.ns_world.specs.laws.Changing.{ChangesPlainly, changing_leaves, found_old, differs}
@@ -110,7 +110,9 @@ pub layout_stays : (before after : Heap) (code : CodeProgram) (class : ℕ) → 
 layout_stays before after code class order same s = ap (entries_along after code) (same.chains class s) ∙ entries_stay before after code order same (chain_of before class) class refl s
 
 -- the classes above a class have as many entries as before
-pub base_stays : (before after : Heap) (code : CodeProgram) (class : ℕ) → IsInOrder before → SameClasses before after → is_class (find_cell before class) ≡ true → layout_of after code (superclass_of after class) ≡ layout_of before code (superclass_of before class)
+pub base_stays : (before after : Heap) (code : CodeProgram) (class : ℕ) → IsInOrder before → SameClasses before after
+    → is_class (find_cell before class) ≡ true
+    → layout_above after code class ≡ layout_above before code class
 base_stays before after code class order same h =
     let g = goes_on before class order.ordered (omega (arith, order.small)) h in
     ap (layout_of after code) (superclass_stays before after class (same.classes class h))

@@ -47,7 +47,9 @@ object_lawful before after code number class entries k l = record {
       (l.kept holder was.contained declared (ap (slice_get code.classes) was.declared ∙ d) i nested value n (ap (slice_get entries) (was.words (length declared.slots + i)) ∙ v));
 }
 
-class_lawful : (before after : Heap) (code : CodeProgram) (number decl base : ℕ) (encl holder : Value) → KeepsCells before after → is_class (find_cell before number) ≡ true → ClassIsLawful before code number decl base encl holder → ClassIsLawful after code number decl base encl holder
+class_lawful : (before after : Heap) (code : CodeProgram) (number decl base : ℕ) (encl holder : Value) → KeepsCells before after
+    → is_class (find_cell before number) ≡ true → ClassIsLawful before code number decl base encl holder
+    → ClassIsLawful after code number decl base encl holder
 class_lawful before after code number decl base encl holder k is l =
     let start : is_chain_start before number ≡ true = rw is refl in
     record {

@@ -12,11 +12,11 @@ use Rattle.ns_world.specs.declared.value.Value.TheVariants.{Nil}
 use Rattle.ns_world.specs.declared.cell.NewCell.{NewCell}
 use Rattle.ns_world.specs.declared.cell.NewCell.TheVariants.{Object, Class, Block, Environment, Array, Text, Facet, Mirror, Message}
 use Rattle.ns_world.specs.Cell.{Cell, ClassCell, cell_size, fresh}
-use Rattle.ns_world.specs.Heap.{Heap, heap_size, find_cell, has_superclass, chain_of, chain_above, superclass_in, superclass_of, declared_class}
+use Rattle.ns_world.specs.Heap.{Heap, heap_size, find_cell, has_superclass, is_superclass, chain_of, chain_above, superclass_in, declared_class}
 use Rattle.ns_world.specs.World.{World, made}
 use Rattle.ns_world.specs.Lawful.{IsLiveValue, IsKept, ObjectIsLawful, CellIsLawful, IsLawful}
 use Rattle.ns_world.specs.Keeping.{MayBeMade}
-use Rattle.ns_world.specs.Layout.{entries_along, entries_above, layout_of}
+use Rattle.ns_world.specs.Layout.{entries_along, entries_above, layout_of, layout_above}
 use Rattle.ns_world.specs.laws.Above.{above, starts}
 use Rattle.ns_world.specs.laws.Changing.{found_new}
 use Rattle.ns_world.specs.laws.Ordered.{ordered_more}
@@ -38,9 +38,10 @@ new_chain : (heap : Heap) (decl base : ℕ) (encl holder over : Value) → chain
 new_chain heap decl base encl holder over = rw (eq-eqb (heap_size heap) (heap_size heap) refl) refl
 
 -- the classes above a new class have the entries of its superclass
-new_base : (heap : Heap) (code : CodeProgram) (decl base : ℕ) (encl holder over : Value) → IsInOrder heap → has_superclass heap (ClassCell decl base encl holder over) ≡ true → layout_of (ClassCell decl base encl holder over ∷ heap) code (superclass_of (ClassCell decl base encl holder over ∷ heap) (heap_size heap)) ≡ entries_above heap code over
-new_base heap code decl base encl holder over order s =
-    let cell = ClassCell decl base encl holder over in
+new_base : (heap : Heap) (code : CodeProgram) (cell : Cell) → IsInOrder heap → is_superclass heap (superclass_in (Some cell)) ≡ true
+    → layout_above (cell ∷ heap) code (heap_size heap) ≡ entries_above heap code (superclass_in (Some cell))
+new_base heap code cell order s =
+    let over = superclass_in (Some cell) in
     ap (λ o. layout_of (cell ∷ heap) code (declared_class (superclass_in o))) (found_new heap cell)
     ∙ layout_stays heap (cell ∷ heap) code (declared_class over) order (making_keeps_cells heap cell order).same (starts heap over s)
     ∙ sym (ap (entries_along heap code) (above heap over (omega (arith, order.small)) s))
@@ -61,7 +62,7 @@ new_lawful heap code (Class decl base encl holder over) order s m =
     let k = making_keeps_cells heap (fresh (Class decl base encl holder over)) order in
     record {
       declared = m.0.0;
-      based = m.1 ∙ sym (new_base heap code decl base encl holder over order s);
+      based = m.1 ∙ sym (new_base heap code (ClassCell decl base encl holder over) order s);
       short = omega (arith, m.2, ap length (new_chain heap decl base encl holder over));
       enclosing = λ (class : ClassCode) e. enclosing_stays heap after code class.outer encl holder k (m.0.1 class e);
     }
@@ -79,7 +80,9 @@ new_lawful heap code (Message sel args) order s m =
     message_lawful heap (fresh (Message sel args) ∷ heap) code sel args (making_keeps_cells heap (fresh (Message sel args)) order) m
 
 -- a heap with one lawful cell more
-more_lawful : (world : World) (code : CodeProgram) (new : NewCell) → IsLawful world code → has_superclass world.cells (fresh new) ≡ true → MayBeMade world.cells code new → (number : ℕ) (cell : Cell) → find_cell (fresh new ∷ world.cells) number ≡ Some cell → CellIsLawful (fresh new ∷ world.cells) code number cell
+more_lawful : (world : World) (code : CodeProgram) (new : NewCell) → IsLawful world code → has_superclass world.cells (fresh new) ≡ true
+    → MayBeMade world.cells code new → (number : ℕ) (cell : Cell) → find_cell (fresh new ∷ world.cells) number ≡ Some cell
+    → CellIsLawful (fresh new ∷ world.cells) code number cell
 more_lawful world code new lawful s m number cell e = tested (eqb number (heap_size world.cells)) refl e
   where
     order : IsInOrder world.cells

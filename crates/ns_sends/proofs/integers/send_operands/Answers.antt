@@ -3,10 +3,10 @@ use Rattle.ns_world.specs.declared.kernel.ClassName.{ClassName}
 use Rattle.ns_world.specs.declared.kernel.ClassName.TheVariants as name
 use Rattle.ns_world.specs.declared.kernel.KernelRow.TheVariants as class
 use Rattle.ns_send.specs.Sends.{To}
+use Rattle.ns_send.specs.Blocks.{is_integer}
 use Rattle.ns_frames.specs.declared.registers.Registers.{Registers}
 use Rattle.ns_frames.specs.Stack.{stood}
 use Rattle.ns_engine.specs.declared.state.Next.TheVariants as next
-use Rattle.ns_sends.specs.Integers.{is_integer}
 use Rattle.ns_sends.specs.Operands.{SendsOperands, SendsToTop}
 use Rattle.ns_sends.specs.Sending.{CanSend, sent_at, Sends}
 use Rattle.ns_sends.proofs.IntegerSends.{integer_named}

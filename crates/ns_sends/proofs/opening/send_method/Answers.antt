@@ -2,9 +2,10 @@ use Rattle.std.proofs.Common.{length, refl, sym, subst}
 use Rattle.ns_send.specs.Control.{Control}
 use Rattle.ns_send.specs.Sends.{To}
 use Rattle.ns_engine.specs.declared.state.Next.TheVariants.{On}
+use Rattle.ns_engine.specs.laws.Worlds.{in_other}
 use Rattle.ns_sends.specs.Going.{GoesOn}
 use Rattle.ns_sends.specs.Sending.{Sends}
-use Rattle.ns_sends.proofs.Opened.{found_later, stepped_to}
+use Rattle.ns_sends.proofs.Opened.{found_later}
 use Rattle.ns_sends.proofs.Stepped.{step_goes, step_sends, no_one}
 use Rattle.ns_sends.proofs.opening.send_method.Goals as goal
 
@@ -21,7 +22,7 @@ pub returns-in-Ok : goal.returns-in-Ok
 returns-in-Ok c activation =
     step_sends c.a_send_is_its_step_and_its_answer.ensures.running c.args.code.now c.args.core.now c.begin.new.core c.args.at c.args.sent c.args.receiver activation
     (To c.args.receiver c.args.kind) c.step.new.self (On c.begin.result) c.in-Ok.ensures.charges.0 c.in-Ok.ensures.charges.1 refl c.requires.can
-    (subst (λ (control : Control). Sends c.args.code.now (stepped_to c.args.core.now c.step.new.self) c.args.at c.args.sent.floor control c.begin.new.core (On c.begin.result))
+    (subst (λ (control : Control). Sends c.args.code.now (in_other c.args.core.now c.step.new.self) c.args.at c.args.sent.floor control c.begin.new.core (On c.begin.result))
     (sym (found_later c.args.code.now c.args.core.now c.args.at c.args.sent c.args.receiver c.args.body c.args.holder activation (To c.args.receiver c.args.kind)
     c.step.new.self c.in-Ok.ensures.charges.0 c.requires.finds refl))
     c.begin.ensures)

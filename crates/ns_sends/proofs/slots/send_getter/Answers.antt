@@ -3,8 +3,8 @@ use Rattle.ns_find.specs.declared.found.Found.TheVariants.{Getter}
 use Rattle.ns_send.specs.Control.{Control}
 use Rattle.ns_send.specs.Sends.{To}
 use Rattle.ns_engine.specs.declared.state.Next.TheVariants.{On}
+use Rattle.ns_engine.specs.laws.Worlds.{in_other}
 use Rattle.ns_sends.specs.Sending.{Sends}
-use Rattle.ns_sends.proofs.Opened.{stepped_to}
 use Rattle.ns_sends.proofs.Slotted.{suits_later, getter_later, got_on_top}
 use Rattle.ns_sends.proofs.Stepped.{no_one, step_sends}
 use Rattle.ns_sends.proofs.slots.send_getter.Goals as goal
@@ -21,7 +21,7 @@ returns-in-Ok c = (
   λ activation.
       step_sends c.a_send_is_its_step_and_its_answer.ensures.running c.args.code.now c.args.core.now c.get.new.core c.args.at c.args.sent c.args.receiver activation
       (To c.args.receiver c.args.kind) c.step.new.self (On c.get.result) c.in-Ok.ensures.charges.0 c.in-Ok.ensures.charges.1 refl c.requires.can
-      (subst (λ (control : Control). Sends c.args.code.now (stepped_to c.args.core.now c.step.new.self) c.args.at c.args.sent.floor control c.get.new.core (On c.get.result))
+      (subst (λ (control : Control). Sends c.args.code.now (in_other c.args.core.now c.step.new.self) c.args.at c.args.sent.floor control c.get.new.core (On c.get.result))
       (sym (getter_later c.args.code.now c.args.core.now c.args.at c.args.sent c.args.receiver c.args.holder c.args.word activation (To c.args.receiver c.args.kind)
       c.step.new.self c.in-Ok.ensures.charges.0 c.requires.finds refl))
       c.get.ensures),

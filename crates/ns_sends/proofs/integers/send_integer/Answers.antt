@@ -1,6 +1,6 @@
 use Rattle.ns_engine.specs.declared.state.Next.TheVariants as next
 use Rattle.ns_sends.proofs.Received.{kind_does}
-use Rattle.ns_sends.proofs.integers.send_row.Goals as goal
+use Rattle.ns_sends.proofs.integers.send_integer.Goals as goal
 
 pub returns-in-Some : goal.returns-in-Some
 returns-in-Some c = record {
