@@ -1,4 +1,5 @@
 pub mod Made
+mod Packing
 pub mod Walk
 pub mod Rows
 pub mod Lookup

@@ -7,22 +7,25 @@ use Rattle.ns_code.specs.declared.program.CodeProgram.{CodeProgram}
 use Rattle.ns_code.specs.declared.body.BodyCode.{BodyCode}
 use Rattle.ns_code.specs.declared.instruction.Instr.{Instr}
 use Rattle.ns_code.specs.Fits.{Fits, BodyFits}
+use Rattle.ns_code.specs.Selectors.{IsTableOf}
 use Rattle.ns_plan.specs.declared.making.Draft.{Draft}
+use Rattle.ns_plan.specs.declared.plan.Plan.{Plan}
 use Rattle.ns_plan.specs.Steps.{no_place, prepared, all_steps, all_places, places_in}
 use Rattle.ns_plan.specs.Rows.{all_rows, row_of}
 use Rattle.ns_plan.specs.Making.{IsAdded}
+use Rattle.ns_plan.specs.Plan.{IsPlanOf}
 use Rattle.ns_send.specs.Bodies.{greatest_of}
 
 -- what was added, before the bodies that are left
 pub record IsSoFar (code : CodeProgram) (draft : Draft) (left : List BodyCode) : Type 0 where
-  pub steps : draft.steps.items ++ all_steps code (length draft.places.items) left ≡ all_steps code 0 code.bodies
-  pub bodies : draft.bodies.items ++ all_rows (length draft.bodies.items) (length draft.steps.items) left ≡ all_rows 0 0 code.bodies
+  pub steps : draft.steps ++ all_steps code (length draft.places.items) left ≡ all_steps code 0 code.bodies
+  pub bodies : draft.bodies.items ++ all_rows (length draft.bodies.items) (length draft.steps) left ≡ all_rows 0 0 code.bodies
   pub places : draft.places.items ++ all_places left ≡ all_places code.bodies
   pub few : length draft.places.items ≤ no_place
   pub count : length draft.bodies.items + length left ≡ length code.bodies
   pub greatest : max draft.greatest (greatest_of left) ≡ greatest_of code.bodies
 
-pub so_far_starts : (code : CodeProgram) (draft : Draft) → draft.steps.items ≡ [] → draft.bodies.items ≡ [] → draft.places.items ≡ [] → draft.greatest ≡ 0 → IsSoFar code draft code.bodies
+pub so_far_starts : (code : CodeProgram) (draft : Draft) → draft.steps ≡ [] → draft.bodies.items ≡ [] → draft.places.items ≡ [] → draft.greatest ≡ 0 → IsSoFar code draft code.bodies
 so_far_starts code draft steps bodies places greatest =
     record {
       steps = cc (steps, places);
@@ -40,21 +43,21 @@ prepared_length code body first places at (instr ∷ instrs) = let rest : length
 pub so_far_goes_on : (code : CodeProgram) (old new : Draft) (body : BodyCode) (left : List BodyCode) → IsSoFar code old (body ∷ left) → IsAdded code body old new → IsSoFar code new left
 so_far_goes_on code old new body left was added =
     let n : length new.places.items ≡ length old.places.items + length body.places = ap length added.places ∙ (length-append old.places.items (places_in body) ∙ ap (λ k. length old.places.items + k) (length-map body.places _)) in
-    let k : length new.bodies.items ≡ length old.bodies.items + 1 = ap length added.bodies ∙ length-append old.bodies.items (row_of (length old.bodies.items) (length old.steps.items) body ∷ []) in
-    let s : length new.steps.items ≡ length old.steps.items + length body.instrs =
+    let k : length new.bodies.items ≡ length old.bodies.items + 1 = ap length added.bodies ∙ length-append old.bodies.items (row_of (length old.bodies.items) (length old.steps) body ∷ []) in
+    let s : length new.steps ≡ length old.steps + length body.instrs =
     ap length added.steps
-    ∙ (length-append old.steps.items (prepared code body (length old.places.items) body.places 0 body.instrs)
-    ∙ ap (λ k. length old.steps.items + k) (prepared_length code body (length old.places.items) body.places 0 body.instrs)) in
+    ∙ (length-append old.steps (prepared code body (length old.places.items) body.places 0 body.instrs)
+    ∙ ap (λ k. length old.steps + k) (prepared_length code body (length old.places.items) body.places 0 body.instrs)) in
     record {
       steps =
           ap (λ xs. xs ++ all_steps code (length new.places.items) left) added.steps
-          ∙ (append_assoc old.steps.items (prepared code body (length old.places.items) body.places 0 body.instrs) (all_steps code (length new.places.items) left)
-          ∙ (ap (λ m. old.steps.items ++ (prepared code body (length old.places.items) body.places 0 body.instrs ++ all_steps code m left)) n ∙ was.steps));
+          ∙ (append_assoc old.steps (prepared code body (length old.places.items) body.places 0 body.instrs) (all_steps code (length new.places.items) left)
+          ∙ (ap (λ m. old.steps ++ (prepared code body (length old.places.items) body.places 0 body.instrs ++ all_steps code m left)) n ∙ was.steps));
       bodies =
-          ap (λ xs. xs ++ all_rows (length new.bodies.items) (length new.steps.items) left) added.bodies
-          ∙ (append_assoc old.bodies.items (row_of (length old.bodies.items) (length old.steps.items) body ∷ []) (all_rows (length new.bodies.items) (length new.steps.items) left)
-          ∙ (ap (λ m. old.bodies.items ++ (row_of (length old.bodies.items) (length old.steps.items) body ∷ all_rows m (length new.steps.items) left)) k
-          ∙ (ap (λ m. old.bodies.items ++ (row_of (length old.bodies.items) (length old.steps.items) body ∷ all_rows (length old.bodies.items + 1) m left)) s ∙ was.bodies)));
+          ap (λ xs. xs ++ all_rows (length new.bodies.items) (length new.steps) left) added.bodies
+          ∙ (append_assoc old.bodies.items (row_of (length old.bodies.items) (length old.steps) body ∷ []) (all_rows (length new.bodies.items) (length new.steps) left)
+          ∙ (ap (λ m. old.bodies.items ++ (row_of (length old.bodies.items) (length old.steps) body ∷ all_rows m (length new.steps) left)) k
+          ∙ (ap (λ m. old.bodies.items ++ (row_of (length old.bodies.items) (length old.steps) body ∷ all_rows (length old.bodies.items + 1) m left)) s ∙ was.bodies)));
       places = ap (λ xs. xs ++ all_places left) added.places ∙ (append_assoc old.places.items (places_in body) (all_places left) ∙ was.places);
       few = added.few;
       count = omega (arith, k, was.count);
@@ -66,23 +69,18 @@ so_far_goes_on code old new body left was added =
     greater : (a b c : ℕ) → max (max a b) c ≡ max a (max b c)
     greater a b c = omega arith
 
--- nothing is left
-pub record IsMade (code : CodeProgram) (draft : Draft) : Type 0 where
-  pub steps : draft.steps.items ≡ all_steps code 0 code.bodies
-  pub bodies : draft.bodies.items ≡ all_rows 0 0 code.bodies
-  pub places : draft.places.items ≡ all_places code.bodies
-  pub few : length (all_places code.bodies) ≤ no_place
-  pub greatest : draft.greatest ≡ greatest_of code.bodies
-
-pub so_far_ends : (code : CodeProgram) (draft : Draft) → IsSoFar code draft [] → IsMade code draft
-so_far_ends code draft was =
-    let places : draft.places.items ≡ all_places code.bodies = sym (append-nil draft.places.items) ∙ was.places in
+-- nothing is left, and the plan has what was added
+pub so_far_ends : (code : CodeProgram) (draft : Draft) (plan : Plan) → plan.steps ≡ draft.steps → plan.bodies ≡ draft.bodies.items → plan.places ≡ draft.places.items → plan.greatest ≡ draft.greatest → IsTableOf code plan.selectors → Fits code → IsSoFar code draft [] → IsPlanOf code plan
+so_far_ends code draft plan steps bodies places greatest selectors fits was =
+    let all : draft.places.items ≡ all_places code.bodies = sym (append-nil draft.places.items) ∙ was.places in
     record {
-      steps = sym (append-nil draft.steps.items) ∙ was.steps;
-      bodies = sym (append-nil draft.bodies.items) ∙ was.bodies;
-      places = places;
-      few = omega (arith, ap length places, was.few);
-      greatest = omega (arith, was.greatest);
+      steps = steps ∙ (sym (append-nil draft.steps) ∙ was.steps);
+      bodies = bodies ∙ (sym (append-nil draft.bodies.items) ∙ was.bodies);
+      places = places ∙ all;
+      few = omega (arith, ap length all, was.few);
+      selectors = selectors;
+      greatest = omega (arith, greatest, was.greatest);
+      fits = fits;
     }
 
 -- one round of the loop over bodies

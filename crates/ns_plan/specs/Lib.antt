@@ -5,6 +5,7 @@ pub mod Privates
 pub mod Members
 pub mod Outers
 pub mod Steps
+pub mod Packed
 pub mod Rows
 pub mod Making
 pub mod Plan

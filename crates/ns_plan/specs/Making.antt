@@ -26,8 +26,8 @@ behind (entry ∷ entries) at = if entry.0 == at then entries else entry ∷ ent
 
 -- A body is added behind the others.
 pub record IsAdded (code : CodeProgram) (body : BodyCode) (old new : Draft) : Type 0 where
-  pub steps : new.steps.items ≡ old.steps.items ++ prepared code body (length old.places.items) body.places 0 body.instrs
-  pub bodies : new.bodies.items ≡ old.bodies.items ++ row_of (length old.bodies.items) (length old.steps.items) body ∷ []
+  pub steps : new.steps ≡ old.steps ++ prepared code body (length old.places.items) body.places 0 body.instrs
+  pub bodies : new.bodies.items ≡ old.bodies.items ++ row_of (length old.bodies.items) (length old.steps) body ∷ []
   pub places : new.places.items ≡ old.places.items ++ places_in body
   pub few : length new.places.items ≤ no_place
   pub greatest : new.greatest ≡ max old.greatest (body.locals + body.height)

@@ -9,9 +9,10 @@ ghost use Rattle.ns_plan.specs.Spelled.{AreRowsOf};
 ghost use Rattle.ns_plan.specs.Members.{ArePrivatesOf};
 
 use crate::members::Privates;
+use crate::packed_steps::PackedSteps;
 use crate::row::Row;
 use crate::spelled::SpelledRows;
-use crate::step::{NO_PLACE, Step};
+use crate::step::NO_PLACE;
 use crate::steps::add_steps;
 use ns_base::no_memory::NoMemory;
 use ns_base::place::Place;
@@ -22,7 +23,7 @@ use std::alloc::Global;
 /// What a plan has of the bodies that were added.
 #[derive(Drop)]
 pub struct Draft {
-    pub steps: Vec<Step>,
+    pub steps: PackedSteps,
     pub bodies: Vec<Row>,
     pub places: Vec<Place>,
     pub greatest: u32,
@@ -31,13 +32,13 @@ pub struct Draft {
 impl Draft {
     /// No body yet.
     pub fn new(alloc: Global) -> Draft
-        ensures steps { result.steps.items ≡ [] }
+        ensures steps { result.steps ≡ [] }
         ensures bodies { result.bodies.items ≡ [] }
         ensures places { result.places.items ≡ [] }
         ensures greatest { result.greatest ≡ 0 }
     {
         Draft {
-            steps: Vec::new(alloc),
+            steps: PackedSteps::new(alloc),
             bodies: Vec::new(alloc),
             places: Vec::new(alloc),
             greatest: 0,

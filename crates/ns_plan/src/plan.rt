@@ -1,10 +1,8 @@
 //! Code prepared for running.
 
-ghost use Rattle.std.specs.Prelude.{◌≡◌, ◌+◌, ◌<◌, length, IfOk};
-ghost use Rattle.std.specs.List.{slice_index_or};
+ghost use Rattle.std.specs.Prelude.{◌≡◌, ◌<◌, length, IfOk};
 ghost use Rattle.ns_code.specs.declared.program.CodeProgram.{CodeProgram};
 ghost use Rattle.ns_code.specs.Selector.{selector_arity, own_number};
-ghost use Rattle.ns_plan.specs.declared.step.Step.TheVariants.{PushNil};
 ghost use Rattle.ns_plan.specs.Plan.{IsPlanOf, IsStep, IsStepAt};
 ghost use Rattle.ns_plan.specs.Rows.{entry_of, IsRowOf};
 ghost use Rattle.ns_plan.specs.Steps.{places_of};
@@ -12,6 +10,7 @@ ghost use Rattle.ns_send.specs.Bodies.{greatest_of};
 
 use crate::making::Draft;
 use crate::members::Privates;
+use crate::packed_steps::PackedSteps;
 use crate::row::Row;
 use crate::spelled::SpelledRows;
 use crate::step::Step;
@@ -30,7 +29,7 @@ use std::alloc::Global;
 /// the order of the code; its selectors; and the greatest number of locals and operands of a body.
 #[derive(Drop)]
 pub struct Plan {
-    steps: Items<Step>,
+    steps: PackedSteps,
     bodies: Items<Row>,
     places: Items<Place>,
     selectors: SelectorTable,
@@ -52,7 +51,7 @@ impl Plan {
             draft.add(code, &privates, &rows, body)?;
         }
         Ok(Plan {
-            steps: Items::from_vec(draft.steps),
+            steps: draft.steps,
             bodies: Items::from_vec(draft.bodies),
             places: Items::from_vec(draft.places),
             selectors,
@@ -92,7 +91,7 @@ impl Plan {
     {
         let _code = code;
         let _body = body;
-        at(self.steps.as_slice(), entry, next)
+        self.steps.at(entry, next)
     }
 
     /// The places of the code, in its order. A step's place has its number here.
@@ -124,13 +123,4 @@ impl Plan {
     {
         self.greatest
     }
-}
-
-/// The step so many behind an entry.
-#[inline(always)]
-fn at(steps: &[Step], entry: usize, next: u32) -> Step
-    requires { entry + next < length steps.now }
-    ensures { result ≡ slice_index_or steps.now (entry + next) PushNil }
-{
-    steps[entry + next as usize]
 }

@@ -9,6 +9,7 @@ ghost use Rattle.ns_plan.specs.Spelled.{AreRowsOf, spelled_by};
 ghost use Rattle.ns_plan.specs.Making.{AreFrom, SendsAName, number_at, behind};
 
 use crate::members::Privates;
+use crate::packed_steps::PackedSteps;
 use crate::privates::member_at;
 use crate::spelled::SpelledRows;
 use crate::step::{NO_PLACE, Step};
@@ -22,7 +23,7 @@ use ns_find::found::Sending;
 
 /// Adds the steps of a body, whose places are numbered from that number on.
 pub fn add_steps(
-    steps: &mut Vec<Step>,
+    steps: &mut PackedSteps,
     code: &CodeProgram,
     privates: &Privates,
     rows: &SpelledRows,
@@ -35,7 +36,7 @@ pub fn add_steps(
     requires few { length body.now.instrs ≤ 65536 }
     requires order { AreFrom 0 body.now.places }
     requires numbers { first + length body.now.places ≤ spec.no_place }
-    ensures { OnOk result (steps.new.items ≡ steps.old.items ++ spec.prepared code.now body.now first body.now.places 0 body.now.instrs) }
+    ensures { OnOk result (steps.new ≡ steps.old ++ spec.prepared code.now body.now first body.now.places 0 body.now.instrs) }
 {
     let end = first + body.places.len() as u32;
     let mut left = body.places.as_slice();

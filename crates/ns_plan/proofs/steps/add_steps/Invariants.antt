@@ -6,5 +6,5 @@ use Rattle.ns_plan.proofs.steps.add_steps.Given as goal
 abbrev pub invariant-instrs : goal.invariant-instrs
 invariant-instrs l =
     (l.at ≡ l.instr-index) × (length l.left ≤ l.end) × AreFrom l.at l.left
-    × (l.steps.items ++ prepared l.code l.body (l.end - length l.left) l.left l.at (drop l.instr-index l.body.instrs)
-    ≡ l.initial.steps.items ++ prepared l.code l.body l.first l.body.places 0 l.body.instrs)
+    × (l.steps ++ prepared l.code l.body (l.end - length l.left) l.left l.at (drop l.instr-index l.body.instrs)
+    ≡ l.initial.steps ++ prepared l.code l.body l.first l.body.places 0 l.body.instrs)

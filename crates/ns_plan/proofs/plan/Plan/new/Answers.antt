@@ -1,5 +1,9 @@
-use Rattle.std.proofs.Common.{arith}
-use Rattle.ns_plan.proofs.Made.{round, body_fits}
+use Rattle.std.proofs.Common.{arith, ap, refl, subst, length}
+use Rattle.std.proofs.lemmas.List.{drop_all}
+use Rattle.ns_code.specs.declared.program.CodeProgram.{CodeProgram}
+use Rattle.ns_plan.specs.declared.plan.Plan.{Plan}
+use Rattle.ns_plan.specs.Plan.{IsPlanOf}
+use Rattle.ns_plan.proofs.Made.{IsSoFar, round, so_far_ends, body_fits}
 use Rattle.ns_plan.proofs.Sending.{sends_are_named}
 use Rattle.ns_plan.proofs.plan.Plan.new.Goals as goal
 
@@ -14,3 +18,18 @@ add-requires-clause-names c =
 pub bodies-preserved : goal.bodies-preserved
 bodies-preserved c =
     round c.code-code.result.now c.bodies.draft c.add.new.self c.body-item.result c.bodies.body-index c.as_slice-body-items.result.now _ c.as_slice-body-items.ensures (omega arith) c.body-item.is c.bodies.invariant c.in_ok-add.ensures
+
+pub returns : goal.returns
+returns c =
+    let code = c.code-code.result.now in
+    let draft = c.bodies.draft in
+    let plan : Plan = record {
+      steps = draft.steps;
+      bodies = c.from_vec.result;
+      places = c.from_vec-2.result;
+      selectors = c.in_ok-selectors.selectors;
+      greatest = draft.greatest;
+    } in
+    let none_left = drop_all c.bodies.body-index code.bodies (omega (arith, ap length c.as_slice-body-items.ensures)) in
+    subst (λ (verified : CodeProgram). IsPlanOf verified plan) c.code-code.ensures.code
+    (so_far_ends code draft plan refl c.from_vec.ensures c.from_vec-2.ensures refl c.in_ok-selectors.ensures c.code-code.ensures.fits (subst (IsSoFar code draft) none_left c.bodies.invariant))

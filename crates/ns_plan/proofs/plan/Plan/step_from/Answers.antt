@@ -7,10 +7,11 @@ use Rattle.ns_plan.proofs.plan.Plan.step_from.Goals as goal
 
 pub at-requires : goal.at-requires
 at-requires c =
-    subst (λ e. e + c.args.next < length c.as_slice.result.now) (sym c.requires.entry) (step_inside c.args.code.now c.args.body c.args.next c.as_slice.result.now (c.as_slice.ensures ∙ c.requires.plan.steps) c.requires.there)
+    let steps = c.args.self.now.steps in
+    subst (λ e. e + c.args.next < length steps) (sym c.requires.entry) (step_inside c.args.code.now c.args.body c.args.next steps c.requires.plan.steps c.requires.there)
 
 pub returns : goal.returns
 returns c =
-    subst (λ s. IsStepAt c.args.code.now c.args.body c.args.next s)
-    (sym (c.at.ensures ∙ ap (λ e. slice_index_or c.as_slice.result.now (e + c.args.next) PushNil) c.requires.entry))
-    (step_told c.args.code.now c.args.body c.args.next c.as_slice.result.now PushNil (c.as_slice.ensures ∙ c.requires.plan.steps) c.requires.plan.fits c.requires.plan.few c.requires.there)
+    let steps = c.args.self.now.steps in
+    subst (λ s. IsStepAt c.args.code.now c.args.body c.args.next s) (sym (c.at.ensures ∙ ap (λ e. slice_index_or steps (e + c.args.next) PushNil) c.requires.entry))
+    (step_told c.args.code.now c.args.body c.args.next steps PushNil c.requires.plan.steps c.requires.plan.fits c.requires.plan.few c.requires.there)
