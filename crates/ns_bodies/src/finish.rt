@@ -9,6 +9,7 @@ use ns_base::items::Items;
 use ns_base::no_memory::NoMemory;
 use ns_code::body::BodyCode;
 use ns_code::instruction::Instr;
+use ns_code::instructions::Instructions;
 use ns_code::table::{goes_on, height_after};
 use ns_gen::size::SizeKind;
 use ns_write::writer::Writer;
@@ -41,7 +42,7 @@ pub fn finish(writer: &Writer, head: BodyCode) -> Result<Finished, NoMemory>
             let places = writer.places()?;
             Ok(Finished::Fits(BodyCode {
                 height,
-                instrs: Items::from_vec(instrs),
+                instrs: Instructions::of(*instrs.allocator(), &instrs)?,
                 places: Items::from_vec(places),
                 ..head
             }))

@@ -11,6 +11,7 @@ use ns_base::items::Items;
 use ns_base::no_memory::NoMemory;
 use ns_base::text::Text;
 use ns_code::body::BodyCode;
+use ns_code::instructions::Instructions;
 use ns_code::local_names::LocalNames;
 use ns_scope::names::{Declared, Local, locals};
 use ns_scope::scope::CodeSide;
@@ -44,7 +45,7 @@ pub fn head(
         locals,
         environment,
         height: 0,
-        instrs: Items::from_vec(Vec::new(alloc)),
+        instrs: Instructions::none(alloc),
         places: Items::from_vec(Vec::new(alloc)),
         local_names: LocalNames::given(local_names),
     })

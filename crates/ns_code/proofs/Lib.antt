@@ -1,1 +1,2 @@
 mod LocalNames
+mod United

@@ -7,3 +7,4 @@ pub mod Fits
 pub mod Soundness
 pub mod Selectors
 pub mod LocalNames
+pub mod Instructions

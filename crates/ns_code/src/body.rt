@@ -1,6 +1,6 @@
 //! What the code keeps of a body, which is a method, a block, an initialiser or a clause's head.
 
-use crate::instruction::Instr;
+use crate::instructions::Instructions;
 use crate::local_names::LocalNames;
 use ns_base::items::Items;
 use ns_base::place::Place;
@@ -19,7 +19,7 @@ pub struct BodyCode {
     pub locals: u8,
     pub environment: bool,
     pub height: u16,
-    pub instrs: Items<Instr>,
+    pub instrs: Instructions,
     pub places: Items<(u32, Place)>,
     pub local_names: LocalNames,
 }

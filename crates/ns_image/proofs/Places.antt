@@ -11,6 +11,7 @@ use Rattle.ns_base.specs.declared.place.Place.{Place}
 use Rattle.ns_code.specs.declared.instruction.Instr.{Instr}
 use Rattle.ns_code.specs.declared.instruction.Instr.TheVariants as i
 use Rattle.ns_code.specs.Fits.{IsWord, HasPlace}
+use Rattle.ns_code.specs.Instructions.{carries_place}
 use Rattle.ns_image.specs.Bytes as b
 use Rattle.ns_image.specs.Reading as r
 use Rattle.ns_image.proofs.Format.{Step, Any, Format, done, field, refit, checks}
@@ -19,7 +20,7 @@ use Rattle.ns_image.proofs.Texts.{both, together}
 
 -- ---- instructions that carry a place
 
-carries_HasPlace : (instr : Instr) → r.carries_place instr ≡ true → HasPlace instr
+carries_HasPlace : (instr : Instr) → carries_place instr ≡ true → HasPlace instr
 carries_HasPlace (i.Send sel argc) e = tt
 carries_HasPlace (i.SendInner sel argc) e = tt
 carries_HasPlace (i.SendPrivate level sel argc) e = tt
@@ -27,7 +28,7 @@ carries_HasPlace (i.SendSuper sel argc) e = tt
 carries_HasPlace (i.InitSuper argc) e = tt
 carries_HasPlace _ e = absurd (cc (e))
 
-HasPlace_carries : (instr : Instr) → HasPlace instr → r.carries_place instr ≡ true
+HasPlace_carries : (instr : Instr) → HasPlace instr → carries_place instr ≡ true
 HasPlace_carries (i.Send sel argc) h = refl
 HasPlace_carries (i.SendInner sel argc) h = refl
 HasPlace_carries (i.SendPrivate level sel argc) h = refl
@@ -43,7 +44,7 @@ record IsCarrier (instrs : List Instr) (number : ℕ) : Type 0 where
 carrier_told : (instrs : List Instr) (number : ℕ) → r.is_carrier instrs number ≡ true → IsCarrier instrs number
 carrier_told instrs number e = found (slice_get instrs number) refl e
   where
-    found : (o : Option Instr) → slice_get instrs number ≡ o → option_map_or r.carries_place o false ≡ true → IsCarrier instrs number
+    found : (o : Option Instr) → slice_get instrs number ≡ o → option_map_or carries_place o false ≡ true → IsCarrier instrs number
     found None is h = absurd (cc (h))
     found (Some instr) is h =
         let within : number < length instrs = slice_get_within instrs number instr is in
@@ -57,7 +58,7 @@ carrier_told instrs number e = found (slice_get instrs number) refl e
 
 told_carrier : (instrs : List Instr) (number : ℕ) → number < length instrs → ((d : Instr) → HasPlace (slice_index_or instrs number d)) → r.is_carrier instrs number ≡ true
 told_carrier instrs number within carries =
-    ap (λ (o : Option Instr). option_map_or r.carries_place o false) (slice_get-get_or instrs number i.PushNil within) ∙ HasPlace_carries (get_or instrs number i.PushNil) (carries i.PushNil)
+    ap (λ (o : Option Instr). option_map_or carries_place o false) (slice_get-get_or instrs number i.PushNil within) ∙ HasPlace_carries (get_or instrs number i.PushNil) (carries i.PushNil)
 
 -- ---- single places
 

@@ -1,5 +1,5 @@
 -- Readers of the parts of code, field by field.
-use Rattle.std.specs.Prelude.{ℕ, zero, suc, ◌+◌, ◌-◌, nat_eq, ◌==◌, drop, Result, Ok, Err, List, [], ◌∷◌, ◌++◌, length, Bool, true, false, nat_lt, nat_le, not, ◌&&◌, if◌then◌else◌, Option, Some, None, slice_get}
+use Rattle.std.specs.Prelude.{ℕ, zero, suc, ◌+◌, ◌-◌, nat_eq, ◌==◌, drop, Result, Ok, Err, List, [], ◌∷◌, ◌++◌, length, Bool, false, nat_lt, nat_le, not, ◌&&◌, if◌then◌else◌, Option, Some, None, slice_get}
 use Rattle.std.specs.Option.{option_map_or}
 use Rattle.std.specs.Str.{is_utf8}
 use Rattle.std.specs.List.{starts_with}
@@ -15,6 +15,7 @@ use Rattle.ns_code.specs.declared.class.MethodCode.{MethodCode}
 use Rattle.ns_code.specs.declared.body.BodyCode.{BodyCode}
 use Rattle.ns_code.specs.declared.instruction.Instr.{Instr}
 use Rattle.ns_code.specs.declared.instruction.Instr.TheVariants as i
+use Rattle.ns_code.specs.Instructions.{carries_place}
 use Rattle.ns_image.specs.declared.fault.ImageFault.{ImageFault}
 use Rattle.ns_image.specs.declared.fault.ImageFault.TheVariants as f
 use Rattle.ns_code.specs.LocalNames.{numbered_names}
@@ -226,15 +227,7 @@ head = do
   parent ← reference
   head_from_params kind side class parent
 
--- whether an instruction carries a place: a send, or the start of a superclass part
-abbrev pub carries_place : Instr → Bool
-carries_place (i.Send sel argc) = true
-carries_place (i.SendInner sel argc) = true
-carries_place (i.SendPrivate level sel argc) = true
-carries_place (i.SendSuper sel argc) = true
-carries_place (i.InitSuper argc) = true
-carries_place _ = false
-
+-- whether there is an instruction of that number, and it carries a place
 abbrev pub is_carrier : List Instr → ℕ → Bool
 is_carrier instrs number = option_map_or carries_place (slice_get instrs number) false
 

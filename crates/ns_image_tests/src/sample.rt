@@ -15,6 +15,7 @@ use ns_base::text::Text;
 use ns_code::body::BodyCode;
 use ns_code::class::{ClassCode, MethodCode, NestedCode, SlotCode};
 use ns_code::instruction::Instr;
+use ns_code::instructions::Instructions;
 use ns_code::local_names::LocalNames;
 use ns_code::program::CodeProgram;
 use ns_members::texts::are_different;
@@ -287,7 +288,7 @@ fn body_code(alloc: Global, body: Body) -> Result<BodyCode, NoMemory> {
         locals: body.locals,
         environment: body.environment,
         height: body.height,
-        instrs: Items::from_vec(Vec::from_slice(alloc, body.instrs)?),
+        instrs: Instructions::of(alloc, body.instrs)?,
         places: Items::from_vec(Vec::new(alloc)),
         local_names: LocalNames::numbered(0),
     })

@@ -66,7 +66,8 @@ fn put_body(
 {
     put_body_line(out, place, body)?;
     put_local_names(out, &body.local_names)?;
-    put_instructions(out, code, body.instrs.as_slice())
+    let instrs = body.instrs.to_vec(*out.allocator())?;
+    put_instructions(out, code, &instrs)
 }
 
 fn put_body_line(out: &mut Vec<u8>, place: usize, body: &BodyCode) -> Result<(), NoMemory>

@@ -48,6 +48,7 @@ impl Draft {
     /// Adds a body. More places than have numbers find no memory.
     pub fn add(
         &mut self,
+        alloc: Global,
         code: &CodeProgram,
         privates: &Privates,
         rows: &SpelledRows,
@@ -64,6 +65,7 @@ impl Draft {
         if body.places.len() > NO_PLACE as usize - self.places.len() {
             return Err(NoMemory);
         }
+        let instrs = body.instrs.to_vec(alloc)?;
         let row = row_of(self.bodies.len() as u32, self.steps.len(), body);
         add_steps(
             &mut self.steps,
@@ -71,6 +73,7 @@ impl Draft {
             privates,
             rows,
             body,
+            &instrs,
             self.places.len() as u32,
         )?;
         add_places(&mut self.places, body)?;

@@ -48,7 +48,7 @@ impl Plan {
         sound_instructions_are_usable();
         let mut draft = Draft::new(alloc);
         'bodies: for body in code.bodies.as_slice() {
-            draft.add(code, &privates, &rows, body)?;
+            draft.add(alloc, code, &privates, &rows, body)?;
         }
         Ok(Plan {
             steps: draft.steps,

@@ -28,10 +28,12 @@ pub fn add_steps(
     privates: &Privates,
     rows: &SpelledRows,
     body: &BodyCode,
+    instrs: &[Instr],
     first: u32,
 ) -> Result<(), NoMemory>
     requires privates { ArePrivatesOf code.now privates.now }
     requires rows { AreRowsOf code.now rows.now }
+    requires instrs { instrs.now ≡ body.now.instrs }
     requires names { All (SendsAName code.now) body.now.instrs }
     requires few { length body.now.instrs ≤ 65536 }
     requires order { AreFrom 0 body.now.places }
@@ -41,7 +43,7 @@ pub fn add_steps(
     let end = first + body.places.len() as u32;
     let mut left = body.places.as_slice();
     let mut at: u32 = 0;
-    'instrs: for instr in body.instrs.as_slice() {
+    'instrs: for instr in instrs {
         let place = number_at(left, end, at);
         steps.push(step_of(code, privates, rows, body, place, *instr))?;
         left = behind(left, at);

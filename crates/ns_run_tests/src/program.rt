@@ -10,6 +10,7 @@ use ns_base::selector::Sel;
 use ns_base::text::Text;
 use ns_code::body::BodyCode;
 use ns_code::class::{ClassCode, MethodCode, NestedCode, SlotCode};
+use ns_code::instructions::Instructions;
 use ns_code::local_names::LocalNames;
 use ns_code::program::CodeProgram;
 use std::alloc::Global;
@@ -287,7 +288,7 @@ fn body(alloc: Global, kind: u8, side: u8, class: u32) -> BodyCode
         locals: 0,
         environment: false,
         height: 0,
-        instrs: Items::from_vec(Vec::new(alloc)),
+        instrs: Instructions::none(alloc),
         places: Items::from_vec(Vec::new(alloc)),
         local_names: LocalNames::numbered(0),
     }

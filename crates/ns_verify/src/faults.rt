@@ -18,6 +18,7 @@ use crate::instructions::{cause_at, empty_cause};
 use crate::tables::Tables;
 use ns_base::no_memory::NoMemory;
 use ns_code::body::BodyCode;
+use ns_code::instruction::Instr;
 use ns_code::program::CodeProgram;
 use ns_members::names::NameTable;
 use std::alloc::Global;
@@ -151,14 +152,15 @@ fn body_fault(
     requires tables { AreTablesOf code.now tables.now }
     ensures { IfOk result (λ fault. fault ≡ spec.body_fault_in code.now number body.now home body.now.instrs) }
 {
-    match body.instrs.as_slice() {
+    let instrs = body.instrs.to_vec(alloc)?;
+    match instrs.as_slice() {
         [] => Ok(Some(Fault {
             cause: empty_cause(code, number, body),
             at: Where::Body(number, 0),
         })),
         [_, ..] => {
             let around = Around::of(alloc, code, tables, number, body.class)?;
-            instrs_fault(alloc, code, tables, &around, number, body, home)
+            instrs_fault(alloc, code, tables, &around, number, body, &instrs, home)
         }
     }
 }
@@ -170,16 +172,18 @@ fn instrs_fault(
     around: &Around,
     number: u32,
     body: &BodyCode,
+    instrs: &[Instr],
     home: u8,
 ) -> Result<Option<Fault>, NoMemory>
     requires few { length body.now.instrs ≤ 65536 }
+    requires instrs { instrs.now ≡ body.now.instrs }
     requires tables { AreTablesOf code.now tables.now }
     requires around { IsAround code.now number body.now.class around.now }
     ensures { IfOk result (λ fault. fault ≡ spec.instrs_fault code.now number body.now home (begin (length body.now.instrs)) 0 body.now.instrs) }
 {
-    let mut pass = Pass::begin(alloc, body.instrs.len())?;
+    let mut pass = Pass::begin(alloc, instrs.len())?;
     let mut at: u32 = 0;
-    'instrs: for instr in body.instrs.as_slice() {
+    'instrs: for instr in instrs {
         match cause_at(code, tables, around, number, body, home, &pass, at, *instr) {
             Some(cause) => {
                 return Ok(Some(Fault {

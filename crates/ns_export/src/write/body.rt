@@ -1,7 +1,7 @@
 //! Bodies and the places of their instructions.
 
-ghost use Rattle.std.specs.Prelude.{◌≡◌, ◌++◌, All, OnOk, flat_map};
-ghost use Rattle.ns_code.specs.Fits.{IsShort};
+ghost use Rattle.std.specs.Prelude.{◌≡◌, ◌++◌, length, All, OnOk, flat_map};
+ghost use Rattle.ns_code.specs.Fits.{IsShort, IsWord};
 ghost use Rattle.ns_image.specs.Bytes as spec;
 ghost use Rattle.ns_export.specs.Room.{HasRoom};
 
@@ -11,6 +11,7 @@ use crate::write::output::{
 use ns_base::no_memory::NoMemory;
 use ns_base::place::Place;
 use ns_code::body::BodyCode;
+use ns_code::instructions::Instructions;
 use ns_code::local_names::{LocalNames, numbered_texts};
 
 /// A place behind the number of its instruction.
@@ -34,10 +35,20 @@ impl Part for BodyCode {
 
     fn put(&self, out: &mut Vec<u8>) -> Result<(), NoMemory> {
         put_fields(out, self)?;
-        put_counted(out, self.instrs.as_slice())?;
+        put_instructions(out, &self.instrs)?;
         put_local_names(out, &self.local_names)?;
         put_counted(out, self.places.as_slice())
     }
+}
+
+/// Their count, and each.
+fn put_instructions(out: &mut Vec<u8>, instrs: &Instructions) -> Result<(), NoMemory>
+    requires { IsWord (length instrs.now) }
+    ensures { OnOk result (out.new.items ≡ out.old.items ++ spec.counted spec.instr instrs.now) }
+{
+    let alloc = *out.allocator();
+    let made = instrs.to_vec(alloc)?;
+    put_counted(out, made.as_slice())
 }
 
 /// The names of locals, those that are given or made of numbers.

@@ -11,6 +11,7 @@ use crate::read::place::places;
 use crate::read::text::LocalName;
 use ns_base::items::Items;
 use ns_code::body::BodyCode;
+use ns_code::instructions::Instructions;
 use ns_code::local_names::LocalNames;
 use std::alloc::Global;
 
@@ -72,7 +73,7 @@ fn read_places(
 ) -> Result<(), Fault>
     ensures { ReadsAs (λ _. body.new) (spec.with_places files body.old input.old.rest.now) result input.new.rest.now }
 {
-    body.places = places(alloc, input, files, body.instrs.as_slice())?;
+    body.places = places(alloc, input, files, &body.instrs)?;
     Ok(())
 }
 
@@ -121,6 +122,7 @@ fn head_from_params(
     let environment = input.flag()?;
     let height = input.half()?;
     let instrs = up_to(alloc, input, &Instruction, MOST_INSTRUCTIONS)?;
+    let instrs = Instructions::of(alloc, instrs.as_slice())?;
     Ok(BodyCode {
         kind,
         side,

@@ -9,35 +9,18 @@ use crate::fault::Fault;
 use crate::read::input::Input;
 use ns_base::items::Items;
 use ns_base::place::Place;
-use ns_code::instruction::Instr;
+use ns_code::instructions::Instructions;
 use std::alloc::Global;
 
-/// Whether an instruction carries a place: a send, or the start of a superclass part.
-fn carries_place(instr: Instr) -> bool
-    ensures { result ≡ spec.carries_place instr }
-{
-    match instr {
-        Instr::Send { .. } => true,
-        Instr::SendInner { .. } => true,
-        Instr::SendPrivate { .. } => true,
-        Instr::SendSuper { .. } => true,
-        Instr::InitSuper(_) => true,
-        _ => false,
-    }
-}
-
-/// Whether the instruction of that number carries a place.
-fn is_carrier(instrs: &[Instr], number: u32) -> bool
+/// Whether there is an instruction of that number, and it carries a place.
+fn is_carrier(instrs: &Instructions, number: u32) -> bool
     ensures { result ≡ spec.is_carrier instrs.now number }
 {
-    match instrs.get(number as usize) {
-        None => false,
-        Some(instr) => carries_place(*instr),
-    }
+    instrs.carries_place(number as usize)
 }
 
 /// The number of an instruction that carries a place, and at least this one.
-fn carrier(input: &mut Input<'_>, instrs: &[Instr], least: u64) -> Result<u32, Fault>
+fn carrier(input: &mut Input<'_>, instrs: &Instructions, least: u64) -> Result<u32, Fault>
     ensures { Reads (spec.carrier instrs.now least input.old.rest.now) result input.new.rest.now }
 {
     let left = input.rest.len();
@@ -80,7 +63,7 @@ fn from_one(input: &mut Input<'_>) -> Result<u32, Fault>
 fn place(
     input: &mut Input<'_>,
     files: usize,
-    instrs: &[Instr],
+    instrs: &Instructions,
     least: u64,
 ) -> Result<(u32, Place), Fault>
     ensures { Reads (spec.place files instrs.now least input.old.rest.now) result input.new.rest.now }
@@ -97,7 +80,7 @@ pub fn places(
     alloc: Global,
     input: &mut Input<'_>,
     files: usize,
-    instrs: &[Instr],
+    instrs: &Instructions,
 ) -> Result<Items<(u32, Place)>, Fault>
     ensures { Reads (spec.places files instrs.now input.old.rest.now) result input.new.rest.now }
 {
@@ -109,7 +92,7 @@ fn places_of(
     alloc: Global,
     input: &mut Input<'_>,
     files: usize,
-    instrs: &[Instr],
+    instrs: &Instructions,
     count: u32,
 ) -> Result<Items<(u32, Place)>, Fault>
     ensures { Reads (fields.chained (spec.place files instrs.now) spec.behind_place count 0 input.old.rest.now) result input.new.rest.now }
