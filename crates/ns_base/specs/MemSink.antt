@@ -1,5 +1,5 @@
 -- What a sink over memory does at each put, of which the listed ones take only so many bytes (this profile).
-use Rattle.std.specs.Prelude.{◌≡◌, ◌==◌, ◌+◌, ◌-◌, ◌≤◌, ℕ, Bool, List, [], ◌∷◌, ◌++◌, length, take, min, nat_eq, if◌then◌else◌}
+use Rattle.std.specs.Prelude.{◌≡◌, ◌==◌, ◌-◌, ◌≤◌, ℕ, Bool, List, [], ◌∷◌, ◌++◌, length, take, min, nat_eq, if◌then◌else◌}
 use Rattle.std.specs.Vec.{vec_capacity}
 use Rattle.ns_base.specs.Count.{one_more}
 use Rattle.ns_base.specs.declared.mem_sink.MemSink.{MemSink}

@@ -1,6 +1,6 @@
 //! Where the texts of a list stand, found by their bytes, however these were chosen: of texts that have
-//! the same place the first has it, and the others are kept in order, so that each is found in as many
-//! steps as their number has digits.
+//! the same place the first has it, of the others the first of each second hash is found by that hash,
+//! and the rest are kept in order, so that each is found in as many steps as their number has digits.
 
 ghost use Rattle.std.specs.Prelude.{◌≡◌, ◌++◌, ◌∷◌, ◌<◌, ◌+◌, ◌^◌, [], length, false, OnOk, OnErr, IfOk, Decides, slice_get, slice_set, Some};
 ghost use Rattle.std.specs.BTreeMap.{Updates, IsUnchanged};
@@ -9,7 +9,7 @@ ghost use Rattle.std.specs.List.{position};
 ghost use Rattle.std.specs.Ordering.{nat_cmp};
 ghost use Rattle.std.specs.Str.{bytes_eq};
 ghost use Rattle.ns_base.specs.Names.{NoRepeats, has};
-ghost use Rattle.ns_base.specs.TextIndex.{Finds, at_place, behind, is_the, place_among};
+ghost use Rattle.ns_base.specs.TextIndex.{Finds, IsElsewhere, at_place, at_hash, in_crowd, is_the, place_among, second_hash};
 
 use crate::no_memory::NoMemory;
 use crate::text::Text;
@@ -17,12 +17,20 @@ use std::alloc::Global;
 use std::collections::BTreeMap;
 use std::hash::{FoldHasher, Hasher};
 
+/// What FNV-1a of 64 bits begins with.
+const FNV_OFFSET_BASIS: u64 = 14695981039346656037;
+
+/// What it multiplies by at each byte.
+const FNV_PRIME: u64 = 1099511628211;
+
 /// The numbers of the texts of a list.
 #[derive(Drop)]
 pub struct TextIndex {
     /// What has each place: the number of a text plus 1, or 0 for none.
     places: Vec<u32>,
-    /// The numbers of the texts whose place an earlier one has.
+    /// Of the texts that found their place taken, the number of the first of each second hash.
+    scattered: BTreeMap<u64, u32>,
+    /// The numbers of the texts that found their place and their second hash taken.
     crowded: BTreeMap<Text, u32>,
 }
 
@@ -33,6 +41,7 @@ impl TextIndex {
     {
         TextIndex {
             places: Vec::new(alloc),
+            scattered: BTreeMap::new(alloc),
             crowded: BTreeMap::new(alloc),
         }
     }
@@ -43,6 +52,7 @@ impl TextIndex {
     {
         Ok(TextIndex {
             places: vec![in alloc; 0; count]?,
+            scattered: BTreeMap::new(alloc),
             crowded: BTreeMap::new(alloc),
         })
     }
@@ -69,14 +79,14 @@ impl TextIndex {
     }
 
     /// The number of a text in the list that the index is of.
-    #[tactic(auto, using(crate::proofs::Finding::free, crate::proofs::Finding::elsewhere, crate::proofs::Finding::here))]
+    #[tactic(auto, using(crate::proofs::Finding::free, crate::proofs::Finding::here))]
     pub fn find(&self, texts: &[Text], text: &[u8]) -> Option<u32>
         requires distinct { NoRepeats texts.now }
         requires finds { Finds self.now texts.now }
         ensures { result ≡ position (bytes_eq text.now) texts.now }
     {
         let Some(next) = self.at_place(text) else {
-            return self.behind(text);
+            return self.behind(texts, text);
         };
         if next == 0 {
             return None;
@@ -84,11 +94,11 @@ impl TextIndex {
         if is_at(texts, next - 1, text) {
             return Some(next - 1);
         }
-        self.behind(text)
+        self.behind(texts, text)
     }
 
     /// Puts in the text that comes behind those of the list, in which it isn't.
-    #[tactic(auto, using(crate::proofs::Finding::puts_at_place, crate::proofs::Finding::puts_behind))]
+    #[tactic(auto, using(crate::proofs::Putting::puts_at_place, crate::proofs::Putting::puts_scattered, crate::proofs::Putting::puts_crowded))]
     pub fn put(&mut self, alloc: Global, before: &[Text], text: &Text) -> Result<(), NoMemory>
         requires few { length before.now + 1 < 2 ^ 32 }
         requires new { has before.now text.now ≡ false }
@@ -101,7 +111,11 @@ impl TextIndex {
             self.take_place(text.bytes(), number + 1);
             return Ok(());
         }
-        self.stand_behind(Text::of(alloc, text.bytes())?, number)
+        let hash = second_hash(text.bytes());
+        if !self.scattered.contains_key(&hash) {
+            return self.scatter(hash, number);
+        }
+        self.crowd(Text::of(alloc, text.bytes())?, number)
     }
 
     /// Whether nothing has the place of a text.
@@ -118,15 +132,28 @@ impl TextIndex {
     fn take_place(&mut self, text: &[u8], next: u32)
         requires { at_place self.old text.now ≡ Some 0 }
         ensures places { self.new.places.items ≡ slice_set self.old.places.items (place_among (length self.old.places.items) text.now) next }
+        ensures scattered { self.new.scattered ≡ self.old.scattered }
         ensures crowded { self.new.crowded ≡ self.old.crowded }
     {
         let place = place_among(self.places.len(), text);
         self.places[place] = next;
     }
 
-    /// Keeps the number of a text that found its place taken.
-    fn stand_behind(&mut self, text: Text, number: u32) -> Result<(), NoMemory>
+    /// Keeps the number of a text that found its place taken, by its second hash.
+    fn scatter(&mut self, hash: u64, number: u32) -> Result<(), NoMemory>
         ensures places { self.new.places ≡ self.old.places }
+        ensures kept { OnOk result (Updates nat_cmp self.old.scattered self.new.scattered hash (Some number)) }
+        ensures crowded { self.new.crowded ≡ self.old.crowded }
+        ensures unchanged { OnErr result (IsUnchanged self.old.scattered self.new.scattered) }
+    {
+        self.scattered.insert(hash, number)?;
+        Ok(())
+    }
+
+    /// Keeps the number of a text that found its place and its second hash taken.
+    fn crowd(&mut self, text: Text, number: u32) -> Result<(), NoMemory>
+        ensures places { self.new.places ≡ self.old.places }
+        ensures scattered { self.new.scattered ≡ self.old.scattered }
         ensures kept { OnOk result (Updates (slice_cmp nat_cmp) self.old.crowded self.new.crowded text (Some number)) }
         ensures unchanged { OnErr result (IsUnchanged self.old.crowded self.new.crowded) }
     {
@@ -143,14 +170,33 @@ impl TextIndex {
             .copied()
     }
 
-    /// The number of a text that found its place taken.
-    fn behind(&self, text: &[u8]) -> Option<u32>
-        ensures { result ≡ behind self.now text.now }
+    /// The number of a text that isn't at its place.
+    #[tactic(auto, using(crate::proofs::Finding::not_behind, crate::proofs::Finding::here, crate::proofs::Finding::crowded))]
+    fn behind(&self, texts: &[Text], text: &[u8]) -> Option<u32>
+        requires distinct { NoRepeats texts.now }
+        requires finds { Finds self.now texts.now }
+        requires elsewhere { IsElsewhere self.now texts.now text.now }
+        ensures { result ≡ position (bytes_eq text.now) texts.now }
     {
-        match self.crowded.get(text) {
-            Some(number) => Some(*number),
-            None => None,
+        let number = self.at_hash(text)?;
+        if is_at(texts, number, text) {
+            return Some(number);
         }
+        self.in_crowd(text)
+    }
+
+    /// The number that stands at the second hash of a text.
+    fn at_hash(&self, text: &[u8]) -> Option<u32>
+        ensures { result ≡ at_hash self.now text.now }
+    {
+        self.scattered.get(&second_hash(text)).copied()
+    }
+
+    /// The number of a text that found its place and its second hash taken.
+    fn in_crowd(&self, text: &[u8]) -> Option<u32>
+        ensures { result ≡ in_crowd self.now text.now }
+    {
+        self.crowded.get(text).copied()
     }
 }
 
@@ -172,4 +218,16 @@ fn place_among(count: usize, text: &[u8]) -> usize
     let mut hasher = FoldHasher::default();
     hasher.write(text);
     hasher.finish() as usize & count.saturating_sub(1)
+}
+
+/// The second hash of a text: FNV-1a of 64 bits.
+#[tactic(auto, unfolding(crate::specs::TextIndex::second_hash))]
+fn second_hash(text: &[u8]) -> u64
+    ensures { result ≡ second_hash text.now }
+{
+    let mut hash = FNV_OFFSET_BASIS;
+    'bytes: for byte in text {
+        hash = (hash ^ u64::from(*byte)).wrapping_mul(FNV_PRIME);
+    }
+    hash
 }

@@ -13,7 +13,9 @@ use Rattle.ns_code.specs.declared.class.NestedCode.{NestedCode}
 use Rattle.ns_code.specs.declared.class.MethodCode.{MethodCode}
 use Rattle.ns_code.specs.declared.body.BodyCode.{BodyCode}
 use Rattle.ns_code.specs.declared.instruction.Instr.{Instr}
-use Rattle.ns_code.specs.declared.instruction.Instr.TheVariants.{PushInt, PushSym, PushText, PushOuter, PushLocal, StoreLocal, PushBlock, MakeArray, Pick, Send, SendInner, SendPrivate, SendSuper, InitSuper, StoreSlot, Jump, JumpFalse, JumpTrue}
+use Rattle.ns_code.specs.declared.instruction.Instr.TheVariants.{PushInt, PushSym, PushText, PushOuter, PushLocal, StoreLocal, PushBlock}
+use Rattle.ns_code.specs.declared.instruction.Instr.TheVariants.{MakeArray, Pick, Send, SendInner, SendPrivate, SendSuper, InitSuper, StoreSlot}
+use Rattle.ns_code.specs.declared.instruction.Instr.TheVariants.{Jump, JumpFalse, JumpTrue}
 
 -- a number of one, two or four bytes
 abbrev pub IsByte : ℕ → Type 0

@@ -1,7 +1,8 @@
 -- What each instruction does with operands, and where it goes on.
 use Rattle.std.specs.Prelude.{ℕ, ◌+◌, ◌-◌, Bool, true, false, Option, Some, None, ◌==◌, not}
 use Rattle.ns_code.specs.declared.instruction.Instr.{Instr}
-use Rattle.ns_code.specs.declared.instruction.Instr.TheVariants.{StoreLocal, MakeArray, Pop, Pick, Send, SendInner, SendPrivate, SendSuper, InitSuper, StoreSlot, Return, ReturnSelf, ReturnHome, Jump, JumpFalse, JumpTrue}
+use Rattle.ns_code.specs.declared.instruction.Instr.TheVariants.{StoreLocal, MakeArray, Pop, Pick, Send, SendInner, SendPrivate, SendSuper}
+use Rattle.ns_code.specs.declared.instruction.Instr.TheVariants.{InitSuper, StoreSlot, Return, ReturnSelf, ReturnHome, Jump, JumpFalse, JumpTrue}
 
 -- how many operands it takes or reads
 abbrev pub takes : Instr → ℕ

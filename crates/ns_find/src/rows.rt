@@ -1,7 +1,9 @@
 //! The rows of the kernel's classes that are there for all, by the text of the selector.
 
 ghost use Rattle.std.specs.Prelude.{◌≡◌, ◌+◌, ◌<◌, ◌^◌, length, map};
-ghost use Rattle.ns_find.specs.Rows.{spelled_row, object_class_texts, array_class_texts, class_texts, undefined_object_texts, boolean_texts, integer_texts, string_texts, symbol_texts, array_texts, block_texts, kernel_texts, console_texts, board_texts, mirrors_texts, mirror_texts, message_texts};
+ghost use Rattle.ns_find.specs.Rows.{spelled_row, object_class_texts, array_class_texts, class_texts, undefined_object_texts, boolean_texts};
+ghost use Rattle.ns_find.specs.Rows.{integer_texts, string_texts, symbol_texts, array_texts, block_texts, kernel_texts, console_texts, board_texts};
+ghost use Rattle.ns_find.specs.Rows.{mirrors_texts, mirror_texts, message_texts};
 
 use crate::found::Found;
 

@@ -1,5 +1,6 @@
 -- Readers of the parts of code, field by field.
-use Rattle.std.specs.Prelude.{ℕ, zero, suc, ◌+◌, ◌-◌, nat_eq, ◌==◌, drop, Result, Ok, Err, List, [], ◌∷◌, ◌++◌, length, Bool, false, nat_lt, nat_le, not, ◌&&◌, if◌then◌else◌, Option, Some, None, slice_get}
+use Rattle.std.specs.Prelude.{ℕ, zero, suc, ◌+◌, ◌-◌, nat_eq, ◌==◌, drop, Result, Ok, Err, List, [], ◌∷◌, ◌++◌, length, Bool, false, nat_lt}
+use Rattle.std.specs.Prelude.{nat_le, not, ◌&&◌, if◌then◌else◌, Option, Some, None, slice_get}
 use Rattle.std.specs.Option.{option_map_or}
 use Rattle.std.specs.Str.{is_utf8}
 use Rattle.std.specs.List.{starts_with}

@@ -11,7 +11,9 @@ use Rattle.ns_kdata.specs.Outcome.{Outcome, Answers, Fails, unchanged}
 use Rattle.ns_kdata.specs.Arguments.{argument}
 use Rattle.ns_world.specs.Booleans.{truth}
 use Rattle.ns_kdata.specs.Texts.{text_size, text_at, text_copy, text_join, text_equal, text_less, text_print}
-use Rattle.ns_kdata.specs.Rows.{same_value, is_nil, not_understood, new_object, new_array, nil_print, boolean_print, integer_print, negation, conjunction, disjunction, symbol_size, symbol_string, symbol_print, symbol_less, array_size, array_at, array_put, message_selector, message_arguments}
+use Rattle.ns_kdata.specs.Rows.{same_value, is_nil, not_understood, new_object, new_array, nil_print, boolean_print, integer_print, negation}
+use Rattle.ns_kdata.specs.Rows.{conjunction, disjunction, symbol_size, symbol_string, symbol_print, symbol_less, array_size, array_at, array_put}
+use Rattle.ns_kdata.specs.Rows.{message_selector, message_arguments}
 
 -- the outcome of each row, by its receiver and its first two arguments
 abbrev pub row_outcome : World → CodeProgram → DataRow → Value → Value → Value → Outcome

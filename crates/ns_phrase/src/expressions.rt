@@ -2,7 +2,8 @@
 //! many brackets may still open. A node that is let go with a fault is passed to `drop`, so that its drop is
 //! proved once and not in each function.
 
-ghost use Rattle.ns_tree.specs.PlainOf.{expr_of, message_of, key_expr_of, bin_of, un_of, primary_of, block_of, slot_of, init_of, statements_of, statement_of, opers_of, keys_of, cascade_of, slots_of, bars_of};
+ghost use Rattle.ns_tree.specs.PlainOf.{expr_of, message_of, key_expr_of, bin_of, un_of, primary_of, block_of, slot_of, init_of, statements_of};
+ghost use Rattle.ns_tree.specs.PlainOf.{statement_of, opers_of, keys_of, cascade_of, slots_of, bars_of};
 ghost use Rattle.ns_phrase.specs.Expressions as spec;
 ghost use Rattle.ns_terminal.specs.Reads.{Gives, Reads};
 ghost use Rattle.ns_phrase.specs.Views.{oper_view, key_view, cascaded_view};

@@ -7,7 +7,9 @@ use Rattle.ns_plan.specs.declared.packed.ValueSend.{ValueSend}
 use Rattle.ns_plan.specs.declared.packed.PrivateSend.{PrivateSend}
 use Rattle.ns_plan.specs.declared.packed.SuperSend.{SuperSend}
 use Rattle.ns_plan.specs.declared.step.Step.{Step}
-use Rattle.ns_plan.specs.declared.step.Step.TheVariants.{PushNil, PushTrue, PushFalse, PushInt, PushSym, PushText, PushSelf, PushOuter, PushLocal, StoreLocal, PushBlock, MakeArray, Pop, Pick, Send, SendPrivate, SendSuper, InitSuper, StoreSlot, Return, ReturnSelf, ReturnHome, Jump, JumpFalse, JumpTrue}
+use Rattle.ns_plan.specs.declared.step.Step.TheVariants.{PushNil, PushTrue, PushFalse, PushInt, PushSym, PushText, PushSelf, PushOuter, PushLocal}
+use Rattle.ns_plan.specs.declared.step.Step.TheVariants.{StoreLocal, PushBlock, MakeArray, Pop, Pick, Send, SendPrivate, SendSuper, InitSuper}
+use Rattle.ns_plan.specs.declared.step.Step.TheVariants.{StoreSlot, Return, ReturnSelf, ReturnHome, Jump, JumpFalse, JumpTrue}
 use Rattle.ns_plan.specs.declared.tables.Tables.{Tables}
 
 -- Nothing is in the tables.

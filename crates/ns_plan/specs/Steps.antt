@@ -10,7 +10,9 @@ use Rattle.ns_find.specs.declared.found.Sending.{Sending}
 use Rattle.ns_find.specs.declared.found.Sending.TheVariants.{Plain, Inner}
 use Rattle.ns_moves.specs.Steps as moves
 use Rattle.ns_plan.specs.declared.step.Step.{Step}
-use Rattle.ns_plan.specs.declared.step.Step.TheVariants.{PushNil, PushTrue, PushFalse, PushInt, PushSym, PushText, PushSelf, PushOuter, PushLocal, StoreLocal, PushBlock, MakeArray, Pop, Pick, Send, SendPrivate, SendSuper, InitSuper, StoreSlot, Return, ReturnSelf, ReturnHome, Jump, JumpFalse, JumpTrue}
+use Rattle.ns_plan.specs.declared.step.Step.TheVariants.{PushNil, PushTrue, PushFalse, PushInt, PushSym, PushText, PushSelf, PushOuter, PushLocal}
+use Rattle.ns_plan.specs.declared.step.Step.TheVariants.{StoreLocal, PushBlock, MakeArray, Pop, Pick, Send, SendPrivate, SendSuper, InitSuper}
+use Rattle.ns_plan.specs.declared.step.Step.TheVariants.{StoreSlot, Return, ReturnSelf, ReturnHome, Jump, JumpFalse, JumpTrue}
 use Rattle.ns_plan.specs.Privates.{member_at}
 use Rattle.ns_plan.specs.Spelled.{spelled_by}
 

@@ -17,7 +17,8 @@ use Rattle.ns_rules.specs.declared.fault.StaticCause.TheVariants as c
 use Rattle.ns_rules.specs.declared.fault.Many.TheVariants as many
 use Rattle.ns_rules.specs.declared.fault.Role.{Role}
 use Rattle.ns_rules.specs.declared.fault.Role.TheVariants as r
-use Rattle.ns_rules.specs.Rules.{Found, has_names, has_opers, has_keys, found_if, found_past, members_found, locals_found, params_found, set_found, return_found, bare_found, outer_found, number_found, cascade_found, top_found, top_name_found}
+use Rattle.ns_rules.specs.Rules.{Found, has_names, has_opers, has_keys, found_if, found_past, members_found, locals_found, params_found, set_found}
+use Rattle.ns_rules.specs.Rules.{return_found, bare_found, outer_found, number_found, cascade_found, top_found, top_name_found}
 
 -- ---- expressions
 

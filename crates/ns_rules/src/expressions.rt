@@ -6,7 +6,8 @@ ghost use Rattle.ns_tree.specs.PlainOf.{expr_of, cascade_of, message_of, key_exp
 ghost use Rattle.ns_tree.specs.PlainOf.{exprs_of, block_of, slots_of, init_of, bars_of, statements_of, statement_list_of, statement_of};
 ghost use Rattle.ns_rules.specs.Rules.{set_found, bare_found, outer_found, number_found};
 ghost use Rattle.ns_rules.specs.Faults.{expr_faults, cascade_faults, message_faults, key_expr_faults, keys_faults, bin_faults, opers_faults, un_faults, primary_faults};
-ghost use Rattle.ns_rules.specs.Faults.{keywords_found, elements_found, items_faults, block_faults, inside_faults, bars_faults, slots_faults, init_faults, statements_faults, list_faults, statement_faults};
+ghost use Rattle.ns_rules.specs.Faults.{keywords_found, elements_found, items_faults, block_faults, inside_faults, bars_faults, slots_faults};
+ghost use Rattle.ns_rules.specs.Faults.{init_faults, statements_faults, list_faults, statement_faults};
 ghost use Rattle.ns_rules.specs.Walk.{with_found};
 
 use crate::bodies::enter_block;

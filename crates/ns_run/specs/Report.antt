@@ -10,7 +10,8 @@ use Rattle.ns_gen.specs.declared.size.SizeKind.TheVariants as size
 use Rattle.ns_rules.specs.declared.fault.Many.{Many}
 use Rattle.ns_rules.specs.declared.fault.Many.TheVariants.{Parameters, Locals, Elements, Members, Classes}
 use Rattle.ns_rules.specs.declared.fault.StaticCause.{StaticCause}
-use Rattle.ns_rules.specs.declared.fault.StaticCause.TheVariants.{DuplicateMember, DuplicateLocal, FixedLocal, BadReturn, BareReceiver, NoSuchOuter, BadCascade, PlainTooLarge, TooMany, TopSuper, DuplicateTop}
+use Rattle.ns_rules.specs.declared.fault.StaticCause.TheVariants.{DuplicateMember, DuplicateLocal, FixedLocal, BadReturn, BareReceiver}
+use Rattle.ns_rules.specs.declared.fault.StaticCause.TheVariants.{NoSuchOuter, BadCascade, PlainTooLarge, TooMany, TopSuper, DuplicateTop}
 
 -- what is wrong with a text, by its number from 1 to 6
 abbrev pub spelling_name : ℕ → List ℕ

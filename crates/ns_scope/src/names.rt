@@ -5,7 +5,8 @@ ghost use Rattle.ns_tree.specs.Plain as p;
 ghost use Rattle.ns_tree.specs.PlainOf.{bars_of, slots_of, init_of, side_of, members_of, what_of, class_of, class_side_of, method_of};
 ghost use Rattle.ns_scope.specs.Table.{has, put_first};
 ghost use Rattle.ns_scope.specs.Names.{declare, table_of, setting_of, numbered, param_settings, slot_settings, bars_settings, locals_of};
-ghost use Rattle.ns_scope.specs.Names.{access_or, setter_of, getter_setter, slot_members, bars_members, selector_of, start_of, what_member, members_named, side_members, instance_members, class_members};
+ghost use Rattle.ns_scope.specs.Names.{access_or, setter_of, getter_setter, slot_members, bars_members, selector_of, start_of, what_member};
+ghost use Rattle.ns_scope.specs.Names.{members_named, side_members, instance_members, class_members};
 
 use crate::table::Table;
 use ns_base::no_memory::NoMemory;

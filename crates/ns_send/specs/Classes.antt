@@ -22,7 +22,8 @@ use Rattle.ns_classes.specs.Nested.{kept_class, nested_entry}
 use Rattle.ns_kdata.specs.Rows.{stored}
 use Rattle.ns_send.specs.declared.site.Site.{Site}
 use Rattle.ns_send.specs.Site.{error, fault_ending, make_fault}
-use Rattle.ns_send.specs.Control.{Progress, in_world, Activation, Exit, FromMethod, FromBody, FromClause, After, Gives, Halts, Control, Now, Enter, Part, Skip, Stop, EnterPart, halts, charged, frame_left}
+use Rattle.ns_send.specs.Control.{Progress, in_world, Activation, Exit, FromMethod, FromBody, FromClause, After, Gives, Halts, Control, Now, Enter}
+use Rattle.ns_send.specs.Control.{Part, Skip, Stop, EnterPart, halts, charged, frame_left}
 use Rattle.ns_send.specs.Bodies.{initialiser_of, clause_of, no_home, opened}
 
 -- ---- making a class

@@ -18,7 +18,8 @@ use Rattle.ns_send.specs.declared.control.Reached.TheVariants as reached
 use Rattle.ns_send.specs.declared.control.PartReached.{PartReached}
 use Rattle.ns_send.specs.declared.control.PartReached.TheVariants as part
 use Rattle.ns_send.specs.Site.{error, fault_ending, site_of_message}
-use Rattle.ns_send.specs.Control.{Progress, Activation, Exit, FromMethod, FromBody, FromClause, After, Gives, Halts, Control, Enter, Evaluate, Begin, Perform, Part, Skip, Stop, EnterPart, gives, halts}
+use Rattle.ns_send.specs.Control.{Progress, Activation, Exit, FromMethod, FromBody, FromClause, After, Gives, Halts, Control, Enter, Evaluate}
+use Rattle.ns_send.specs.Control.{Begin, Perform, Part, Skip, Stop, EnterPart, gives, halts}
 use Rattle.ns_send.specs.Bodies.{has_environment, first_locals}
 
 -- the arguments that go on

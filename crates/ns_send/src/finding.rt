@@ -15,7 +15,8 @@ ghost use Rattle.ns_classes.specs.Nested.{has_nested};
 ghost use Rattle.ns_find.specs.Find.{is_start};
 ghost use Rattle.ns_send.specs.Control.{Activation};
 ghost use Rattle.ns_send.specs.Lawful.{FitsActivation, HasClass};
-ghost use Rattle.ns_send.specs.StatedFinding.{OwnSuits, PrivateSuits, AboveSuits, LevelIsThere, LevelIsDeclared, EntryIsInside, SlotIsInside, NestedHasEntry, NestedIsInside, NestedStays, MessageFollows};
+ghost use Rattle.ns_send.specs.StatedFinding.{OwnSuits, PrivateSuits, AboveSuits, LevelIsThere, LevelIsDeclared, EntryIsInside, SlotIsInside};
+ghost use Rattle.ns_send.specs.StatedFinding.{NestedHasEntry, NestedIsInside, NestedStays, MessageFollows};
 
 /// In a lawful world what a send finds can be done with its receiver: what is found from a value's
 /// own start, as a private member of a declaration around running code, and above its holder.

@@ -35,8 +35,11 @@ ghost use Rattle.ns_send.specs.Fitting.{FitsMethod, Asks, HandsOn};
 ghost use Rattle.ns_send.specs.Suiting.{FoundSuits};
 ghost use Rattle.ns_send.specs.Tabled.{RowsAreTabled, RowsAnswer};
 ghost use Rattle.ns_send.specs.Stated.{WaitedIsLawful, WaitedFits, WaitedStays, WaitedLeadsOn, WaitedSpends, EnclosingIsLive, LocalStands, LocalIsLive, BlockMayBeMade, BlockIsEntered, PartStays};
-ghost use Rattle.ns_send.specs.StatedSends.{SentGoesOnward, PlainGoesOnward, PerformedGoesOnward, SentKeepsLawful, PlainKeepsLawful, PerformedKeepsLawful, EvaluatedKeepsLawful, SiteFits, SentStays, PlainStays, EvaluatedStays};
-ghost use Rattle.ns_send.specs.StatedActions.{EvaluatedGoesOnward, PartGoesOnward, EndGoesOnward, SlotGoesOnward, LocalGoesOnward, PartKeepsLawful, EndKeepsLawful, MethodKeepsLawful, ArrayKeepsLawful, BlockKeepsLawful, SlotKeepsLawful, LocalKeepsLawful};
+ghost use Rattle.ns_send.specs.StatedSends.{SentGoesOnward, PlainGoesOnward, PerformedGoesOnward, SentKeepsLawful, PlainKeepsLawful};
+ghost use Rattle.ns_send.specs.StatedSends.{PerformedKeepsLawful, EvaluatedKeepsLawful, SiteFits, SentStays, PlainStays, EvaluatedStays};
+ghost use Rattle.ns_send.specs.StatedActions.{EvaluatedGoesOnward, PartGoesOnward, EndGoesOnward, SlotGoesOnward, LocalGoesOnward, PartKeepsLawful};
+ghost use Rattle.ns_send.specs.StatedActions.{EndKeepsLawful, MethodKeepsLawful, ArrayKeepsLawful, BlockKeepsLawful, SlotKeepsLawful};
+ghost use Rattle.ns_send.specs.StatedActions.{LocalKeepsLawful};
 ghost use Rattle.ns_send.specs.Onward.{Onward, after_reached, waiting_reached};
 
 /// No send changes a limit, lowers a counter but depth, takes back what was printed, or changes a

@@ -2,21 +2,16 @@
 //! body that runs stays on top, and one step is charged.
 
 ghost use Rattle.std.specs.Prelude.{◌≡◌, ◌+◌, Some, IsTrue, slice_get};
-ghost use Rattle.ns_kdata.specs.Arguments.{argument as argument_at};
-ghost use Rattle.ns_send.specs.declared.row.Row.TheVariants.{Integer};
 ghost use Rattle.ns_send.specs.Blocks.{is_integer};
 ghost use Rattle.ns_plan.specs.Integers.{row_of_send};
 ghost use Rattle.ns_plan.specs.Steps.{send_instr};
 ghost use Rattle.ns_engine.specs.Doing.{CanDo};
-ghost use Rattle.ns_sends.specs.Going.{arguments_in};
 ghost use Rattle.ns_sends.specs.Integers.{SendsOrNothing, ToTopOrNothing, DoesOrNothing};
 ghost use Rattle.ns_sends.specs.Operands.{SendsOperands};
-ghost use Rattle.ns_sends.specs.Rows.{FindsRow, RowGives};
 ghost use Rattle.ns_sends.specs.Sending.{CanSend};
 
-use crate::rows::{give, value_of_integer};
+use crate::rows::{charge, value_of_integer};
 use crate::sent::Sent;
-use ns_act::laws::a_send_is_its_step_and_its_answer;
 use ns_base::selector::Sel;
 use ns_code::program::CodeProgram;
 use ns_engine::state::Core;
@@ -30,7 +25,6 @@ use ns_plan::laws::integers_find_rows;
 use ns_send::begin::is_integer;
 use ns_send::row::Row;
 use ns_world::kernel::{ClassName, KernelRow};
-use ns_world::lawful::charging_keeps_lawful;
 use ns_world::value::Value;
 
 /// Sends to a value by the row of Integer that its selector names, where it is an Integer to which that row gives a value, and
@@ -111,33 +105,16 @@ fn send_to(
     integers_find_rows();
     let right = argument(core.stack.from(at, sent.first), 0);
     match value_of_integer(code, row, receiver, right) {
-        Some(value) => charge(code, core, at, sent, receiver, kind, row, value),
+        Some(value) => charge(
+            code,
+            core,
+            at,
+            sent,
+            receiver,
+            kind,
+            Row::Integer(row),
+            value,
+        ),
         None => None,
-    }
-}
-
-/// Charges the step of a send and brings the value of a row to the body that runs, unless no step is left.
-#[inline(always)]
-fn charge(
-    code: &CodeProgram,
-    core: &mut Core,
-    at: Registers,
-    sent: Sent,
-    receiver: Value,
-    kind: Sending,
-    row: IntRow,
-    value: Value,
-) -> Option<Registers>
-    requires can { CanSend code.now core.old at sent receiver }
-    requires finds { FindsRow code.now core.old sent receiver kind (Integer row) }
-    requires gives { RowGives code.now core.old.run.world.world.cells (Integer row) receiver (argument_at (arguments_in core.old at sent) 0) value }
-    ensures { SendsOrNothing code.now core.old at sent receiver kind core.new result }
-{
-    a_send_is_its_step_and_its_answer();
-    charging_keeps_lawful();
-    let row = Row::Integer(row);
-    match core.run.world.step() {
-        Ok(()) => Some(give(code, core, at, sent, receiver, kind, row, value)),
-        Err(_) => None,
     }
 }

@@ -1,6 +1,6 @@
 //! Sends that find a method of the kernel which evaluates blocks, by the quick way: registers alone come back.
 
-ghost use Rattle.std.specs.Prelude.{◌≡◌, true};
+ghost use Rattle.std.specs.Prelude.{◌≡◌, Decides};
 ghost use Rattle.ns_send.specs.declared.row.Row.TheVariants as row_is;
 ghost use Rattle.ns_send.specs.Control.{Activation};
 ghost use Rattle.ns_send.specs.Rows.{row_at};
@@ -96,7 +96,7 @@ pub fn can_loop(
     method: KMethod,
 ) -> bool
     requires { CanSend code.now core.now at sent receiver }
-    ensures { result ≡ true → CanLoop core.now at sent method }
+    ensures { Decides result (CanLoop core.now at sent method) }
 {
     live_values_are_there();
     let _code = code;

@@ -1,6 +1,6 @@
 //! Sends that find a method whose frame and environment fit, by the quick way: registers alone come back.
 
-ghost use Rattle.std.specs.Prelude.{◌≡◌, length, true};
+ghost use Rattle.std.specs.Prelude.{length, Decides};
 ghost use Rattle.ns_engine.specs.declared.state.Next.TheVariants as next;
 ghost use Rattle.ns_sends.specs.Given.{SendsOrNot};
 ghost use Rattle.ns_sends.specs.Going.{arguments_in, GoesOn};
@@ -56,7 +56,7 @@ pub fn send_method(
 /// Whether the limits leave room for the frame and the environment of a body with so many arguments.
 #[inline(always)]
 pub fn has_room(world: &World, code: &CodeProgram, body: u32, count: u32) -> bool
-    ensures { result ≡ true → HasRoomFor world.now.world code.now body count }
+    ensures { Decides result (HasRoomFor world.now.world code.now body count) }
 {
     let used = world.counters();
     let limits = world.limits();

@@ -11,6 +11,7 @@ ghost use Rattle.ns_send.specs.Sends.{To};
 ghost use Rattle.ns_engine.specs.declared.state.Next.TheVariants as next;
 ghost use Rattle.ns_engine.specs.Straight.{StaysOnTop};
 ghost use Rattle.ns_sends.specs.Given.{ChargesOrNot};
+ghost use Rattle.ns_sends.specs.Integers.{SendsOrNothing};
 ghost use Rattle.ns_sends.specs.Going.{arguments_in};
 ghost use Rattle.ns_sends.specs.Opening.{FindsKernel};
 ghost use Rattle.ns_sends.specs.Rows.{FindsRow, RowGives, NamesPlace};
@@ -72,7 +73,10 @@ fn send_to_row(
 {
     let first = argument(core.stack.from(at, sent.first), 0);
     match value_of(&core.run.world, code, row, receiver, first) {
-        Some(value) => charge(code, core, at, sent, receiver, kind, row, value),
+        Some(value) => match charge(code, core, at, sent, receiver, kind, row, value) {
+            Some(to) => Some(to),
+            None => None,
+        },
         None => None,
     }
 }
@@ -121,7 +125,7 @@ pub fn value_of_integer(
 
 /// Charges the step of a send and brings the value of a row to the body that runs, unless no step is left.
 #[inline(always)]
-fn charge(
+pub fn charge(
     code: &CodeProgram,
     core: &mut Core,
     at: Registers,
@@ -134,7 +138,7 @@ fn charge(
     requires can { CanSend code.now core.old at sent receiver }
     requires finds { FindsRow code.now core.old sent receiver kind row }
     requires gives { RowGives code.now core.old.run.world.world.cells row receiver (argument_at (arguments_in core.old at sent) 0) value }
-    ensures { ChargesOrNot code.now core.old at sent receiver kind core.new result }
+    ensures { SendsOrNothing code.now core.old at sent receiver kind core.new result }
 {
     a_send_is_its_step_and_its_answer();
     charging_keeps_lawful();

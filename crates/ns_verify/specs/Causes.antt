@@ -8,7 +8,8 @@ use Rattle.ns_code.specs.declared.program.CodeProgram.{CodeProgram}
 use Rattle.ns_code.specs.declared.class.ClassCode.{ClassCode}
 use Rattle.ns_code.specs.declared.body.BodyCode.{BodyCode}
 use Rattle.ns_code.specs.declared.instruction.Instr.{Instr}
-use Rattle.ns_code.specs.declared.instruction.Instr.TheVariants.{PushSym, PushText, PushOuter, PushLocal, StoreLocal, PushBlock, Send, SendInner, SendPrivate, SendSuper, InitSuper, StoreSlot, Return, ReturnSelf, ReturnHome}
+use Rattle.ns_code.specs.declared.instruction.Instr.TheVariants.{PushSym, PushText, PushOuter, PushLocal, StoreLocal, PushBlock, Send, SendInner}
+use Rattle.ns_code.specs.declared.instruction.Instr.TheVariants.{SendPrivate, SendSuper, InitSuper, StoreSlot, Return, ReturnSelf, ReturnHome}
 use Rattle.ns_code.specs.Selector.{selector_arity, selector_text}
 use Rattle.ns_code.specs.Soundness.{method_kind, block_kind, initialiser_kind, clause_kind, instance_side, is_name}
 use Rattle.ns_verify.specs.declared.fault.VerifyCause.{VerifyCause}

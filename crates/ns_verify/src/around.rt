@@ -77,7 +77,7 @@ fn outwards(
 ) -> Result<Vec<u32>, NoMemory>
     ensures { IfOk result (λ found. found.items ≡ spec.outwards table.now most (Some number)) }
 {
-    let mut found = Vec::new(alloc);
+    let mut found = Vec::with_capacity(alloc, most as usize)?;
     let mut next = Some(number);
     'levels: for _passed in 0..most {
         match next {

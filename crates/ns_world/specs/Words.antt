@@ -9,7 +9,9 @@ use Rattle.ns_world.specs.declared.cell.NewCell.TheVariants as new
 use Rattle.ns_world.specs.declared.head.Head.{Head}
 use Rattle.ns_world.specs.declared.head.Head.TheVariants as head
 use Rattle.ns_world.specs.declared.word.Word.{Word}
-use Rattle.ns_world.specs.declared.word.Word.TheVariants.{Nil as NilWord, True as TrueWord, False as FalseWord, Int as IntWord, Sym as SymWord, Kernel as KernelWord, Ref as RefWord, Bytes, Object, Class, Block, Array, Text, Facet, Mirror, Message, NilWith, TrueWith, FalseWith, IntWith, SymWith, KernelWith, RefWith}
+use Rattle.ns_world.specs.declared.word.Word.TheVariants.{Nil as NilWord, True as TrueWord, False as FalseWord, Int as IntWord, Sym as SymWord}
+use Rattle.ns_world.specs.declared.word.Word.TheVariants.{Kernel as KernelWord, Ref as RefWord, Bytes, Object, Class, Block, Array, Text, Facet}
+use Rattle.ns_world.specs.declared.word.Word.TheVariants.{Mirror, Message, NilWith, TrueWith, FalseWith, IntWith, SymWith, KernelWith, RefWith}
 use Rattle.ns_world.specs.Cell.{Cell, ObjectCell, ClassCell, BlockCell, EnvironmentCell, ArrayCell, TextCell, FacetCell, MirrorCell, MessageCell, text_words}
 use Rattle.ns_world.specs.Heap.{Heap}
 
