@@ -3,6 +3,8 @@
 #![tactic(auto)]
 
 #[cfg(test)]
+mod adapter_tests;
+#[cfg(test)]
 mod command;
 #[cfg(test)]
 mod command_tests;

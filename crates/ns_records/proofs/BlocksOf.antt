@@ -4,8 +4,8 @@ use Rattle.std.specs.Prelude.{Option}
 use Rattle.ns_tree.specs.Plain as p
 use Rattle.ns_scope.specs.declared.scope.Scope.{Scope}
 use Rattle.ns_scope.specs.Bodies as b
-use Rattle.ns_write.specs.Counting as counting
-use Rattle.ns_write.specs.laws.BlockCounts as counts
+use Rattle.ns_blocks.specs.Counting as counting
+use Rattle.ns_blocks.specs.laws.BlockCounts as counts
 use Rattle.ns_scope.specs.Bodies.{start_blocks}
 
 pub slots_counted : (scope : Scope) (slots : p.Slots) → length (b.slots_blocks scope slots) ≡ counting.slots_count slots

@@ -216,13 +216,8 @@ fn on_building<S: Shelf>(
     ensures read_fault_there { UnreadIsThere (S.holds shelf.old) (spec.behind_first (map string_bytes names.now)) result }
     ensures missing { MissingIsCounted (spec.behind_first (map string_bytes names.now)) result (S.misses shelf.old) (S.misses shelf.new) }
 {
-    match names {
-        [] => or_stop(bad_word(alloc, 1)),
-        [image, files @ ..] => {
-            let image = image.as_str();
-            on_files(alloc, Task::Build { image }, lib, files, shelf)
-        }
-    }
+    let image = names[0].as_str();
+    on_files(alloc, Task::Build { image }, lib, &names[1..], shelf)
 }
 
 /// The report of what is done with the image that is the one name.
@@ -243,8 +238,5 @@ fn on_first<S: Shelf>(
     ensures read_fault_there { UnreadIsThere (S.holds shelf.old) (map string_bytes names.now) result }
     ensures missing { MissingIsCounted (map string_bytes names.now) result (S.misses shelf.old) (S.misses shelf.new) }
 {
-    match names {
-        [name] => on_image(alloc, task, name.as_str(), shelf),
-        _ => or_stop(bad_word(alloc, 1)),
-    }
+    on_image(alloc, task, names[0].as_str(), shelf)
 }

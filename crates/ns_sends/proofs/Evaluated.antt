@@ -46,7 +46,7 @@ use Rattle.ns_engine.specs.Arriving.{Arrives}
 use Rattle.ns_engine.specs.Ready.{Moves}
 use Rattle.ns_engine.specs.laws.Kept.{rooms_stay}
 use Rattle.ns_engine.specs.laws.Worlds.{in_other}
-use Rattle.ns_sends.proofs.Goes.{room_above}
+use Rattle.ns_sends.specs.laws.Goes.{room_above}
 use Rattle.ns_frames.specs.declared.registers.Registers.{Registers}
 use Rattle.ns_frames.specs.declared.stack.Stack.{Stack}
 use Rattle.ns_frames.specs.Row.{FrameRow}

@@ -32,10 +32,6 @@ use Rattle.ns_sends.specs.Going.{arguments_in, control_at, GoesOn, IsLeft, Comes
 
 -- ---- what comes of it
 
-pub comes_leads : (code : CodeProgram) (old new : Core) (at : Registers) (sent : Sent) (control : Control) (next : Next)
-    → Arrives code old at sent.floor control new next → Leads code old at sent.floor control new next
-comes_leads code old new at sent control next is = record { state = is.state; stand = is.stand; memo = ap (λ r. r.memo) is.run; stays = is.stays }
-
 pub plain_given : (heap : Heap) (r : Reached) → IsPlain r → IsGiven heap r
 plain_given heap (reached.Gives value) is = is
 plain_given heap (reached.Fails fault) is = is

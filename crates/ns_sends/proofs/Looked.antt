@@ -23,11 +23,8 @@ use Rattle.ns_engine.specs.Shown.{phase_shown}
 use Rattle.ns_sends.specs.declared.sent.Sent.{Sent}
 use Rattle.ns_sends.specs.Going.{arguments_in, GoesOn}
 use Rattle.ns_sends.specs.Sending.{CanSend, looked_up, Sends}
+use Rattle.ns_sends.specs.laws.Looked.{looked}
 use Rattle.ns_sends.proofs.Stepped.{left_in}
-
--- nothing but the lookups that are kept has changed
-abbrev pub looked : Core → Run → Type 0
-looked core run = run ≡ record core.run { memo = run.memo }
 
 world_same : (core : Core) (run : Run) → looked core run → run.world ≡ core.run.world
 world_same core run rest = ap (λ (r : Run). r.world) rest

@@ -47,7 +47,7 @@ use Rattle.ns_sends.specs.declared.led.Led.TheVariants as led
 use Rattle.ns_sends.specs.declared.sent.Sent.{Sent}
 use Rattle.ns_sends.specs.Going.{arguments_in, control_at, GoesOn, ComesToBody, answered_at, CanAnswer}
 use Rattle.ns_sends.specs.Waiting.{CanSendOn, sent_on_at, looked_on, LeadsTo, LeadsKept}
-use Rattle.ns_sends.proofs.Goes.{room_above}
+use Rattle.ns_sends.specs.laws.Goes.{room_above}
 use Rattle.ns_sends.proofs.Leads.{with_world, row_control}
 use Rattle.ns_engine.specs.laws.Charged.{step_is}
 use Rattle.ns_sends.proofs.Stepped.{left_in}

@@ -1,10 +1,5 @@
 pub mod Going
-pub mod Given
-pub mod Integers
-pub mod Booleans
-pub mod Looping
-pub mod Opening
-pub mod Rows
 pub mod Sending
 pub mod Operands
 pub mod Waiting
+pub mod laws

@@ -37,7 +37,7 @@ use ns_world::value::Value;
 
 /// Sends to self, from above the holder of the code that runs.
 #[inline(always)]
-#[tactic(auto, using(crate::proofs::Selves::here_fits, crate::proofs::Selves::here_lawful))]
+#[tactic(auto, using(crate::specs::laws::Selves::here_fits, crate::specs::laws::Selves::here_lawful))]
 pub fn send_super(
     code: &CodeProgram,
     core: &mut Core,
@@ -124,7 +124,7 @@ fn look_above(
 
 /// Sends to the private member of the declaration so many levels out.
 #[inline(always)]
-#[tactic(auto, using(crate::proofs::Selves::here_fits, crate::proofs::Selves::here_lawful, crate::proofs::Selves::level_there))]
+#[tactic(auto, using(crate::specs::laws::Selves::here_fits, crate::specs::laws::Selves::here_lawful, crate::specs::laws::Selves::level_there))]
 pub fn send_private(
     code: &CodeProgram,
     core: &mut Core,

@@ -18,7 +18,7 @@ use ns_world::value::Value;
 
 /// Goes on with what a send came to.
 #[inline(always)]
-#[tactic(auto, using(crate::proofs::Leads::comes_leads, crate::proofs::Leads::plain_given, crate::proofs::Leads::runs_body))]
+#[tactic(auto, using(crate::specs::laws::Looked::comes_leads, crate::proofs::Leads::plain_given, crate::proofs::Leads::runs_body))]
 pub fn go_on(
     code: &CodeProgram,
     core: &mut Core,

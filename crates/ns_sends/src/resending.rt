@@ -129,7 +129,7 @@ fn ask_on(
 }
 
 /// Goes where an action has led, but for a value.
-#[tactic(auto, using(crate::proofs::Resent::no_value, crate::proofs::Resent::value_led, crate::proofs::Leads::comes_leads))]
+#[tactic(auto, using(crate::proofs::Resent::no_value, crate::proofs::Resent::value_led, crate::specs::laws::Looked::comes_leads))]
 fn lead(code: &CodeProgram, core: &mut Core, at: Registers, sent: Sent, reached: Reached) -> Led
     requires left { IsLeft code.now core.old at sent }
     requires goes { GoesOn code.now (length core.old.stack.frames.items) (control_at code.now core.old at sent reached) }

@@ -20,7 +20,7 @@ use ns_frames::registers::Registers;
 
 /// Sends to a value, whose public members alone it reaches.
 #[inline(always)]
-#[tactic(auto, using(crate::proofs::Received::send_operands))]
+#[tactic(auto, using(crate::specs::laws::Received::send_operands))]
 pub fn send(
     code: &CodeProgram,
     core: &mut Core,
@@ -40,7 +40,7 @@ pub fn send(
 
 /// Sends to a value, whose protected members it reaches too.
 #[inline(always)]
-#[tactic(auto, using(crate::proofs::Received::inner_operands))]
+#[tactic(auto, using(crate::specs::laws::Received::inner_operands))]
 pub fn send_inner(
     code: &CodeProgram,
     core: &mut Core,

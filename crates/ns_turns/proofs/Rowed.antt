@@ -16,8 +16,8 @@ use Rattle.ns_engine.specs.Shown.{progress_in}
 use Rattle.ns_engine.specs.Doing.{Finds, CanDo}
 use Rattle.ns_engine.specs.Tried.{led_charged}
 use Rattle.ns_plan.specs.Steps.{HasItsMember}
-use Rattle.ns_sends.specs.Booleans.{LeadsOrNothing}
-use Rattle.ns_sends.specs.Integers.{DoesOrNothing}
+use Rattle.ns_quick.specs.Booleans.{LeadsOrNothing}
+use Rattle.ns_quick.specs.Integers.{DoesOrNothing}
 use Rattle.ns_turns.specs.Above.{HasMemberAbove}
 
 -- A body runs, and the step has its member there.

@@ -6,7 +6,7 @@ ghost use Rattle.ns_plan.specs.Spelled.{spelled_by};
 ghost use Rattle.ns_engine.specs.Doing.{CanDo};
 ghost use Rattle.ns_engine.specs.Straight.{IsOnTop};
 ghost use Rattle.ns_engine.specs.Tried.{Leads};
-ghost use Rattle.ns_sends.specs.Booleans.{LeadsOrNothing};
+ghost use Rattle.ns_quick.specs.Booleans.{LeadsOrNothing};
 ghost use Rattle.ns_turns.specs.Above.{HasMemberAbove};
 
 use ns_base::selector::Sel;
@@ -25,12 +25,12 @@ use ns_engine::taking::{pick, pop};
 use ns_find::found::Sending;
 use ns_frames::registers::Registers;
 use ns_plan::step::{SpelledRow, Step};
+use ns_quick::booleans::send_boolean;
+use ns_quick::giving::{send, send_inner};
+use ns_quick::integers::send_integer;
+use ns_quick::private::send_private;
 use ns_returns::answering::{return_self, return_value};
 use ns_returns::unwinding::return_home;
-use ns_sends::booleans::send_boolean;
-use ns_sends::giving::{send, send_inner};
-use ns_sends::integers::send_integer;
-use ns_sends::private::send_private;
 
 /// Does a step, behind which the registers stand, where it is one of those that are taken most; else nothing is done. Those that
 /// lead straight on come first.

@@ -1,6 +1,5 @@
 pub mod Drafts
 pub mod Sending
-pub mod Counting
 pub mod Setting
 pub mod Cascading
 pub mod Standing

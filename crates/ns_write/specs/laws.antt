@@ -1,5 +1,4 @@
 -- Laws of these definitions, for the crates above.
-pub mod BlockCounts
 pub mod Composing
 pub mod Keywords
 pub mod Numbers

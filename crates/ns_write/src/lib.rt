@@ -2,7 +2,6 @@
 #![tactic(auto)]
 
 pub mod around;
-pub mod counting;
 pub mod draft;
 pub mod expressions;
 pub mod here;

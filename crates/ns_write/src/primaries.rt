@@ -7,18 +7,18 @@ ghost use Rattle.ns_meant.specs.Program as m;
 ghost use Rattle.ns_meant.specs.Expressions.{primary_receiver};
 ghost use Rattle.ns_write.specs.Sending.{standing, with_node, with_receiver, kept};
 
-use crate::counting::count_block;
 use crate::here::Here;
 use crate::literals::{put_named, put_number, put_symbol, put_text};
 use crate::receiver::Receiver;
 use crate::writer::Writer;
 use ns_base::no_memory::NoMemory;
 use ns_base::text::Text;
+use ns_blocks::counting::count_block;
 use ns_code::instruction::Instr;
 use ns_tree::tree::{Block, Primary};
 
 /// A block, of which the number alone is written; those in it are passed over.
-#[tactic(auto, using(crate::specs::laws::BlockCounts::block_counted))]
+#[tactic(auto, using(ns_blocks::specs::laws::BlockCounts::block_counted))]
 pub fn put_block(
     writer: &mut Writer,
     here: &Here<'_>,

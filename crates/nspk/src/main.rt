@@ -2,17 +2,11 @@
 //! command line.
 #![tactic(auto)]
 
-mod arguments;
-mod files;
-mod stream;
-#[cfg(test)]
-mod stream_tests;
-
-use crate::arguments::{CommandLine, arguments};
-use crate::files::Disk;
-use crate::stream::Stream;
 use ns_base::status::Status;
 use ns_run::top::{nspk, refuse_cut};
+use ns_system::arguments::{CommandLine, arguments};
+use ns_system::files::Disk;
+use ns_system::stream::Stream;
 use std::process::ExitCode;
 
 fn main(rt: HostRuntime) -> ExitCode {

@@ -3,7 +3,8 @@ use Rattle.ns_send.specs.Sends.{ToSuper, found_at}
 use Rattle.ns_act.specs.Running.{code_of}
 use Rattle.ns_frames.specs.View.{site_shown}
 use Rattle.ns_sends.specs.Sending.{looked_up}
-use Rattle.ns_sends.proofs.Stepped.{answer_can, answer_goes, answer_sends, with_values}
+use Rattle.ns_sends.specs.laws.Looked.{answer_goes, answer_sends}
+use Rattle.ns_sends.proofs.Stepped.{answer_can, with_values}
 use Rattle.ns_sends.proofs.around.look_above.Goals as goal
 
 pub go_on-requires-clause-goes : goal.go_on-requires-clause-goes

@@ -7,7 +7,7 @@ use Rattle.ns_send.specs.Sends.{ToPrivate}
 use Rattle.ns_act.specs.Running.{code_of, nowhere}
 use Rattle.ns_sends.specs.Sending.{sent_at, Sends}
 use Rattle.ns_sends.specs.Operands.{SendsOperands}
-use Rattle.ns_sends.proofs.Selves.{own_sent, can_send_own, private_operands, here_fits, here_lawful, level_there, private_does}
+use Rattle.ns_sends.specs.laws.Selves.{own_sent, can_send_own, private_operands, here_fits, here_lawful, level_there, private_does}
 use Rattle.ns_sends.proofs.around.send_private.Goals as goal
 
 pub step_around-requires-clause-receiver : goal.step_around-requires-clause-receiver

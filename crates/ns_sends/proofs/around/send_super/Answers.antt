@@ -4,7 +4,8 @@ use Rattle.ns_send.specs.Sends.{ToSuper}
 use Rattle.ns_act.specs.Running.{code_of}
 use Rattle.ns_sends.specs.Sending.{sent_at, Sends}
 use Rattle.ns_sends.specs.Operands.{SendsOperands}
-use Rattle.ns_sends.proofs.Selves.{own_sent, can_send_own, super_operands, here_fits, super_does}
+use Rattle.ns_sends.specs.laws.Selves.{own_sent, can_send_own, here_fits}
+use Rattle.ns_sends.proofs.Selves.{super_operands, super_does}
 use Rattle.ns_sends.proofs.around.send_super.Goals as goal
 
 pub step_above-requires-clause-can : goal.step_above-requires-clause-can

@@ -1,7 +1,7 @@
 use Rattle.std.proofs.Common.{refl}
 use Rattle.ns_send.specs.Sends.{ToSuper}
 use Rattle.ns_act.specs.Running.{code_of}
-use Rattle.ns_sends.proofs.Stepped.{step_goes, step_sends}
+use Rattle.ns_sends.specs.laws.Stepped.{step_goes, step_sends}
 use Rattle.ns_sends.proofs.Selves.{step_fits}
 use Rattle.ns_sends.proofs.around.step_above.Goals as goal
 

@@ -4,7 +4,7 @@ use Rattle.ns_world.specs.World.{World}
 use Rattle.ns_send.specs.Sends.{ToPrivate, receiver_of}
 use Rattle.ns_act.specs.Running.{code_of}
 use Rattle.ns_engine.specs.laws.Charged.{step_is}
-use Rattle.ns_sends.proofs.Stepped.{step_goes, step_sends}
+use Rattle.ns_sends.specs.laws.Stepped.{step_goes, step_sends}
 use Rattle.ns_sends.proofs.Selves.{step_fits}
 use Rattle.ns_sends.proofs.around.step_around.Goals as goal
 

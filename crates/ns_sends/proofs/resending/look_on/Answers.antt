@@ -5,7 +5,9 @@ use Rattle.ns_send.specs.Sends.{To}
 use Rattle.ns_frames.specs.View.{site_shown}
 use Rattle.ns_sends.specs.Waiting.{looked_on}
 use Rattle.ns_sends.proofs.Resent.{answer_can_on, answer_led}
-use Rattle.ns_sends.proofs.Stepped.{answer_goes, no_one, with_values}
+use Rattle.ns_sends.specs.laws.Looked.{answer_goes}
+use Rattle.ns_sends.specs.laws.Stepped.{no_one}
+use Rattle.ns_sends.proofs.Stepped.{with_values}
 use Rattle.ns_sends.proofs.resending.look_on.Goals as goal
 
 pub come_to-requires-clause-goes : goal.come_to-requires-clause-goes

@@ -7,7 +7,9 @@ use Rattle.ns_act.specs.Run.{progress_of}
 use Rattle.ns_frames.specs.View.{site_shown}
 use Rattle.ns_engine.specs.Shown.{progress_in}
 use Rattle.ns_sends.specs.Sending.{looked_up}
-use Rattle.ns_sends.proofs.Stepped.{answer_can, answer_goes, answer_sends, no_one, with_values}
+use Rattle.ns_sends.specs.laws.Looked.{answer_goes, answer_sends}
+use Rattle.ns_sends.specs.laws.Stepped.{no_one}
+use Rattle.ns_sends.proofs.Stepped.{answer_can, with_values}
 use Rattle.ns_sends.proofs.sending.do_found.Goals as goal
 
 pub go_on-requires-clause-goes : goal.go_on-requires-clause-goes

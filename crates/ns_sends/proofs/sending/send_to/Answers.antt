@@ -1,6 +1,6 @@
 use Rattle.std.proofs.Common.{refl}
 use Rattle.ns_send.specs.Sends.{To}
-use Rattle.ns_sends.proofs.Stepped.{step_goes, step_sends}
+use Rattle.ns_sends.specs.laws.Stepped.{step_goes, step_sends}
 use Rattle.ns_sends.proofs.sending.send_to.Goals as goal
 
 pub look_up-requires-clause-goes : goal.look_up-requires-clause-goes

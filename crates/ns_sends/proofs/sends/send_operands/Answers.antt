@@ -4,7 +4,7 @@ use Rattle.ns_frames.specs.declared.registers.Registers.{Registers}
 use Rattle.ns_frames.specs.Stack.{stood}
 use Rattle.ns_sends.specs.Sending.{CanSend, sent_at, Sends}
 use Rattle.ns_sends.specs.Operands.{SendsOperands, SendsToTop}
-use Rattle.ns_sends.proofs.Received.{receiver_live, can_send, sends_to_top}
+use Rattle.ns_sends.specs.laws.Received.{receiver_live, can_send, sends_to_top}
 use Rattle.ns_sends.proofs.sends.send_operands.Goals as goal
 
 pub class_of-class-requires-clause-live : goal.class_of-class-requires-clause-live

@@ -1,0 +1,11 @@
+pub mod Stepped
+pub mod Received
+pub mod Given
+pub mod Opened
+pub mod Slotted
+pub mod Valued
+pub mod Members
+pub mod Begun
+pub mod IntegerSends
+pub mod Privately
+pub mod BooleanSends

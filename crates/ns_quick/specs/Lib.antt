@@ -1,0 +1,6 @@
+pub mod Given
+pub mod Integers
+pub mod Booleans
+pub mod Looping
+pub mod Opening
+pub mod Rows
