@@ -15,7 +15,7 @@ use Rattle.ns_meant.specs.Expressions as e
 use Rattle.ns_meant.specs.Statements.{routine, body_with, are_any, bars_values, statements_steps}
 use Rattle.ns_meant.specs.Classes.{initialiser_body, clause_body}
 use Rattle.ns_meant.specs.Tables.{body_head, kind_of}
-use Rattle.ns_write.specs.Drafts.{Written}
+use Rattle.ns_draft.specs.Drafts.{Written}
 use Rattle.ns_bodies.specs.Stepping.{with_body, routine_does}
 use Rattle.ns_bodies.specs.Starting.{start_of}
 use Rattle.ns_bodies.specs.Heading.{head_of}

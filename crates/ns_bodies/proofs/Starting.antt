@@ -12,12 +12,13 @@ use Rattle.ns_meant.specs.Statements.{bars_values}
 use Rattle.ns_meant.specs.Classes.{super_arguments}
 use Rattle.ns_meant.specs.Tables.{node_names, nodes_names, node_texts, nodes_texts, value_of}
 use Rattle.ns_gen.specs.Code.{Line, does, sends, plain, starts, how_many, nodes_lines, slots_lines, expressions_lines}
-use Rattle.ns_write.specs.Drafts.{Written, with_line, with_name}
+use Rattle.ns_draft.specs.Drafts.{Written, with_line, with_name}
 use Rattle.ns_write.specs.Sending.{with_lines, with_node, with_nodes, with_message}
 use Rattle.ns_bodies.specs.Stepping.{with_ended, with_body}
 use Rattle.ns_write.specs.declared.receiver.Receiver.TheVariants as v
 use Rattle.ns_bodies.specs.Starting.{with_start, with_slots, with_expressions, expressions_of, start_of}
-use Rattle.ns_write.specs.laws.Composing.{written_is, put_more, behind_node, behind_nodes, binary_put, message_is}
+use Rattle.ns_draft.specs.laws.Writing.{written_is, put_more}
+use Rattle.ns_write.specs.laws.Composing.{behind_node, behind_nodes, binary_put, message_is}
 use Rattle.ns_bodies.proofs.Stepping.{with_all, all_same, node_put}
 
 nodes_put : (nodes : m.Nodes) (line : Line) (names texts : List (List ℕ)) (rest : ℕ → List Line) (before : Written) →

@@ -14,10 +14,11 @@ use Rattle.ns_meant.specs.Expressions as e
 use Rattle.ns_meant.specs.Statements.{bars_values, step_of, list_steps}
 use Rattle.ns_meant.specs.Tables.{put_all, node_names, node_texts, value_of, step_node}
 use Rattle.ns_gen.specs.Code.{Line, does, node_lines, locals_lines, method_lines, block_lines}
-use Rattle.ns_write.specs.Drafts.{Written, with_line}
+use Rattle.ns_draft.specs.Drafts.{Written, with_line}
 use Rattle.ns_write.specs.Sending.{with_lines, with_node}
 use Rattle.ns_bodies.specs.Stepping.{with_ended, with_local, with_locals, with_method, is_none, with_block_step, with_block, with_block_steps, with_body, routine_does}
-use Rattle.ns_write.specs.laws.Composing.{written_is, put_more, behind_node}
+use Rattle.ns_draft.specs.laws.Writing.{written_is, put_more}
+use Rattle.ns_write.specs.laws.Composing.{behind_node}
 
 -- with names, literal texts, and lines that depend on the number of the first text
 abbrev pub with_all : List (List ℕ) → List (List ℕ) → (ℕ → List Line) → Written → Written

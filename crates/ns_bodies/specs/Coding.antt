@@ -6,7 +6,7 @@ use Rattle.ns_meant.specs.Tables.{body_head}
 use Rattle.ns_gen.specs.Code.{with_code}
 use Rattle.ns_gen.specs.declared.size.SizeKind.{SizeKind}
 use Rattle.ns_gen.specs.declared.size.SizeKind.TheVariants as s
-use Rattle.ns_write.specs.Drafts.{Written}
+use Rattle.ns_draft.specs.Drafts.{Written}
 use Rattle.ns_bodies.specs.Stepping.{with_body}
 use Rattle.ns_bodies.specs.Finishing.{finished}
 use Rattle.ns_bodies.specs.declared.finish.Finished.{Finished}

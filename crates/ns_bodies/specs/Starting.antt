@@ -11,7 +11,7 @@ use Rattle.ns_meant.specs.Statements.{bars_values, statements_steps}
 use Rattle.ns_meant.specs.Classes.{super_arguments}
 use Rattle.ns_meant.specs.Tables.{step_node}
 use Rattle.ns_gen.specs.Code.{does, starts, how_many}
-use Rattle.ns_write.specs.Drafts.{Written, with_line}
+use Rattle.ns_draft.specs.Drafts.{Written, with_line}
 use Rattle.ns_write.specs.Sending.{with_nodes}
 use Rattle.ns_bodies.specs.Stepping.{with_ended}
 

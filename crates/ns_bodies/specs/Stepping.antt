@@ -9,7 +9,7 @@ use Rattle.ns_meant.specs.Expressions as e
 use Rattle.ns_meant.specs.Statements.{bars_values, statements_steps}
 use Rattle.ns_meant.specs.Tables.{put_all, node_names, nodes_names, node_texts, nodes_texts, step_node, gathered}
 use Rattle.ns_gen.specs.Code.{does, body_lines}
-use Rattle.ns_write.specs.Drafts.{Written, with_line}
+use Rattle.ns_draft.specs.Drafts.{Written, with_line}
 use Rattle.ns_write.specs.Sending.{with_node}
 
 -- with an expression, and an instruction behind it

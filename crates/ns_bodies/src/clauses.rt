@@ -3,18 +3,19 @@
 ghost use Rattle.std.specs.Prelude.{◌≡◌, OnOk};
 ghost use Rattle.ns_meant.specs.Program.{as_clause};
 ghost use Rattle.ns_meant.specs.Classes.{base_node, head_node, over_sign_at, words_before};
-ghost use Rattle.ns_write.specs.Sending.{standing, with_node};
+ghost use Rattle.ns_draft.specs.Standing.{standing};
+ghost use Rattle.ns_write.specs.Sending.{with_node};
 ghost use Rattle.ns_bodies.specs.Stepping.{with_body};
 
 use ns_base::no_memory::NoMemory;
 use ns_base::text::Text;
 use ns_code::instruction::Instr;
+use ns_draft::draft::SendWay;
+use ns_draft::here::Here;
+use ns_draft::writer::Writer;
 use ns_tree::tree::{Base, Origin};
-use ns_write::draft::SendWay;
-use ns_write::here::Here;
 use ns_write::literals::put_named;
 use ns_write::receiver::{Receiver, put_name};
-use ns_write::writer::Writer;
 
 /// All that a clause with this head does.
 #[tactic(auto, using(crate::proofs::Starting::clause_whole))]

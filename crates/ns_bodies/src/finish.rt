@@ -11,8 +11,8 @@ use ns_code::body::BodyCode;
 use ns_code::instruction::Instr;
 use ns_code::instructions::Instructions;
 use ns_code::table::{goes_on, height_after};
+use ns_draft::writer::Writer;
 use ns_gen::size::SizeKind;
-use ns_write::writer::Writer;
 
 /// How many instructions a body has at most.
 const MOST: usize = 65536;

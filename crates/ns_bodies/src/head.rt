@@ -4,7 +4,7 @@ ghost use Rattle.std.specs.Prelude.{◌≡◌, map, IfOk};
 ghost use Rattle.ns_tree.specs.PlainOf.{bars_of};
 ghost use Rattle.ns_meant.specs.Statements.{local_names};
 ghost use Rattle.ns_meant.specs.Tables.{side_number};
-ghost use Rattle.ns_write.specs.Sending.{standing};
+ghost use Rattle.ns_draft.specs.Standing.{standing};
 ghost use Rattle.ns_bodies.specs.Heading.{head_of};
 
 use ns_base::items::Items;
@@ -13,11 +13,11 @@ use ns_base::text::Text;
 use ns_code::body::BodyCode;
 use ns_code::instructions::Instructions;
 use ns_code::local_names::LocalNames;
+use ns_draft::here::Here;
+use ns_draft::keys::count;
 use ns_scope::names::{Declared, Local, locals};
 use ns_scope::scope::CodeSide;
 use ns_tree::tree::{Named, Slot};
-use ns_write::here::Here;
-use ns_write::keys::count;
 use std::alloc::Global;
 
 /// The head of a body of this kind whose expressions stand so: the body around it, if it is a block,

@@ -10,17 +10,18 @@ ghost use Rattle.ns_meant.specs.Statements.{first_values, slots_values, bars_val
 ghost use Rattle.ns_meant.specs.Classes.{super_arguments};
 ghost use Rattle.ns_meant.specs.Tables.{step_node};
 ghost use Rattle.ns_gen.specs.Code.{how_many};
-ghost use Rattle.ns_write.specs.Sending.{standing, with_nodes};
+ghost use Rattle.ns_draft.specs.Standing.{standing};
+ghost use Rattle.ns_write.specs.Sending.{with_nodes};
 ghost use Rattle.ns_bodies.specs.Stepping.{with_ended, with_body};
 ghost use Rattle.ns_bodies.specs.Starting.{with_start, with_slots, with_expressions, expressions_of, start_of};
 
 use ns_base::no_memory::NoMemory;
 use ns_code::instruction::Instr;
+use ns_draft::here::Here;
+use ns_draft::keys::keys_count;
+use ns_draft::writer::Writer;
 use ns_tree::tree::{Expr, Message, Named, Slot, SlotInit, Statement, Statements, SuperClause};
 use ns_write::expressions::{put_expr, put_keys, put_un_value};
-use ns_write::here::Here;
-use ns_write::keys::keys_count;
-use ns_write::writer::Writer;
 
 /// All that the initialiser of a class of this name does.
 pub fn put_initialiser(
@@ -83,7 +84,7 @@ fn put_super_arguments(
 }
 
 /// The arguments of a message. Tells how many there are.
-#[tactic(auto, using(ns_write::specs::laws::Composing::with_none, ns_write::specs::laws::Composing::with_one, ns_write::specs::laws::Keywords::keys_many))]
+#[tactic(auto, using(ns_write::specs::laws::Composing::with_none, ns_write::specs::laws::Composing::with_one, ns_draft::specs::laws::Keywords::keys_many))]
 fn put_arguments(
     writer: &mut Writer,
     here: &Here<'_>,

@@ -6,7 +6,7 @@ ghost use Rattle.ns_scope.specs.Scopes.{factory_params};
 ghost use Rattle.ns_meant.specs.Program.{as_method};
 ghost use Rattle.ns_meant.specs.Statements.{routine};
 ghost use Rattle.ns_meant.specs.Classes.{clause_body, initialiser_body};
-ghost use Rattle.ns_write.specs.Sending.{standing};
+ghost use Rattle.ns_draft.specs.Standing.{standing};
 ghost use Rattle.ns_bodies.specs.Heading.{block_in};
 ghost use Rattle.ns_bodies.specs.Coding.{with_one, graver, with_lines_of, coded_of};
 
@@ -18,11 +18,11 @@ use crate::steps::{put_block_body, put_method_body};
 use ns_base::no_memory::NoMemory;
 use ns_base::text::Text;
 use ns_code::body::BodyCode;
+use ns_draft::here::Here;
+use ns_draft::name_table::NameTable;
+use ns_draft::writer::Writer;
 use ns_gen::size::SizeKind;
 use ns_tree::tree::{Block, Class, Method, Named, Pattern, SuperClause};
-use ns_write::here::Here;
-use ns_write::name_table::NameTable;
-use ns_write::writer::Writer;
 use std::alloc::Global;
 use std::marker::Model;
 

@@ -6,17 +6,17 @@ ghost use Rattle.ns_scope.specs.Bodies.{routine_blocks, expr_blocks, init_blocks
 ghost use Rattle.ns_meant.specs.Program.{as_method, as_block};
 ghost use Rattle.ns_meant.specs.Expressions.{expr_node};
 ghost use Rattle.ns_meant.specs.Statements.{first_values, slots_values, bars_values, step_of, list_steps};
-ghost use Rattle.ns_write.specs.Sending.{standing};
+ghost use Rattle.ns_draft.specs.Standing.{standing};
 ghost use Rattle.ns_bodies.specs.Stepping.{with_local, with_locals, is_return, with_method_step, with_method, with_block_step, with_block_steps, with_block};
 ghost use Rattle.ns_bodies.specs.Stepping.{with_body, routine_does};
 
 use ns_base::no_memory::NoMemory;
 use ns_code::instruction::Instr;
+use ns_draft::here::Here;
+use ns_draft::keys::byte;
+use ns_draft::writer::Writer;
 use ns_tree::tree::{Expr, Slot, SlotInit, Statement, Statements};
 use ns_write::expressions::put_expr;
-use ns_write::here::Here;
-use ns_write::reach::byte;
-use ns_write::writer::Writer;
 
 /// All that a method does; so many of its locals are parameters.
 pub fn put_method_body(

@@ -9,7 +9,7 @@ use Rattle.ns_bodies.specs.Coding.{Coded, with_finished, with_bodies}
 use Rattle.ns_bodies.specs.Finishing.{finished}
 use Rattle.ns_bodies.specs.declared.finish.Finished.{Finished}
 use Rattle.ns_bodies.specs.declared.finish.Finished.TheVariants.{Fits, TooLarge}
-use Rattle.ns_write.specs.laws.Composing.{put_more}
+use Rattle.ns_draft.specs.laws.Writing.{put_more}
 use Rattle.ns_generate.specs.Sizes.{put_codes}
 use Rattle.ns_generate.proofs.Stable.{code_stays}
 

@@ -10,7 +10,7 @@ use Rattle.ns_gen.specs.Sizes.{most, size_fault}
 use Rattle.ns_gen.specs.declared.size.SizeKind.{SizeKind}
 use Rattle.ns_gen.specs.declared.size.SizeKind.TheVariants as s
 use Rattle.ns_bodies.specs.Coding.{Coded, with_bodies}
-use Rattle.ns_write.specs.laws.Composing.{put_more}
+use Rattle.ns_draft.specs.laws.Writing.{put_more}
 use Rattle.ns_generate.specs.Sizes.{bodies_fault}
 use Rattle.ns_generate.specs.Whole.{named, first_fault}
 use Rattle.ns_generate.proofs.Coded.{whole_of, bodies_coded}

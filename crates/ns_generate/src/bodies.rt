@@ -6,19 +6,18 @@ ghost use Rattle.ns_scope.specs.Scopes.{is_outside};
 ghost use Rattle.ns_scope.specs.Bodies as b;
 ghost use Rattle.ns_meant.specs.Classes.{super_bodies, clause_bodies, method_bodies, what_methods, members_methods, side_methods, class_side_methods, own_bodies};
 ghost use Rattle.ns_meant.specs.Classes.{class_bodies, nested_bodies, members_bodies, member_bodies, what_bodies, class_count, side_count, members_count, member_count, what_count};
-ghost use Rattle.ns_write.specs.Sending.{standing};
+ghost use Rattle.ns_draft.specs.Standing.{around_of, standing};
 ghost use Rattle.ns_bodies.specs.Coding.{with_bodies};
-ghost use Rattle.ns_write.specs.Standing.{around_of};
 ghost use Rattle.ns_generate.specs.Walking.{routine_inside, start_inside, start_bodies, inside_class};
 
 use crate::inner::{put_bars, put_message, put_statements};
 use ns_base::no_memory::NoMemory;
 use ns_bodies::output::Output;
+use ns_draft::around::{Around, advance};
+use ns_draft::here::Here;
 use ns_scope::chain::Chain;
 use ns_scope::scope::{ClassScope, CodeSide, Scope};
 use ns_tree::tree::{Class, Member, Method, Side, Slot, Statements, SuperClause, What};
-use ns_write::around::{Around, advance};
-use ns_write::here::Here;
 
 /// The bodies of a class of this number, and then those of the classes in it.
 #[cycle(bodies)]

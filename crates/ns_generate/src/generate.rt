@@ -14,14 +14,14 @@ use ns_base::items::Items;
 use ns_base::no_memory::NoMemory;
 use ns_bodies::output::Output;
 use ns_code::program::CodeProgram;
+use ns_draft::name_table::copies;
+use ns_draft::writer::Writer;
 use ns_gen::size::SizeKind;
 use ns_records::declaration::Declaration;
 use ns_records::declared::declared;
 use ns_records::names::put_names;
 use ns_records::records::class_codes;
 use ns_scope::program::Program;
-use ns_write::name_table::copies;
-use ns_write::writer::Writer;
 use std::alloc::Global;
 
 /// How many names and how many bodies a program has at most.

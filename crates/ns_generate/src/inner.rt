@@ -7,19 +7,19 @@ ghost use Rattle.ns_scope.specs.Bodies.{expr_blocks, cascade_blocks, message_blo
 ghost use Rattle.ns_scope.specs.Bodies.{items_blocks, block_blocks, inside_blocks, bars_blocks, slots_blocks, slot_blocks, statements_blocks, list_blocks, statement_blocks};
 ghost use Rattle.ns_meant.specs.Statements.{expr_bodies, cascade_bodies, message_bodies, key_expr_bodies, keys_bodies, bin_bodies, opers_bodies, un_bodies, primary_bodies};
 ghost use Rattle.ns_meant.specs.Statements.{items_bodies, block_bodies, bars_bodies, slots_bodies, slot_bodies, statements_bodies, list_bodies, statement_bodies};
-ghost use Rattle.ns_write.specs.Sending.{standing};
+ghost use Rattle.ns_draft.specs.Standing.{standing};
 ghost use Rattle.ns_bodies.specs.Coding.{with_bodies};
 ghost use Rattle.ns_generate.specs.Inner.{inside_bodies};
 
 use ns_base::no_memory::NoMemory;
 use ns_bodies::output::Output;
+use ns_draft::around::advance;
+use ns_draft::here::Here;
 use ns_scope::scope::Scope;
 use ns_tree::tree::{
     BinExpr, Block, Expr, KeyExpr, Message, Named, Primary, Slot, SlotInit, Statement, Statements,
     UnExpr,
 };
-use ns_write::around::advance;
-use ns_write::here::Here;
 
 #[cycle(inner)]
 fn put_expr(

@@ -11,10 +11,10 @@ use ns_base::items::Items;
 use ns_base::no_memory::NoMemory;
 use ns_base::place::Place;
 use ns_bodies::output::Output;
+use ns_draft::around::Around;
 use ns_records::declared::places_of;
 use ns_scope::chain::Chain;
 use ns_tree::tree::Unit;
-use ns_write::around::Around;
 
 /// The bodies of units, each with the places of its tokens. Tells how many they are. A unit without
 /// places, which no program has, is taken for want of memory.

@@ -2,7 +2,7 @@
 
 use crate::command::{Setting, Want, leaves};
 use ns_base::no_memory::NoMemory;
-use ns_run::usage::{HELP, VERSION};
+use ns_outcome::usage::{HELP, VERSION};
 use std::alloc::Global;
 
 const HELLO: &[u8] = b"class Hello packageUsing: manifest = () (

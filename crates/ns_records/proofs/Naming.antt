@@ -3,8 +3,8 @@ use Rattle.std.proofs.Common.{◌≡◌, ◌∙◌, ℕ, List, ◌++◌, ap, sym
 use Rattle.std.specs.Prelude.{map}
 use Rattle.ns_meant.specs.Program as m
 use Rattle.ns_meant.specs.Tables.{class_names}
-use Rattle.ns_write.specs.Drafts.{Written, with_name}
-use Rattle.ns_write.specs.laws.Composing.{put_more}
+use Rattle.ns_draft.specs.Drafts.{Written, with_name}
+use Rattle.ns_draft.specs.laws.Writing.{put_more}
 use Rattle.ns_records.specs.Naming.{with_names}
 
 pub names_more : (names more : List (List ℕ)) (before : Written) → with_names (names ++ more) before ≡ with_names more (with_names names before)

@@ -1,7 +1,7 @@
 -- Names that are put in turn.
 use Rattle.std.specs.Prelude.{ℕ, List}
 use Rattle.ns_meant.specs.Tables.{put_all}
-use Rattle.ns_write.specs.Drafts.{Written}
+use Rattle.ns_draft.specs.Drafts.{Written}
 
 -- with further names
 abbrev pub with_names : List (List ℕ) → Written → Written

@@ -9,8 +9,8 @@ ghost use Rattle.ns_scope.specs.Bodies.{super_blocks, start_blocks, routine_bloc
 
 use ns_base::no_memory::NoMemory;
 use ns_blocks::counting::{count_message, count_slots, count_statements};
+use ns_draft::around::advance;
 use ns_tree::tree::{Method, Slot, Statements, SuperClause};
-use ns_write::around::advance;
 
 /// A method, and the blocks in it.
 #[tactic(auto, using(crate::proofs::BlocksOf::method_counted))]

@@ -6,7 +6,7 @@ ghost use Rattle.ns_scope.specs.Scopes.{factory_params};
 ghost use Rattle.ns_scope.specs.Bodies as b;
 ghost use Rattle.ns_meant.specs.Classes as c;
 ghost use Rattle.ns_records.specs.Declaring.{declaration_in, methods_in, side_methods_in};
-ghost use Rattle.ns_write.specs.Standing.{around_of};
+ghost use Rattle.ns_draft.specs.Standing.{around_of};
 
 use crate::counted::count_start;
 use crate::declaration::{Declaration, MethodOf};
@@ -15,12 +15,12 @@ use ns_base::items::Items;
 use ns_base::no_memory::NoMemory;
 use ns_base::place::Place;
 use ns_base::text::Text;
+use ns_draft::around::{Around, advance};
+use ns_draft::keys::{count, joined};
 use ns_scope::chain::Chain;
 use ns_scope::names::selector;
 use ns_scope::scope::{ClassScope, CodeSide};
 use ns_tree::tree::{Access, Class, Member, Message, Pattern, Side, SuperClause, Unit, What};
-use ns_write::around::{Around, advance};
-use ns_write::keys::{count, joined};
 use std::alloc::Global;
 
 /// The classes of units, each with the places of its tokens. A unit without places, which no

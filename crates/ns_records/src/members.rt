@@ -4,16 +4,16 @@ ghost use Rattle.std.specs.Prelude.{◌≡◌, ◌+◌, ◌++◌, ◌∷◌, [],
 ghost use Rattle.ns_tree.specs.PlainOf.{bars_of, slots_of, init_of, what_of, members_of, side_of, class_side_of, class_of, method_of};
 ghost use Rattle.ns_scope.specs.Bodies as b;
 ghost use Rattle.ns_meant.specs.Classes as c;
-ghost use Rattle.ns_write.specs.Standing.{around_of};
+ghost use Rattle.ns_draft.specs.Standing.{around_of};
 
 use crate::counted::count_method;
 use crate::declaration::{MethodOf, NestedOf, SlotOf};
 use ns_base::no_memory::NoMemory;
 use ns_base::text::Text;
+use ns_draft::around::{Around, advance};
 use ns_scope::names::{access_or, selector};
 use ns_scope::scope::CodeSide;
 use ns_tree::tree::{Access, Class, Member, Method, Side, Slot, SlotInit, What};
-use ns_write::around::{Around, advance};
 use std::alloc::Global;
 
 // ---- slots

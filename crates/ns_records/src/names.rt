@@ -6,7 +6,7 @@ ghost use Rattle.ns_records.specs.Naming.{with_names};
 
 use crate::declaration::{Declaration, MethodOf, SlotOf};
 use ns_base::no_memory::NoMemory;
-use ns_write::writer::Writer;
+use ns_draft::writer::Writer;
 
 /// The names of the records of all classes.
 pub fn put_names(writer: &mut Writer, classes: &[Declaration]) -> Result<(), NoMemory>

@@ -9,8 +9,8 @@ use ns_base::no_memory::NoMemory;
 use ns_base::selector::Sel;
 use ns_base::text::Text;
 use ns_code::class::{ClassCode, MethodCode, NestedCode, SlotCode};
+use ns_draft::name_table::NameTable;
 use ns_tree::tree::Access;
-use ns_write::name_table::NameTable;
 use std::alloc::Global;
 
 /// The records of classes.

@@ -15,15 +15,16 @@ use Rattle.ns_image.specs.declared.fault.ImageFault.{ImageFault}
 use Rattle.ns_image.specs.declared.fault.ImageFault.TheVariants as fault
 use Rattle.ns_launch.specs.Machine.{begins_with, end_of, machine_run, rested}
 use Rattle.ns_moves.specs.State.{ending_of}
+use Rattle.ns_outcome.specs.Outcome.{IsEnding, IsMissing}
+use Rattle.ns_outcome.specs.Report.{refused_file, told, verify_name}
+use Rattle.ns_outcome.specs.declared.report.Report.{Report}
+use Rattle.ns_outcome.specs.declared.stop.Stop.{Stop}
+use Rattle.ns_outcome.specs.declared.stop.Stop.TheVariants as stop
 use Rattle.ns_run.proofs.ReportLaws.{ending_plain, stop_keeps}
-use Rattle.ns_run.specs.Image.{ImageWork, Executes, Lists, image_cause, of_executed, of_image_bytes, of_image_file, of_image, of_listed, of_short, place_text, unsound, verify_name}
-use Rattle.ns_run.specs.Outcome.{IsEnding, IsMissing, OfSomeText}
-use Rattle.ns_run.specs.declared.stop.Stop.{Stop}
-use Rattle.ns_run.specs.declared.stop.Stop.TheVariants as stop
+use Rattle.ns_run.specs.Image.{ImageWork, Executes, Lists, image_cause, of_executed, of_image_bytes, of_image_file, of_image, of_listed, of_short, place_text, unsound}
+use Rattle.ns_run.specs.Outcome.{OfSomeText}
 use Rattle.ns_base.specs.declared.no_memory.NoMemory.{NoMemory}
-use Rattle.ns_run.specs.Report.{refused_file, told}
 use Rattle.ns_run.specs.Run.{run_report}
-use Rattle.ns_run.specs.declared.report.Report.{Report}
 use Rattle.ns_verify.specs.Verify.{fault_of}
 use Rattle.ns_verify.specs.declared.fault.Fault.{Fault}
 use Rattle.ns_verify.specs.declared.fault.VerifyCause.{VerifyCause}

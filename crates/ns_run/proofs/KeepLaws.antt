@@ -1,40 +1,15 @@
 -- The files before and after a command.
-use Rattle.std.proofs.Common.{◌≡◌, ◌≢◌, ℕ, List, cond, true, false, Option, Some, None, refl, ap, sym, subst, ◌∙◌, arith, inl, inr}
+use Rattle.std.proofs.Common.{◌≡◌, ◌≢◌, ℕ, List, cond, true, false, Option, Some, None, refl, sym, subst, ◌∙◌, arith, inl, inr}
 use Rattle.std.specs.Str.{bytes_eq}
 use Rattle.std.proofs.lemmas.Slice.Eq.{bytes_eq-Decides}
-use Rattle.ns_base.specs.Files.{AllStand, Files, OthersStand}
+use Rattle.ns_base.specs.Files.{Files}
 use Rattle.ns_base.specs.Shelf.{OnlyRead}
 use Rattle.ns_base.specs.declared.status.Status.{Status}
 use Rattle.ns_base.specs.declared.status.Status.TheVariants as status
-use Rattle.ns_run.specs.Outcome.{AreStored, IsEnding, IsWritten, Leaves, LeavesFiles, LeavesStreams, OfFiles, OthersAreKept}
-use Rattle.ns_run.specs.Store.{FileStored, files_with}
-use Rattle.ns_run.specs.declared.report.Report.{Report}
-
--- What holds of the files, holds of them otherwise.
-pub of_files_so : (P Q : Files → Files → Type 0) → ((old new : Files) → P old new → Q old new) → (a b : Option Files) → OfFiles P a b → OfFiles Q a b
-of_files_so P Q f None b h = h
-of_files_so P Q f (Some old) None h = absurd h
-of_files_so P Q f (Some old) (Some new) h = f old new h
-
--- Files that are the same all stand.
-pub same_files : (a b : Option Files) → b ≡ a → OfFiles AllStand a b
-same_files a b e = subst (OfFiles AllStand a) (sym e) (stand a)
-  where
-    stand : (a : Option Files) → OfFiles AllStand a a
-    stand None = refl
-    stand (Some files) = λ name. refl
-
--- Where nothing is stored, each file is as it was.
-pub nothing_stored : (stored : Option FileStored) (a b : Option Files) → stored ≡ None → b ≡ a → OfFiles (AreStored stored) a b
-nothing_stored stored a b n e = subst (λ s. OfFiles (AreStored s) a b) (sym n) (of_files_so AllStand (AreStored None) (λ old new h. h) a b (same_files a b e))
-
--- A file that was stored stands among the others.
-pub stored_so : (stored : FileStored) (old new : Files) → (new stored.name ≡ Some stored.bytes) × OthersStand old new stored.name → AreStored (Some stored) old new
-stored_so stored old new (here, others) name =
-    elim (bytes_eq name stored.name) as (λ q. bytes_eq name stored.name ≡ q → new name ≡ cond q (Some stored.bytes) (old name)) [
-      | true ↦ λ e. ap new ((bytes_eq-Decides name stored.name).0 e) ∙ here
-      | false ↦ λ e. others name (λ same. let t : true ≡ false = sym ((bytes_eq-Decides name stored.name).1 same) ∙ e in absurd (cc (t)))
-    ] refl
+use Rattle.ns_outcome.specs.Outcome.{AreStored, IsEnding, IsWritten, Leaves, LeavesFiles, LeavesStreams, OfFiles, OthersAreKept}
+use Rattle.ns_outcome.specs.Store.{FileStored, files_with}
+use Rattle.ns_outcome.specs.declared.report.Report.{Report}
+use Rattle.ns_outcome.specs.laws.Told.{of_files_so, same_files}
 
 -- What is stored leaves the others as they were.
 pub others_kept : (stored : Option FileStored) (old new : Files) → AreStored stored old new → OthersAreKept stored old new

@@ -2,7 +2,6 @@ pub mod FaultLaws
 pub mod ImageLaws
 pub mod KeepLaws
 pub mod LineLaws
-pub mod PieceLaws
 pub mod ReportLaws
 pub mod SampleLaws
 pub mod SessionLaws

@@ -2,14 +2,14 @@
 use Rattle.std.proofs.Common.{◌≡◌, ◌≤◌, ℕ, List, [], ◌∷◌, None, Result, IfOk, arith, length, map, refl, sym, subst}
 use Rattle.ns_base.specs.Files.{Files}
 use Rattle.ns_base.specs.declared.limits.Limits.{Limits}
+use Rattle.ns_outcome.specs.Report.{told}
+use Rattle.ns_outcome.specs.declared.report.Report.{Report}
+use Rattle.ns_outcome.specs.declared.stop.Stop.{Stop}
+use Rattle.ns_outcome.specs.declared.usage.TheConstants.{HELP, VERSION}
 use Rattle.ns_run.proofs.TextLaws.{whatever_texts}
 use Rattle.ns_run.specs.Image.{Executes, of_image}
 use Rattle.ns_run.specs.Meaning.{files_of, of_files, of_line, of_session}
-use Rattle.ns_run.specs.Report.{told}
 use Rattle.ns_run.specs.Task.{Runs}
-use Rattle.ns_run.specs.declared.report.Report.{Report}
-use Rattle.ns_run.specs.declared.stop.Stop.{Stop}
-use Rattle.ns_run.specs.declared.usage.TheConstants.{HELP, VERSION}
 use Rattle.ns_words.specs.Application.{AreApplications}
 use Rattle.ns_words.specs.Forms.{AreFiles, AreNames, IsSpelled}
 use Rattle.ns_words.specs.declared.form.Item.TheVariants.{File, Application}

@@ -11,16 +11,17 @@ use Rattle.ns_base.specs.declared.no_memory.NoMemory.{NoMemory}
 use Rattle.ns_base.specs.declared.place.Place.{Place}
 use Rattle.ns_base.specs.declared.status.Status.{Status}
 use Rattle.ns_base.specs.declared.status.Status.TheVariants.{Done, ProgramError, Limit, Refused, ReadFault, WriteFault, Memory}
+use Rattle.ns_outcome.specs.Outcome.{IsDelivered, IsEnding, IsMissing, LeavesStreams, Wrote, missing_line}
+use Rattle.ns_outcome.specs.Report.{many_name, refused_file, refused_text, spelling_name, size_name, static_name, told}
+use Rattle.ns_outcome.specs.declared.report.Report.{Report}
+use Rattle.ns_outcome.specs.declared.stop.Stop.{Stop}
+use Rattle.ns_outcome.specs.declared.stop.Stop.TheVariants as stop
 use Rattle.ns_run.specs.Meaning.{files_read, name_of, of_build, of_built, of_check, of_run, of_show, of_sized, of_units}
 use Rattle.ns_run.specs.Run.{run_report}
 use Rattle.ns_exec.specs.Build.{Built, built_of, image, image_too_large, too_large}
-use Rattle.ns_run.specs.Outcome.{IsDelivered, IsEnding, IsMissing, LeavesStreams, NamesMissing, TellsMissing, Wrote, missing_line}
-use Rattle.ns_run.specs.Report.{many_name, refused_file, refused_text, spelling_name, size_name, static_name, told}
+use Rattle.ns_run.specs.Outcome.{NamesMissing, TellsMissing}
 use Rattle.ns_launch.specs.Run.{granted, meant_run}
 use Rattle.ns_run.specs.Task.{Task, Checks, Shows, Builds, Runs}
-use Rattle.ns_run.specs.declared.report.Report.{Report}
-use Rattle.ns_run.specs.declared.stop.Stop.{Stop}
-use Rattle.ns_run.specs.declared.stop.Stop.TheVariants as stop
 use Rattle.ns_gen.specs.Code.{code_of}
 use Rattle.ns_gen.specs.Sizes.{size_fault}
 use Rattle.ns_gen.specs.declared.size.SizeKind.{SizeKind}

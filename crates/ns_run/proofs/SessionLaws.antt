@@ -8,14 +8,15 @@ use Rattle.ns_joint.specs.declared.fault.JointFault.{JointFault}
 use Rattle.ns_joint.specs.declared.fault.JointFault.TheVariants as fault
 use Rattle.ns_joint.specs.declared.joint.Told.{Told}
 use Rattle.ns_launch.specs.Running.{IsRunStatus}
+use Rattle.ns_outcome.specs.Outcome.{IsEnding, IsMissing}
+use Rattle.ns_outcome.specs.Report.{size_name}
+use Rattle.ns_outcome.specs.declared.report.Report.{Report}
+use Rattle.ns_outcome.specs.declared.stop.Stop.{Stop}
 use Rattle.ns_run.proofs.FaultLaws.{cause_ends, cause_says}
 use Rattle.ns_run.proofs.ReportLaws.{check_plain, file_plain, size_ends, some_of}
 use Rattle.ns_run.specs.Meaning.{name_of, of_joint, of_refusal}
-use Rattle.ns_run.specs.Outcome.{IsEnding, IsMissing}
-use Rattle.ns_run.specs.Report.{size_name, told_jointly}
-use Rattle.ns_run.specs.declared.report.Report.{Report}
-use Rattle.ns_run.specs.declared.stop.Stop.{Stop}
 use Rattle.std.specs.Prelude.{string_bytes, Some}
+use Rattle.ns_run.specs.Run.{told_jointly}
 
 -- The report of a refusal is what the session means.
 pub refusal_means : (joint : Joint) (why : JointFault) (report : Report) → IsRefusal (λ refusal. joint ≡ stopped_for refusal) why → RefusesAs (λ refusal. report ≡ of_refusal refusal) why → report ≡ of_joint joint

@@ -19,14 +19,14 @@ use Rattle.ns_load.specs.declared.fault.LoadFault.{LoadFault}
 use Rattle.ns_load.specs.declared.fault.LoadFault.TheVariants as fault
 use Rattle.ns_meant.specs.Classes.{meant_of}
 use Rattle.ns_meant.specs.Program.{Meant}
+use Rattle.ns_outcome.specs.Report.{refused_file}
+use Rattle.ns_outcome.specs.declared.report.Report.{Report}
 use Rattle.ns_rules.specs.Least.{faults, least}
 use Rattle.ns_rules.specs.declared.fault.Placed.{Placed}
 use Rattle.ns_run.specs.Image.{ImageWork, Executes, Lists, of_executed, of_image, of_image_bytes, of_listed, of_short, unsound}
 use Rattle.ns_run.specs.Meaning.{name_of, of_cause, of_check, of_fault, of_joint, of_line, of_loading, of_reading, of_refusal, of_run, of_sample, of_show, of_sized, of_texts, of_units}
 use Rattle.ns_run.specs.Outcome.{IsNoBuild, OverTexts, StoresNothing}
-use Rattle.ns_run.specs.Report.{refused_file}
 use Rattle.ns_run.specs.Task.{Task, Checks, Shows, Builds, Runs}
-use Rattle.ns_run.specs.declared.report.Report.{Report}
 use Rattle.ns_tree.specs.Plain as p
 use Rattle.ns_verify.specs.declared.fault.VerifyCause.{VerifyCause}
 use Rattle.ns_verify.specs.declared.fault.Where.{Where}

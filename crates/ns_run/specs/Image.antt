@@ -7,13 +7,12 @@ use Rattle.ns_exec.specs.Exec.{Executed, executed, has_run, refused_code, refuse
 use Rattle.ns_exec.specs.Listing.{Listed, listed, lines, unlisted}
 use Rattle.ns_image.specs.declared.fault.ImageFault.{ImageFault}
 use Rattle.ns_image.specs.declared.fault.ImageFault.TheVariants.{NotAnImage, BadVersion, Truncated, BadField, Trailing, Memory}
-use Rattle.ns_run.specs.Report.{bad_word, refused_file, told}
+use Rattle.ns_outcome.specs.Report.{bad_word, refused_file, told, verify_name}
+use Rattle.ns_outcome.specs.declared.report.Report.{Report}
 use Rattle.ns_run.specs.Run.{run_report}
-use Rattle.ns_run.specs.declared.report.Report.{Report}
 use Rattle.ns_run.specs.declared.task.ImageTask as tasks
 use Rattle.ns_run.specs.declared.task.ImageTask.TheVariants.{Exec, Listing}
 use Rattle.ns_verify.specs.declared.fault.VerifyCause.{VerifyCause}
-use Rattle.ns_verify.specs.declared.fault.VerifyCause.TheVariants.{BadJump, BadHeight, BadSlot, BadScope, BadLiteral, NoReturn}
 use Rattle.ns_verify.specs.declared.fault.Where.{Where}
 use Rattle.ns_verify.specs.declared.fault.Where.TheVariants.{Class, Body}
 
@@ -40,15 +39,6 @@ image_cause Truncated = codes "Truncated"
 image_cause (BadField at) = codes "BadField " ++ decimal at
 image_cause Trailing = codes "Trailing"
 image_cause Memory = codes "NoMemory"
-
--- why code isn't admitted
-abbrev pub verify_name : VerifyCause → List ℕ
-verify_name BadJump = codes "BadJump"
-verify_name BadHeight = codes "BadHeight"
-verify_name BadSlot = codes "BadSlot"
-verify_name BadScope = codes "BadScope"
-verify_name BadLiteral = codes "BadLiteral"
-verify_name NoReturn = codes "NoReturn"
 
 -- where it isn't: at a class, or at an instruction of a body
 abbrev pub place_text : Where → List ℕ

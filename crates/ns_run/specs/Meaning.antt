@@ -19,14 +19,14 @@ use Rattle.ns_load.specs.declared.fault.LoadFault.{LoadFault}
 use Rattle.ns_load.specs.declared.fault.LoadFault.TheVariants.{At, Memory}
 use Rattle.ns_meant.specs.Classes.{meant_of}
 use Rattle.ns_meant.specs.Program.{Meant}
+use Rattle.ns_outcome.specs.Report.{bad_word, refused_file, refused_text, spelling_name, static_name, stores, told, too_large}
+use Rattle.ns_outcome.specs.declared.report.Report.{Report}
+use Rattle.ns_outcome.specs.declared.usage.TheConstants.{HELP, VERSION}
 use Rattle.ns_print.specs.Printed.{printed}
-use Rattle.ns_run.specs.Report.{bad_word, refused_file, refused_text, spelling_name, static_name, stores, told, told_jointly, too_large}
 use Rattle.ns_launch.specs.Run.{meant_run}
 use Rattle.ns_run.specs.Image.{Executes, Lists, of_image}
-use Rattle.ns_run.specs.Run.{run_report}
+use Rattle.ns_run.specs.Run.{run_report, told_jointly}
 use Rattle.ns_run.specs.Task.{Task, Checks, Shows, Builds, Runs}
-use Rattle.ns_run.specs.declared.report.Report.{Report}
-use Rattle.ns_run.specs.declared.usage.TheConstants.{HELP, VERSION}
 use Rattle.ns_rules.specs.Least.{faults, least}
 use Rattle.ns_rules.specs.declared.fault.Placed.{Placed}
 use Rattle.ns_tree.specs.Flat.{flat}

@@ -1,8 +1,13 @@
--- What a run writes.
-use Rattle.std.specs.Prelude.{ℕ, List, Option, Some, None, ◌++◌}
+-- What a run writes, and what a session does.
+use Rattle.std.specs.Prelude.{ℕ, List, [], ◌∷◌, Option, Some, None, ◌++◌, codes}
+use Rattle.std.specs.Fmt.{decimal}
+use Rattle.ns_joint.specs.declared.joint.Told.{Told}
 use Rattle.ns_launch.specs.declared.run.Ran.{Ran}
-use Rattle.ns_run.specs.Report.{summary}
-use Rattle.ns_run.specs.declared.report.Report.{Report}
+use Rattle.ns_outcome.specs.declared.report.Report.{Report}
+
+-- the line that tells of a run how many classes its program has and how many steps it used
+abbrev pub summary : (classes steps : ℕ) → List ℕ
+summary classes steps = codes "classes " ++ decimal classes ++ codes " steps " ++ decimal steps ++ 10 ∷ []
 
 -- what a run printed, and behind it the line on classes and steps where these are counted
 abbrev pub with_summary : Option ℕ → ℕ → List ℕ → List ℕ
@@ -12,3 +17,7 @@ with_summary (Some classes) steps output = output ++ summary classes steps
 -- A run writes what its program printed, and then its report line.
 abbrev pub run_report : Option ℕ → Ran → Report
 run_report classes ran = record { out = with_summary classes ran.counters.steps ran.output; err = ran.line; status = ran.status; stored = None }
+
+-- A session tells of all its applications in its output, and ends with their status.
+abbrev pub told_jointly : Told → Report
+told_jointly told = record { out = told.out; err = []; status = told.status; stored = None }

@@ -8,12 +8,12 @@ ghost use Rattle.ns_scope.specs.Whole.{IsWhole};
 ghost use Rattle.ns_static.specs.Check.{fault_of};
 ghost use Rattle.ns_tree.specs.PlainOf.{unit_of};
 
-use crate::cause::size_name;
 use crate::files::on_static_fault;
-use crate::report::{Report, refused_file, stores};
 use ns_base::no_memory::NoMemory;
 use ns_base::text::Text;
 use ns_exec::build::{BuildFault, build};
+use ns_outcome::cause::size_name;
+use ns_outcome::report::{Report, refused_file, stores};
 use ns_scope::program::Program;
 use ns_static::check::{Checked, check};
 use ns_static::fault::StaticFault;

@@ -8,15 +8,13 @@ ghost use Rattle.ns_base.specs.Shelf.{OnlyRead};
 ghost use Rattle.ns_exec.specs.Exec.{executed};
 ghost use Rattle.ns_exec.specs.Listing.{listed};
 ghost use Rattle.ns_image.specs.declared.fault.ImageFault.{ImageFault};
+ghost use Rattle.ns_outcome.specs.Outcome.{IsEnding, IsMissing};
+ghost use Rattle.ns_outcome.specs.Report.{refused_file as refused_file_lem};
 ghost use Rattle.ns_run.specs.Image as spec;
-ghost use Rattle.ns_run.specs.Outcome.{IsEnding, IsMissing, OfSomeText};
-ghost use Rattle.ns_run.specs.Report.{refused_file as refused_file_lem};
+ghost use Rattle.ns_run.specs.Outcome.{OfSomeText};
 ghost use Rattle.ns_run.specs.Stated.{ReportsTold};
 
-use crate::cause::verify_name;
-use crate::report::{Report, refused_file, told};
 use crate::run::run_report;
-use crate::stop::{Stop, or_stop};
 use crate::task::ImageTask;
 use ns_base::limits::Limits;
 use ns_base::no_memory::NoMemory;
@@ -26,6 +24,9 @@ use ns_exec::exec::{ExecFault, exec};
 use ns_exec::listing::{ListFault, listing_of};
 use ns_image::fault::ImageFault;
 use ns_load::names::names_of;
+use ns_outcome::cause::verify_name;
+use ns_outcome::report::{Report, refused_file, told};
+use ns_outcome::stop::{Stop, or_stop};
 use ns_verify::fault::{VerifyCause, Where};
 use std::alloc::Global;
 

@@ -6,22 +6,22 @@ ghost use Rattle.ns_base.specs.Limits.{InRange};
 ghost use Rattle.ns_base.specs.Shelf.{OnlyRead};
 ghost use Rattle.ns_joint.specs.Answer.{HasRefusedFile, RefusesAs};
 ghost use Rattle.ns_joint.specs.Making.{files_named};
+ghost use Rattle.ns_outcome.specs.Outcome.{IsEnding};
 ghost use Rattle.ns_run.specs.Meaning as spec;
-ghost use Rattle.ns_run.specs.Outcome.{IsEnding};
-ghost use Rattle.ns_run.specs.Report.{told_jointly as told_jointly_lem};
+ghost use Rattle.ns_run.specs.Run.{told_jointly as told_jointly_lem};
 ghost use Rattle.ns_run.specs.Stated.{MissingIsCounted, ReportsTexts, ReportsTold, UnreadIsThere};
 ghost use Rattle.ns_words.specs.Application.{AreApplications};
 ghost use Rattle.ns_joint.specs.declared.fault.JointFault.TheVariants.{Unread};
 
-use crate::cause::size_name;
 use crate::files::{name_of, on_cause, on_static_fault};
-use crate::report::{Report, refused_file};
-use crate::stop::{Stop, or_stop};
 use ns_base::limits::Limits;
 use ns_base::shelf::Shelf;
 use ns_base::text::Text;
 use ns_joint::fault::JointFault;
 use ns_joint::joint::{Told, run_jointly};
+use ns_outcome::cause::size_name;
+use ns_outcome::report::{Report, refused_file};
+use ns_outcome::stop::{Stop, or_stop};
 use std::alloc::Global;
 
 /// The report of the session of the applications that these words ask for.

@@ -12,13 +12,14 @@ use Rattle.ns_meant.specs.Program as m
 use Rattle.ns_meant.specs.Expressions as e
 use Rattle.ns_meant.specs.Tables.{put_all, node_names, nodes_names, node_texts, nodes_texts, messages_names, messages_texts}
 use Rattle.ns_gen.specs.Code.{Line, does, sends, plain, how_many, node_lines, nodes_lines, messages_lines}
-use Rattle.ns_write.specs.Drafts.{Written}
+use Rattle.ns_draft.specs.Drafts.{Written}
 use Rattle.ns_write.specs.Sending.{with_node, with_message}
 use Rattle.ns_write.specs.Cascading.{with_messages, with_pop, with_copy, with_copies, left_of, with_rest, with_first, said_kept, is_said, is_repeated, unset_node}
 use Rattle.ns_write.specs.declared.receiver.Receiver.{Receiver}
 use Rattle.ns_write.specs.declared.receiver.Receiver.TheVariants as v
 use Rattle.ns_gen.specs.laws.GoesOn.{nodes_go_on}
-use Rattle.ns_write.specs.laws.Composing.{written_is, put_more, behind_node}
+use Rattle.ns_draft.specs.laws.Writing.{written_is, put_more}
+use Rattle.ns_write.specs.laws.Composing.{behind_node}
 use Rattle.ns_write.proofs.Firsts.{left_counted}
 
 pub copies_some : (left : ℕ) (receiver : Receiver) (before : Written) → 0 < left → with_copies left receiver before ≡ with_copy receiver before

@@ -11,7 +11,7 @@ use Rattle.ns_tree.specs.Plain as p
 use Rattle.ns_scope.specs.Bodies as b
 use Rattle.ns_meant.specs.Program as m
 use Rattle.ns_meant.specs.Expressions as e
-use Rattle.ns_write.specs.Drafts.{Written}
+use Rattle.ns_draft.specs.Drafts.{Written}
 use Rattle.ns_write.specs.Sending.{kept, with_receiver, with_message, with_names, left, with_opers, opers_left}
 use Rattle.ns_write.specs.Cascading.{with_pop, with_copy, with_copies, left_of, with_rest, with_first, said_kept, is_said}
 use Rattle.ns_write.specs.declared.receiver.Receiver.{Receiver}

@@ -1,10 +1,6 @@
-pub mod Stand
-pub mod Numbers
 pub mod Saying
-pub mod Counted
 pub mod Setting
 pub mod Walking
 pub mod Cascades
 pub mod Firsts
 pub mod Alone
-pub mod Tables

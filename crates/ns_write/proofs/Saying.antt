@@ -9,14 +9,16 @@ use Rattle.ns_code.specs.declared.instruction.Instr.TheVariants as i
 use Rattle.ns_scope.specs.Bodies as b
 use Rattle.ns_meant.specs.Program as m
 use Rattle.ns_meant.specs.Expressions as e
-use Rattle.ns_write.specs.Drafts.{Written, with_line, with_name}
+use Rattle.ns_draft.specs.Drafts.{Written, with_line, with_name}
 use Rattle.ns_gen.specs.Code.{Way, does, sends, object_lines, way_of, how_many, nodes_lines}
+use Rattle.ns_draft.specs.Keys.{keys_count}
+use Rattle.ns_draft.specs.laws.Writing.{written_is}
+use Rattle.ns_draft.specs.laws.Keywords.{keys_many}
 use Rattle.ns_write.specs.Sending.{with_lines, with_node, with_nodes, begin_lines, begin_way, kept, with_receiver, with_message}
-use Rattle.ns_write.specs.Sending.{with_names, left, with_opers, opers_left, with_keywords, keys_count, keys_left}
+use Rattle.ns_write.specs.Sending.{with_names, left, with_opers, opers_left, with_keywords, keys_left}
 use Rattle.ns_write.specs.declared.receiver.Receiver.{Receiver}
 use Rattle.ns_write.specs.declared.receiver.Receiver.TheVariants as v
-use Rattle.ns_write.specs.laws.Composing.{written_is, behind_nodes, message_put, object_sent, message_is}
-use Rattle.ns_write.specs.laws.Keywords.{keys_many}
+use Rattle.ns_write.specs.laws.Composing.{behind_nodes, message_put, object_sent, message_is}
 
 -- ---- unary messages
 

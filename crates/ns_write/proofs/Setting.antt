@@ -10,12 +10,13 @@ use Rattle.ns_meant.specs.Program as m
 use Rattle.ns_meant.specs.Expressions as e
 use Rattle.ns_meant.specs.Tables.{node_names}
 use Rattle.ns_gen.specs.Code.{Line, Way, does, sends, object_lines, way_of, set_lines}
-use Rattle.ns_write.specs.Drafts.{Written, with_line, with_name}
+use Rattle.ns_draft.specs.Drafts.{Written, with_line, with_name}
+use Rattle.ns_draft.specs.laws.Writing.{written_is, put_more}
 use Rattle.ns_write.specs.Sending.{meant_reach, with_lines, with_node}
 use Rattle.ns_write.specs.Setting.{with_setter, with_set, with_sets, setter_reach, setter_sent, below}
 use Rattle.ns_write.specs.declared.reach.Reach.{Reach}
 use Rattle.ns_write.specs.declared.reach.Reach.TheVariants as r
-use Rattle.ns_write.specs.laws.Composing.{written_is, put_more, behind_node}
+use Rattle.ns_write.specs.laws.Composing.{behind_node}
 
 -- ---- one name
 

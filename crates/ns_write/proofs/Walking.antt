@@ -13,11 +13,12 @@ use Rattle.ns_scope.specs.Bodies as b
 use Rattle.ns_meant.specs.Program as m
 use Rattle.ns_meant.specs.Expressions as e
 use Rattle.ns_gen.specs.Code as code
-use Rattle.ns_write.specs.Drafts.{Written, with_line, with_name, way_of}
+use Rattle.ns_draft.specs.Drafts.{Written, with_line, with_name, way_of}
+use Rattle.ns_draft.specs.Keys.{keys_count}
+use Rattle.ns_draft.specs.declared.draft.SendWay.{SendWay}
 use Rattle.ns_write.specs.Sending.{meant_reach, with_lines, with_node, with_nodes, begin_lines, begin_way, kept, with_receiver, with_message, with_value}
-use Rattle.ns_write.specs.Sending.{with_opers, opers_left, with_keywords, keys_count, keys_left}
+use Rattle.ns_write.specs.Sending.{with_opers, opers_left, with_keywords, keys_left}
 use Rattle.ns_write.specs.Setting.{with_sets}
-use Rattle.ns_write.specs.declared.draft.SendWay.{SendWay}
 use Rattle.ns_write.specs.declared.reach.Reach.{Reach}
 use Rattle.ns_write.specs.declared.receiver.Receiver.{Receiver}
 use Rattle.ns_write.specs.declared.receiver.Receiver.TheVariants as v

@@ -7,7 +7,7 @@ use Rattle.ns_meant.specs.Program as m
 use Rattle.ns_meant.specs.Expressions as e
 use Rattle.ns_meant.specs.Tables.{put_all, messages_names, messages_texts}
 use Rattle.ns_gen.specs.Code.{does, messages_lines}
-use Rattle.ns_write.specs.Drafts.{Written}
+use Rattle.ns_draft.specs.Drafts.{Written}
 use Rattle.ns_write.specs.Sending.{with_lines, kept, with_receiver, with_message}
 use Rattle.ns_write.specs.declared.receiver.Receiver.{Receiver}
 use Rattle.ns_write.specs.declared.receiver.Receiver.TheVariants as v

@@ -8,16 +8,11 @@ use Rattle.ns_meant.specs.Program as m
 use Rattle.ns_meant.specs.Expressions as e
 use Rattle.ns_meant.specs.Tables.{put_all, node_names, nodes_names, node_texts, nodes_texts}
 use Rattle.ns_gen.specs.Code.{Line, Way, sends, plain, super, how_many, object_lines, way_of, node_lines, nodes_lines}
-use Rattle.ns_write.specs.Drafts.{Written}
-use Rattle.ns_write.specs.declared.here.Here.{Here}
+use Rattle.ns_draft.specs.Drafts.{Written}
 use Rattle.ns_write.specs.declared.reach.Reach.{Reach}
 use Rattle.ns_write.specs.declared.reach.Reach.TheVariants as r
 use Rattle.ns_write.specs.declared.receiver.Receiver.{Receiver}
 use Rattle.ns_write.specs.declared.receiver.Receiver.TheVariants as v
-
--- where an expression stands, as the meaning of names has it
-abbrev pub standing : Here → e.Standing
-standing here = record { scope = here.scope.now; body = here.body; class = here.class; marks = here.marks.now }
 
 -- what a send reaches, as the meaning of names has it
 abbrev pub meant_reach : Reach → m.Reach
@@ -134,11 +129,6 @@ abbrev pub with_keywords : e.Standing → ℕ → Receiver → p.Keys → Writte
 with_keywords here next receiver p.no_keys before = before
 with_keywords here next receiver (p.more_keys name argument rest) before =
     with_message here.scope receiver (e.keys_sent here (p.more_keys name argument rest)) (e.keys_nodes here next (p.more_keys name argument rest)) before
-
--- how many keys there are
-abbrev pub keys_count : p.Keys → ℕ
-keys_count p.no_keys = 0
-keys_count (p.more_keys name argument rest) = keys_count rest + 1
 
 -- what is left of a receiver behind keys
 abbrev pub keys_left : Receiver → p.Keys → Receiver

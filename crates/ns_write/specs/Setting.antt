@@ -8,7 +8,7 @@ use Rattle.ns_code.specs.declared.instruction.Instr.TheVariants as i
 use Rattle.ns_meant.specs.Program as m
 use Rattle.ns_meant.specs.Expressions as e
 use Rattle.ns_gen.specs.Code.{does, set_lines}
-use Rattle.ns_write.specs.Drafts.{Written, with_name}
+use Rattle.ns_draft.specs.Drafts.{Written, with_name}
 use Rattle.ns_write.specs.Sending.{with_lines}
 use Rattle.ns_write.specs.declared.reach.Reach.{Reach}
 use Rattle.ns_write.specs.declared.reach.Reach.TheVariants as r

@@ -6,11 +6,10 @@ ghost use Rattle.ns_scope.specs.Bodies.{expr_blocks, key_expr_blocks, keys_block
 ghost use Rattle.ns_meant.specs.Program as m;
 ghost use Rattle.ns_meant.specs.Expressions.{as_receiver, as_value, name_sent, one, un_node, un_said, bin_said};
 ghost use Rattle.ns_meant.specs.Expressions.{key_expr_said, keys_nodes, keys_sent, items_nodes, primary_receiver, implicit_send, expr_node, message_said};
+ghost use Rattle.ns_draft.specs.Standing.{standing};
 ghost use Rattle.ns_write.specs.Cascading.{unset_node, with_rest, with_first, said_kept, is_said};
-ghost use Rattle.ns_write.specs.Sending.{standing, with_node, with_nodes, with_receiver, with_message, with_one_message, with_opers, with_keywords, with_value, opers_left, keys_left, kept};
+ghost use Rattle.ns_write.specs.Sending.{with_node, with_nodes, with_receiver, with_message, with_one_message, with_opers, with_keywords, with_value, opers_left, keys_left, kept};
 
-use crate::here::Here;
-use crate::keys::{count, joined, keys_count};
 use crate::primaries::{put_alone, put_block};
 use crate::reach::reach_of;
 use crate::receiver::{
@@ -18,9 +17,11 @@ use crate::receiver::{
     put_value,
 };
 use crate::sets::put_sets;
-use crate::writer::Writer;
 use ns_base::no_memory::NoMemory;
 use ns_code::instruction::Instr;
+use ns_draft::here::Here;
+use ns_draft::keys::{count, joined, keys_count};
+use ns_draft::writer::Writer;
 use ns_tree::parts::first_key;
 use ns_tree::tree::{BinExpr, Expr, KeyExpr, Message, Named, Primary, UnExpr};
 

@@ -4,15 +4,17 @@ ghost use Rattle.std.specs.Prelude.{◌≡◌, ◌<◌, IfOk, OnOk};
 ghost use Rattle.ns_scope.specs.Resolve.{resolve};
 ghost use Rattle.ns_meant.specs.Program as m;
 ghost use Rattle.ns_meant.specs.Expressions.{integer_of, name_node, sent_at};
-ghost use Rattle.ns_write.specs.Sending.{standing, meant_reach, with_node};
+ghost use Rattle.ns_draft.specs.Standing.{standing};
+ghost use Rattle.ns_write.specs.Sending.{meant_reach, with_node};
 
-use crate::here::Here;
-use crate::reach::{Reach, byte, reach_of};
+use crate::reach::{Reach, reach_of};
 use crate::receiver::begin_object;
-use crate::writer::Writer;
 use ns_base::no_memory::NoMemory;
 use ns_base::text::Text;
 use ns_code::instruction::Instr;
+use ns_draft::here::Here;
+use ns_draft::keys::byte;
+use ns_draft::writer::Writer;
 use ns_scope::resolve::Target;
 
 /// The Integer of a number as it is written. One that 64 bits don't hold, which no program without

@@ -5,16 +5,17 @@ ghost use Rattle.ns_tree.specs.PlainOf.{primary_of, block_of};
 ghost use Rattle.ns_scope.specs.Bodies.{primary_blocks, block_blocks};
 ghost use Rattle.ns_meant.specs.Program as m;
 ghost use Rattle.ns_meant.specs.Expressions.{primary_receiver};
-ghost use Rattle.ns_write.specs.Sending.{standing, with_node, with_receiver, kept};
+ghost use Rattle.ns_draft.specs.Standing.{standing};
+ghost use Rattle.ns_write.specs.Sending.{with_node, with_receiver, kept};
 
-use crate::here::Here;
 use crate::literals::{put_named, put_number, put_symbol, put_text};
 use crate::receiver::Receiver;
-use crate::writer::Writer;
 use ns_base::no_memory::NoMemory;
 use ns_base::text::Text;
 use ns_blocks::counting::count_block;
 use ns_code::instruction::Instr;
+use ns_draft::here::Here;
+use ns_draft::writer::Writer;
 use ns_tree::tree::{Block, Primary};
 
 /// A block, of which the number alone is written; those in it are passed over.

@@ -5,6 +5,7 @@ ghost use Rattle.ns_meant.specs.Expressions.{at_level, reach_of, private_here, p
 ghost use Rattle.ns_write.specs.Sending.{meant_reach};
 
 use ns_base::no_memory::NoMemory;
+use ns_draft::keys::byte;
 use ns_scope::chain::Link;
 use ns_scope::resolve::Target;
 use ns_scope::scope::{ClassScope, Scope};
@@ -18,17 +19,6 @@ pub enum Reach {
     Own,
     Enclosing(u8),
     PrivateOf(u8),
-}
-
-/// A number that a byte holds. A larger one, which no program without faults has, is taken for want
-/// of memory.
-pub fn byte(number: u32) -> Result<u8, NoMemory>
-    ensures { IfOk result (λ byte. byte ≡ number) }
-{
-    match u8::try_from(number) {
-        Ok(byte) => Ok(byte),
-        Err(_) => Err(NoMemory),
-    }
 }
 
 /// What an implicit send of a name reaches that means this, and is no local.

@@ -4,17 +4,18 @@ ghost use Rattle.std.specs.Prelude.{◌≡◌, IfOk, OnOk, []};
 ghost use Rattle.ns_meant.specs.Program.{no_nodes};
 ghost use Rattle.ns_meant.specs.Expressions.{name_sent};
 ghost use Rattle.ns_gen.specs.Code.{object_lines, way_of as meant_way};
-ghost use Rattle.ns_write.specs.Drafts.{way_of};
+ghost use Rattle.ns_draft.specs.Drafts.{way_of};
+ghost use Rattle.ns_draft.specs.Standing.{standing};
 ghost use Rattle.ns_write.specs.Cascading.{with_copy, with_copies, is_repeated};
-ghost use Rattle.ns_write.specs.Sending.{standing, meant_reach, with_lines, begin_lines, begin_way, with_message, with_names, with_value, left};
+ghost use Rattle.ns_write.specs.Sending.{meant_reach, with_lines, begin_lines, begin_way, with_message, with_names, with_value, left};
 
-use crate::draft::SendWay;
-use crate::here::Here;
 use crate::reach::{Reach, reach_outer, reach_self};
-use crate::writer::Writer;
 use ns_base::no_memory::NoMemory;
 use ns_base::text::Text;
 use ns_code::instruction::Instr;
+use ns_draft::draft::SendWay;
+use ns_draft::here::Here;
+use ns_draft::writer::Writer;
 use ns_tree::tree::Named;
 
 /// What the next message is sent to: the value that lies on top; self; self from the superclass on;

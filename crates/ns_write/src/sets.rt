@@ -2,18 +2,19 @@
 
 ghost use Rattle.std.specs.Prelude.{◌≡◌, OnOk};
 ghost use Rattle.ns_scope.specs.Resolve.{resolve};
-ghost use Rattle.ns_write.specs.Sending.{standing, meant_reach};
+ghost use Rattle.ns_draft.specs.Standing.{standing};
+ghost use Rattle.ns_write.specs.Sending.{meant_reach};
 ghost use Rattle.ns_write.specs.Setting.{with_setter, with_set, with_sets, setter_reach, setter_sent, below};
 ghost use Rattle.ns_meant.specs.Expressions.{sent_at};
 
-use crate::here::Here;
-use crate::keys::setter_of;
-use crate::reach::{Reach, byte, reach_of};
+use crate::reach::{Reach, reach_of};
 use crate::receiver::begin_object;
-use crate::writer::Writer;
 use ns_base::no_memory::NoMemory;
 use ns_base::text::Text;
 use ns_code::instruction::Instr;
+use ns_draft::here::Here;
+use ns_draft::keys::{byte, setter_of};
+use ns_draft::writer::Writer;
 use ns_scope::resolve::Target;
 use ns_tree::tree::Named;
 

@@ -1,10 +1,11 @@
-//! The command `nspk`: the top call over the real files, the standard streams and the words of the
-//! command line.
+//! The command `nspk`: the answer to the system's command line, over the real files and the standard streams.
 #![tactic(auto)]
 
+mod answer;
+
+use answer::answer;
 use ns_base::status::Status;
-use ns_run::top::{nspk, refuse_cut};
-use ns_system::arguments::{CommandLine, arguments};
+use ns_system::arguments::arguments;
 use ns_system::files::Disk;
 use ns_system::stream::Stream;
 use std::process::ExitCode;
@@ -14,12 +15,10 @@ fn main(rt: HostRuntime) -> ExitCode {
     let mut out = Stream::new(rt.stdout());
     let mut err = Stream::new(rt.stderr());
     let status = match arguments(&rt, alloc) {
-        Ok(CommandLine { words, cut: true }) => {
-            refuse_cut(alloc, words.as_slice(), &mut out, &mut err)
-        }
-        Ok(CommandLine { words, cut: false }) => {
+        Ok(line) => {
             let mut disk = Disk::new(rt);
-            nspk(alloc, words.as_slice(), &mut disk, &mut out, &mut err)
+            let words = line.words.as_slice();
+            answer(alloc, words, line.cut, &mut disk, &mut out, &mut err)
         }
         Err(_) => Status::Memory,
     };

@@ -1,29 +1,16 @@
 -- What is written in turn is the writing of the whole: values and messages to them, arguments, and lists of nodes.
 use Rattle.std.proofs.Common.{◌≡◌, ℕ, ◌+◌, List, [], ◌∷◌, ◌++◌, length, refl, sym, ap, ◌∙◌, append-nil, append_assoc, length-append}
-use Rattle.ns_base.specs.Names.{put_in}
 use Rattle.ns_scope.specs.declared.scope.Scope.{Scope}
 use Rattle.ns_meant.specs.Program as m
 use Rattle.ns_meant.specs.Expressions as e
 use Rattle.ns_meant.specs.Tables.{put_all, node_names, nodes_names, node_texts, nodes_texts}
 use Rattle.ns_gen.specs.Code.{Line, Way, sends, plain, how_many, object_lines, way_of, node_lines, nodes_lines}
-use Rattle.ns_write.specs.Drafts.{Written, with_line, with_name}
+use Rattle.ns_draft.specs.Drafts.{Written, with_line, with_name}
+use Rattle.ns_draft.specs.laws.Writing.{put_more, written_is}
 use Rattle.ns_write.specs.Sending.{with_lines, with_node, with_nodes, kept, with_receiver, begin_lines, begin_way, with_message, with_value}
 use Rattle.ns_write.specs.declared.receiver.Receiver.{Receiver}
 use Rattle.ns_write.specs.declared.receiver.Receiver.TheVariants as v
 use Rattle.ns_gen.specs.laws.GoesOn.{node_goes_on, nodes_go_on}
-
--- To put two lists of names in a table is to put one and then the other.
-pub put_more : (names more table : List (List ℕ)) → put_all table (names ++ more) ≡ put_all (put_all table names) more
-put_more [] more table = refl
-put_more (name ∷ names) more table = put_more names more (put_in table name)
-
--- What was written is the same where its names, texts and lines are.
-pub written_is : (n n' t t' : List (List ℕ)) (l l' : List Line) → n ≡ n' → t ≡ t' → l ≡ l' →
-    record { names = n; texts = t; lines = l } ≡ (let w : Written = record { names = n'; texts = t'; lines = l' } in w)
-written_is n n' t t' l l' p q r =
-    ap (λ (x : List (List ℕ)). (let w : Written = record { names = x; texts = t; lines = l } in w)) p
-    ∙ ap (λ (x : List (List ℕ)). (let w : Written = record { names = n'; texts = x; lines = l } in w)) q
-    ∙ ap (λ (x : List Line). (let w : Written = record { names = n'; texts = t'; lines = x } in w)) r
 
 -- ---- lines behind those of a node or of nodes
 

@@ -4,8 +4,8 @@ use Rattle.ns_base.specs.declared.place.Place.{Place}
 use Rattle.ns_meant.specs.Expressions.{place_at, sent_at}
 use Rattle.ns_meant.specs.Classes.{base_node, over_sign_at}
 use Rattle.ns_gen.specs.Code.{sends, plain}
-use Rattle.ns_write.specs.Drafts.{with_line, with_name}
-use Rattle.ns_write.specs.Sending.{standing}
+use Rattle.ns_draft.specs.Drafts.{with_line, with_name}
+use Rattle.ns_draft.specs.Standing.{standing}
 use Rattle.ns_bodies.proofs.Starting.{mixin_put}
 use Rattle.ns_bodies.proofs.clauses.put_head.Goals as goal
 

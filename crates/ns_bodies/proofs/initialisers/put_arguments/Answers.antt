@@ -1,8 +1,8 @@
 use Rattle.std.proofs.Common.{◌∙◌, sym}
 use Rattle.ns_tree.specs.PlainOf.{keys_of}
 use Rattle.ns_tree.specs.laws.Nodes.{keywords_out}
-use Rattle.ns_write.specs.Sending.{standing}
-use Rattle.ns_write.specs.laws.Keywords.{keys_many}
+use Rattle.ns_draft.specs.Standing.{standing}
+use Rattle.ns_draft.specs.laws.Keywords.{keys_many}
 use Rattle.ns_bodies.proofs.initialisers.put_arguments.Goals as goal
 
 pub returns-in_ok-put_keys-in-Keys-clause-put : goal.returns-in_ok-put_keys-in-Keys-clause-put

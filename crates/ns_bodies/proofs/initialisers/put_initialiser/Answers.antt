@@ -1,6 +1,6 @@
 use Rattle.std.specs.Prelude.{option_map}
 use Rattle.ns_tree.specs.PlainOf.{clause_of, bars_of, statements_of}
-use Rattle.ns_write.specs.Sending.{standing}
+use Rattle.ns_draft.specs.Standing.{standing}
 use Rattle.ns_bodies.proofs.Starting.{start_done}
 use Rattle.ns_bodies.proofs.initialisers.put_initialiser.Goals as goal
 

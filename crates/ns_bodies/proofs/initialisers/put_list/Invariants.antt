@@ -3,7 +3,7 @@ use Rattle.ns_tree.specs.PlainOf.{statement_list_of}
 use Rattle.ns_scope.specs.Bodies.{list_blocks}
 use Rattle.ns_meant.specs.Statements.{list_steps}
 use Rattle.ns_meant.specs.Tables.{step_node}
-use Rattle.ns_write.specs.Sending.{standing}
+use Rattle.ns_draft.specs.Standing.{standing}
 use Rattle.ns_bodies.specs.Starting.{with_expressions}
 use Rattle.ns_bodies.proofs.initialisers.put_list.Given as goal
 

@@ -1,9 +1,9 @@
 use Rattle.ns_tree.specs.declared.tree.Statements.{out-Statements}
 use Rattle.ns_tree.specs.PlainOf.{bars_of, statement_list_of}
 use Rattle.ns_tree.specs.laws.Nodes.{statements_out}
-use Rattle.ns_write.specs.Sending.{standing}
+use Rattle.ns_draft.specs.Standing.{standing}
 use Rattle.ns_bodies.proofs.Stepping.{block_done}
-use Rattle.ns_write.specs.laws.Numbers.{behind_both}
+use Rattle.ns_draft.specs.laws.Numbers.{behind_both}
 use Rattle.ns_bodies.proofs.steps.put_block_body.Goals as goal
 
 pub returns-clause-put : goal.returns-clause-put

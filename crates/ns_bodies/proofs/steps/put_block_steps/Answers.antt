@@ -1,5 +1,5 @@
 use Rattle.std.proofs.Common.{◌∙◌, arith}
-use Rattle.ns_write.specs.Sending.{standing}
+use Rattle.ns_draft.specs.Standing.{standing}
 use Rattle.ns_bodies.proofs.Stepping.{some_steps}
 use Rattle.ns_bodies.proofs.steps.put_block_steps.Goals as goal
 

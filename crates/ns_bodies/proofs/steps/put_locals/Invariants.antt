@@ -2,7 +2,7 @@ use Rattle.std.proofs.Common.{◌≡◌, ◌+◌, length, drop}
 use Rattle.ns_tree.specs.PlainOf.{slots_of}
 use Rattle.ns_scope.specs.Bodies.{slots_blocks}
 use Rattle.ns_meant.specs.Statements.{slots_values}
-use Rattle.ns_write.specs.Sending.{standing}
+use Rattle.ns_draft.specs.Standing.{standing}
 use Rattle.ns_bodies.specs.Stepping.{with_locals}
 use Rattle.ns_bodies.proofs.steps.put_locals.Given as goal
 

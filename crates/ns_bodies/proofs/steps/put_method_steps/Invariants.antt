@@ -2,7 +2,7 @@ use Rattle.std.proofs.Common.{◌≡◌, ◌+◌, length, drop, false}
 use Rattle.ns_tree.specs.PlainOf.{statement_list_of}
 use Rattle.ns_scope.specs.Bodies.{list_blocks}
 use Rattle.ns_meant.specs.Statements.{list_steps}
-use Rattle.ns_write.specs.Sending.{standing}
+use Rattle.ns_draft.specs.Standing.{standing}
 use Rattle.ns_bodies.specs.Stepping.{with_method}
 use Rattle.ns_bodies.proofs.steps.put_method_steps.Given as goal
 

@@ -3,8 +3,8 @@ use Rattle.ns_tree.specs.PlainOf.{members_of, member_of}
 use Rattle.ns_tree.specs.laws.Nodes.{side_out}
 use Rattle.ns_scope.specs.Bodies as b
 use Rattle.ns_meant.specs.Classes as m
-use Rattle.ns_write.specs.Standing.{around_of}
-use Rattle.ns_write.specs.laws.Numbers.{loop_count, loop_number}
+use Rattle.ns_draft.specs.Standing.{around_of}
+use Rattle.ns_draft.specs.laws.Numbers.{loop_count, loop_number}
 use Rattle.ns_generate.proofs.Onward.{loop_put_numbered}
 use Rattle.ns_generate.proofs.Declarations.{class_put, class_number, inside_put, inside_number, inside_classes}
 use Rattle.ns_generate.proofs.bodies.+bodies.Goals as goal

@@ -1,6 +1,6 @@
 use Rattle.std.proofs.Common.{arith}
 use Rattle.ns_tree.specs.PlainOf.{clause_of}
-use Rattle.ns_write.specs.Standing.{around_of}
+use Rattle.ns_draft.specs.Standing.{around_of}
 use Rattle.ns_records.specs.laws.Bodies.{none_outside}
 use Rattle.ns_generate.proofs.Declarations.{no_head_put}
 use Rattle.ns_generate.proofs.bodies.put_head.Goals as goal

@@ -1,5 +1,5 @@
 use Rattle.ns_meant.specs.Classes as m
-use Rattle.ns_write.specs.Standing.{around_of}
+use Rattle.ns_draft.specs.Standing.{around_of}
 use Rattle.ns_generate.proofs.Declarations.{start_put, start_number}
 use Rattle.ns_generate.proofs.bodies.put_initialiser.Goals as goal
 

@@ -1,4 +1,4 @@
-use Rattle.ns_write.specs.Standing.{around_of}
+use Rattle.ns_draft.specs.Standing.{around_of}
 use Rattle.ns_generate.proofs.Declarations.{method_put, method_number}
 use Rattle.ns_generate.proofs.bodies.put_method.Goals as goal
 

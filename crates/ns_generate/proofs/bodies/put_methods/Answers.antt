@@ -2,8 +2,8 @@ use Rattle.std.proofs.Common.{length, refl}
 use Rattle.ns_tree.specs.PlainOf.{members_of, what_of}
 use Rattle.ns_scope.specs.Bodies as b
 use Rattle.ns_meant.specs.Classes as m
-use Rattle.ns_write.specs.Standing.{around_of}
-use Rattle.ns_write.specs.laws.Numbers.{loop_number}
+use Rattle.ns_draft.specs.Standing.{around_of}
+use Rattle.ns_draft.specs.laws.Numbers.{loop_number}
 use Rattle.ns_generate.proofs.Onward.{loop_put}
 use Rattle.ns_generate.proofs.bodies.put_methods.Goals as goal
 

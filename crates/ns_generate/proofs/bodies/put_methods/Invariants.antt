@@ -3,7 +3,7 @@ use Rattle.ns_tree.specs.PlainOf.{members_of}
 use Rattle.ns_scope.specs.Bodies as b
 use Rattle.ns_meant.specs.Classes as c
 use Rattle.ns_bodies.specs.Coding.{with_bodies}
-use Rattle.ns_write.specs.Standing.{around_of}
+use Rattle.ns_draft.specs.Standing.{around_of}
 use Rattle.ns_generate.proofs.bodies.put_methods.Given as goal
 
 abbrev pub invariant-loop-member : goal.invariant-loop-member

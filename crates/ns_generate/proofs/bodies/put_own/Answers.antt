@@ -1,4 +1,4 @@
-use Rattle.ns_write.specs.Standing.{around_of}
+use Rattle.ns_draft.specs.Standing.{around_of}
 use Rattle.ns_records.specs.laws.Bodies.{own_number}
 use Rattle.ns_generate.proofs.Declarations.{own_put}
 use Rattle.ns_generate.proofs.bodies.put_own.Goals as goal

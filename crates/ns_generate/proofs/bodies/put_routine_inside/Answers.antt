@@ -2,8 +2,8 @@ use Rattle.std.specs.Prelude.{◌+◌, length}
 use Rattle.ns_tree.specs.PlainOf.{bars_of, statements_of}
 use Rattle.ns_scope.specs.Bodies as b
 use Rattle.ns_meant.specs.Statements.{bars_bodies, statements_bodies}
-use Rattle.ns_write.specs.Sending.{standing}
-use Rattle.ns_write.specs.laws.Numbers.{behind_both}
+use Rattle.ns_draft.specs.Standing.{standing}
+use Rattle.ns_draft.specs.laws.Numbers.{behind_both}
 use Rattle.ns_generate.proofs.Onward.{both_put}
 use Rattle.ns_generate.proofs.bodies.put_routine_inside.Goals as goal
 

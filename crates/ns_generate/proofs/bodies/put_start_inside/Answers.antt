@@ -1,7 +1,7 @@
 use Rattle.std.specs.Prelude.{option_map}
 use Rattle.ns_tree.specs.PlainOf.{clause_of, bars_of, statements_of}
-use Rattle.ns_write.specs.Sending.{standing}
-use Rattle.ns_write.specs.laws.Numbers.{behind_both}
+use Rattle.ns_draft.specs.Standing.{standing}
+use Rattle.ns_draft.specs.laws.Numbers.{behind_both}
 use Rattle.ns_generate.proofs.Declarations.{inner_put}
 use Rattle.ns_generate.proofs.bodies.put_start_inside.Goals as goal
 

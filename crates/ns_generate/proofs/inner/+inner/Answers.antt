@@ -7,8 +7,8 @@ use Rattle.ns_tree.specs.PlainOf.{expr_of, cascade_of, message_of, key_expr_of, 
 use Rattle.ns_tree.specs.laws.Nodes.{bin_out, expr_out, statements_out, key_expr_none, key_expr_some, block_none, block_some, keywords_out, tuple_out}
 use Rattle.ns_scope.specs.Bodies as b
 use Rattle.ns_meant.specs.Statements.{expr_bodies, cascade_bodies, message_bodies, key_expr_bodies, keys_bodies, bin_bodies, opers_bodies, un_bodies, items_bodies, slots_bodies, slot_bodies, statements_bodies, list_bodies, statement_bodies}
-use Rattle.ns_write.specs.Sending.{standing}
-use Rattle.ns_write.specs.laws.Numbers.{behind_both, loop_number}
+use Rattle.ns_draft.specs.Standing.{standing}
+use Rattle.ns_draft.specs.laws.Numbers.{behind_both, loop_number}
 use Rattle.ns_bodies.specs.Coding.{with_bodies}
 use Rattle.ns_generate.proofs.Onward.{both_put, loop_put}
 use Rattle.ns_generate.proofs.Blocks.{block_put, block_number}

@@ -2,7 +2,7 @@ use Rattle.std.proofs.Common.{◌≡◌, ◌+◌, length, drop}
 use Rattle.ns_tree.specs.PlainOf.{cascade_of, keys_of, opers_of, slots_of, exprs_of, statement_list_of}
 use Rattle.ns_scope.specs.Bodies.{cascade_blocks, keys_blocks, opers_blocks, items_blocks, slots_blocks, list_blocks}
 use Rattle.ns_meant.specs.Statements.{cascade_bodies, keys_bodies, opers_bodies, items_bodies, slots_bodies, list_bodies}
-use Rattle.ns_write.specs.Sending.{standing}
+use Rattle.ns_draft.specs.Standing.{standing}
 use Rattle.ns_bodies.specs.Coding.{with_bodies}
 use Rattle.ns_generate.proofs.inner.+inner.Given as goal
 

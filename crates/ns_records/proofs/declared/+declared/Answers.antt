@@ -3,8 +3,8 @@ use Rattle.ns_tree.specs.PlainOf.{members_of, member_of}
 use Rattle.ns_tree.specs.laws.Nodes.{side_out}
 use Rattle.ns_scope.specs.Bodies as b
 use Rattle.ns_meant.specs.Classes as m
-use Rattle.ns_write.specs.Standing.{around_of}
-use Rattle.ns_write.specs.laws.Numbers.{loop_count, loop_number}
+use Rattle.ns_draft.specs.Standing.{around_of}
+use Rattle.ns_draft.specs.laws.Numbers.{loop_count, loop_number}
 use Rattle.ns_records.proofs.Parts.{loop_listed, class_listed, class_number, class_counted}
 use Rattle.ns_records.proofs.declared.+declared.Goals as goal
 

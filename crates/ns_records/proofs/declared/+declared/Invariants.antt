@@ -2,7 +2,7 @@ use Rattle.std.proofs.Common.{◌≡◌, ◌+◌, ◌++◌, length, drop}
 use Rattle.ns_tree.specs.PlainOf.{members_of}
 use Rattle.ns_scope.specs.Bodies as b
 use Rattle.ns_meant.specs.Classes as c
-use Rattle.ns_write.specs.Standing.{around_of}
+use Rattle.ns_draft.specs.Standing.{around_of}
 use Rattle.ns_records.proofs.declared.+declared.Given as goal
 
 abbrev pub invariant-put_members-loop-member : goal.invariant-put_members-loop-member

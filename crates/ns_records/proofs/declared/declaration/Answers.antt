@@ -1,5 +1,5 @@
 use Rattle.std.proofs.Common.{◌∙◌}
-use Rattle.ns_write.specs.Standing.{around_of}
+use Rattle.ns_draft.specs.Standing.{around_of}
 use Rattle.ns_records.proofs.Parts.{declaration_made}
 use Rattle.ns_records.proofs.declared.declaration.Goals as goal
 

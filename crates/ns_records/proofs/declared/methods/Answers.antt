@@ -2,7 +2,7 @@ use Rattle.std.specs.Prelude.{option_map}
 use Rattle.ns_tree.specs.declared.tree.Class.{out-Class}
 use Rattle.ns_tree.specs.PlainOf.{pattern_of}
 use Rattle.ns_scope.specs.Scopes.{initialiser_scope}
-use Rattle.ns_write.specs.Standing.{around_of}
+use Rattle.ns_draft.specs.Standing.{around_of}
 use Rattle.ns_records.proofs.Parts.{methods_made, side_methods_made, start_number}
 use Rattle.ns_records.proofs.declared.methods.Goals as goal
 use Rattle.ns_records.specs.laws.Bodies.{own_number}

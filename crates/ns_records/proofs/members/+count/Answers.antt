@@ -3,7 +3,7 @@ use Rattle.std.proofs.lemmas.Grind.{common_steps}
 use Rattle.ns_tree.specs.PlainOf.{members_of, what_of}
 use Rattle.ns_tree.specs.laws.Nodes.{class_out, side_out}
 use Rattle.ns_meant.specs.Classes as m
-use Rattle.ns_write.specs.laws.Numbers.{loop_count}
+use Rattle.ns_draft.specs.laws.Numbers.{loop_count}
 use Rattle.ns_records.proofs.members.+count.Goals as goal
 
 pub count_class-returns : goal.count_class-returns

@@ -3,8 +3,8 @@ use Rattle.ns_tree.specs.PlainOf.{members_of, what_of}
 use Rattle.ns_scope.specs.Bodies as b
 use Rattle.ns_scope.specs.Names.{access_or}
 use Rattle.ns_meant.specs.Classes as m
-use Rattle.ns_write.specs.Standing.{around_of}
-use Rattle.ns_write.specs.laws.Numbers.{loop_number}
+use Rattle.ns_draft.specs.Standing.{around_of}
+use Rattle.ns_draft.specs.laws.Numbers.{loop_number}
 use Rattle.ns_records.proofs.Parts.{loop_listed}
 use Rattle.ns_records.proofs.members.put_methods.Goals as goal
 

@@ -1,11 +1,11 @@
 use Rattle.std.proofs.Common.{Err, IfOk, ap, map, string_bytes, subst, sym, ◌≡◌}
 use Rattle.std.proofs.lemmas.Result.{IfOk-weaker}
+use Rattle.ns_outcome.specs.Outcome.{IsMissing}
 use Rattle.ns_run.proofs.FaultLaws.{fault_says}
 use Rattle.ns_run.proofs.ReportLaws.{stop_keeps, units_plain}
 use Rattle.ns_run.proofs.TextLaws.{refusal_of_texts, units_of_texts}
 use Rattle.ns_run.proofs.files.on_texts.Goals as goal
 use Rattle.ns_run.specs.Meaning.{of_fault}
-use Rattle.ns_run.specs.Outcome.{IsMissing}
 use Rattle.ns_run.specs.Task.{task_of}
 use Rattle.ns_tree.specs.PlainOf.{unit_of}
 

@@ -1,5 +1,5 @@
 use Rattle.std.proofs.Common.{◌≡◌, [], refl, map, string_bytes}
-use Rattle.ns_run.specs.Report.{bad_word}
+use Rattle.ns_outcome.specs.Report.{bad_word}
 use Rattle.ns_run.proofs.ReportLaws.{stop_keeps}
 use Rattle.ns_run.proofs.TextLaws.{missing_of_reading, over_reading, told_reading}
 use Rattle.ns_run.proofs.top.work.Goals as goal

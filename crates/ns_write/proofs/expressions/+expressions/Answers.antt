@@ -6,8 +6,9 @@ use Rattle.ns_tree.specs.PlainOf.{un_of, opers_of, keys_of, bin_of, key_expr_of,
 use Rattle.ns_tree.specs.laws.Nodes.{bin_out, expr_out, key_expr_none, key_expr_some, keywords_out, tuple_out}
 use Rattle.ns_scope.specs.Bodies.{bin_blocks, key_expr_blocks}
 use Rattle.ns_meant.specs.Expressions.{un_node, un_said, bin_said, key_expr_said, primary_receiver}
-use Rattle.ns_write.specs.Sending.{standing, keys_left}
-use Rattle.ns_write.specs.laws.Numbers.{behind_both}
+use Rattle.ns_draft.specs.Standing.{standing}
+use Rattle.ns_draft.specs.laws.Numbers.{behind_both}
+use Rattle.ns_write.specs.Sending.{keys_left}
 use Rattle.ns_write.proofs.Walking.{oper_put, bin_put, bin_kept, keywords_whole, implicit_whole, keyed_put, keyed_left, received_put}
 use Rattle.ns_write.proofs.Walking.{keys_step, keys_number, items_step, items_number, expr_put}
 use Rattle.ns_write.proofs.Firsts.{IsFirst, parted, un_first, bin_first, keys_first, rest_step, rest_number}

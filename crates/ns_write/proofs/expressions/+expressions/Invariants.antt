@@ -2,7 +2,8 @@ use Rattle.std.proofs.Common.{◌≡◌, ◌+◌, length, drop}
 use Rattle.ns_tree.specs.PlainOf.{keys_of, opers_of, exprs_of, cascade_of}
 use Rattle.ns_scope.specs.Bodies.{keys_blocks, opers_blocks, items_blocks, cascade_blocks}
 use Rattle.ns_meant.specs.Expressions.{keys_nodes, items_nodes}
-use Rattle.ns_write.specs.Sending.{standing, with_nodes, with_opers, opers_left}
+use Rattle.ns_draft.specs.Standing.{standing}
+use Rattle.ns_write.specs.Sending.{with_nodes, with_opers, opers_left}
 use Rattle.ns_write.specs.Cascading.{with_rest}
 use Rattle.ns_write.proofs.expressions.+expressions.Given as goal
 

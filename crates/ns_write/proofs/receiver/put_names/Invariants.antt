@@ -1,5 +1,6 @@
 use Rattle.std.proofs.Common.{◌≡◌, drop}
-use Rattle.ns_write.specs.Sending.{standing, with_names, left}
+use Rattle.ns_draft.specs.Standing.{standing}
+use Rattle.ns_write.specs.Sending.{with_names, left}
 use Rattle.ns_write.proofs.receiver.put_names.Given as goal
 
 abbrev pub invariant-loop-name : goal.invariant-loop-name

@@ -1,6 +1,6 @@
 use Rattle.std.proofs.Common.{ap, ◌∙◌, arith}
 use Rattle.ns_scope.specs.Resolve.{resolve}
-use Rattle.ns_write.specs.Sending.{standing}
+use Rattle.ns_draft.specs.Standing.{standing}
 use Rattle.ns_write.specs.Setting.{with_set}
 use Rattle.ns_write.proofs.Setting.{one_more}
 use Rattle.ns_write.proofs.sets.put_sets.Goals as goal

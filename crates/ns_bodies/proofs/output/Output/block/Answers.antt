@@ -4,7 +4,7 @@ use Rattle.ns_tree.specs.declared.tree.Block.{out-Block}
 use Rattle.ns_tree.specs.PlainOf.{bars_of, statements_of}
 use Rattle.ns_tree.specs.laws.Nodes.{block_out}
 use Rattle.ns_meant.specs.Program as m
-use Rattle.ns_write.specs.Sending.{standing}
+use Rattle.ns_draft.specs.Standing.{standing}
 use Rattle.ns_bodies.proofs.Routines.{routine_put}
 use Rattle.ns_bodies.proofs.output.Output.block.Goals as goal
 

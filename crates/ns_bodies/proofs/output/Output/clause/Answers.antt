@@ -2,7 +2,7 @@ use Rattle.std.proofs.Common.{refl}
 use Rattle.ns_tree.specs.PlainOf.{clause_of}
 use Rattle.ns_meant.specs.Program as m
 use Rattle.ns_meant.specs.Classes.{head_node}
-use Rattle.ns_write.specs.Sending.{standing}
+use Rattle.ns_draft.specs.Standing.{standing}
 use Rattle.ns_bodies.proofs.Routines.{clause_put}
 use Rattle.ns_bodies.proofs.output.Output.clause.Goals as goal
 

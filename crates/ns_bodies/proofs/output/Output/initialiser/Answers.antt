@@ -1,4 +1,4 @@
-use Rattle.ns_write.specs.Sending.{standing}
+use Rattle.ns_draft.specs.Standing.{standing}
 use Rattle.ns_bodies.proofs.Routines.{start_put}
 use Rattle.ns_bodies.proofs.output.Output.initialiser.Goals as goal
 

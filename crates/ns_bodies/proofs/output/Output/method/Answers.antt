@@ -2,7 +2,7 @@ use Rattle.std.proofs.Common.{refl}
 use Rattle.std.specs.Prelude.{None}
 use Rattle.ns_tree.specs.PlainOf.{bars_of, statements_of}
 use Rattle.ns_meant.specs.Program as m
-use Rattle.ns_write.specs.Sending.{standing}
+use Rattle.ns_draft.specs.Standing.{standing}
 use Rattle.ns_bodies.proofs.Routines.{routine_put}
 use Rattle.ns_bodies.proofs.output.Output.method.Goals as goal
 

@@ -1,0 +1,4 @@
+pub mod Stand
+pub mod Numbers
+pub mod Counted
+pub mod Tables

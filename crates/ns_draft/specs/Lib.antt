@@ -1,0 +1,4 @@
+pub mod Drafts
+pub mod Keys
+pub mod Standing
+pub mod laws

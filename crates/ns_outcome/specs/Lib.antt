@@ -1,0 +1,5 @@
+pub mod Keep
+pub mod Outcome
+pub mod Report
+pub mod Store
+pub mod laws

@@ -1,0 +1,41 @@
+//! The answer to a command line, whether or not each of its words is a text.
+
+ghost use Rattle.std.specs.Prelude.{◌≡◌, false, map, Some, string_bytes, true};
+ghost use Rattle.ns_base.specs.Files.{Files};
+ghost use Rattle.ns_outcome.specs.Outcome.{Leaves, LeavesStreams};
+ghost use Rattle.ns_outcome.specs.Report.{bad_word};
+ghost use Rattle.ns_run.specs.Meaning.{meaning};
+ghost use Rattle.ns_run.specs.Outcome.{OverTexts};
+ghost use Rattle.ns_words.specs.Words.{first_bad};
+
+use ns_base::shelf::Shelf;
+use ns_base::sink::Sink;
+use ns_base::status::Status;
+use ns_run::top::{nspk, refuse_cut};
+use std::alloc::Global;
+
+/// Carries out the command of these words. Where the line is `cut` behind them, by a word that is no
+/// text, that word or a bad one before it is refused, and no file is read or stored.
+pub fn answer<S: Shelf, O: Sink, E: Sink>(
+    alloc: Global,
+    words: &[String],
+    cut: bool,
+    shelf: &mut S,
+    out: &mut O,
+    err: &mut E,
+) -> Status
+    ensures told { cut ≡ false → (files : Files) → S.holds shelf.old ≡ Some files →
+        Leaves (meaning (map string_bytes words.now) files) result
+        (S.holds shelf.old) (S.holds shelf.new) (O.written out.old) (O.written out.new) (E.written err.old) (E.written err.new) }
+    ensures texts { cut ≡ false → OverTexts (map string_bytes words.now) (λ report. Leaves report result
+        (S.holds shelf.old) (S.holds shelf.new) (O.written out.old) (O.written out.new) (E.written err.old) (E.written err.new)) }
+    ensures cut { cut ≡ true → LeavesStreams (bad_word (first_bad (map string_bytes words.now))) result
+        (O.written out.old) (O.written out.new) (E.written err.old) (E.written err.new) }
+    ensures cut_leaves_files { cut ≡ true → shelf.new ≡ shelf.old }
+{
+    if cut {
+        refuse_cut(alloc, words, out, err)
+    } else {
+        nspk(alloc, words, shelf, out, err)
+    }
+}
