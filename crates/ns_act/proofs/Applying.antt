@@ -8,8 +8,8 @@ use Rattle.ns_world.specs.Cell.{Cell}
 use Rattle.ns_world.specs.World.{WorldView, made}
 use Rattle.ns_classes.specs.declared.apply.MakeFault.{MakeFault}
 use Rattle.ns_classes.specs.Apply.{AppliesClass}
-use Rattle.ns_send.specs.Control.{Progress, Activation}
-use Rattle.ns_send.specs.Classes.{object_part, part_of}
+use Rattle.ns_actions.specs.Control.{Progress, Activation}
+use Rattle.ns_actions.specs.Classes.{object_part, part_of}
 
 -- its cell was made
 pub applied_made : (fault : Option MakeFault) (old : WorldView) (cell : Cell) (number : ℕ) (new : WorldView) → AppliesClass fault old cell (Ok number) new → made old.world cell ≡ Some new.world

@@ -9,14 +9,14 @@ use Rattle.ns_world.specs.declared.ending.LimitKind.TheVariants.{Depth, Cells}
 use Rattle.ns_world.specs.Cell.{EnvironmentCell, ArrayCell, MessageCell}
 use Rattle.ns_world.specs.Heap.{heap_size}
 use Rattle.ns_world.specs.World.{World, made, entered}
-use Rattle.ns_send.specs.declared.site.Site.{Site}
-use Rattle.ns_send.specs.declared.control.Reached.{Reached}
-use Rattle.ns_send.specs.declared.control.Reached.TheVariants as reached
-use Rattle.ns_send.specs.declared.control.Exit.TheVariants as exit
-use Rattle.ns_send.specs.Control.{Progress, in_world, Activation, Control, Enter, FromMethod, halts, charged}
-use Rattle.ns_send.specs.Bodies.{has_environment, first_locals, opened}
-use Rattle.ns_send.specs.Sends.{Listed, Wrapped, given, one_more, method_entered}
-use Rattle.ns_send.specs.Shown.{reached_shown}
+use Rattle.ns_actions.specs.declared.site.Site.{Site}
+use Rattle.ns_actions.specs.declared.control.Reached.{Reached}
+use Rattle.ns_actions.specs.declared.control.Reached.TheVariants as reached
+use Rattle.ns_actions.specs.declared.control.Exit.TheVariants as exit
+use Rattle.ns_actions.specs.Control.{Progress, in_world, Activation, Control, Enter, FromMethod, halts, charged}
+use Rattle.ns_actions.specs.Bodies.{has_environment, first_locals, opened}
+use Rattle.ns_actions.specs.Sends.{Listed, Wrapped, given, one_more, method_entered}
+use Rattle.ns_actions.specs.Shown.{reached_shown}
 use Rattle.ns_act.specs.Counting.{counted, begins}
 
 -- the same run with another count

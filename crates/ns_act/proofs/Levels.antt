@@ -2,7 +2,7 @@
 use Rattle.std.proofs.Common.{◌≡◌, ℕ, zero, suc, ◌+◌, ◌-◌, ◌≤◌, refl, subst, arith, Option, Some, None}
 use Rattle.std.specs.Prelude.{IsSome}
 use Rattle.ns_code.specs.declared.program.CodeProgram.{CodeProgram}
-use Rattle.ns_send.specs.Lawful.{outer_of, declaration_at}
+use Rattle.ns_actions.specs.Lawful.{outer_of, declaration_at}
 
 outer_there : (code : CodeProgram) (o : Option ℕ) → IsSome (outer_of code o) → IsSome o
 outer_there code (Some decl) some = refl

@@ -9,8 +9,8 @@ use Rattle.ns_world.specs.Lawful.{IsLawful, HasHolder}
 use Rattle.ns_find.specs.declared.found.Found.{Found}
 use Rattle.ns_find.specs.declared.found.Found.TheVariants.{Getter, Setter, Nested}
 use Rattle.ns_find.specs.Belonging.{HasSlot}
-use Rattle.ns_send.specs.Lawful.{HasClass}
-use Rattle.ns_send.specs.Suits.{Suits}
+use Rattle.ns_actions.specs.Lawful.{HasClass}
+use Rattle.ns_actions.specs.Suits.{Suits}
 
 -- the law that a slot's word may be written, and that an object's words are all such
 abbrev pub SlotsOpen : Type 0

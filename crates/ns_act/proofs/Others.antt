@@ -5,10 +5,10 @@ use Rattle.ns_code.specs.declared.program.CodeProgram.{CodeProgram}
 use Rattle.ns_world.specs.declared.value.Value.{Value}
 use Rattle.ns_find.specs.declared.found.Found.{Found}
 use Rattle.ns_find.specs.declared.found.Found.TheVariants as found
-use Rattle.ns_send.specs.declared.site.Site.{Site}
-use Rattle.ns_send.specs.Bodies.{no_home}
-use Rattle.ns_send.specs.Control.{Progress}
-use Rattle.ns_send.specs.Sends.{Listed, done_with, answered_by}
+use Rattle.ns_actions.specs.declared.site.Site.{Site}
+use Rattle.ns_actions.specs.Bodies.{no_home}
+use Rattle.ns_actions.specs.Control.{Progress}
+use Rattle.ns_actions.specs.Sends.{Listed, done_with, answered_by}
 use Rattle.ns_act.specs.declared.run.Run.{Run}
 use Rattle.ns_act.specs.Run.{IsReady}
 

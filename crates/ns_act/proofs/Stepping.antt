@@ -12,9 +12,9 @@ use Rattle.ns_world.specs.Lawful.{IsLiveValue}
 use Rattle.ns_world.specs.World.{World, stepped}
 use Rattle.ns_find.specs.declared.found.Sending.TheVariants.{Plain}
 use Rattle.ns_kdata.specs.Arguments.{IsThere}
-use Rattle.ns_send.specs.declared.site.Site.{Site}
-use Rattle.ns_send.specs.Control.{Progress, Activation, halts, charged}
-use Rattle.ns_send.specs.Sends.{Target, To, receiver_of, found_at, site_at, answered_by, sent, sent_plain}
+use Rattle.ns_actions.specs.declared.site.Site.{Site}
+use Rattle.ns_actions.specs.Control.{Progress, Activation, halts, charged}
+use Rattle.ns_actions.specs.Sends.{Target, To, receiver_of, found_at, site_at, answered_by, sent, sent_plain}
 use Rattle.ns_act.specs.Answered.{answered}
 
 pub send_steps : (code : CodeProgram) (activation : Activation) (target : Target) (sel : Sel) (values : List Value) (place : Option SourcePlace) (progress : Progress)

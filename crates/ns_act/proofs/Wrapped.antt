@@ -7,8 +7,8 @@ use Rattle.ns_world.specs.declared.ending.LimitKind.TheVariants.{Cells}
 use Rattle.ns_world.specs.Cell.{ArrayCell, MessageCell}
 use Rattle.ns_world.specs.Heap.{heap_size}
 use Rattle.ns_world.specs.World.{World, made}
-use Rattle.ns_send.specs.Control.{Progress, in_world, Gives, Halts, Control, halts, charged}
-use Rattle.ns_send.specs.Sends.{Wrapped, given}
+use Rattle.ns_actions.specs.Control.{Progress, in_world, Gives, Halts, Control, halts, charged}
+use Rattle.ns_actions.specs.Sends.{Wrapped, given}
 use Rattle.ns_act.specs.Wrapping.{wrapped, with_message}
 
 -- by the Message that was made, or the end of the run

@@ -6,12 +6,12 @@ use Rattle.ns_world.specs.declared.value.Value.{Value}
 use Rattle.ns_world.specs.World.{WorldView}
 use Rattle.ns_find.specs.declared.found.Found.{Found}
 use Rattle.ns_find.specs.declared.found.Found.TheVariants as found
-use Rattle.ns_send.specs.declared.site.Site.{Site}
-use Rattle.ns_send.specs.Control.{Progress, Activation, Control}
-use Rattle.ns_send.specs.Rows.{row_at}
-use Rattle.ns_send.specs.Kernel.{row_reached}
-use Rattle.ns_send.specs.Sends.{Target, receiver_of, found_at, answered_by}
-use Rattle.ns_send.specs.Shown.{reached_shown}
+use Rattle.ns_actions.specs.declared.site.Site.{Site}
+use Rattle.ns_actions.specs.Control.{Progress, Activation, Control}
+use Rattle.ns_actions.specs.Rows.{row_at}
+use Rattle.ns_actions.specs.Kernel.{row_reached}
+use Rattle.ns_actions.specs.Sends.{Target, receiver_of, found_at, answered_by}
+use Rattle.ns_actions.specs.Shown.{reached_shown}
 use Rattle.ns_act.specs.Plain.{IsPlain}
 use Rattle.ns_act.specs.declared.sends.Answered.{Answered}
 use Rattle.ns_act.specs.declared.sends.Answered.TheVariants as is

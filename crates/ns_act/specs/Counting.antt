@@ -1,11 +1,11 @@
 -- How methods are counted that begin.
 use Rattle.std.specs.Prelude.{ℕ}
-use Rattle.ns_send.specs.declared.control.Reached.{Reached}
-use Rattle.ns_send.specs.declared.control.Reached.TheVariants as reached
-use Rattle.ns_send.specs.declared.control.Exit.{Exit as ExitKind}
-use Rattle.ns_send.specs.declared.control.Exit.TheVariants as exit
-use Rattle.ns_send.specs.Control.{Control, Now, Enter, Evaluate, Begin, Perform, FromMethod, FromBody, FromClause}
-use Rattle.ns_send.specs.Sends.{one_more}
+use Rattle.ns_actions.specs.declared.control.Reached.{Reached}
+use Rattle.ns_actions.specs.declared.control.Reached.TheVariants as reached
+use Rattle.ns_actions.specs.declared.control.Exit.{Exit as ExitKind}
+use Rattle.ns_actions.specs.declared.control.Exit.TheVariants as exit
+use Rattle.ns_actions.specs.Control.{Control, Now, Enter, Evaluate, Begin, Perform, FromMethod, FromBody, FromClause}
+use Rattle.ns_actions.specs.Sends.{one_more}
 
 -- a method that is entered has begun
 abbrev pub counted : Control → Control

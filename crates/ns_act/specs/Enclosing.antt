@@ -1,5 +1,5 @@
 -- The place of an enclosing object.
-use Rattle.ns_send.specs.Bodies.{Place}
+use Rattle.ns_actions.specs.Bodies.{Place}
 use Rattle.ns_act.specs.declared.enclosing.Surrounding.{Surrounding}
 
 -- an object, and the class by which it is meant

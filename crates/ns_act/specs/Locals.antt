@@ -4,8 +4,8 @@ use Rattle.ns_code.specs.declared.program.CodeProgram.{CodeProgram}
 use Rattle.ns_world.specs.declared.value.Value.{Value}
 use Rattle.ns_world.specs.Heap.{Heap, find_cell, words_at, cell_number}
 use Rattle.ns_world.specs.Lawful.{is_environment}
-use Rattle.ns_send.specs.Control.{Activation}
-use Rattle.ns_send.specs.Bodies.{has_environment, is_beside, environment_out, environment_at}
+use Rattle.ns_actions.specs.Control.{Activation}
+use Rattle.ns_actions.specs.Bodies.{has_environment, is_beside, environment_out, environment_at}
 
 -- The environments up to so many bodies out from one are there.
 abbrev pub HasEnvironments : Heap → Value → ℕ → Type 0

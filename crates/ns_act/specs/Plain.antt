@@ -1,8 +1,8 @@
 -- The arguments of what a send or an evaluation comes to by itself: no block is evaluated, and no elements of an array go on.
-use Rattle.ns_send.specs.declared.control.Given.{Given}
-use Rattle.ns_send.specs.declared.control.Given.TheVariants as given
-use Rattle.ns_send.specs.declared.control.Reached.{Reached}
-use Rattle.ns_send.specs.declared.control.Reached.TheVariants as reached
+use Rattle.ns_actions.specs.declared.control.Given.{Given}
+use Rattle.ns_actions.specs.declared.control.Given.TheVariants as given
+use Rattle.ns_actions.specs.declared.control.Reached.{Reached}
+use Rattle.ns_actions.specs.declared.control.Reached.TheVariants as reached
 
 -- They are those of the send, or a Message.
 abbrev pub IsOwnGiven : Given → Type 0

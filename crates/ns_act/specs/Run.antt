@@ -3,7 +3,7 @@ use Rattle.std.specs.Prelude.{◌≤◌, All}
 use Rattle.ns_code.specs.declared.program.CodeProgram.{CodeProgram}
 use Rattle.ns_world.specs.Lawful.{IsLawful}
 use Rattle.ns_find.specs.Memo.{IsRight}
-use Rattle.ns_send.specs.Control.{Progress}
+use Rattle.ns_actions.specs.Control.{Progress}
 use Rattle.ns_act.specs.declared.run.Run.{Run}
 use Rattle.ns_act.specs.Room.{HasRoom}
 

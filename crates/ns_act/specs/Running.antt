@@ -2,8 +2,8 @@
 use Rattle.std.specs.Prelude.{None}
 use Rattle.ns_world.specs.declared.kernel.KernelRow.TheVariants.{Object}
 use Rattle.ns_world.specs.declared.kernel.ClassName.TheVariants.{Kernel}
-use Rattle.ns_send.specs.declared.site.Site.{Site}
-use Rattle.ns_send.specs.Control.{Activation}
+use Rattle.ns_actions.specs.declared.site.Site.{Site}
+use Rattle.ns_actions.specs.Control.{Activation}
 use Rattle.ns_act.specs.declared.running.Running.{Running}
 
 -- the activation at that site

@@ -10,14 +10,14 @@ use Rattle.ns_world.specs.declared.ending.LimitKind.TheVariants.{Steps, Depth}
 use Rattle.ns_world.specs.Heap.{Heap}
 use Rattle.ns_world.specs.World.{WorldView, stepped, entered}
 use Rattle.ns_find.specs.declared.found.Sending.TheVariants.{Plain}
-use Rattle.ns_send.specs.declared.site.Site.{Site}
-use Rattle.ns_send.specs.declared.control.Exit.{Exit}
-use Rattle.ns_send.specs.declared.control.Reached.{Reached}
-use Rattle.ns_send.specs.declared.control.PartReached.{PartReached}
-use Rattle.ns_send.specs.Bodies.{opened}
-use Rattle.ns_send.specs.Control.{Progress, in_world, Activation, After, Control, Enter, Part, Stop, EnterPart, FromMethod, Waiting, halts, charged}
-use Rattle.ns_send.specs.Sends.{Target, To, Wrapped, given, receiver_of, site_at, sent, sent_plain}
-use Rattle.ns_send.specs.Shown.{reached_shown, part_shown, answer_shown, exit_shown}
+use Rattle.ns_actions.specs.declared.site.Site.{Site}
+use Rattle.ns_actions.specs.declared.control.Exit.{Exit}
+use Rattle.ns_actions.specs.declared.control.Reached.{Reached}
+use Rattle.ns_actions.specs.declared.control.PartReached.{PartReached}
+use Rattle.ns_actions.specs.Bodies.{opened}
+use Rattle.ns_actions.specs.Control.{Progress, in_world, Activation, After, Control, Enter, Part, Stop, EnterPart, FromMethod, Waiting, halts, charged}
+use Rattle.ns_actions.specs.Sends.{Target, To, Wrapped, given, receiver_of, site_at, sent, sent_plain}
+use Rattle.ns_actions.specs.Shown.{reached_shown, part_shown, answer_shown, exit_shown}
 use Rattle.ns_act.specs.declared.methods.Waited.{Waited}
 use Rattle.ns_act.specs.declared.run.Run.{Run}
 use Rattle.ns_act.specs.declared.running.Running.{Running}

@@ -1,8 +1,8 @@
 -- What a method of the kernel does next, in the form in which a machine takes it.
-use Rattle.ns_send.specs.declared.site.Site.{Site}
-use Rattle.ns_send.specs.Control.{Progress, Waiting, Waits, Finishes}
-use Rattle.ns_send.specs.Blocks.{listed}
-use Rattle.ns_send.specs.Shown.{answer_shown}
+use Rattle.ns_actions.specs.declared.site.Site.{Site}
+use Rattle.ns_actions.specs.Control.{Progress, Waiting, Waits, Finishes}
+use Rattle.ns_actions.specs.Blocks.{listed}
+use Rattle.ns_actions.specs.Shown.{answer_shown}
 use Rattle.ns_act.specs.declared.methods.Waited.{Waited}
 use Rattle.ns_act.specs.declared.methods.Waited.TheVariants as waited
 

@@ -8,9 +8,9 @@ use Rattle.ns_world.specs.declared.ending.LimitKind.TheVariants.{Cells}
 use Rattle.ns_world.specs.Cell.{ArrayCell, MessageCell}
 use Rattle.ns_world.specs.Heap.{heap_size}
 use Rattle.ns_world.specs.World.{made}
-use Rattle.ns_send.specs.declared.site.Site.{Site}
-use Rattle.ns_send.specs.Site.{fault_ending}
-use Rattle.ns_send.specs.Control.{Progress, After, Gives, Halts, Control, halts, charged}
+use Rattle.ns_actions.specs.declared.site.Site.{Site}
+use Rattle.ns_actions.specs.Site.{fault_ending}
+use Rattle.ns_actions.specs.Control.{Progress, After, Gives, Halts, Control, halts, charged}
 
 -- the array of the arguments is charged, and then the Message itself
 abbrev pub wrapped : Sel → List Value → Progress → After

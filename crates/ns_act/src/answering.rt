@@ -9,12 +9,12 @@ ghost use Rattle.ns_world.specs.Starts.{start_of};
 ghost use Rattle.ns_find.specs.declared.found.Sending.TheVariants.{Inner};
 ghost use Rattle.ns_find.specs.Find.{found_from};
 ghost use Rattle.ns_find.specs.Memo.{IsRight};
-ghost use Rattle.ns_send.specs.declared.site.Site.{Site};
-ghost use Rattle.ns_send.specs.Bodies.{no_home};
-ghost use Rattle.ns_send.specs.Control.{Activation};
-ghost use Rattle.ns_send.specs.Lawful.{FitsSelector};
-ghost use Rattle.ns_send.specs.Sends as spec;
-ghost use Rattle.ns_send.specs.Suits.{Suits};
+ghost use Rattle.ns_actions.specs.declared.site.Site.{Site};
+ghost use Rattle.ns_actions.specs.Bodies.{no_home};
+ghost use Rattle.ns_actions.specs.Control.{Activation};
+ghost use Rattle.ns_actions.specs.Lawful.{FitsSelector};
+ghost use Rattle.ns_actions.specs.Sends as spec;
+ghost use Rattle.ns_actions.specs.Suits.{Suits};
 ghost use Rattle.ns_act.specs.Answered.{answered_shown, answered, IsAnswered};
 ghost use Rattle.ns_act.specs.Plain.{IsPlain};
 ghost use Rattle.ns_act.specs.Room.{HasRoom, SameRest};
@@ -26,12 +26,12 @@ use crate::sends::{
     Answered, enter_factory, enter_factory_with_message, enter_method, enter_method_with_message,
     get, nested_in, set, set_with_message,
 };
+use ns_actions::control::Reached;
+use ns_actions::finding::{entries_are_inside, lookups_can_start, what_is_found_suits};
 use ns_base::selector::Sel;
 use ns_code::program::CodeProgram;
 use ns_find::found::{Found, Sending};
 use ns_find::memo::{Memo, find_kept};
-use ns_send::control::Reached;
-use ns_send::finding::{entries_are_inside, lookups_can_start, what_is_found_suits};
 use ns_world::ending::{Fault, Kind};
 use ns_world::value::Value;
 use ns_world::world::World;

@@ -2,16 +2,16 @@
 
 ghost use Rattle.ns_world.specs.declared.cell.NewCell.TheVariants as new;
 ghost use Rattle.ns_kdata.specs.Arguments.{IsThere};
-ghost use Rattle.ns_send.specs.Blocks as spec;
+ghost use Rattle.ns_actions.specs.Blocks as spec;
 ghost use Rattle.ns_act.specs.Plain.{IsPlain};
 ghost use Rattle.ns_act.specs.Room.{HasRoom, SameRest};
 ghost use Rattle.ns_act.specs.Stated.{ReachesAs};
 
 use crate::bodies::enter_body;
 use crate::running::{Running, parameters};
+use ns_actions::control::{Exit, Given, Reached};
 use ns_code::program::CodeProgram;
 use ns_kdata::arguments::shape_of_value;
-use ns_send::control::{Exit, Given, Reached};
 use ns_world::cell::NewCell;
 use ns_world::ending::{Fault, Kind};
 use ns_world::value::Value;

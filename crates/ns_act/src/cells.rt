@@ -1,12 +1,12 @@
 //! New cells as values.
 
-ghost use Rattle.ns_send.specs.Blocks as spec;
+ghost use Rattle.ns_actions.specs.Blocks as spec;
 ghost use Rattle.ns_act.specs.Room.{HasRoom, SameRest};
 ghost use Rattle.ns_act.specs.Running.{activation_at};
 ghost use Rattle.ns_act.specs.Stated.{AnswersAs};
 
 use crate::running::Running;
-use ns_send::control::Answer;
+use ns_actions::control::Answer;
 use ns_world::cell::NewCell;
 use ns_world::ending::{Fault, LimitKind};
 use ns_world::value::Value;

@@ -3,15 +3,15 @@
 ghost use Rattle.std.specs.Prelude.{◌≡◌, IsSome, IsTrue};
 ghost use Rattle.ns_world.specs.Heap.{find_cell, is_class, shape_at};
 ghost use Rattle.ns_world.specs.Lawful.{IsLawful};
-ghost use Rattle.ns_send.specs.declared.site.Site.{Site};
-ghost use Rattle.ns_send.specs.Bodies as bodies;
-ghost use Rattle.ns_send.specs.Lawful.{FitsActivation, declaration_at};
+ghost use Rattle.ns_actions.specs.declared.site.Site.{Site};
+ghost use Rattle.ns_actions.specs.Bodies as bodies;
+ghost use Rattle.ns_actions.specs.Lawful.{FitsActivation, declaration_at};
 ghost use Rattle.ns_act.specs.Enclosing.{place_of};
 ghost use Rattle.ns_act.specs.Running.{activation_at, code_of};
 
 use crate::running::Running;
+use ns_actions::finding::enclosing_objects_are_there;
 use ns_code::program::CodeProgram;
-use ns_send::finding::enclosing_objects_are_there;
 use ns_world::cell::NewCell;
 use ns_world::value::{Value, cell_number};
 use ns_world::world::World;

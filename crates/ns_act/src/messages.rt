@@ -3,15 +3,15 @@
 ghost use Rattle.std.specs.Prelude.{◌≡◌, IfOk};
 ghost use Rattle.ns_code.specs.declared.program.CodeProgram.{CodeProgram};
 ghost use Rattle.ns_world.specs.Lawful.{IsLawful};
-ghost use Rattle.ns_send.specs.declared.site.Site.{Site};
-ghost use Rattle.ns_send.specs.Control.{Progress, in_world};
-ghost use Rattle.ns_send.specs.Lawful.{FitsSelector};
-ghost use Rattle.ns_send.specs.Suits.{Follows};
+ghost use Rattle.ns_actions.specs.declared.site.Site.{Site};
+ghost use Rattle.ns_actions.specs.Control.{Progress, in_world};
+ghost use Rattle.ns_actions.specs.Lawful.{FitsSelector};
+ghost use Rattle.ns_actions.specs.Suits.{Follows};
 ghost use Rattle.ns_act.specs.Room.{HasRoom, SameRest};
 ghost use Rattle.ns_act.specs.Wrapping.{wrapped, message_shown};
 
+use ns_actions::finding::messages_follow;
 use ns_base::selector::Sel;
-use ns_send::finding::messages_follow;
 use ns_world::cell::NewCell;
 use ns_world::ending::{Fault, LimitKind};
 use ns_world::value::Value;

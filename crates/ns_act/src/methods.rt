@@ -2,15 +2,15 @@
 
 ghost use Rattle.std.specs.Prelude.{◌≡◌, ◌<◌};
 ghost use Rattle.ns_kdata.specs.Arguments.{IsThere};
-ghost use Rattle.ns_send.specs.Blocks as spec;
-ghost use Rattle.ns_send.specs.Control.{Waits};
+ghost use Rattle.ns_actions.specs.Blocks as spec;
+ghost use Rattle.ns_actions.specs.Control.{Waits};
 ghost use Rattle.ns_act.specs.Room.{SameRest};
 ghost use Rattle.ns_act.specs.Stated.{WaitsAs};
 
+use ns_actions::control::Answer;
 use ns_kcode::next::next;
 use ns_kcode::state::{KAction, KMethod, KState};
 use ns_kdata::arguments::{array_item, array_size};
-use ns_send::control::Answer;
 use ns_world::ending::Fault;
 use ns_world::value::Value;
 use ns_world::world::World;

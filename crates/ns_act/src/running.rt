@@ -2,7 +2,7 @@
 
 ghost use Rattle.std.specs.Prelude.{◌≡◌, ◌-◌};
 ghost use Rattle.ns_find.specs.Find.{side_of};
-ghost use Rattle.ns_send.specs.Bodies as bodies;
+ghost use Rattle.ns_actions.specs.Bodies as bodies;
 
 use ns_code::program::CodeProgram;
 use ns_world::value::Value;

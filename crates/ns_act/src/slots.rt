@@ -3,18 +3,18 @@
 ghost use Rattle.std.specs.Prelude.{◌≡◌, IsTrue};
 ghost use Rattle.ns_world.specs.Heap.{find_cell, is_class};
 ghost use Rattle.ns_world.specs.Lawful.{IsLawful};
-ghost use Rattle.ns_send.specs.declared.site.Site.{Site};
-ghost use Rattle.ns_send.specs.Control.{Progress, in_world};
-ghost use Rattle.ns_send.specs.Classes as spec;
-ghost use Rattle.ns_send.specs.Lawful.{FitsSlot};
+ghost use Rattle.ns_actions.specs.declared.site.Site.{Site};
+ghost use Rattle.ns_actions.specs.Control.{Progress, in_world};
+ghost use Rattle.ns_actions.specs.Classes as spec;
+ghost use Rattle.ns_actions.specs.Lawful.{FitsSlot};
 ghost use Rattle.ns_act.specs.Room.{SameRest};
 ghost use Rattle.ns_act.specs.Running.{activation_at, code_of};
 
 use crate::running::Running;
+use ns_actions::finding::entries_are_inside;
 use ns_classes::layout::word;
 use ns_code::program::CodeProgram;
 use ns_mirror::slots::store;
-use ns_send::finding::entries_are_inside;
 use ns_world::value::Value;
 use ns_world::world::World;
 

@@ -11,6 +11,7 @@ pub mod place;
 pub mod selector;
 pub mod shelf;
 pub mod sink;
+pub mod spelled;
 pub mod spelling;
 pub mod status;
 pub mod stored;

@@ -2,11 +2,11 @@
 
 use crate::reading::read;
 use ns_base::items::Items;
+use ns_parse_tokens::fault::ParseFault;
 use ns_scope::program::Program;
 use ns_scope::resolve::Target;
-use ns_terminal::fault::ParseFault;
-use ns_visible::bodies::scopes;
-use ns_visible::scopes::{BodyId, Scopes};
+use ns_scope_bodies::bodies::scopes;
+use ns_scope_bodies::scopes::{BodyId, Scopes};
 use std::alloc::Global;
 
 /// `who` is what the enclosing class W declares, and not what In inherits from Base. Its bodies are W:

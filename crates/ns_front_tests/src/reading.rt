@@ -2,7 +2,7 @@
 
 use ns_lex::scan::lex;
 use ns_parse::parse::parse;
-use ns_terminal::fault::ParseFault;
+use ns_parse_tokens::fault::ParseFault;
 use ns_tree::tree::Unit;
 use std::alloc::Global;
 

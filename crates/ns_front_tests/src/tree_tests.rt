@@ -2,7 +2,7 @@
 //! numbers were counted by hand.
 
 use crate::reading::read;
-use ns_terminal::fault::ParseFault;
+use ns_parse_tokens::fault::ParseFault;
 use std::alloc::Global;
 
 /// A text, and the number of the token at which it stops to be a file, where it does.

@@ -1,5 +1,9 @@
-//! The code of a program in which every name has its meaning: definitions, and their laws.
+//! The generator: the code of a program in which every name has its meaning.
 #![tactic(auto)]
 
+pub mod bodies;
+pub mod fault;
+pub mod generate;
+pub mod inner;
 pub mod laws;
-pub mod size;
+pub mod units;

@@ -4,7 +4,7 @@ ghost use Rattle.std.specs.Prelude.{◌≡◌};
 ghost use Rattle.std.specs.Str.{is_utf8};
 ghost use Rattle.ns_image.specs.Reading.{is_file_name, is_local_name};
 
-use ns_spelling::spelling::{is_identifier, is_reserved};
+use ns_base::spelled::{is_identifier, is_reserved};
 
 /// Whether a file can have this name: UTF-8, and not empty.
 pub fn is_file_name(name: &[u8]) -> bool

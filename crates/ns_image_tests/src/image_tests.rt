@@ -4,10 +4,10 @@ ghost use Rattle.ns_code.specs.Fits.{Fits};
 
 use ns_base::no_memory::NoMemory;
 use ns_code::program::CodeProgram;
-use ns_export::write::write;
 use ns_image::fault::ImageFault;
 use ns_image::read::read;
-use ns_listing::list::list;
+use ns_image_list::list::list;
+use ns_image_write::write::write;
 use ns_verify::fault::VerifyCause::{BadHeight, BadScope};
 use ns_verify::fault::{VerifyFault, Where};
 use ns_verify::verify::verify;

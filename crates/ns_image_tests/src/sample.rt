@@ -18,9 +18,9 @@ use ns_code::instruction::Instr;
 use ns_code::instructions::Instructions;
 use ns_code::local_names::LocalNames;
 use ns_code::program::CodeProgram;
-use ns_members::texts::are_different;
 use ns_verify::fault::Fault;
 use ns_verify::faults::first_fault;
+use ns_verify_members::texts::are_different;
 use std::alloc::Global;
 
 pub const PUBLIC: u8 = 0;

@@ -46,15 +46,15 @@ use Rattle.ns_mirror.specs.Selectors.{public_selectors, methods_of_shape}
 use Rattle.ns_mirror.specs.declared.row.Mirrored.{Mirrored}
 use Rattle.ns_mirror.specs.declared.row.Mirrored.TheVariants.{Answer, Perform as MirrorPerform}
 use Rattle.ns_mirror.specs.Mirror.{Reflected, Reflects, Refuses, reflected, perform, performed, performed_with, mirror}
-use Rattle.ns_send.specs.declared.row.Row.{Row}
-use Rattle.ns_send.specs.declared.row.Row.TheVariants as row
-use Rattle.ns_send.specs.declared.site.Site.{Site}
-use Rattle.ns_send.specs.Control.{Progress, in_world, After, Halts, Control, Now, Evaluate, Begin, charged, halts, fails}
-use Rattle.ns_send.specs.Classes.{class_made, mixed}
-use Rattle.ns_send.specs.Blocks.{has_arguments, turns_of, method_begun, value_with_arguments}
+use Rattle.ns_actions.specs.declared.row.Row.{Row}
+use Rattle.ns_actions.specs.declared.row.Row.TheVariants as row
+use Rattle.ns_actions.specs.declared.site.Site.{Site}
+use Rattle.ns_actions.specs.Control.{Progress, in_world, After, Halts, Control, Now, Evaluate, Begin, charged, halts, fails}
+use Rattle.ns_actions.specs.Classes.{class_made, mixed}
+use Rattle.ns_actions.specs.Blocks.{has_arguments, turns_of, method_begun, value_with_arguments}
 use Rattle.ns_kcode.specs.declared.state.KMethod.{KMethod}
 use Rattle.ns_kcode.specs.Rows.{beginning}
-use Rattle.ns_send.specs.Kernel.{outcome_reached, answer_reached, reflected_reached, facet_reached, data_reached, row_reached}
+use Rattle.ns_actions.specs.Kernel.{outcome_reached, answer_reached, reflected_reached, facet_reached, data_reached, row_reached}
 use Rattle.ns_link.specs.Fewer.{world_to, to_steps, maybe_to, after_to, control_to}
 
 module _ (k : ℕ) where

@@ -2,10 +2,10 @@
 use Rattle.std.proofs.Common.{◌≡◌, List, [], ◌∷◌, refl, sym, subst, ap, ◌∙◌}
 use Rattle.std.specs.Prelude.{map}
 use Rattle.ns_code.specs.declared.program.CodeProgram.{CodeProgram}
-use Rattle.ns_meant.specs.Program as m
-use Rattle.ns_meant.specs.Tables.{body_head, tables}
-use Rattle.ns_gen.specs.Code.{code_of}
-use Rattle.ns_gen.specs.Stated.{OneProgram}
+use Rattle.ns_resolved.specs.Program as m
+use Rattle.ns_resolved.specs.Tables.{body_head, tables}
+use Rattle.ns_gen_code.specs.Code.{code_of}
+use Rattle.ns_gen_code.specs.Stated.{OneProgram}
 use Rattle.ns_model.specs.Whole.{ran}
 use Rattle.ns_model.specs.Laws.{ReturnsGoHome, RunsEnd}
 use Rattle.ns_model.specs.Tables.{SameTables, MeansTheSame}

@@ -8,8 +8,8 @@ use Rattle.ns_tree.specs.PlainOf.{unit_of}
 use Rattle.ns_scope.specs.declared.program.Program.{Program}
 use Rattle.ns_scope.specs.Whole.{AreWholeUnits}
 use Rattle.ns_scope.specs.Scopes.{initialiser_scope}
-use Rattle.ns_meant.specs.Expressions.{Standing}
-use Rattle.ns_meant.specs.Classes.{in_file, within, standing, declaration_of, initialiser_of, meant_of}
+use Rattle.ns_resolved.specs.Expressions.{Standing}
+use Rattle.ns_resolved.specs.Classes.{in_file, within, standing, declaration_of, initialiser_of, meant_of}
 use Rattle.ns_link.specs.Laws.{HasFirst, WholeHasFirst}
 
 -- where the expressions of the first initialiser stand

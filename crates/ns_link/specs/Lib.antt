@@ -1,3 +1,15 @@
 pub mod Shown
 pub mod Fewer
 pub mod Laws
+pub mod Differ
+pub mod Each
+pub mod Faultless
+pub mod Named
+pub mod Reached
+pub mod Reaching
+pub mod Spelled
+pub mod Using
+pub mod laws
+pub mod Accepted
+pub mod Numbers
+pub mod Spoken

@@ -2,7 +2,7 @@
 //! law.
 
 ghost use Rattle.ns_scope.specs.declared.program.Program.{Program};
-ghost use Rattle.ns_meant.specs.Program.{Meant};
+ghost use Rattle.ns_resolved.specs.Program.{Meant};
 ghost use Rattle.ns_link.specs.Laws.{RunsAsMeant, ReportedAsMeant, WholeHasFirst, SourceRunsAsMeant, TurnsAreOnTheWay, LongTurnsEnd, FewerStepsBegin};
 
 /// The machine on the code of a program, started, comes to the end that the program means by its
@@ -12,7 +12,7 @@ pub fn the_machine_does_what_is_meant()
     ensures ends { (meant : Meant) → RunsAsMeant meant }
     ensures reported { (meant : Meant) → ReportedAsMeant meant }
 {
-    ns_gen::laws::code_has_the_tables();
+    ns_gen_code::laws::code_has_the_tables();
     ns_model::laws::returns_go_home();
     ns_model::laws::runs_end();
     ns_model::laws::the_meaning_reads_tables_alone();
@@ -39,9 +39,9 @@ pub fn turns_are_on_the_way()
     ensures { (meant : Meant) → TurnsAreOnTheWay meant }
 {
     the_machine_does_what_is_meant();
-    ns_moves::laws::moves_add();
-    ns_moves::laws::ended_runs_stay();
-    ns_moves::laws::moves_go_onward();
+    ns_machine_moves::laws::moves_add();
+    ns_machine_moves::laws::ended_runs_stay();
+    ns_machine_moves::laws::moves_go_onward();
 }
 
 /// A turn of one step more than the limit comes to that end.
@@ -49,11 +49,11 @@ pub fn long_turns_come_to_the_end()
     ensures { (meant : Meant) → LongTurnsEnd meant }
 {
     turns_are_on_the_way();
-    ns_moves::laws::ended_runs_stay();
-    ns_moves::laws::moves_go_onward();
-    ns_moves::valid_world::new_machines_are_valid();
-    ns_moves::valid_world::opening_sends_are_valid();
-    ns_moves::valid_frames::moves_keep_valid();
+    ns_machine_moves::laws::ended_runs_stay();
+    ns_machine_moves::laws::moves_go_onward();
+    ns_machine_moves::valid_world::new_machines_are_valid();
+    ns_machine_moves::valid_world::opening_sends_are_valid();
+    ns_machine_moves::valid_frames::moves_keep_valid();
 }
 
 /// With fewer steps a program's run means the same, but for the limit itself, or that limit ends it
@@ -63,7 +63,7 @@ pub fn fewer_steps_begin_the_run()
     ensures { (meant : Meant) → FewerStepsBegin meant }
 {
     the_machine_does_what_is_meant();
-    ns_moves::laws::moves_add();
-    ns_moves::laws::ended_runs_stay();
-    ns_moves::laws::moves_go_onward();
+    ns_machine_moves::laws::moves_add();
+    ns_machine_moves::laws::ended_runs_stay();
+    ns_machine_moves::laws::moves_go_onward();
 }

@@ -7,8 +7,8 @@ use Rattle.ns_lib.specs.Collections.{collections}
 use Rattle.ns_load.specs.Source.{grammatical, lexical, parsed, read, read_tokens, refused, scanned}
 use Rattle.ns_load.specs.declared.fault.LoadFault.TheVariants.{Memory}
 use Rattle.ns_parse.specs.Parse.{parse}
-use Rattle.ns_terminal.specs.declared.fault.ParseFault.{ParseFault}
-use Rattle.ns_terminal.specs.declared.fault.ParseFault.TheVariants as parsing
+use Rattle.ns_parse_tokens.specs.declared.fault.ParseFault.{ParseFault}
+use Rattle.ns_parse_tokens.specs.declared.fault.ParseFault.TheVariants as parsing
 use Rattle.ns_tree.specs.Tokens.{kinds}
 use Rattle.ns_tree.specs.declared.token.Token.{Token}
 

@@ -15,13 +15,13 @@ use Rattle.ns_load.specs.Place.{behind, marks, past, place_of, places, start}
 use Rattle.ns_load.specs.Source.{parsed, read, scanned, spells}
 use Rattle.ns_load.proofs.Lengths.{cut_count, cut_within}
 use Rattle.ns_parse.specs.Parse.{parse, parse_by}
-use Rattle.ns_terminal.specs.Read.{Outcome}
+use Rattle.ns_parse_tokens.specs.Read.{Outcome}
 use Rattle.ns_parse.specs.laws.SoundFile.{parse_spelled}
 use Rattle.ns_scope.specs.Whole.{most_bytes, AllWithin, ArePlacesOf, IsPlaceOf, IsWholeUnit, AreWholeUnits, IsFileName, IsWhole}
 use Rattle.ns_scope.specs.declared.program.Program.{Program}
 use Rattle.ns_tree.specs.Deep.{deep}
 use Rattle.ns_tree.specs.Flat.{flat}
-use Rattle.ns_terminal.specs.declared.fault.ParseFault.{ParseFault}
+use Rattle.ns_parse_tokens.specs.declared.fault.ParseFault.{ParseFault}
 use Rattle.ns_tree.specs.Plain as p
 use Rattle.ns_tree.specs.PlainOf.{unit_of}
 use Rattle.ns_tree.specs.Tokens.{kinds}

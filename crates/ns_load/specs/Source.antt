@@ -9,8 +9,8 @@ use Rattle.ns_load.specs.declared.fault.LoadCause.TheVariants.{Missing, TooLong,
 use Rattle.ns_load.specs.declared.fault.LoadFault.{LoadFault}
 use Rattle.ns_load.specs.declared.fault.LoadFault.TheVariants.{At, Memory}
 use Rattle.ns_parse.specs.Parse.{parse}
-use Rattle.ns_terminal.specs.declared.fault.ParseFault.{ParseFault}
-use Rattle.ns_terminal.specs.declared.fault.ParseFault.TheVariants as parsing
+use Rattle.ns_parse_tokens.specs.declared.fault.ParseFault.{ParseFault}
+use Rattle.ns_parse_tokens.specs.declared.fault.ParseFault.TheVariants as parsing
 use Rattle.ns_tree.specs.Plain as p
 use Rattle.ns_tree.specs.Tokens.{kinds}
 use Rattle.ns_tree.specs.declared.token.Token.{Token}

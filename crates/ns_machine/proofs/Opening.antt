@@ -8,12 +8,12 @@ use Rattle.ns_code.specs.declared.program.CodeProgram.{CodeProgram}
 use Rattle.ns_code.specs.declared.body.BodyCode.{BodyCode}
 use Rattle.ns_code.specs.declared.instruction.Instr.TheVariants.{ReturnSelf}
 use Rattle.ns_find.specs.declared.found.Sending.TheVariants.{Plain, Inner}
-use Rattle.ns_moves.specs.Steps.{super_place, super_place_or, placed, steps_of, steps_from}
-use Rattle.ns_plan.specs.declared.step.Step.{Step}
-use Rattle.ns_plan.specs.declared.step.Step.TheVariants.{Send, InitSuper}
-use Rattle.ns_plan.specs.Plan.{IsStepAt}
-use Rattle.ns_plan.specs.Steps.{instr_of, place_of, places_of, no_place}
-use Rattle.ns_plan.specs.laws.Steps.{steps_count}
+use Rattle.ns_machine_moves.specs.Steps.{super_place, super_place_or, placed, steps_of, steps_from}
+use Rattle.ns_machine_plan.specs.declared.step.Step.{Step}
+use Rattle.ns_machine_plan.specs.declared.step.Step.TheVariants.{Send, InitSuper}
+use Rattle.ns_machine_plan.specs.Plan.{IsStepAt}
+use Rattle.ns_machine_plan.specs.Steps.{instr_of, place_of, places_of, no_place}
+use Rattle.ns_machine_plan.specs.laws.Steps.{steps_count}
 use Rattle.ns_machine.specs.Opening.{super_number}
 
 -- a step that is another is passed over

@@ -3,25 +3,25 @@ use Rattle.std.proofs.Common.{◌≡◌, ℕ, zero, suc, ◌+◌, ◌≤◌, ◌
 use Rattle.std.proofs.lemmas.Bool.{ltb-true}
 use Rattle.ns_code.specs.declared.program.CodeProgram.{CodeProgram}
 use Rattle.ns_facets.specs.declared.row.Grants.{Grants}
-use Rattle.ns_send.specs.Control.{Progress}
-use Rattle.ns_moves.specs.State.{State, world_of}
-use Rattle.ns_moves.specs.Stated.{StaysStill}
-use Rattle.ns_moves.specs.Onward.{MovesGoOnward}
-use Rattle.ns_moves.specs.Move.{move, moves}
-use Rattle.ns_moves.specs.Turn.{is_still, ends_with_steps, charges, one_if, charged_in, Turned, Turns}
-use Rattle.ns_moves.specs.laws.Still.{limited_still, none_charged}
+use Rattle.ns_actions.specs.Control.{Progress}
+use Rattle.ns_machine_moves.specs.State.{State, world_of}
+use Rattle.ns_machine_moves.specs.Stated.{StaysStill}
+use Rattle.ns_machine_moves.specs.Onward.{MovesGoOnward}
+use Rattle.ns_machine_moves.specs.Move.{move, moves}
+use Rattle.ns_machine_moves.specs.Turn.{is_still, ends_with_steps, charges, one_if, charged_in, Turned, Turns}
+use Rattle.ns_machine_moves.specs.laws.Still.{limited_still, none_charged}
 use Rattle.ns_base.specs.declared.limits.Limits.{Limits}
-use Rattle.ns_frames.specs.declared.frame.Pending.{Pending}
-use Rattle.ns_frames.specs.declared.registers.Registers.{Registers}
-use Rattle.ns_frames.specs.declared.frame.Pending.TheVariants as pending
-use Rattle.ns_engine.specs.declared.state.Core.{Core}
-use Rattle.ns_engine.specs.declared.state.Next.{Next}
-use Rattle.ns_engine.specs.declared.state.Next.TheVariants as next
-use Rattle.ns_frames.specs.View.{state_shown}
-use Rattle.ns_engine.specs.Shown.{phase_shown, shown, progress_in}
-use Rattle.ns_engine.specs.Ready.{IsReady}
-use Rattle.ns_engine.specs.Standing.{Stays}
-use Rattle.ns_engine.specs.laws.Kept.{ready_lawful, shown_progress}
+use Rattle.ns_machine_frames.specs.declared.frame.Pending.{Pending}
+use Rattle.ns_machine_frames.specs.declared.registers.Registers.{Registers}
+use Rattle.ns_machine_frames.specs.declared.frame.Pending.TheVariants as pending
+use Rattle.ns_machine_core.specs.declared.state.Core.{Core}
+use Rattle.ns_machine_core.specs.declared.state.Next.{Next}
+use Rattle.ns_machine_core.specs.declared.state.Next.TheVariants as next
+use Rattle.ns_machine_frames.specs.View.{state_shown}
+use Rattle.ns_machine_core.specs.Shown.{phase_shown, shown, progress_in}
+use Rattle.ns_machine_core.specs.Ready.{IsReady}
+use Rattle.ns_machine_core.specs.Standing.{Stays}
+use Rattle.ns_machine_core.specs.laws.Kept.{ready_lawful, shown_progress}
 use Rattle.ns_machine.specs.Turning.{Ran}
 
 -- ---- steps that are charged

@@ -7,32 +7,32 @@ use Rattle.ns_world.specs.declared.value.Value.{Value}
 use Rattle.ns_world.specs.declared.cell.CellLimit.{CellLimit}
 use Rattle.ns_world.specs.World.{WorldView}
 use Rattle.ns_world.specs.Lawful.{IsLawful}
-use Rattle.ns_send.specs.Control.{Progress, in_world}
-use Rattle.ns_send.specs.Start.{nothing_done, start_made}
-use Rattle.ns_start.specs.Making.{start_shown}
-use Rattle.ns_moves.specs.State.{Ended, progress_of, swapped}
-use Rattle.ns_moves.specs.Starts.{unbegun, new_machine}
-use Rattle.ns_moves.specs.Valid.{Valid}
-use Rattle.ns_engine.specs.declared.state.Core.{Core}
-use Rattle.ns_engine.specs.Shown.{phase_shown, progress_in}
-use Rattle.ns_engine.specs.laws.Kept.{valid_lawful, shown_progress, rooms_stay}
-use Rattle.ns_engine.specs.declared.state.Phase.{Phase as KeptPhase}
-use Rattle.ns_engine.specs.declared.state.Phase.TheVariants.{Start, Hosted}
+use Rattle.ns_actions.specs.Control.{Progress, in_world}
+use Rattle.ns_actions.specs.Start.{nothing_done, start_made}
+use Rattle.ns_machine_start.specs.Making.{start_shown}
+use Rattle.ns_machine_moves.specs.State.{Ended, progress_of, swapped}
+use Rattle.ns_machine_moves.specs.Starts.{unbegun, new_machine}
+use Rattle.ns_machine_moves.specs.Valid.{Valid}
+use Rattle.ns_machine_core.specs.declared.state.Core.{Core}
+use Rattle.ns_machine_core.specs.Shown.{phase_shown, progress_in}
+use Rattle.ns_machine_core.specs.laws.Kept.{valid_lawful, shown_progress, rooms_stay}
+use Rattle.ns_machine_core.specs.declared.state.Phase.{Phase as KeptPhase}
+use Rattle.ns_machine_core.specs.declared.state.Phase.TheVariants.{Start, Hosted}
 use Rattle.ns_world.specs.declared.ending.Ending.{Ending}
 use Rattle.ns_world.specs.declared.ending.Ending.TheVariants.{Limit}
 use Rattle.ns_world.specs.declared.ending.LimitKind.TheVariants.{Cells}
 use Rattle.std.proofs.Common.{Option, None, Bool, if◌then◌else◌, ◌≤◌, length, append-nil}
-use Rattle.ns_engine.specs.Ready.{IsReady}
-use Rattle.ns_turns.specs.Turning.{RunsBy}
+use Rattle.ns_machine_core.specs.Ready.{IsReady}
+use Rattle.ns_machine_turns.specs.Turning.{RunsBy}
 use Rattle.ns_base.specs.declared.selector.Sel.{Sel}
-use Rattle.ns_send.specs.Sends.{site_at}
-use Rattle.ns_moves.specs.State as state
-use Rattle.ns_moves.specs.State.{Sending, Pends, world_of}
-use Rattle.ns_moves.specs.Starts.{begun}
-use Rattle.ns_moves.specs.Beginning.{MayBegin, HostKeepsValid}
-use Rattle.ns_plan.specs.Steps.{places_of, no_place}
-use Rattle.ns_engine.specs.declared.state.Next.{Next}
-use Rattle.ns_engine.specs.Shown.{shown}
+use Rattle.ns_actions.specs.Sends.{site_at}
+use Rattle.ns_machine_moves.specs.State as state
+use Rattle.ns_machine_moves.specs.State.{Sending, Pends, world_of}
+use Rattle.ns_machine_moves.specs.Starts.{begun}
+use Rattle.ns_machine_moves.specs.Beginning.{MayBegin, HostKeepsValid}
+use Rattle.ns_machine_plan.specs.Steps.{places_of, no_place}
+use Rattle.ns_machine_core.specs.declared.state.Next.{Next}
+use Rattle.ns_machine_core.specs.Shown.{shown}
 use Rattle.ns_machine.proofs.Opening.{no_place_is}
 use Rattle.ns_machine.specs.Waiting.{SendWaits}
 use Rattle.ns_machine.specs.declared.stage.Stage.{Stage}
@@ -44,16 +44,16 @@ use Rattle.ns_base.specs.declared.place.Place.{Place as SourcePlace}
 use Rattle.ns_facets.specs.declared.board.Board.{Board}
 use Rattle.ns_find.specs.Memo.{IsRight}
 use Rattle.ns_act.specs.declared.run.Run.{Run}
-use Rattle.ns_moves.specs.Steps.{opening_place}
-use Rattle.ns_moves.specs.WorldStays.{SwapsKeepValid}
-use Rattle.ns_frames.specs.declared.frame.Pending.{Pending}
-use Rattle.ns_frames.specs.declared.frame.Pending.TheVariants as pending
-use Rattle.ns_frames.specs.declared.registers.Registers.{Registers}
-use Rattle.ns_frames.specs.View.{state_shown}
-use Rattle.ns_plan.specs.declared.plan.Plan.{Plan}
-use Rattle.ns_engine.specs.declared.own.OwnSends.{OwnSends}
-use Rattle.ns_engine.specs.declared.state.Next.TheVariants as next
-use Rattle.ns_engine.specs.Standing.{Stays}
+use Rattle.ns_machine_moves.specs.Steps.{opening_place}
+use Rattle.ns_machine_moves.specs.WorldStays.{SwapsKeepValid}
+use Rattle.ns_machine_frames.specs.declared.frame.Pending.{Pending}
+use Rattle.ns_machine_frames.specs.declared.frame.Pending.TheVariants as pending
+use Rattle.ns_machine_frames.specs.declared.registers.Registers.{Registers}
+use Rattle.ns_machine_frames.specs.View.{state_shown}
+use Rattle.ns_machine_plan.specs.declared.plan.Plan.{Plan}
+use Rattle.ns_machine_core.specs.declared.own.OwnSends.{OwnSends}
+use Rattle.ns_machine_core.specs.declared.state.Next.TheVariants as next
+use Rattle.ns_machine_core.specs.Standing.{Stays}
 
 -- what it has done is what its state has
 pub stage_progress : (code : CodeProgram) (core : Core) (stage : Stage) → progress_of (stage_shown code core stage) ≡ progress_in core

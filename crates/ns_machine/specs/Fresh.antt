@@ -5,12 +5,12 @@ use Rattle.ns_code.specs.declared.program.CodeProgram.{CodeProgram}
 use Rattle.ns_world.specs.declared.ending.Ending.TheVariants.{Limit}
 use Rattle.ns_world.specs.declared.ending.LimitKind.TheVariants.{Cells}
 use Rattle.ns_find.specs.Memo.{IsEmpty}
-use Rattle.ns_send.specs.Start.{nothing_done}
-use Rattle.ns_plan.specs.Steps.{places_of}
-use Rattle.ns_engine.specs.declared.state.Core.{Core}
-use Rattle.ns_engine.specs.declared.state.Phase.TheVariants.{Start}
-use Rattle.ns_engine.specs.Shown.{progress_in}
-use Rattle.ns_engine.specs.Standing.{HasRooms}
+use Rattle.ns_actions.specs.Start.{nothing_done}
+use Rattle.ns_machine_plan.specs.Steps.{places_of}
+use Rattle.ns_machine_core.specs.declared.state.Core.{Core}
+use Rattle.ns_machine_core.specs.declared.state.Phase.TheVariants.{Start}
+use Rattle.ns_machine_core.specs.Shown.{progress_in}
+use Rattle.ns_machine_core.specs.Standing.{HasRooms}
 
 -- Nothing was done and no lookup is kept, but memory was taken for all that a run can need. A start ends the run only by the
 -- limit on cells.

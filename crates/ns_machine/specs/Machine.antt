@@ -3,17 +3,17 @@ use Rattle.std.specs.Prelude.{◌≡◌, ℕ, Result, Ok, Err}
 use Rattle.ns_code.specs.declared.program.CodeProgram.{CodeProgram}
 use Rattle.ns_world.specs.declared.cell.CellLimit.{CellLimit}
 use Rattle.ns_facets.specs.declared.row.Grants.{Grants}
-use Rattle.ns_moves.specs.State.{State, Unbegun}
-use Rattle.ns_moves.specs.Valid.{Valid}
-use Rattle.ns_plan.specs.declared.plan.Plan.{Plan}
-use Rattle.ns_plan.specs.Plan.{IsPlanOf}
-use Rattle.ns_plan.specs.Steps.{places_of}
-use Rattle.ns_engine.specs.declared.state.Core.{Core}
-use Rattle.ns_engine.specs.declared.state.Next.TheVariants as next
-use Rattle.ns_engine.specs.declared.own.OwnSends.{OwnSends}
-use Rattle.ns_engine.specs.Own.{AreOwn}
-use Rattle.ns_engine.specs.Shown.{progress_in, shown}
-use Rattle.ns_engine.specs.Standing.{HasRooms, StandAt, KeepsRightIn}
+use Rattle.ns_machine_moves.specs.State.{State, Unbegun}
+use Rattle.ns_machine_moves.specs.Valid.{Valid}
+use Rattle.ns_machine_plan.specs.declared.plan.Plan.{Plan}
+use Rattle.ns_machine_plan.specs.Plan.{IsPlanOf}
+use Rattle.ns_machine_plan.specs.Steps.{places_of}
+use Rattle.ns_machine_core.specs.declared.state.Core.{Core}
+use Rattle.ns_machine_core.specs.declared.state.Next.TheVariants as next
+use Rattle.ns_machine_core.specs.declared.own.OwnSends.{OwnSends}
+use Rattle.ns_machine_core.specs.Own.{AreOwn}
+use Rattle.ns_machine_core.specs.Shown.{progress_in, shown}
+use Rattle.ns_machine_core.specs.Standing.{HasRooms, StandAt, KeepsRightIn}
 use Rattle.ns_machine.specs.declared.stage.Stage.{Stage}
 use Rattle.ns_machine.specs.declared.stage.Stage.TheVariants as stage
 

@@ -3,14 +3,14 @@ use Rattle.std.specs.Prelude.{◌≡◌, ℕ, Some}
 use Rattle.ns_code.specs.declared.program.CodeProgram.{CodeProgram}
 use Rattle.ns_facets.specs.declared.row.Grants.{Grants}
 use Rattle.ns_world.specs.declared.ending.Ending.{Ending}
-use Rattle.ns_moves.specs.State.{State, Unbegun, Going, Pends, Ended, Stuck, ending_of}
-use Rattle.ns_moves.specs.Move.{moves}
-use Rattle.ns_engine.specs.declared.state.Core.{Core}
-use Rattle.ns_engine.specs.declared.state.Next.{Next}
-use Rattle.ns_engine.specs.declared.state.Next.TheVariants as next
-use Rattle.ns_engine.specs.Shown.{shown}
-use Rattle.ns_engine.specs.Ready.{IsReady}
-use Rattle.ns_engine.specs.Standing.{Stays}
+use Rattle.ns_machine_moves.specs.State.{State, Unbegun, Going, Pends, Ended, Stuck, ending_of}
+use Rattle.ns_machine_moves.specs.Move.{moves}
+use Rattle.ns_machine_core.specs.declared.state.Core.{Core}
+use Rattle.ns_machine_core.specs.declared.state.Next.{Next}
+use Rattle.ns_machine_core.specs.declared.state.Next.TheVariants as next
+use Rattle.ns_machine_core.specs.Shown.{shown}
+use Rattle.ns_machine_core.specs.Ready.{IsReady}
+use Rattle.ns_machine_core.specs.Standing.{Stays}
 use Rattle.ns_machine.specs.declared.stage.Turn.{Turn}
 use Rattle.ns_machine.specs.declared.stage.Turn.TheVariants as turn
 

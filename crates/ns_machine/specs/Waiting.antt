@@ -4,12 +4,12 @@ use Rattle.ns_base.specs.declared.place.Place.{Place as SourcePlace}
 use Rattle.ns_base.specs.declared.selector.Sel.{Sel}
 use Rattle.ns_code.specs.declared.program.CodeProgram.{CodeProgram}
 use Rattle.ns_world.specs.declared.value.Value.{Value}
-use Rattle.ns_send.specs.Sends.{site_at}
-use Rattle.ns_moves.specs.State.{Sending, Pends}
-use Rattle.ns_engine.specs.declared.state.Core.{Core}
-use Rattle.ns_engine.specs.declared.state.Next.{Next}
-use Rattle.ns_engine.specs.Shown.{phase_shown, progress_in, shown}
-use Rattle.ns_engine.specs.Standing.{StandAt, Stays}
+use Rattle.ns_actions.specs.Sends.{site_at}
+use Rattle.ns_machine_moves.specs.State.{Sending, Pends}
+use Rattle.ns_machine_core.specs.declared.state.Core.{Core}
+use Rattle.ns_machine_core.specs.declared.state.Next.{Next}
+use Rattle.ns_machine_core.specs.Shown.{phase_shown, progress_in, shown}
+use Rattle.ns_machine_core.specs.Standing.{StandAt, Stays}
 
 -- The send waits with its arguments and its site, and nothing else has changed but the frames, of which there are none.
 pub record SendWaits (code : CodeProgram) (old : Core) (receiver : Value) (sel : Sel) (place : Option SourcePlace)

@@ -1,14 +1,14 @@
 //! Runs from where they stand to their end.
 
-ghost use Rattle.ns_turns.specs.Turning.{RunsBy};
+ghost use Rattle.ns_machine_turns.specs.Turning.{RunsBy};
 ghost use Rattle.ns_machine.specs.Turning.{RunsOut};
 
 use ns_code::program::CodeProgram;
-use ns_engine::own::OwnSends;
-use ns_engine::state::{Core, Next};
-use ns_moves::laws::{ended_runs_stay, moves_go_onward};
-use ns_plan::plan::Plan;
-use ns_turns::turning::turn;
+use ns_machine_core::own::OwnSends;
+use ns_machine_core::state::{Core, Next};
+use ns_machine_moves::laws::{ended_runs_stay, moves_go_onward};
+use ns_machine_plan::plan::Plan;
+use ns_machine_turns::turning::turn;
 use ns_world::ending::Ending;
 
 /// Moves up to the end of a run, which the limit on steps bounds: no run has one step more.

@@ -4,19 +4,19 @@ ghost use Rattle.std.specs.Prelude.{◌≡◌, ◌≤◌, ◌∷◌, [], length,
 ghost use Rattle.ns_code.specs.declared.own.Own.TheVariants.{PackageUsing};
 ghost use Rattle.ns_world.specs.Starts.{is_receiver, has_class, start_of, class_name_of};
 ghost use Rattle.ns_world.specs.Lawful.{IsLawful, IsLiveValue};
-ghost use Rattle.ns_send.specs.Start as spec;
-ghost use Rattle.ns_send.specs.Start.{manifest};
-ghost use Rattle.ns_send.specs.Sends.{own_sel};
-ghost use Rattle.ns_moves.specs.Steps.{opening_place};
-ghost use Rattle.ns_engine.specs.Standing.{HasRooms};
-ghost use Rattle.ns_engine.specs.Own.{AreOwn};
+ghost use Rattle.ns_actions.specs.Start as spec;
+ghost use Rattle.ns_actions.specs.Start.{manifest};
+ghost use Rattle.ns_actions.specs.Sends.{own_sel};
+ghost use Rattle.ns_machine_moves.specs.Steps.{opening_place};
+ghost use Rattle.ns_machine_core.specs.Standing.{HasRooms};
+ghost use Rattle.ns_machine_core.specs.Own.{AreOwn};
 ghost use Rattle.ns_machine.specs.Waiting.{SendWaits};
 
 use ns_base::selector::Sel;
 use ns_code::program::CodeProgram;
-use ns_engine::own::OwnSends;
-use ns_engine::state::{Core, Next};
-use ns_frames::frame::{KeptSite, Pending};
+use ns_machine_core::own::OwnSends;
+use ns_machine_core::state::{Core, Next};
+use ns_machine_frames::frame::{KeptSite, Pending};
 use ns_world::value::Value;
 use ns_world::world::World;
 

@@ -6,7 +6,7 @@ use Rattle.ns_base.specs.declared.place.Place.{Place}
 use Rattle.ns_tree.specs.declared.tree.Access.TheVariants as access
 use Rattle.ns_scope.specs.declared.scope.CodeSide.TheVariants as side
 use Rattle.ns_facets.specs.declared.row.Grants.{Grants}
-use Rattle.ns_meant.specs.Program as m
+use Rattle.ns_resolved.specs.Program as m
 use Rattle.ns_model.specs.Whole.{meaning_of_run}
 
 -- ---- the program

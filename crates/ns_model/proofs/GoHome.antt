@@ -4,14 +4,14 @@ use Rattle.std.specs.Prelude.{Bool, true, false, ◌==◌, ◌||◌, Some}
 use Rattle.ns_code.specs.declared.program.CodeProgram.{CodeProgram}
 use Rattle.ns_world.specs.declared.value.Value.{Value}
 use Rattle.ns_kcode.specs.declared.state.KMethod.{KMethod}
-use Rattle.ns_send.specs.declared.site.Site.{Site}
-use Rattle.ns_send.specs.Control.{Progress, Activation, Exit, FromMethod, FromBody, FromClause, After, Gives, Halts, Control, Now, Enter, Evaluate, frame_left}
-use Rattle.ns_send.specs.Control.{Begin, Perform, Part, Skip, Stop, EnterPart, Waiting, Waits, Finishes}
-use Rattle.ns_send.specs.Classes.{super_part, slot_filled, body_ended}
-use Rattle.ns_send.specs.Blocks.{evaluated, method_next, taken, new_block, new_text, new_array}
-use Rattle.ns_send.specs.Sends.{Target, ToSuper, to_value, sent, performed}
-use Rattle.ns_meant.specs.Program as m
-use Rattle.ns_meant.specs.Tables.{sel_of}
+use Rattle.ns_actions.specs.declared.site.Site.{Site}
+use Rattle.ns_actions.specs.Control.{Progress, Activation, Exit, FromMethod, FromBody, FromClause, After, Gives, Halts, Control, Now, Enter, Evaluate, frame_left}
+use Rattle.ns_actions.specs.Control.{Begin, Perform, Part, Skip, Stop, EnterPart, Waiting, Waits, Finishes}
+use Rattle.ns_actions.specs.Classes.{super_part, slot_filled, body_ended}
+use Rattle.ns_actions.specs.Blocks.{evaluated, method_next, taken, new_block, new_text, new_array}
+use Rattle.ns_actions.specs.Sends.{Target, ToSuper, to_value, sent, performed}
+use Rattle.ns_resolved.specs.Program as m
+use Rattle.ns_resolved.specs.Tables.{sel_of}
 use Rattle.ns_model.specs.Outcome.{Outcome, Yields, Returns, Ends, Spent, bind, settled, back, passed, homes_in, is_live}
 use Rattle.ns_model.specs.Outcome.{going_home, caught, finish, finish_part}
 use Rattle.ns_model.specs.Eval.{Call, PartCall, reached_by, send_made, eval, eval_all, eval_messages, locals_begun, slots_filled, each_evaluated}

@@ -4,7 +4,7 @@ use Rattle.std.specs.Prelude.{codes}
 use Rattle.std.specs.Fmt.{digits}
 use Rattle.ns_tree.specs.declared.tree.Access.TheVariants as access
 use Rattle.ns_facets.specs.declared.row.Grants.{Grants}
-use Rattle.ns_meant.specs.Program as m
+use Rattle.ns_resolved.specs.Program as m
 use Rattle.ns_model.specs.Whole.{meaning_of_run}
 use Rattle.ns_model.proofs.ClassExamples.{number, sent, to, to_with, to_own, to_super, plus, body, returns, head, begins, first, shows, inside, class_in}
 

@@ -37,15 +37,15 @@ use Rattle.ns_mirror.specs.Slots.{declared_slots, slot_symbols, slot_names_along
 use Rattle.ns_mirror.specs.Slots.{read_slot, write_slot, slot, slot_put}
 use Rattle.ns_mirror.specs.Selectors.{public_selectors, methods_of_shape}
 use Rattle.ns_mirror.specs.Mirror.{reflected, perform, mirror}
-use Rattle.ns_send.specs.declared.row.Row.{Row}
-use Rattle.ns_send.specs.declared.row.Row.TheVariants as row
-use Rattle.ns_send.specs.declared.site.Site.{Site}
+use Rattle.ns_actions.specs.declared.row.Row.{Row}
+use Rattle.ns_actions.specs.declared.row.Row.TheVariants as row
+use Rattle.ns_actions.specs.declared.site.Site.{Site}
 use Rattle.ns_classes.specs.Apply.{class_fault}
-use Rattle.ns_send.specs.Control.{Progress, Gives, Now, gives}
-use Rattle.ns_send.specs.Classes.{class_made, mixed}
-use Rattle.ns_send.specs.Bodies.{parameters_of}
-use Rattle.ns_send.specs.Blocks.{block_body_in}
-use Rattle.ns_send.specs.Kernel.{outcome_reached, reflected_reached, facet_reached, data_reached, row_reached}
+use Rattle.ns_actions.specs.Control.{Progress, Gives, Now, gives}
+use Rattle.ns_actions.specs.Classes.{class_made, mixed}
+use Rattle.ns_actions.specs.Bodies.{parameters_of}
+use Rattle.ns_actions.specs.Blocks.{block_body_in}
+use Rattle.ns_actions.specs.Kernel.{outcome_reached, reflected_reached, facet_reached, data_reached, row_reached}
 use Rattle.ns_model.proofs.Lookups.{recoded, above_same, word_same}
 
 module _ (code : CodeProgram) (texts : List (List ℕ)) (bodies : List BodyCode) where

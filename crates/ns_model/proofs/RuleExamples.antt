@@ -7,7 +7,7 @@ use Rattle.ns_tree.specs.declared.tree.Access.{Access}
 use Rattle.ns_tree.specs.declared.tree.Access.TheVariants as access
 use Rattle.ns_scope.specs.declared.scope.CodeSide.TheVariants as side
 use Rattle.ns_facets.specs.declared.row.Grants.{Grants}
-use Rattle.ns_meant.specs.Program as m
+use Rattle.ns_resolved.specs.Program as m
 use Rattle.ns_model.specs.Whole.{meaning_of_run}
 
 -- ---- the program

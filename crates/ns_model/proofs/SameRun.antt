@@ -10,11 +10,11 @@ use Rattle.ns_code.specs.Selector.{name_number}
 use Rattle.ns_world.specs.declared.value.Value.{Value}
 use Rattle.ns_world.specs.World.{counters_of}
 use Rattle.ns_facets.specs.declared.row.Grants.{Grants}
-use Rattle.ns_send.specs.Control.{Progress, After, Gives, Halts, Control}
-use Rattle.ns_send.specs.Sends.{sent_plain, own_sel}
-use Rattle.ns_send.specs.Start.{start_made, manifest, platform, first_class}
-use Rattle.ns_send.specs.Report.{report_line}
-use Rattle.ns_meant.specs.Program.{Meant}
+use Rattle.ns_actions.specs.Control.{Progress, After, Gives, Halts, Control}
+use Rattle.ns_actions.specs.Sends.{sent_plain, own_sel}
+use Rattle.ns_actions.specs.Start.{start_made, manifest, platform, first_class}
+use Rattle.ns_actions.specs.Report.{report_line}
+use Rattle.ns_resolved.specs.Program.{Meant}
 use Rattle.ns_model.specs.Outcome.{Outcome, Yields, Returns, Ends, Spent, bind}
 use Rattle.ns_model.specs.Run.{run, fuel_of}
 use Rattle.ns_model.specs.Whole.{opening_place, opening, opened, opened_after, concluded, ran, RunEnd, RunReport, status_of, report_of}

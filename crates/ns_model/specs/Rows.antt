@@ -9,10 +9,10 @@ use Rattle.ns_kdata.specs.Arguments.{items_of}
 use Rattle.ns_kcode.specs.declared.state.KMethod.{KMethod}
 use Rattle.ns_kcode.specs.declared.state.KMethod.TheVariants as method
 use Rattle.ns_kcode.specs.Rows.{Host, and_row, or_row, if_true_row, if_false_row, choice_row, while_true_row, while_false_row, to_do_row, times_row, do_row}
-use Rattle.ns_send.specs.declared.site.Site.{Site}
-use Rattle.ns_send.specs.Site.{error}
-use Rattle.ns_send.specs.Control.{Progress, charged, frame_left}
-use Rattle.ns_send.specs.Blocks.{evaluated, listed, item_at}
+use Rattle.ns_actions.specs.declared.site.Site.{Site}
+use Rattle.ns_actions.specs.Site.{error}
+use Rattle.ns_actions.specs.Control.{Progress, charged, frame_left}
+use Rattle.ns_actions.specs.Blocks.{evaluated, listed, item_at}
 use Rattle.ns_model.specs.Outcome.{Outcome, Yields, Ends, Spent, bind, passed}
 use Rattle.ns_model.specs.Eval.{Call}
 

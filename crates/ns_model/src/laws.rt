@@ -1,7 +1,7 @@
 //! Laws of the meaning of a run. Each function does nothing, and its contract is the law.
 
 ghost use Rattle.ns_code.specs.declared.program.CodeProgram.{CodeProgram};
-ghost use Rattle.ns_meant.specs.Program.{Meant};
+ghost use Rattle.ns_resolved.specs.Program.{Meant};
 ghost use Rattle.ns_model.specs.Laws.{ReturnsGoHome, FuelIsEnough, RunsEnd, MoreFuel, MethodsAreRows, FuelIsEnoughInMethods};
 ghost use Rattle.ns_model.specs.Tables.{SameTables, ActAlike, MeansTheSame};
 

@@ -4,13 +4,13 @@ use Rattle.ns_tree.specs.declared.token.Kind.{Kind}
 use Rattle.ns_tree.specs.declared.tree.Member.{Member}
 use Rattle.ns_tree.specs.Plain as p
 use Rattle.ns_tree.specs.PlainOf.{what_of, members_of}
-use Rattle.ns_terminal.specs.declared.fault.ParseFault.{ParseFault}
-use Rattle.ns_terminal.specs.declared.fault.ParseFault.TheVariants.{TooDeep, Syntax, Memory}
+use Rattle.ns_parse_tokens.specs.declared.fault.ParseFault.{ParseFault}
+use Rattle.ns_parse_tokens.specs.declared.fault.ParseFault.TheVariants.{TooDeep, Syntax, Memory}
 use Rattle.ns_parse.specs.Classes.{MemberForm, members_from, tail_from, side_from}
-use Rattle.ns_terminal.specs.Left.{Left}
-use Rattle.ns_terminal.specs.Read.{Outcome, Reader, got, fault, and_then, begins, read_mapped, read_labelled, read_label_turns, put_item, Labelled, tail, item}
-use Rattle.ns_terminal.specs.Reads.{Fails, Gives, next_is}
-use Rattle.ns_terminal.specs.laws.Takes.{Takes, fewer, left_by}
+use Rattle.ns_parse_tokens.specs.Left.{Left}
+use Rattle.ns_parse_tokens.specs.Read.{Outcome, Reader, got, fault, and_then, begins, read_mapped, read_labelled, read_label_turns, put_item, Labelled, tail, item}
+use Rattle.ns_parse_tokens.specs.Reads.{Fails, Gives, next_is}
+use Rattle.ns_parse_tokens.specs.laws.Takes.{Takes, fewer, left_by}
 
 -- these items with their labels, before others
 abbrev pub labelled : {L A : Type 0} → List (L × A) → Labelled L A → Labelled L A

@@ -8,17 +8,17 @@ use Rattle.ns_tree.specs.Plain as p
 use Rattle.ns_tree.specs.Made.{made_clause, made_unit, made_method}
 use Rattle.ns_parse.specs.declared.classes.SideOf.{SideOf}
 use Rattle.ns_parse.specs.declared.classes.SideOf.TheVariants as sides
-use Rattle.ns_phrase.specs.declared.expressions.Holder.{Holder}
-use Rattle.ns_phrase.specs.declared.expressions.Holder.TheVariants as h
-use Rattle.ns_terminal.specs.declared.mark.Mark.TheVariants as m
-use Rattle.ns_terminal.specs.declared.name.Sort.TheVariants as s
-use Rattle.ns_terminal.specs.declared.name.Operators.TheVariants as o
-use Rattle.ns_terminal.specs.Read.{Reader, read_none, read_mapped, read_both, read_after, read_until, read_or, read_maybe, read_labelled, Labelled, tail, item}
-use Rattle.ns_terminal.specs.Mark.{is_mark, skip, flag}
-use Rattle.ns_terminal.specs.Name.{is_name, name}
-use Rattle.ns_terminal.specs.Leaf.{maybe_access, is_access, is_string, string, strings}
-use Rattle.ns_terminal.specs.Pattern.{pattern, factory, base, starts_base}
-use Rattle.ns_phrase.specs.Expressions.{keys, bars, statements, primary}
+use Rattle.ns_parse_exprs.specs.declared.expressions.Holder.{Holder}
+use Rattle.ns_parse_exprs.specs.declared.expressions.Holder.TheVariants as h
+use Rattle.ns_parse_tokens.specs.declared.mark.Mark.TheVariants as m
+use Rattle.ns_parse_tokens.specs.declared.name.Sort.TheVariants as s
+use Rattle.ns_parse_tokens.specs.declared.name.Operators.TheVariants as o
+use Rattle.ns_parse_tokens.specs.Read.{Reader, read_none, read_mapped, read_both, read_after, read_until, read_or, read_maybe, read_labelled, Labelled, tail, item}
+use Rattle.ns_parse_tokens.specs.Mark.{is_mark, skip, flag}
+use Rattle.ns_parse_tokens.specs.Name.{is_name, name}
+use Rattle.ns_parse_tokens.specs.Leaf.{maybe_access, is_access, is_string, string, strings}
+use Rattle.ns_parse_tokens.specs.Pattern.{pattern, factory, base, starts_base}
+use Rattle.ns_parse_exprs.specs.Expressions.{keys, bars, statements, primary}
 
 -- ---- trees from their parts
 

@@ -3,9 +3,9 @@ use Rattle.std.specs.Prelude.{ℕ, List, [], ◌∷◌, length, Option, Some, No
 use Rattle.ns_tree.specs.declared.token.Kind.{Kind}
 use Rattle.ns_tree.specs.Deep.{deep}
 use Rattle.ns_tree.specs.Plain as p
-use Rattle.ns_terminal.specs.declared.fault.ParseFault.{ParseFault}
-use Rattle.ns_terminal.specs.declared.fault.ParseFault.TheVariants.{TooDeep, Syntax}
-use Rattle.ns_terminal.specs.Read.{Outcome, got, fault}
+use Rattle.ns_parse_tokens.specs.declared.fault.ParseFault.{ParseFault}
+use Rattle.ns_parse_tokens.specs.declared.fault.ParseFault.TheVariants.{TooDeep, Syntax}
+use Rattle.ns_parse_tokens.specs.Read.{Outcome, got, fault}
 use Rattle.ns_parse.specs.Classes.{file}
 
 -- what the readers give of a file; no more brackets nest than there are tokens

@@ -4,20 +4,20 @@
 ghost use Rattle.std.specs.Prelude.{◌≡◌, option_map};
 ghost use Rattle.ns_tree.specs.PlainOf.{message_of, clause_of, method_of, class_of, side_of, what_of, class_side_of, unit_of};
 ghost use Rattle.ns_parse.specs.Classes as spec;
-ghost use Rattle.ns_phrase.specs.Expressions as exprs;
-ghost use Rattle.ns_terminal.specs.Read.{read_maybe};
-ghost use Rattle.ns_terminal.specs.Pattern as patterns;
-ghost use Rattle.ns_terminal.specs.Reads.{Reads, next_is};
+ghost use Rattle.ns_parse_exprs.specs.Expressions as exprs;
+ghost use Rattle.ns_parse_tokens.specs.Read.{read_maybe};
+ghost use Rattle.ns_parse_tokens.specs.Pattern as patterns;
+ghost use Rattle.ns_parse_tokens.specs.Reads.{Reads, next_is};
 ghost use Rattle.ns_parse.specs.Views.{head_view, body_view, opening_view, sides_view, member_view};
 
 use ns_base::text::Text;
-use ns_phrase::expressions::{Holder, bars, keys, statements};
-use ns_terminal::fault::ParseFault;
-use ns_terminal::leaf::{access, is_access, sees_string, string, strings};
-use ns_terminal::mark::{Mark, closed, is_mark, sees, skip, skip_if};
-use ns_terminal::name::{Operators, Sort, is_name, name, sees_name};
-use ns_terminal::pattern::{base, factory, pattern, sees_base};
-use ns_terminal::tokens::Tokens;
+use ns_parse_exprs::expressions::{Holder, bars, keys, statements};
+use ns_parse_tokens::fault::ParseFault;
+use ns_parse_tokens::leaf::{access, is_access, sees_string, string, strings};
+use ns_parse_tokens::mark::{Mark, closed, is_mark, sees, skip, skip_if};
+use ns_parse_tokens::name::{Operators, Sort, is_name, name, sees_name};
+use ns_parse_tokens::pattern::{base, factory, pattern, sees_base};
+use ns_parse_tokens::tokens::Tokens;
 use ns_tree::make;
 use ns_tree::token::Kind;
 use ns_tree::tree::{

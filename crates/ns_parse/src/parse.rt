@@ -1,15 +1,16 @@
 //! The tree of a file.
 
-ghost use Rattle.std.specs.Prelude.{◌≡◌, ◌≢◌, ◌≤◌, length, IfOk, MatchResult};
+ghost use Rattle.std.specs.Prelude.{◌≡◌, ◌≢◌, ◌≤◌, length, MatchResult};
 ghost use Rattle.ns_tree.specs.PlainOf.{unit_of};
 ghost use Rattle.ns_tree.specs.Tokens.{kinds};
-ghost use Rattle.ns_tree.specs.Tree.{AllHaveText, Spells};
+ghost use Rattle.ns_tree.specs.Tree.{AllHaveText};
+ghost use Rattle.ns_parse.specs.Called.{AnswersFault, AnswersTree, GivesFault, GivesTree};
 ghost use Rattle.ns_parse.specs.Parse as spec;
-ghost use Rattle.ns_terminal.specs.declared.fault.ParseFault.TheVariants.{Memory};
+ghost use Rattle.ns_parse_tokens.specs.declared.fault.ParseFault.TheVariants.{Memory};
 
 use crate::classes::file;
-use ns_terminal::fault::ParseFault;
-use ns_terminal::tokens::Tokens;
+use ns_parse_tokens::fault::ParseFault;
+use ns_parse_tokens::tokens::Tokens;
 use ns_tree::deep::deep;
 use ns_tree::token::Token;
 use ns_tree::tree::Unit;
@@ -29,18 +30,26 @@ fn whole(alloc: Global, tokens: &[Token]) -> Result<Unit, ParseFault>
     }
 }
 
-/// The tree that at most 1,048,576 tokens spell; or the first token that opens a bracket while 100 are
-/// open; or else the first token with which no file goes on, which is their number where a file doesn't
-/// end yet; or that no memory was found.
+/// What the readers give of at most 1,048,576 tokens.
 #[tactic(auto, unfolding(crate::specs::Parse::parse))]
-pub fn parse(alloc: Global, tokens: &[Token]) -> Result<Unit, ParseFault>
+fn given(alloc: Global, tokens: &[Token]) -> Result<Unit, ParseFault>
     requires { length tokens.now ≤ 1048576 }
-    ensures exact { MatchResult result (λ unit. spec.parse (kinds tokens.now) ≡ Ok (unit_of unit))
-        (λ fault. fault ≢ Memory → spec.parse (kinds tokens.now) ≡ Err fault) }
-    ensures spelled { AllHaveText (kinds tokens.now) → IfOk result (λ unit. Spells (kinds tokens.now) (unit_of unit)) }
+    ensures { MatchResult result (GivesTree (kinds tokens.now)) (GivesFault (kinds tokens.now)) }
 {
     match deep(tokens) {
         Some(at) => Err(ParseFault::TooDeep(at)),
         None => whole(alloc, tokens),
     }
+}
+
+/// What the grammar answers of at most 1,048,576 tokens: the tree that they spell, where no bracket is too deep; or the
+/// first token that opens a bracket while 100 are open; or else the first token with which no file goes on, which is
+/// their number where a file doesn't end yet. Or that no memory was found.
+#[tactic(auto, using(crate::proofs::Called::given_is_answered))]
+pub fn parse(alloc: Global, tokens: &[Token]) -> Result<Unit, ParseFault>
+    requires { length tokens.now ≤ 1048576 }
+    ensures answers { AllHaveText (kinds tokens.now) → MatchResult result (AnswersTree (kinds tokens.now)) (AnswersFault (kinds tokens.now)) }
+    ensures exact { MatchResult result (GivesTree (kinds tokens.now)) (GivesFault (kinds tokens.now)) }
+{
+    given(alloc, tokens)
 }

@@ -7,15 +7,15 @@ use Rattle.ns_load.specs.declared.fault.LoadCause.{LoadCause}
 use Rattle.ns_load.specs.declared.fault.LoadCause.TheVariants.{Missing, TooLong, ReadFault, Spelling}
 use Rattle.ns_load.specs.declared.fault.LoadFault.{LoadFault}
 use Rattle.ns_load.specs.declared.fault.LoadFault.TheVariants.{At, Memory}
-use Rattle.ns_outcome.specs.Outcome.{IsEnding, IsMissing}
-use Rattle.ns_outcome.specs.Report.{spelling_name}
-use Rattle.ns_outcome.specs.declared.report.Report.{Report}
-use Rattle.ns_outcome.specs.declared.stop.Stop.{Stop}
+use Rattle.ns_run_outcome.specs.Outcome.{IsEnding, IsMissing}
+use Rattle.ns_run_outcome.specs.Report.{spelling_name}
+use Rattle.ns_run_outcome.specs.declared.report.Report.{Report}
+use Rattle.ns_run_outcome.specs.declared.stop.Stop.{Stop}
 use Rattle.ns_run.proofs.ReportLaws.{file_plain, spelling_ends, text_plain, told_plain}
 use Rattle.ns_run.specs.Meaning.{name_of, of_cause, of_fault, of_files, of_loading}
 use Rattle.ns_run.specs.Outcome.{IsReadFault, IsRefusal}
 use Rattle.ns_run.specs.Task.{Task}
-use Rattle.ns_joint.specs.Answer.{OfSomeName}
+use Rattle.ns_session_files.specs.Answer.{OfSomeName}
 
 -- A refusal that is told is what the files are loaded as.
 pub refusal_is : (names : List (List ℕ)) (lib : Bool) (files : Files) (fault : LoadFault) → IsRefusal fault → TellsFault names lib files fault → loaded names lib files ≡ stopped fault

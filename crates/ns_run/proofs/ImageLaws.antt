@@ -7,19 +7,19 @@ use Rattle.std.proofs.lemmas.Bool.{cases_lt, lt-ltb}
 use Rattle.std.proofs.lemmas.List.{append_cancel_left, length-take-le, take_all}
 use Rattle.ns_base.specs.declared.limits.Limits.{Limits}
 use Rattle.ns_code.specs.declared.program.CodeProgram.{CodeProgram}
-use Rattle.ns_exec.specs.Exec.{executed, of_code, of_read}
-use Rattle.ns_exec.specs.Listing.{listed}
-use Rattle.ns_exec.specs.Listing as listing
+use Rattle.ns_run_code.specs.Exec.{executed, of_code, of_read}
+use Rattle.ns_run_code.specs.Listing.{listed}
+use Rattle.ns_run_code.specs.Listing as listing
 use Rattle.ns_image.specs.Reading.{read_image}
 use Rattle.ns_image.specs.declared.fault.ImageFault.{ImageFault}
 use Rattle.ns_image.specs.declared.fault.ImageFault.TheVariants as fault
-use Rattle.ns_launch.specs.Machine.{begins_with, end_of, machine_run, rested}
-use Rattle.ns_moves.specs.State.{ending_of}
-use Rattle.ns_outcome.specs.Outcome.{IsEnding, IsMissing}
-use Rattle.ns_outcome.specs.Report.{refused_file, told, verify_name}
-use Rattle.ns_outcome.specs.declared.report.Report.{Report}
-use Rattle.ns_outcome.specs.declared.stop.Stop.{Stop}
-use Rattle.ns_outcome.specs.declared.stop.Stop.TheVariants as stop
+use Rattle.ns_run_code.specs.Machine.{begins_with, end_of, machine_run, rested}
+use Rattle.ns_machine_moves.specs.State.{ending_of}
+use Rattle.ns_run_outcome.specs.Outcome.{IsEnding, IsMissing}
+use Rattle.ns_run_outcome.specs.Report.{refused_file, told, verify_name}
+use Rattle.ns_run_outcome.specs.declared.report.Report.{Report}
+use Rattle.ns_run_outcome.specs.declared.stop.Stop.{Stop}
+use Rattle.ns_run_outcome.specs.declared.stop.Stop.TheVariants as stop
 use Rattle.ns_run.proofs.ReportLaws.{ending_plain, stop_keeps}
 use Rattle.ns_run.specs.Image.{ImageWork, Executes, Lists, image_cause, of_executed, of_image_bytes, of_image_file, of_image, of_listed, of_short, place_text, unsound}
 use Rattle.ns_run.specs.Outcome.{OfSomeText}
@@ -30,7 +30,7 @@ use Rattle.ns_verify.specs.declared.fault.Fault.{Fault}
 use Rattle.ns_verify.specs.declared.fault.VerifyCause.{VerifyCause}
 use Rattle.ns_verify.specs.declared.fault.VerifyCause.TheVariants as cause
 use Rattle.ns_verify.specs.declared.fault.Where.{Where}
-use Rattle.ns_joint.specs.Answer.{OfSomeTexts}
+use Rattle.ns_session_files.specs.Answer.{OfSomeTexts}
 
 -- ---- the bytes that were loaded
 

@@ -6,10 +6,10 @@ use Rattle.ns_base.specs.Files.{Files}
 use Rattle.ns_base.specs.Shelf.{OnlyRead}
 use Rattle.ns_base.specs.declared.status.Status.{Status}
 use Rattle.ns_base.specs.declared.status.Status.TheVariants as status
-use Rattle.ns_outcome.specs.Outcome.{AreStored, IsEnding, IsWritten, Leaves, LeavesFiles, LeavesStreams, OfFiles, OthersAreKept}
-use Rattle.ns_outcome.specs.Store.{FileStored, files_with}
-use Rattle.ns_outcome.specs.declared.report.Report.{Report}
-use Rattle.ns_outcome.specs.laws.Told.{of_files_so, same_files}
+use Rattle.ns_run_outcome.specs.Outcome.{AreStored, IsEnding, IsWritten, Leaves, LeavesFiles, LeavesStreams, OfFiles, OthersAreKept}
+use Rattle.ns_run_outcome.specs.Store.{FileStored, files_with}
+use Rattle.ns_run_outcome.specs.declared.report.Report.{Report}
+use Rattle.ns_run_outcome.specs.laws.Told.{of_files_so, same_files}
 
 -- What is stored leaves the others as they were.
 pub others_kept : (stored : Option FileStored) (old new : Files) → AreStored stored old new → OthersAreKept stored old new

@@ -2,22 +2,22 @@
 use Rattle.std.proofs.Common.{◌≡◌, ◌≤◌, ℕ, List, [], ◌∷◌, None, Result, IfOk, arith, length, map, refl, sym, subst}
 use Rattle.ns_base.specs.Files.{Files}
 use Rattle.ns_base.specs.declared.limits.Limits.{Limits}
-use Rattle.ns_outcome.specs.Report.{told}
-use Rattle.ns_outcome.specs.declared.report.Report.{Report}
-use Rattle.ns_outcome.specs.declared.stop.Stop.{Stop}
-use Rattle.ns_outcome.specs.declared.usage.TheConstants.{HELP, VERSION}
+use Rattle.ns_run_outcome.specs.Report.{told}
+use Rattle.ns_run_outcome.specs.declared.report.Report.{Report}
+use Rattle.ns_run_outcome.specs.declared.stop.Stop.{Stop}
+use Rattle.ns_run_outcome.specs.declared.usage.TheConstants.{HELP, VERSION}
 use Rattle.ns_run.proofs.TextLaws.{whatever_texts}
 use Rattle.ns_run.specs.Image.{Executes, of_image}
 use Rattle.ns_run.specs.Meaning.{files_of, of_files, of_line, of_session}
 use Rattle.ns_run.specs.Task.{Runs}
-use Rattle.ns_words.specs.Application.{AreApplications}
-use Rattle.ns_words.specs.Forms.{AreFiles, AreNames, IsSpelled}
-use Rattle.ns_words.specs.declared.form.Item.TheVariants.{File, Application}
-use Rattle.ns_words.specs.Table.{form_of}
-use Rattle.ns_words.specs.Words.{Line, limits_of, quantum_of}
-use Rattle.ns_words.specs.declared.form.Verb.{Verb}
-use Rattle.ns_words.specs.declared.form.Verb.TheVariants.{Check, Show, Run, Build, Exec, Listing, Session, Sample, Help, Version}
-use Rattle.ns_joint.specs.Answer.{OfSomeTexts}
+use Rattle.ns_run_words.specs.Application.{AreApplications}
+use Rattle.ns_run_words.specs.Forms.{AreFiles, AreNames, IsSpelled}
+use Rattle.ns_run_words.specs.declared.form.Item.TheVariants.{File, Application}
+use Rattle.ns_run_words.specs.Table.{form_of}
+use Rattle.ns_run_words.specs.Words.{Line, limits_of, quantum_of}
+use Rattle.ns_run_words.specs.declared.form.Verb.{Verb}
+use Rattle.ns_run_words.specs.declared.form.Verb.TheVariants.{Check, Show, Run, Build, Exec, Listing, Session, Sample, Help, Version}
+use Rattle.ns_session_files.specs.Answer.{OfSomeTexts}
 
 -- The command works on files.
 abbrev pub TakesFiles : Verb → Type 0

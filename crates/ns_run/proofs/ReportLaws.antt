@@ -11,35 +11,35 @@ use Rattle.ns_base.specs.declared.no_memory.NoMemory.{NoMemory}
 use Rattle.ns_base.specs.declared.place.Place.{Place}
 use Rattle.ns_base.specs.declared.status.Status.{Status}
 use Rattle.ns_base.specs.declared.status.Status.TheVariants.{Done, ProgramError, Limit, Refused, ReadFault, WriteFault, Memory}
-use Rattle.ns_outcome.specs.Outcome.{IsDelivered, IsEnding, IsMissing, LeavesStreams, Wrote, missing_line}
-use Rattle.ns_outcome.specs.Report.{many_name, refused_file, refused_text, spelling_name, size_name, static_name, told}
-use Rattle.ns_outcome.specs.declared.report.Report.{Report}
-use Rattle.ns_outcome.specs.declared.stop.Stop.{Stop}
-use Rattle.ns_outcome.specs.declared.stop.Stop.TheVariants as stop
+use Rattle.ns_run_outcome.specs.Outcome.{IsDelivered, IsEnding, IsMissing, LeavesStreams, Wrote, missing_line}
+use Rattle.ns_run_outcome.specs.Report.{many_name, refused_file, refused_text, spelling_name, size_name, static_name, told}
+use Rattle.ns_run_outcome.specs.declared.report.Report.{Report}
+use Rattle.ns_run_outcome.specs.declared.stop.Stop.{Stop}
+use Rattle.ns_run_outcome.specs.declared.stop.Stop.TheVariants as stop
 use Rattle.ns_run.specs.Meaning.{files_read, name_of, of_build, of_built, of_check, of_run, of_show, of_sized, of_units}
 use Rattle.ns_run.specs.Run.{run_report}
-use Rattle.ns_exec.specs.Build.{Built, built_of, image, image_too_large, too_large}
+use Rattle.ns_run_code.specs.Build.{Built, built_of, image, image_too_large, too_large}
 use Rattle.ns_run.specs.Outcome.{NamesMissing, TellsMissing}
-use Rattle.ns_launch.specs.Run.{granted, meant_run}
+use Rattle.ns_run_code.specs.Run.{granted, meant_run}
 use Rattle.ns_run.specs.Task.{Task, Checks, Shows, Builds, Runs}
-use Rattle.ns_gen.specs.Code.{code_of}
-use Rattle.ns_gen.specs.Sizes.{size_fault}
-use Rattle.ns_gen.specs.declared.size.SizeKind.{SizeKind}
-use Rattle.ns_gen.specs.declared.size.SizeKind.TheVariants as size
-use Rattle.ns_meant.specs.Classes.{meant_of}
-use Rattle.ns_meant.specs.Program.{Meant}
-use Rattle.ns_meant.specs.Tables.{tables}
+use Rattle.ns_gen_code.specs.Code.{code_of}
+use Rattle.ns_gen_code.specs.Sizes.{size_fault}
+use Rattle.ns_gen_code.specs.declared.size.SizeKind.{SizeKind}
+use Rattle.ns_gen_code.specs.declared.size.SizeKind.TheVariants as size
+use Rattle.ns_resolved.specs.Classes.{meant_of}
+use Rattle.ns_resolved.specs.Program.{Meant}
+use Rattle.ns_resolved.specs.Tables.{tables}
 use Rattle.ns_model.specs.Whole.{ran, status_of}
-use Rattle.ns_rules.specs.declared.fault.Many.{Many}
-use Rattle.ns_rules.specs.declared.fault.Many.TheVariants as many
-use Rattle.ns_rules.specs.declared.fault.Placed.{Placed}
-use Rattle.ns_rules.specs.declared.fault.StaticCause.{StaticCause}
-use Rattle.ns_rules.specs.declared.fault.StaticCause.TheVariants as static
+use Rattle.ns_static_rules.specs.declared.fault.Many.{Many}
+use Rattle.ns_static_rules.specs.declared.fault.Many.TheVariants as many
+use Rattle.ns_static_rules.specs.declared.fault.Placed.{Placed}
+use Rattle.ns_static_rules.specs.declared.fault.StaticCause.{StaticCause}
+use Rattle.ns_static_rules.specs.declared.fault.StaticCause.TheVariants as static
 use Rattle.ns_tree.specs.Plain as p
-use Rattle.ns_words.specs.Words.{Reading}
+use Rattle.ns_run_words.specs.Words.{Reading}
 use Rattle.ns_world.specs.declared.ending.Ending.{Ending}
 use Rattle.ns_world.specs.declared.ending.Ending.TheVariants as ending
-use Rattle.ns_joint.specs.Answer.{OfSomeName}
+use Rattle.ns_session_files.specs.Answer.{OfSomeName}
 
 -- What holds of a report holds of it behind `or_stop`.
 pub stop_keeps : (made : Result Report NoMemory) (res : Result Report Stop) (P : Report → Type 0) → MatchResult made (λ r. res ≡ Ok r) (λ _. res ≡ Err stop.Memory) → IfOk made P → IfOk res P

@@ -2,11 +2,11 @@
 use Rattle.std.proofs.Common.{◌≡◌, ℕ, List, [], ◌∷◌, false, Option, Some, Result, IfOk, codes, subst}
 use Rattle.ns_base.specs.Files.{Files}
 use Rattle.ns_lib.specs.Sample.{sample}
-use Rattle.ns_outcome.specs.declared.report.Report.{Report}
-use Rattle.ns_outcome.specs.declared.stop.Stop.{Stop}
+use Rattle.ns_run_outcome.specs.declared.report.Report.{Report}
+use Rattle.ns_run_outcome.specs.declared.stop.Stop.{Stop}
 use Rattle.ns_run.specs.Meaning.{of_files, of_sample, of_texts}
 use Rattle.ns_run.specs.Task.{Runs}
-use Rattle.ns_words.specs.Words.{limits_of, nothing_given}
+use Rattle.ns_run_words.specs.Words.{limits_of, nothing_given}
 
 -- What is done with a file of this name that has this text is what is done with the sample.
 pub sample_told : (n : ℕ) (names : List (List ℕ)) (files : Files) (result : Result Report Stop) → names ≡ codes "sample" ∷ [] → files (codes "sample") ≡ Some (sample n)

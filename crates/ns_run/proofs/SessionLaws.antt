@@ -2,16 +2,16 @@
 use Rattle.std.proofs.Common.{◌≡◌, ℕ, List, Result, Ok, Err, IfOk, ap, sym, subst, ◌∙◌, codes, map}
 use Rattle.ns_base.specs.declared.status.Status.{Status}
 use Rattle.ns_base.specs.declared.status.Status.TheVariants.{Done, ProgramError, Refused, Limit, ReadFault, WriteFault, Memory}
-use Rattle.ns_joint.specs.Answer.{IsMissingFile, IsRefusal, RefusesAs, Tells, OfSomeName}
-use Rattle.ns_joint.specs.Joint.{Joint, stopped_for}
-use Rattle.ns_joint.specs.declared.fault.JointFault.{JointFault}
-use Rattle.ns_joint.specs.declared.fault.JointFault.TheVariants as fault
-use Rattle.ns_joint.specs.declared.joint.Told.{Told}
-use Rattle.ns_launch.specs.Running.{IsRunStatus}
-use Rattle.ns_outcome.specs.Outcome.{IsEnding, IsMissing}
-use Rattle.ns_outcome.specs.Report.{size_name}
-use Rattle.ns_outcome.specs.declared.report.Report.{Report}
-use Rattle.ns_outcome.specs.declared.stop.Stop.{Stop}
+use Rattle.ns_session_files.specs.Answer.{IsMissingFile, IsRefusal, RefusesAs, Tells, OfSomeName}
+use Rattle.ns_session_files.specs.Joint.{Joint, stopped_for}
+use Rattle.ns_session_files.specs.declared.fault.JointFault.{JointFault}
+use Rattle.ns_session_files.specs.declared.fault.JointFault.TheVariants as fault
+use Rattle.ns_session_files.specs.declared.joint.Told.{Told}
+use Rattle.ns_run_code.specs.Running.{IsRunStatus}
+use Rattle.ns_run_outcome.specs.Outcome.{IsEnding, IsMissing}
+use Rattle.ns_run_outcome.specs.Report.{size_name}
+use Rattle.ns_run_outcome.specs.declared.report.Report.{Report}
+use Rattle.ns_run_outcome.specs.declared.stop.Stop.{Stop}
 use Rattle.ns_run.proofs.FaultLaws.{cause_ends, cause_says}
 use Rattle.ns_run.proofs.ReportLaws.{check_plain, file_plain, size_ends, some_of}
 use Rattle.ns_run.specs.Meaning.{name_of, of_joint, of_refusal}

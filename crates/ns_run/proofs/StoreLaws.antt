@@ -2,27 +2,27 @@
 use Rattle.std.proofs.Common.{◌≡◌, ℕ, List, [], ◌∷◌, length, map, nat_lt, cond, Bool, true, false, Option, Some, None, codes, refl, ap, ◌∙◌}
 use Rattle.ns_base.specs.declared.limits.Limits.{Limits}
 use Rattle.ns_base.specs.declared.place.Place.{Place}
-use Rattle.ns_exec.specs.Exec.{Executed, executed, has_run, refused_code, refused_image}
-use Rattle.ns_exec.specs.Listing.{Listed, listed, lines, unlisted}
-use Rattle.ns_gen.specs.Code.{code_of}
-use Rattle.ns_gen.specs.Sizes.{size_fault}
-use Rattle.ns_gen.specs.declared.size.SizeKind.{SizeKind}
-use Rattle.ns_joint.specs.Joint.{Joint, joint, stopped_for}
-use Rattle.ns_joint.specs.Joint as joints
-use Rattle.ns_joint.specs.Making.{Refusal, unchecked, unloaded}
-use Rattle.ns_joint.specs.Making as making
+use Rattle.ns_run_code.specs.Exec.{Executed, executed, has_run, refused_code, refused_image}
+use Rattle.ns_run_code.specs.Listing.{Listed, listed, lines, unlisted}
+use Rattle.ns_gen_code.specs.Code.{code_of}
+use Rattle.ns_gen_code.specs.Sizes.{size_fault}
+use Rattle.ns_gen_code.specs.declared.size.SizeKind.{SizeKind}
+use Rattle.ns_session_files.specs.Joint.{Joint, joint, stopped_for}
+use Rattle.ns_session_files.specs.Joint as joints
+use Rattle.ns_session_files.specs.Making.{Refusal, unchecked, unloaded}
+use Rattle.ns_session_files.specs.Making as making
 use Rattle.ns_lib.specs.Sample.{sample}
 use Rattle.ns_load.specs.Loaded.{Loading, loaded_texts, stopped, units}
 use Rattle.ns_load.specs.declared.fault.LoadCause.{LoadCause}
 use Rattle.ns_load.specs.declared.fault.LoadCause.TheVariants as cause
 use Rattle.ns_load.specs.declared.fault.LoadFault.{LoadFault}
 use Rattle.ns_load.specs.declared.fault.LoadFault.TheVariants as fault
-use Rattle.ns_meant.specs.Classes.{meant_of}
-use Rattle.ns_meant.specs.Program.{Meant}
-use Rattle.ns_outcome.specs.Report.{refused_file}
-use Rattle.ns_outcome.specs.declared.report.Report.{Report}
-use Rattle.ns_rules.specs.Least.{faults, least}
-use Rattle.ns_rules.specs.declared.fault.Placed.{Placed}
+use Rattle.ns_resolved.specs.Classes.{meant_of}
+use Rattle.ns_resolved.specs.Program.{Meant}
+use Rattle.ns_run_outcome.specs.Report.{refused_file}
+use Rattle.ns_run_outcome.specs.declared.report.Report.{Report}
+use Rattle.ns_static_rules.specs.Least.{faults, least}
+use Rattle.ns_static_rules.specs.declared.fault.Placed.{Placed}
 use Rattle.ns_run.specs.Image.{ImageWork, Executes, Lists, of_executed, of_image, of_image_bytes, of_listed, of_short, unsound}
 use Rattle.ns_run.specs.Meaning.{name_of, of_cause, of_check, of_fault, of_joint, of_line, of_loading, of_reading, of_refusal, of_run, of_sample, of_show, of_sized, of_texts, of_units}
 use Rattle.ns_run.specs.Outcome.{IsNoBuild, OverTexts, StoresNothing}
@@ -31,10 +31,10 @@ use Rattle.ns_tree.specs.Plain as p
 use Rattle.ns_verify.specs.declared.fault.VerifyCause.{VerifyCause}
 use Rattle.ns_verify.specs.declared.fault.Where.{Where}
 use Rattle.ns_verify.specs.declared.fault.Where.TheVariants as where_at
-use Rattle.ns_words.specs.Application.{asked_of}
-use Rattle.ns_words.specs.Words.{Line, Reading, says, bad, limits_of, nothing_given, quantum_of, reading_of, sample_number}
-use Rattle.ns_words.specs.declared.form.Verb.{Verb}
-use Rattle.ns_words.specs.declared.form.Verb.TheVariants as verb
+use Rattle.ns_run_words.specs.Application.{asked_of}
+use Rattle.ns_run_words.specs.Words.{Line, Reading, says, bad, limits_of, nothing_given, quantum_of, reading_of, sample_number}
+use Rattle.ns_run_words.specs.declared.form.Verb.{Verb}
+use Rattle.ns_run_words.specs.declared.form.Verb.TheVariants as verb
 
 -- The report stores nothing.
 abbrev pub KeepsNone : Report → Type 0

@@ -11,20 +11,20 @@ use Rattle.ns_load.specs.Loaded.{file_names, loaded_texts, stopped, units}
 use Rattle.ns_load.specs.declared.fault.LoadCause.TheVariants.{Missing, TooLong, ReadFault, Spelling}
 use Rattle.ns_load.specs.declared.fault.LoadFault.{LoadFault}
 use Rattle.ns_load.specs.declared.fault.LoadFault.TheVariants.{At, Memory}
-use Rattle.ns_outcome.specs.declared.report.Report.{Report}
-use Rattle.ns_outcome.specs.declared.stop.Stop.{Stop}
-use Rattle.ns_outcome.specs.declared.stop.Stop.TheVariants as stop
+use Rattle.ns_run_outcome.specs.declared.report.Report.{Report}
+use Rattle.ns_run_outcome.specs.declared.stop.Stop.{Stop}
+use Rattle.ns_run_outcome.specs.declared.stop.Stop.TheVariants as stop
 use Rattle.ns_run.specs.Meaning.{files_read, meaning, of_fault, of_loading, of_reading, of_texts, of_units}
 use Rattle.ns_run.specs.Outcome.{IsRefusal, NamesMissing, OverTexts}
 use Rattle.ns_run.specs.Task.{Task}
 use Rattle.ns_run.proofs.ReportLaws.{stop_keeps}
 use Rattle.ns_scope.specs.Whole.{IsFileName}
 use Rattle.ns_tree.specs.Plain as p
-use Rattle.ns_words.specs.Forms.{AreNames}
-use Rattle.ns_words.specs.declared.form.Item.TheVariants.{File}
-use Rattle.ns_words.specs.FileName.{is_file_name}
-use Rattle.ns_words.specs.Words.{Reading, reading_of}
-use Rattle.ns_joint.specs.Answer.{OfSomeTexts}
+use Rattle.ns_run_words.specs.Forms.{AreNames}
+use Rattle.ns_run_words.specs.declared.form.Item.TheVariants.{File}
+use Rattle.ns_run_words.specs.FileName.{is_file_name}
+use Rattle.ns_run_words.specs.Words.{Reading, reading_of}
+use Rattle.ns_session_files.specs.Answer.{OfSomeTexts}
 
 -- A word that can name a file does so.
 name_is_file : (name : List ℕ) → IsUtf8 name → is_file_name name ≡ true → IsFileName name

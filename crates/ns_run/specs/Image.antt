@@ -3,12 +3,12 @@ use Rattle.std.specs.Prelude.{ℕ, List, [], ◌∷◌, ◌++◌, Option, Some, 
 use Rattle.std.specs.Fmt.{decimal}
 use Rattle.ns_base.specs.Limits.{InRange}
 use Rattle.ns_base.specs.declared.limits.Limits.{Limits}
-use Rattle.ns_exec.specs.Exec.{Executed, executed, has_run, refused_code, refused_image}
-use Rattle.ns_exec.specs.Listing.{Listed, listed, lines, unlisted}
+use Rattle.ns_run_code.specs.Exec.{Executed, executed, has_run, refused_code, refused_image}
+use Rattle.ns_run_code.specs.Listing.{Listed, listed, lines, unlisted}
 use Rattle.ns_image.specs.declared.fault.ImageFault.{ImageFault}
 use Rattle.ns_image.specs.declared.fault.ImageFault.TheVariants.{NotAnImage, BadVersion, Truncated, BadField, Trailing, Memory}
-use Rattle.ns_outcome.specs.Report.{bad_word, refused_file, told, verify_name}
-use Rattle.ns_outcome.specs.declared.report.Report.{Report}
+use Rattle.ns_run_outcome.specs.Report.{bad_word, refused_file, told, verify_name}
+use Rattle.ns_run_outcome.specs.declared.report.Report.{Report}
 use Rattle.ns_run.specs.Run.{run_report}
 use Rattle.ns_run.specs.declared.task.ImageTask as tasks
 use Rattle.ns_run.specs.declared.task.ImageTask.TheVariants.{Exec, Listing}

@@ -3,37 +3,37 @@ use Rattle.std.specs.Prelude.{ℕ, Bool, false, List, Option, Some, None, codes,
 use Rattle.ns_base.specs.Files.{Files}
 use Rattle.ns_base.specs.declared.limits.Limits.{Limits}
 use Rattle.ns_base.specs.declared.place.Place.{Place}
-use Rattle.ns_exec.specs.Build.{Built, built_of, image, image_too_large}
-use Rattle.ns_exec.specs.Build as built
-use Rattle.ns_gen.specs.Code.{code_of}
-use Rattle.ns_gen.specs.Sizes.{size_fault}
-use Rattle.ns_gen.specs.declared.size.SizeKind.{SizeKind}
-use Rattle.ns_joint.specs.Joint.{Joint, joint_of, has_run, stopped_for}
-use Rattle.ns_joint.specs.Making.{Refusal, files_named, unchecked, unloaded}
-use Rattle.ns_joint.specs.Making as making
+use Rattle.ns_run_code.specs.Build.{Built, built_of, image, image_too_large}
+use Rattle.ns_run_code.specs.Build as built
+use Rattle.ns_gen_code.specs.Code.{code_of}
+use Rattle.ns_gen_code.specs.Sizes.{size_fault}
+use Rattle.ns_gen_code.specs.declared.size.SizeKind.{SizeKind}
+use Rattle.ns_session_files.specs.Joint.{Joint, joint_of, has_run, stopped_for}
+use Rattle.ns_session_files.specs.Making.{Refusal, files_named, unchecked, unloaded}
+use Rattle.ns_session_files.specs.Making as making
 use Rattle.ns_lib.specs.Sample.{sample}
 use Rattle.ns_load.specs.Loaded.{Loading, units, stopped, file_names, loaded_texts}
 use Rattle.ns_load.specs.declared.fault.LoadCause.{LoadCause}
 use Rattle.ns_load.specs.declared.fault.LoadCause.TheVariants.{Missing, TooLong, ReadFault, Spelling}
 use Rattle.ns_load.specs.declared.fault.LoadFault.{LoadFault}
 use Rattle.ns_load.specs.declared.fault.LoadFault.TheVariants.{At, Memory}
-use Rattle.ns_meant.specs.Classes.{meant_of}
-use Rattle.ns_meant.specs.Program.{Meant}
-use Rattle.ns_outcome.specs.Report.{bad_word, refused_file, refused_text, spelling_name, static_name, stores, told, too_large}
-use Rattle.ns_outcome.specs.declared.report.Report.{Report}
-use Rattle.ns_outcome.specs.declared.usage.TheConstants.{HELP, VERSION}
+use Rattle.ns_resolved.specs.Classes.{meant_of}
+use Rattle.ns_resolved.specs.Program.{Meant}
+use Rattle.ns_run_outcome.specs.Report.{bad_word, refused_file, refused_text, spelling_name, static_name, stores, told, too_large}
+use Rattle.ns_run_outcome.specs.declared.report.Report.{Report}
+use Rattle.ns_run_outcome.specs.declared.usage.TheConstants.{HELP, VERSION}
 use Rattle.ns_print.specs.Printed.{printed}
-use Rattle.ns_launch.specs.Run.{meant_run}
+use Rattle.ns_run_code.specs.Run.{meant_run}
 use Rattle.ns_run.specs.Image.{Executes, Lists, of_image}
 use Rattle.ns_run.specs.Run.{run_report, told_jointly}
 use Rattle.ns_run.specs.Task.{Task, Checks, Shows, Builds, Runs}
-use Rattle.ns_rules.specs.Least.{faults, least}
-use Rattle.ns_rules.specs.declared.fault.Placed.{Placed}
+use Rattle.ns_static_rules.specs.Least.{faults, least}
+use Rattle.ns_static_rules.specs.declared.fault.Placed.{Placed}
 use Rattle.ns_tree.specs.Flat.{flat}
 use Rattle.ns_tree.specs.Plain as p
-use Rattle.ns_words.specs.Words.{Line, Reading, says, bad, limits_of, nothing_given, quantum_of, reading_of, sample_number}
-use Rattle.ns_words.specs.declared.form.Verb.{Verb}
-use Rattle.ns_words.specs.declared.form.Verb.TheVariants.{Check, Show, Run, Build, Exec, Listing, Session, Sample, Help, Version}
+use Rattle.ns_run_words.specs.Words.{Line, Reading, says, bad, limits_of, nothing_given, quantum_of, reading_of, sample_number}
+use Rattle.ns_run_words.specs.declared.form.Verb.{Verb}
+use Rattle.ns_run_words.specs.declared.form.Verb.TheVariants.{Check, Show, Run, Build, Exec, Listing, Session, Sample, Help, Version}
 
 abbrev pub name_from : Option (List ℕ) → List ℕ
 name_from (Some name) = name

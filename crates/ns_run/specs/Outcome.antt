@@ -5,13 +5,13 @@ use Rattle.ns_load.specs.declared.fault.LoadCause.{LoadCause}
 use Rattle.ns_load.specs.declared.fault.LoadCause.TheVariants as cause
 use Rattle.ns_load.specs.declared.fault.LoadFault.{LoadFault}
 use Rattle.ns_load.specs.declared.fault.LoadFault.TheVariants as fault
-use Rattle.ns_outcome.specs.Outcome.{IsMissing, Wrote, missing_line}
-use Rattle.ns_outcome.specs.declared.report.Report.{Report}
+use Rattle.ns_run_outcome.specs.Outcome.{IsMissing, Wrote, missing_line}
+use Rattle.ns_run_outcome.specs.declared.report.Report.{Report}
 use Rattle.ns_run.specs.Meaning.{files_read, meaning_of_texts}
-use Rattle.ns_words.specs.Words.{Reading, says, bad, reading_of}
-use Rattle.ns_words.specs.declared.form.Verb.{Verb}
-use Rattle.ns_words.specs.declared.form.Verb.TheVariants as verb
-use Rattle.ns_joint.specs.Answer.{OfSomeTexts, OfSomeName}
+use Rattle.ns_run_words.specs.Words.{Reading, says, bad, reading_of}
+use Rattle.ns_run_words.specs.declared.form.Verb.{Verb}
+use Rattle.ns_run_words.specs.declared.form.Verb.TheVariants as verb
+use Rattle.ns_session_files.specs.Answer.{OfSomeTexts, OfSomeName}
 
 -- The command isn't the one that stores an image.
 abbrev pub IsNoBuild : Verb → Type 0

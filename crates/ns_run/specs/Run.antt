@@ -1,9 +1,9 @@
 -- What a run writes, and what a session does.
 use Rattle.std.specs.Prelude.{ℕ, List, [], ◌∷◌, Option, Some, None, ◌++◌, codes}
 use Rattle.std.specs.Fmt.{decimal}
-use Rattle.ns_joint.specs.declared.joint.Told.{Told}
-use Rattle.ns_launch.specs.declared.run.Ran.{Ran}
-use Rattle.ns_outcome.specs.declared.report.Report.{Report}
+use Rattle.ns_session_files.specs.declared.joint.Told.{Told}
+use Rattle.ns_run_code.specs.declared.run.Ran.{Ran}
+use Rattle.ns_run_outcome.specs.declared.report.Report.{Report}
 
 -- the line that tells of a run how many classes its program has and how many steps it used
 abbrev pub summary : (classes steps : ℕ) → List ℕ

@@ -1,8 +1,8 @@
 //! The image of a program, and its report.
 
 ghost use Rattle.std.specs.Prelude.{◌≡◌, map, IfOk, string_bytes};
-ghost use Rattle.ns_exec.specs.Build.{built_of};
-ghost use Rattle.ns_meant.specs.Classes.{meant};
+ghost use Rattle.ns_run_code.specs.Build.{built_of};
+ghost use Rattle.ns_resolved.specs.Classes.{meant};
 ghost use Rattle.ns_run.specs.Meaning as spec;
 ghost use Rattle.ns_scope.specs.Whole.{IsWhole};
 ghost use Rattle.ns_static.specs.Check.{fault_of};
@@ -11,9 +11,9 @@ ghost use Rattle.ns_tree.specs.PlainOf.{unit_of};
 use crate::files::on_static_fault;
 use ns_base::no_memory::NoMemory;
 use ns_base::text::Text;
-use ns_exec::build::{BuildFault, build};
-use ns_outcome::cause::size_name;
-use ns_outcome::report::{Report, refused_file, stores};
+use ns_run_code::build::{BuildFault, build};
+use ns_run_outcome::cause::size_name;
+use ns_run_outcome::report::{Report, refused_file, stores};
 use ns_scope::program::Program;
 use ns_static::check::{Checked, check};
 use ns_static::fault::StaticFault;

@@ -4,8 +4,8 @@ ghost use Rattle.std.specs.Prelude.{◌≡◌, ◌≤◌, map, ℕ, List, Some, 
 ghost use Rattle.ns_base.specs.Count.{Rose};
 ghost use Rattle.ns_base.specs.Shelf.{OnlyRead};
 ghost use Rattle.ns_load.specs.declared.fault.LoadCause.TheVariants.{ReadFault};
-ghost use Rattle.ns_outcome.specs.Outcome.{IsEnding, IsMissing};
-ghost use Rattle.ns_outcome.specs.Report.{told as told_lem};
+ghost use Rattle.ns_run_outcome.specs.Outcome.{IsEnding, IsMissing};
+ghost use Rattle.ns_run_outcome.specs.Report.{told as told_lem};
 ghost use Rattle.ns_print.specs.Printed.{printed};
 ghost use Rattle.ns_run.specs.Meaning as spec;
 ghost use Rattle.ns_run.specs.Outcome.{IsReadFault, IsRefusal, IsRefusedFor};
@@ -15,7 +15,7 @@ ghost use Rattle.ns_scope.specs.Whole.{IsFileName, IsWhole};
 ghost use Rattle.ns_static.specs.Check.{fault_of};
 ghost use Rattle.ns_tree.specs.Flat.{flat};
 ghost use Rattle.ns_tree.specs.PlainOf.{unit_of};
-ghost use Rattle.ns_words.specs.Forms.{AreFiles};
+ghost use Rattle.ns_run_words.specs.Forms.{AreFiles};
 
 use crate::build::on_build;
 use crate::run::on_run;
@@ -27,14 +27,14 @@ use ns_base::text::Text;
 use ns_load::fault::{LoadCause, LoadFault};
 use ns_load::load::load;
 use ns_load::names::names_of;
-use ns_outcome::cause::{spelling_name, static_name};
-use ns_outcome::report::{Report, refused_file, refused_text, told, told_text};
-use ns_outcome::stop::{Stop, or_stop};
 use ns_print::print::print;
-use ns_rules::fault::StaticCause;
+use ns_run_outcome::cause::{spelling_name, static_name};
+use ns_run_outcome::report::{Report, refused_file, refused_text, told, told_text};
+use ns_run_outcome::stop::{Stop, or_stop};
 use ns_scope::program::Program;
 use ns_static::check::check;
 use ns_static::fault::StaticFault;
+use ns_static_rules::fault::StaticCause;
 use ns_tree::tree::Unit;
 use std::alloc::Global;
 

@@ -2,7 +2,7 @@
 
 ghost use Rattle.std.specs.Prelude.{◌≡◌, map, IfOk, string_bytes};
 ghost use Rattle.ns_base.specs.Limits.{InRange};
-ghost use Rattle.ns_meant.specs.Classes.{meant};
+ghost use Rattle.ns_resolved.specs.Classes.{meant};
 ghost use Rattle.ns_run.specs.Meaning as spec;
 ghost use Rattle.ns_run.specs.Run.{run_report as run_report_lem};
 ghost use Rattle.ns_scope.specs.Whole.{IsWhole};
@@ -13,10 +13,10 @@ use crate::files::on_static_fault;
 use ns_base::limits::Limits;
 use ns_base::no_memory::NoMemory;
 use ns_base::text::Text;
-use ns_launch::run::{Ran, RunFault, run_source};
 use ns_load::names::names_of;
-use ns_outcome::cause::size_name;
-use ns_outcome::report::{Report, refused_file};
+use ns_run_code::run::{Ran, RunFault, run_source};
+use ns_run_outcome::cause::size_name;
+use ns_run_outcome::report::{Report, refused_file};
 use ns_scope::program::Program;
 use ns_static::check::{Checked, check};
 use ns_static::fault::StaticFault;

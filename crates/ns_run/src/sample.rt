@@ -3,7 +3,7 @@
 ghost use Rattle.std.specs.Prelude.{◌≡◌, ◌≤◌, ◌∷◌, [], IfOk, IsErrOf, Some, codes, map, string_bytes};
 ghost use Rattle.ns_base.specs.Stored.{file_at};
 ghost use Rattle.ns_lib.specs.Sample.{sample as sample_lem};
-ghost use Rattle.ns_outcome.specs.Outcome.{IsEnding};
+ghost use Rattle.ns_run_outcome.specs.Outcome.{IsEnding};
 ghost use Rattle.ns_run.specs.Meaning as spec;
 
 use crate::files::on_files;
@@ -13,8 +13,8 @@ use ns_base::no_memory::NoMemory;
 use ns_base::sure_shelf::SureShelf;
 use ns_base::text::Text;
 use ns_lib::sample::sample;
-use ns_outcome::report::Report;
-use ns_outcome::stop::Stop;
+use ns_run_outcome::report::Report;
+use ns_run_outcome::stop::Stop;
 use std::alloc::Global;
 
 /// The name that a sample has as a file.

@@ -4,24 +4,24 @@ ghost use Rattle.std.specs.Prelude.{◌≡◌, ◌≤◌, map, IfOk, IsErrOf, le
 ghost use Rattle.ns_base.specs.Count.{Rose};
 ghost use Rattle.ns_base.specs.Limits.{InRange};
 ghost use Rattle.ns_base.specs.Shelf.{OnlyRead};
-ghost use Rattle.ns_joint.specs.Answer.{HasRefusedFile, RefusesAs};
-ghost use Rattle.ns_joint.specs.Making.{files_named};
-ghost use Rattle.ns_outcome.specs.Outcome.{IsEnding};
+ghost use Rattle.ns_session_files.specs.Answer.{HasRefusedFile, RefusesAs};
+ghost use Rattle.ns_session_files.specs.Making.{files_named};
+ghost use Rattle.ns_run_outcome.specs.Outcome.{IsEnding};
 ghost use Rattle.ns_run.specs.Meaning as spec;
 ghost use Rattle.ns_run.specs.Run.{told_jointly as told_jointly_lem};
 ghost use Rattle.ns_run.specs.Stated.{MissingIsCounted, ReportsTexts, ReportsTold, UnreadIsThere};
-ghost use Rattle.ns_words.specs.Application.{AreApplications};
-ghost use Rattle.ns_joint.specs.declared.fault.JointFault.TheVariants.{Unread};
+ghost use Rattle.ns_run_words.specs.Application.{AreApplications};
+ghost use Rattle.ns_session_files.specs.declared.fault.JointFault.TheVariants.{Unread};
 
 use crate::files::{name_of, on_cause, on_static_fault};
 use ns_base::limits::Limits;
 use ns_base::shelf::Shelf;
 use ns_base::text::Text;
-use ns_joint::fault::JointFault;
-use ns_joint::joint::{Told, run_jointly};
-use ns_outcome::cause::size_name;
-use ns_outcome::report::{Report, refused_file};
-use ns_outcome::stop::{Stop, or_stop};
+use ns_run_outcome::cause::size_name;
+use ns_run_outcome::report::{Report, refused_file};
+use ns_run_outcome::stop::{Stop, or_stop};
+use ns_session_files::fault::JointFault;
+use ns_session_files::joint::{Told, run_jointly};
 use std::alloc::Global;
 
 /// The report of the session of the applications that these words ask for.

@@ -1,31 +1,22 @@
-//! Tests of what programs run in: the cells of a world, lookup, the making of classes, and the kernel's
-//! rows, by tables that were made apart from the definitions. A lawful world is set up once, and each
-//! call that asks for one is made in it.
+//! Whole commands of the program, tried by tables over files and streams in memory: what they write to both streams, and
+//! their exit statuses.
 #![tactic(auto)]
 
 #[cfg(test)]
-mod asking;
+mod adapter_tests;
 #[cfg(test)]
-mod block_tests;
+mod command;
 #[cfg(test)]
-mod cells;
+mod command_tests;
 #[cfg(test)]
-mod data_tests;
+mod image_tests;
 #[cfg(test)]
-mod facet_tests;
+mod limit_tests;
 #[cfg(test)]
-mod integer_tests;
+mod run_tests;
 #[cfg(test)]
-mod looking;
+mod session_tests;
 #[cfg(test)]
-mod lookup_tests;
+mod stream_tests;
 #[cfg(test)]
-mod making_tests;
-#[cfg(test)]
-mod mirror_tests;
-#[cfg(test)]
-mod program;
-#[cfg(test)]
-mod setting;
-#[cfg(test)]
-mod world_tests;
+mod text_tests;

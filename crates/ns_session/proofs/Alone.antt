@@ -3,17 +3,17 @@ use Rattle.std.proofs.Common.{◌≡◌, ℕ, ◌+◌, ◌≤◌, ◌<◌, [], a
 use Rattle.ns_base.specs.declared.limits.Limits.{Limits}
 use Rattle.ns_code.specs.declared.program.CodeProgram.{CodeProgram}
 use Rattle.ns_facets.specs.declared.row.Grants.{Grants}
-use Rattle.ns_meant.specs.Program.{Meant}
-use Rattle.ns_meant.specs.Tables.{tables}
+use Rattle.ns_resolved.specs.Program.{Meant}
+use Rattle.ns_resolved.specs.Tables.{tables}
 use Rattle.ns_model.specs.Whole.{ran}
-use Rattle.ns_moves.specs.State.{State, Unbegun, Going, Pends, Ended, Stuck, world_of}
-use Rattle.ns_moves.specs.Move.{moves}
-use Rattle.ns_moves.specs.Starts.{new_machine, started}
-use Rattle.ns_moves.specs.Turn.{is_still, charged_in, one_if, Turns}
-use Rattle.ns_moves.specs.Stated.{MovesAdd, StaysStill, TurnsAdd}
-use Rattle.ns_moves.specs.Onward.{MovesGoOnward}
-use Rattle.ns_moves.specs.Valid.{Valid}
-use Rattle.ns_moves.specs.laws.Still.{moves_on}
+use Rattle.ns_machine_moves.specs.State.{State, Unbegun, Going, Pends, Ended, Stuck, world_of}
+use Rattle.ns_machine_moves.specs.Move.{moves}
+use Rattle.ns_machine_moves.specs.Starts.{new_machine, started}
+use Rattle.ns_machine_moves.specs.Turn.{is_still, charged_in, one_if, Turns}
+use Rattle.ns_machine_moves.specs.Stated.{MovesAdd, StaysStill, TurnsAdd}
+use Rattle.ns_machine_moves.specs.Onward.{MovesGoOnward}
+use Rattle.ns_machine_moves.specs.Valid.{Valid}
+use Rattle.ns_machine_moves.specs.laws.Still.{moves_on}
 use Rattle.ns_link.specs.Laws.{IsOnTheWay, TurnsAreOnTheWay}
 use Rattle.ns_session.specs.Member.{Application, start_of, taken, IsAlone}
 use Rattle.ns_session.specs.Laws.{ComesToRest, LeadsTo, SourceLeads}

@@ -11,10 +11,10 @@ ghost use Rattle.ns_session.specs.RobinLaws.{TurnsAreTurned, TurnsAreTurnedBesid
 pub fn turns_are_a_function()
     ensures { (code : CodeProgram) (grants : Grants) → TurnsAreTurned code grants }
 {
-    ns_moves::laws::turns_add();
-    ns_moves::valid_frames::moves_keep_valid();
-    ns_falling::laws::moves_lower();
-    ns_falling::laws::left_is_below_a_power();
+    ns_machine_moves::laws::turns_add();
+    ns_machine_moves::valid_frames::moves_keep_valid();
+    ns_machine_moves::falling::moves_lower();
+    ns_machine_moves::falling::left_is_below_a_power();
 }
 
 /// So is the turn of an application, with the shared board or without it.
@@ -22,7 +22,7 @@ pub fn turns_beside_a_board_are_a_function()
     ensures { (application : Application) → TurnsAreTurnedBeside application }
 {
     turns_are_a_function();
-    ns_moves::valid_world::swaps_keep_valid();
+    ns_machine_moves::valid_world::swaps_keep_valid();
 }
 
 /// The round robin of applications that stand where turns lead is a function of them.

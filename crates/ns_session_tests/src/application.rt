@@ -5,11 +5,11 @@ use ns_base::mem_shelf::MemShelf;
 use ns_base::no_memory::NoMemory;
 use ns_base::text::Text;
 use ns_facets::row::Grants;
-use ns_joint::source::code_of;
+use ns_run_words::application::application_of;
 use ns_session::fault::AddFault;
 use ns_session::session::Session;
+use ns_session_files::source::code_of;
 use ns_verify::verify::Verified;
-use ns_words::application::application_of;
 use std::alloc::Global;
 
 /// The console alone.

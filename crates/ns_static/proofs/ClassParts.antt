@@ -7,7 +7,7 @@ use Rattle.ns_tree.specs.laws.Nodes.{class_out}
 use Rattle.ns_scope.specs.declared.scope.ClassScope.{ClassScope}
 use Rattle.ns_scope.specs.declared.scope.CodeSide.TheVariants as side
 use Rattle.ns_scope.specs.Scopes.{class_scope}
-use Rattle.ns_rules.specs.Faults.{class_found, class_members_found, head_faults, class_faults, class_inside_faults, initialiser_faults, side_faults, class_side_faults}
+use Rattle.ns_static_rules.specs.Faults.{class_found, class_members_found, head_faults, class_faults, class_inside_faults, initialiser_faults, side_faults, class_side_faults}
 
 pub class_found_out : (outer : List ClassScope) (e : Class) → class_found outer (class_of e) ≡ class_members_found (class_of e) ++ head_faults outer (option_map clause_of (w.out-Class e).clause)
 class_found_out outer e = rw (class_out e) refl

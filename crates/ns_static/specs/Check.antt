@@ -2,10 +2,10 @@
 use Rattle.std.specs.Prelude.{◌≡◌, map, Option, Some}
 use Rattle.ns_tree.specs.PlainOf.{unit_of}
 use Rattle.ns_scope.specs.declared.program.Program.{Program}
-use Rattle.ns_rules.specs.declared.fault.Placed.{Placed}
+use Rattle.ns_static_rules.specs.declared.fault.Placed.{Placed}
 use Rattle.ns_static.specs.declared.fault.StaticFault.{StaticFault}
 use Rattle.ns_static.specs.declared.fault.StaticFault.TheVariants.{At, Memory}
-use Rattle.ns_rules.specs.Least.{least, faults}
+use Rattle.ns_static_rules.specs.Least.{least, faults}
 
 -- the least fault of a program, if it has one
 abbrev pub fault_of : Program → Option Placed

@@ -7,9 +7,9 @@ ghost use Rattle.ns_static.specs.Check.{fault_of, Told};
 use crate::fault::StaticFault;
 use crate::units::{Before, unit_faults};
 use ns_base::no_memory::NoMemory;
-use ns_rules::fault::Placed;
 use ns_scope::program::Program;
 use ns_scope::table::Table;
+use ns_static_rules::fault::Placed;
 use std::alloc::Global;
 use std::marker::Model;
 

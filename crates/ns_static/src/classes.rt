@@ -4,20 +4,20 @@ ghost use Rattle.std.specs.Prelude.{◌≡◌, ◌∷◌, IfOk, OnOk};
 ghost use Rattle.ns_tree.specs.PlainOf.{bars_of, class_of, class_side_of, side_of};
 ghost use Rattle.ns_scope.specs.Names as names;
 ghost use Rattle.ns_scope.specs.Scopes.{class_scope};
-ghost use Rattle.ns_rules.specs.Rules.{members_found};
-ghost use Rattle.ns_rules.specs.Faults.{class_members_found, class_found};
-ghost use Rattle.ns_rules.specs.Walk.{with_found};
+ghost use Rattle.ns_static_rules.specs.Rules.{members_found};
+ghost use Rattle.ns_static_rules.specs.Faults.{class_members_found, class_found};
+ghost use Rattle.ns_static_rules.specs.Walk.{with_found};
 
 use crate::heads::head_faults;
 use ns_base::no_memory::NoMemory;
 use ns_base::text::Text;
-use ns_rules::bodies::{found_repeated, place_past};
-use ns_rules::checker::{Checker, found_past};
-use ns_rules::fault::{Many, StaticCause};
 use ns_scope::chain::Chain;
 use ns_scope::names::{Declared, class_members, instance_members};
 use ns_scope::scope::ClassScope;
 use ns_scope::table::Table;
+use ns_static_rules::bodies::{found_repeated, place_past};
+use ns_static_rules::checker::{Checker, found_past};
+use ns_static_rules::fault::{Many, StaticCause};
 use ns_tree::tree::{Access, Class, Side, Slot};
 
 /// Finds what is wrong with the members of a class and the head of its clause. Answers the

@@ -2,12 +2,12 @@
 
 ghost use Rattle.std.specs.Prelude.{◌≡◌, ◌++◌, ◌+◌, length, OnOk};
 ghost use Rattle.ns_tree.specs.PlainOf.{class_of, side_of, members_of, what_of};
-ghost use Rattle.ns_rules.specs.Faults.{class_names, side_names, members_names, what_names, classes_found};
-ghost use Rattle.ns_rules.specs.Walk.{with_found};
+ghost use Rattle.ns_static_rules.specs.Faults.{class_names, side_names, members_names, what_names, classes_found};
+ghost use Rattle.ns_static_rules.specs.Walk.{with_found};
 
 use ns_base::no_memory::NoMemory;
-use ns_rules::checker::{Checker, found_if};
-use ns_rules::fault::{Many, StaticCause};
+use ns_static_rules::checker::{Checker, found_if};
+use ns_static_rules::fault::{Many, StaticCause};
 use ns_tree::tree::{Class, Member, Side, What};
 
 /// TooMany(Classes), at the 4,097th class, in a class and those in it, where so many stand before

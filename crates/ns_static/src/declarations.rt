@@ -4,17 +4,17 @@
 ghost use Rattle.std.specs.Prelude.{◌≡◌, ◌++◌, option_map, OnOk};
 ghost use Rattle.ns_tree.specs.PlainOf.{bars_of, statements_of, pattern_of, clause_of, method_of};
 ghost use Rattle.ns_tree.specs.PlainOf.{class_of, class_side_of, side_of, members_of, what_of};
-ghost use Rattle.ns_rules.specs.Faults.{bars_faults, statements_faults, super_faults, clause_message_faults, initialiser_faults, method_faults};
-ghost use Rattle.ns_rules.specs.Faults.{class_faults, class_inside_faults, class_side_faults, side_faults, members_faults, what_faults};
-ghost use Rattle.ns_rules.specs.Walk.{with_found};
+ghost use Rattle.ns_static_rules.specs.Faults.{bars_faults, statements_faults, super_faults, clause_message_faults, initialiser_faults, method_faults};
+ghost use Rattle.ns_static_rules.specs.Faults.{class_faults, class_inside_faults, class_side_faults, side_faults, members_faults, what_faults};
+ghost use Rattle.ns_static_rules.specs.Walk.{with_found};
 
 use crate::classes::enter_class;
 use ns_base::no_memory::NoMemory;
-use ns_rules::bodies::{begin_initialiser, begin_method};
-use ns_rules::checker::Checker;
-use ns_rules::expressions::{bars_faults, message_faults, statements_faults};
 use ns_scope::chain::Chain;
 use ns_scope::scope::{ClassScope, CodeSide, Scope};
+use ns_static_rules::bodies::{begin_initialiser, begin_method};
+use ns_static_rules::checker::Checker;
+use ns_static_rules::expressions::{bars_faults, message_faults, statements_faults};
 use ns_tree::tree::{Class, Member, Method, Pattern, Side, Slot, Statements, SuperClause, What};
 
 #[cycle(declarations)]

@@ -1,7 +1,7 @@
 //! Why a program is refused.
 
 use ns_base::place::Place;
-use ns_rules::fault::StaticCause;
+use ns_static_rules::fault::StaticCause;
 
 /// What the check of a program refuses it for: a fault at its place, or want of memory.
 #[derive(Clone, Copy)]

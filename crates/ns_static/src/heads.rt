@@ -2,15 +2,15 @@
 
 ghost use Rattle.std.specs.Prelude.{◌≡◌, option_map};
 ghost use Rattle.ns_tree.specs.PlainOf.{clause_of, message_of};
-ghost use Rattle.ns_rules.specs.Faults.{head_faults, clause_faults, base_faults, over_faults};
-ghost use Rattle.ns_rules.specs.Rules.{top_found, is_object, is_object_name, is_new, is_new_message, base_start};
-ghost use Rattle.ns_rules.specs.Walk.{with_found};
+ghost use Rattle.ns_static_rules.specs.Faults.{head_faults, clause_faults, base_faults, over_faults};
+ghost use Rattle.ns_static_rules.specs.Rules.{top_found, is_object, is_object_name, is_new, is_new_message, base_start};
+ghost use Rattle.ns_static_rules.specs.Walk.{with_found};
 
-use ns_rules::checker::{Checker, found_if};
-use ns_rules::fault::StaticCause;
-use ns_rules::rules::outer_found;
 use ns_scope::chain::Chain;
 use ns_scope::scope::ClassScope;
+use ns_static_rules::checker::{Checker, found_if};
+use ns_static_rules::fault::StaticCause;
+use ns_static_rules::rules::outer_found;
 use ns_tree::tree::{Base, Message, Origin, SuperClause};
 
 pub fn head_faults(

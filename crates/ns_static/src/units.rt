@@ -2,21 +2,21 @@
 
 ghost use Rattle.std.specs.Prelude.{◌≡◌, ◌+◌, length, IfOk, OnOk};
 ghost use Rattle.ns_tree.specs.PlainOf.{class_of, unit_of};
-ghost use Rattle.ns_rules.specs.Rules.{top_name_found};
-ghost use Rattle.ns_rules.specs.Faults.{unit_faults, class_name, class_names};
+ghost use Rattle.ns_static_rules.specs.Rules.{top_name_found};
+ghost use Rattle.ns_static_rules.specs.Faults.{unit_faults, class_name, class_names};
 ghost use Rattle.ns_tree.specs.Parts.{unit_class};
-ghost use Rattle.ns_rules.specs.Least.{with_top};
-ghost use Rattle.ns_rules.specs.Walk.{with_found, least_after};
+ghost use Rattle.ns_static_rules.specs.Least.{with_top};
+ghost use Rattle.ns_static_rules.specs.Walk.{with_found, least_after};
 
 use crate::counting::classes_found_in;
 use crate::declarations::class_faults;
 use ns_base::no_memory::NoMemory;
 use ns_base::place::Place;
 use ns_base::text::Text;
-use ns_rules::checker::{Checker, found_if};
-use ns_rules::fault::{Placed, StaticCause};
 use ns_scope::chain::Chain;
 use ns_scope::table::Table;
+use ns_static_rules::checker::{Checker, found_if};
+use ns_static_rules::fault::{Placed, StaticCause};
 use ns_tree::tree::{Class, Named, Unit};
 use std::alloc::Global;
 

@@ -10,9 +10,9 @@ use Rattle.ns_code.specs.declared.class.ClassCode.{ClassCode}
 use Rattle.ns_code.specs.declared.body.BodyCode.{BodyCode}
 use Rattle.ns_base.specs.declared.selector.Sel.{Sel}
 use Rattle.ns_code.specs.Selector.{selector_text}
-use Rattle.ns_members.specs.Members.{private_selectors}
-use Rattle.ns_members.specs.Numbers.{IsPrivatesOf}
-use Rattle.ns_members.specs.declared.privates.Privates.{Privates}
+use Rattle.ns_verify_members.specs.Members.{private_selectors}
+use Rattle.ns_verify_members.specs.Numbers.{IsPrivatesOf}
+use Rattle.ns_verify_members.specs.declared.privates.Privates.{Privates}
 use Rattle.ns_verify.specs.Around.{around_in, outwards}
 use Rattle.ns_verify.specs.Causes.{lacks_private}
 use Rattle.ns_verify.specs.Chains.{outer_of, around, body_around, declaration_at, body_at, arounds_from}

@@ -13,7 +13,7 @@ use Rattle.ns_code.specs.Soundness.{block_kind, is_name, has_place, has_bodies, 
 use Rattle.ns_verify.specs.declared.fault.VerifyCause.TheVariants.{BadScope}
 use Rattle.ns_verify.specs.Chains.{outer_of, declaration_at, around, body_around, body_at}
 use Rattle.ns_verify.specs.Causes.{is_no_slot, is_no_local, lacks_local, is_no_level, is_no_private, lacks_private, private_side, is_block_in, holds_block, is_misplaced, has_bad_head, is_bad_send}
-use Rattle.ns_members.specs.Members.{private_selectors}
+use Rattle.ns_verify_members.specs.Members.{private_selectors}
 use Rattle.ns_verify.specs.Verify.{class_cause}
 use Rattle.ns_verify.specs.Places.{HasNoCause}
 use Rattle.ns_verify.specs.Uses.{HasLevel, HasLocal, HasBlock, IsSendOf, HasPrivate, HasSlot, StandsRight}

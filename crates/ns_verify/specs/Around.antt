@@ -3,7 +3,7 @@ use Rattle.std.specs.Prelude.{◌≡◌, ℕ, zero, suc, ◌<◌, List, [], ◌�
 use Rattle.std.specs.List.{AllZip}
 use Rattle.std.specs.Option.{option_map_or, option_and_then}
 use Rattle.ns_code.specs.declared.program.CodeProgram.{CodeProgram}
-use Rattle.ns_members.specs.Numbers.{IsNameTable, IsPrivatesOf}
+use Rattle.ns_verify_members.specs.Numbers.{IsNameTable, IsPrivatesOf}
 use Rattle.ns_verify.specs.declared.tables.Tables.{Tables}
 use Rattle.ns_verify.specs.declared.around.Around.{Around}
 use Rattle.ns_verify.specs.Chains.{outer_of, body_around, declaration_at, body_at}

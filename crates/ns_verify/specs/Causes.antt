@@ -17,7 +17,7 @@ use Rattle.ns_verify.specs.declared.fault.VerifyCause.TheVariants.{BadJump, BadH
 use Rattle.ns_code.specs.Table.{takes, target, goes_on, ends_wrongly}
 use Rattle.ns_verify.specs.Heights.{Pass, height_at, falls_apart, jumps_apart}
 use Rattle.ns_verify.specs.Chains.{declaration_at, around, body_at}
-use Rattle.ns_members.specs.Members.{private_selectors}
+use Rattle.ns_verify_members.specs.Members.{private_selectors}
 
 -- BadJump: the target isn't below the number of instructions.
 abbrev pub has_bad_jump : BodyCode → Instr → Bool

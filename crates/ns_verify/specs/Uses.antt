@@ -13,7 +13,7 @@ use Rattle.ns_code.specs.Selector.{selector_arity, selector_text}
 use Rattle.ns_code.specs.Soundness.{method_kind, block_kind, initialiser_kind, clause_kind}
 use Rattle.ns_verify.specs.Chains.{declaration_at, body_at}
 use Rattle.ns_verify.specs.Causes.{private_side}
-use Rattle.ns_members.specs.Members.{private_selectors}
+use Rattle.ns_verify_members.specs.Members.{private_selectors}
 use Rattle.ns_verify.specs.Places.{pass_before, home_of}
 
 -- The declaration at that level is there.

@@ -7,7 +7,7 @@ ghost use Rattle.ns_code.specs.declared.class.ClassCode.{ClassCode};
 ghost use Rattle.ns_code.specs.declared.class.SlotCode.{SlotCode};
 ghost use Rattle.ns_code.specs.declared.class.MethodCode.{MethodCode};
 ghost use Rattle.ns_code.specs.Soundness as spec;
-ghost use Rattle.ns_members.specs.Numbers.{IsNameTable};
+ghost use Rattle.ns_verify_members.specs.Numbers.{IsNameTable};
 ghost use Rattle.ns_verify.specs.Verify as own;
 
 use crate::fault::VerifyCause;
@@ -15,9 +15,9 @@ use ns_base::no_memory::NoMemory;
 use ns_base::selector::Sel;
 use ns_code::class::{ClassCode, MethodCode, NestedCode, SlotCode};
 use ns_code::program::CodeProgram;
-use ns_members::kinds::{CLASS, CLAUSE, INITIALISER, INSTANCES, METHOD};
-use ns_members::members::has_different_members;
-use ns_members::names::{NameTable, is_name};
+use ns_verify_members::kinds::{CLASS, CLAUSE, INITIALISER, INSTANCES, METHOD};
+use ns_verify_members::members::has_different_members;
+use ns_verify_members::names::{NameTable, is_name};
 use std::alloc::Global;
 
 /// The first cause that holds of a class.

@@ -5,7 +5,7 @@ ghost use Rattle.std.specs.List.{AllPairs};
 ghost use Rattle.ns_verify.specs.Counts.{HasFewParts};
 ghost use Rattle.ns_verify.specs.Chains.{home_kinds};
 ghost use Rattle.ns_verify.specs.Heights.{begin};
-ghost use Rattle.ns_members.specs.Numbers.{IsNameTable};
+ghost use Rattle.ns_verify_members.specs.Numbers.{IsNameTable};
 ghost use Rattle.ns_verify.specs.Around.{AreTablesOf, IsAround};
 ghost use Rattle.ns_verify.specs.Verify as spec;
 
@@ -20,7 +20,7 @@ use ns_base::no_memory::NoMemory;
 use ns_code::body::BodyCode;
 use ns_code::instruction::Instr;
 use ns_code::program::CodeProgram;
-use ns_members::names::NameTable;
+use ns_verify_members::names::NameTable;
 use std::alloc::Global;
 
 /// The first fault of code, if it has one. The code has few enough parts that 32 bits number them,

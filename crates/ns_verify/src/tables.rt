@@ -3,7 +3,7 @@
 ghost use Rattle.std.specs.Prelude.{◌≡◌, ◌≤◌, ◌<◌, IfOk, length, map, option_map, slice_get};
 ghost use Rattle.ns_code.specs.Selector.{selector_arity};
 ghost use Rattle.ns_code.specs.declared.class.ClassCode.{ClassCode};
-ghost use Rattle.ns_members.specs.Numbers.{IsNameTable};
+ghost use Rattle.ns_verify_members.specs.Numbers.{IsNameTable};
 ghost use Rattle.ns_verify.specs.Around as spec;
 ghost use Rattle.ns_verify.specs.Causes.{lacks_private};
 ghost use Rattle.ns_verify.specs.Chains.{arounds_from};
@@ -15,8 +15,8 @@ use ns_base::selector::Sel;
 use ns_code::body::BodyCode;
 use ns_code::class::ClassCode;
 use ns_code::program::CodeProgram;
-use ns_members::names::NameTable;
-use ns_members::privates::{Privates, all_privates};
+use ns_verify_members::names::NameTable;
+use ns_verify_members::privates::{Privates, all_privates};
 use std::alloc::Global;
 
 /// The names, the private members of each class, the declaration around each class, and the body

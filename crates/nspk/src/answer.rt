@@ -2,11 +2,11 @@
 
 ghost use Rattle.std.specs.Prelude.{◌≡◌, false, map, Some, string_bytes, true};
 ghost use Rattle.ns_base.specs.Files.{Files};
-ghost use Rattle.ns_outcome.specs.Outcome.{Leaves, LeavesStreams};
-ghost use Rattle.ns_outcome.specs.Report.{bad_word};
+ghost use Rattle.ns_run_outcome.specs.Outcome.{Leaves, LeavesStreams};
+ghost use Rattle.ns_run_outcome.specs.Report.{bad_word};
 ghost use Rattle.ns_run.specs.Meaning.{meaning};
 ghost use Rattle.ns_run.specs.Outcome.{OverTexts};
-ghost use Rattle.ns_words.specs.Words.{first_bad};
+ghost use Rattle.ns_run_words.specs.Words.{first_bad};
 
 use ns_base::shelf::Shelf;
 use ns_base::sink::Sink;

@@ -8,12 +8,12 @@ use Rattle.ns_tree.specs.Grammar as g
 use Rattle.ns_tree.specs.Plain as p
 use Rattle.ns_tree.specs.PlainOf.{unit_of}
 use Rattle.ns_tree.specs.declared.tree.Unit as u
-use Rattle.ns_terminal.specs.declared.fault.ParseFault.{ParseFault}
+use Rattle.ns_parse_tokens.specs.declared.fault.ParseFault.{ParseFault}
 use Rattle.ns_tree.specs.Tree.{AllHaveText, Spells}
 use Rattle.ns_tree.specs.laws.FileFlats.{file_same}
 use Rattle.ns_parse.specs.Parse as x
-use Rattle.ns_terminal.specs.Read.{Outcome, got, fault}
-use Rattle.ns_terminal.specs.laws.Sound.{Took, Spelled}
+use Rattle.ns_parse_tokens.specs.Read.{Outcome, got, fault}
+use Rattle.ns_parse_tokens.specs.laws.Sound.{Took, Spelled}
 use Rattle.ns_parse.specs.lemmas.SoundClasses.{sound_file}
 
 -- what was read up to the last token

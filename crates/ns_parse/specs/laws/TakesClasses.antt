@@ -3,20 +3,20 @@ use Rattle.std.proofs.Common.{ℕ, zero, suc, None}
 use Rattle.ns_tree.specs.Plain as p
 use Rattle.ns_parse.specs.declared.classes.SideOf.{SideOf}
 use Rattle.ns_parse.specs.declared.classes.SideOf.TheVariants as sides
-use Rattle.ns_phrase.specs.declared.expressions.Holder.{Holder}
-use Rattle.ns_phrase.specs.declared.expressions.Holder.TheVariants as h
-use Rattle.ns_terminal.specs.declared.mark.Mark.TheVariants as m
-use Rattle.ns_terminal.specs.declared.name.Sort.TheVariants as s
-use Rattle.ns_terminal.specs.declared.name.Operators.TheVariants as o
+use Rattle.ns_parse_exprs.specs.declared.expressions.Holder.{Holder}
+use Rattle.ns_parse_exprs.specs.declared.expressions.Holder.TheVariants as h
+use Rattle.ns_parse_tokens.specs.declared.mark.Mark.TheVariants as m
+use Rattle.ns_parse_tokens.specs.declared.name.Sort.TheVariants as s
+use Rattle.ns_parse_tokens.specs.declared.name.Operators.TheVariants as o
 use Rattle.ns_parse.specs.Classes as c
-use Rattle.ns_phrase.specs.Expressions as x
-use Rattle.ns_terminal.specs.Mark.{is_mark}
-use Rattle.ns_terminal.specs.Name.{is_name}
-use Rattle.ns_terminal.specs.Pattern.{starts_base}
-use Rattle.ns_terminal.specs.Read.{Reader}
-use Rattle.ns_terminal.specs.laws.Takes.{Takes, takes_none, takes_some, takes_any, takes_mapped, takes_both, takes_after, takes_until, takes_or, takes_maybe, takes_labelled}
-use Rattle.ns_terminal.specs.laws.TakesTokens.{takes_skip, takes_name, takes_strings, takes_access, takes_pattern, takes_factory, takes_base}
-use Rattle.ns_phrase.specs.laws.TakesPhrases.{keys_take, takes_bars, takes_statements, takes_primary}
+use Rattle.ns_parse_exprs.specs.Expressions as x
+use Rattle.ns_parse_tokens.specs.Mark.{is_mark}
+use Rattle.ns_parse_tokens.specs.Name.{is_name}
+use Rattle.ns_parse_tokens.specs.Pattern.{starts_base}
+use Rattle.ns_parse_tokens.specs.Read.{Reader}
+use Rattle.ns_parse_tokens.specs.laws.Takes.{Takes, takes_none, takes_some, takes_any, takes_mapped, takes_both, takes_after, takes_until, takes_or, takes_maybe, takes_labelled}
+use Rattle.ns_parse_tokens.specs.laws.TakesTokens.{takes_skip, takes_name, takes_strings, takes_access, takes_pattern, takes_factory, takes_base}
+use Rattle.ns_parse_exprs.specs.laws.TakesPhrases.{keys_take, takes_bars, takes_statements, takes_primary}
 
 module _ (primary : Reader p.Primary) (P : Takes 1 primary) where
   takes_message_to_super : Takes 0 (c.super_message primary)

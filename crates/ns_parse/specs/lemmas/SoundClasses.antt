@@ -12,24 +12,24 @@ use Rattle.ns_tree.specs.Rule.{Rule, ◌&◌, many, flat_all, GoodAll, maybe, fl
 use Rattle.ns_tree.specs.Made.{made_clause, made_unit, made_method}
 use Rattle.ns_parse.specs.declared.classes.SideOf.{SideOf}
 use Rattle.ns_parse.specs.declared.classes.SideOf.TheVariants as sides
-use Rattle.ns_phrase.specs.declared.expressions.Holder.{Holder}
-use Rattle.ns_phrase.specs.declared.expressions.Holder.TheVariants as h
-use Rattle.ns_terminal.specs.declared.mark.Mark.TheVariants as m
-use Rattle.ns_terminal.specs.declared.name.Sort.TheVariants as s
-use Rattle.ns_terminal.specs.declared.name.Operators.TheVariants as o
-use Rattle.ns_terminal.specs.Read.{Reader, Labelled, tail, item}
-use Rattle.ns_terminal.specs.Mark as marks
-use Rattle.ns_terminal.specs.Name as names
-use Rattle.ns_terminal.specs.Leaf as leaves
-use Rattle.ns_terminal.specs.Pattern.{starts_base}
+use Rattle.ns_parse_exprs.specs.declared.expressions.Holder.{Holder}
+use Rattle.ns_parse_exprs.specs.declared.expressions.Holder.TheVariants as h
+use Rattle.ns_parse_tokens.specs.declared.mark.Mark.TheVariants as m
+use Rattle.ns_parse_tokens.specs.declared.name.Sort.TheVariants as s
+use Rattle.ns_parse_tokens.specs.declared.name.Operators.TheVariants as o
+use Rattle.ns_parse_tokens.specs.Read.{Reader, Labelled, tail, item}
+use Rattle.ns_parse_tokens.specs.Mark as marks
+use Rattle.ns_parse_tokens.specs.Name as names
+use Rattle.ns_parse_tokens.specs.Leaf as leaves
+use Rattle.ns_parse_tokens.specs.Pattern.{starts_base}
 use Rattle.ns_parse.specs.Classes as x
-use Rattle.ns_phrase.specs.Expressions as exprs
-use Rattle.ns_terminal.specs.laws.Sound.{Sound, Becomes, sound_none, sound_mapped, if_mapped, sound_same, sound_both, sound_after, sound_until, sound_or, sound_or_if, sound_maybe}
-use Rattle.ns_terminal.specs.laws.SoundLists.{labelled, sound_labelled}
-use Rattle.ns_terminal.specs.laws.SoundMarks.{sound_skip, sound_flag}
-use Rattle.ns_terminal.specs.laws.SoundTokens.{sound_ident, sound_oper, sound_string, sound_strings, sound_access}
-use Rattle.ns_terminal.specs.laws.SoundPatterns.{sound_pattern, sound_factory, sound_base}
-use Rattle.ns_phrase.specs.laws.SoundPhrases.{by_arm, some_keys, sound_some_keys, slot_rule, sound_bars, sound_statements, sound_primary}
+use Rattle.ns_parse_exprs.specs.Expressions as exprs
+use Rattle.ns_parse_tokens.specs.laws.Sound.{Sound, Becomes, sound_none, sound_mapped, if_mapped, sound_same, sound_both, sound_after, sound_until, sound_or, sound_or_if, sound_maybe}
+use Rattle.ns_parse_tokens.specs.laws.SoundLists.{labelled, sound_labelled}
+use Rattle.ns_parse_tokens.specs.laws.SoundMarks.{sound_skip, sound_flag}
+use Rattle.ns_parse_tokens.specs.laws.SoundTokens.{sound_ident, sound_oper, sound_string, sound_strings, sound_access}
+use Rattle.ns_parse_tokens.specs.laws.SoundPatterns.{sound_pattern, sound_factory, sound_base}
+use Rattle.ns_parse_exprs.specs.laws.SoundPhrases.{by_arm, some_keys, sound_some_keys, slot_rule, sound_bars, sound_statements, sound_primary}
 
 sound_over : Sound x.over (maybe (over_sign ▸ g.base))
 sound_over = sound_maybe (marks.is_mark m.Over) (sound_after (sound_skip m.Over) sound_base)

@@ -1,6 +1,6 @@
 use Rattle.std.proofs.Common.{ap, sym, ◌∙◌}
 use Rattle.ns_find.specs.declared.found.Found.{Found}
-use Rattle.ns_send.specs.Sends.{not_found}
+use Rattle.ns_actions.specs.Sends.{not_found}
 use Rattle.ns_act.specs.Run.{progress_of}
 use Rattle.ns_act.proofs.Members.{slot_read, slot_written, class_there}
 use Rattle.ns_act.proofs.answering.not_found.Goals as goal

@@ -1,5 +1,5 @@
 use Rattle.std.proofs.Common.{refl, ◌∙◌}
-use Rattle.ns_send.specs.Control.{in_world}
+use Rattle.ns_actions.specs.Control.{in_world}
 use Rattle.ns_act.specs.Running.{activation_at}
 use Rattle.ns_act.proofs.Applying.{default_part}
 use Rattle.ns_act.proofs.classes.part_of.Goals as goal

@@ -1,6 +1,6 @@
 use Rattle.std.proofs.Common.{◌≡◌, suc, ◌+◌, ap, ◌∙◌, arith}
 use Rattle.ns_world.specs.Heap.{find_cell, is_class, shape_at}
-use Rattle.ns_send.specs.Bodies.{Place, lexical, enclosing_place}
+use Rattle.ns_actions.specs.Bodies.{Place, lexical, enclosing_place}
 use Rattle.ns_act.specs.Running.{code_of}
 use Rattle.ns_act.proofs.Levels.{level_there}
 use Rattle.ns_act.proofs.enclosing.enclosing.Goals as goal

@@ -1,5 +1,5 @@
 use Rattle.std.proofs.Common.{◌≡◌}
-use Rattle.ns_send.specs.Bodies.{lexical}
+use Rattle.ns_actions.specs.Bodies.{lexical}
 use Rattle.ns_act.specs.Enclosing.{place_of}
 use Rattle.ns_act.proofs.enclosing.enclosing.Given as goal
 

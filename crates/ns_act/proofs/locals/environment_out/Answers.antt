@@ -1,7 +1,7 @@
 use Rattle.std.proofs.Common.{◌≡◌, suc, ◌+◌, ap, ◌∙◌, arith}
 use Rattle.ns_world.specs.Heap.{find_cell, shape_at, cell_number}
 use Rattle.ns_world.specs.Lawful.{is_environment}
-use Rattle.ns_send.specs.Bodies.{environment_out, parent_in}
+use Rattle.ns_actions.specs.Bodies.{environment_out, parent_in}
 use Rattle.ns_act.proofs.locals.environment_out.Goals as goal
 
 pub parent-at-requires : goal.parent-at-requires

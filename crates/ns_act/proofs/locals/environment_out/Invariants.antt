@@ -1,5 +1,5 @@
 use Rattle.std.proofs.Common.{◌≡◌}
-use Rattle.ns_send.specs.Bodies.{environment_out}
+use Rattle.ns_actions.specs.Bodies.{environment_out}
 use Rattle.ns_act.proofs.locals.environment_out.Given as goal
 
 abbrev pub invariant-out : goal.invariant-out

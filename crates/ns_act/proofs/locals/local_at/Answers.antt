@@ -1,7 +1,7 @@
 use Rattle.std.proofs.Common.{ℕ, length, ap, sym, ◌∙◌, arith, slice_index_or}
 use Rattle.ns_world.specs.declared.value.Value.TheVariants.{Nil}
 use Rattle.ns_world.specs.Heap.{words_at, word_at}
-use Rattle.ns_send.specs.Bodies.{is_beside, environment_at}
+use Rattle.ns_actions.specs.Bodies.{is_beside, environment_at}
 use Rattle.ns_act.specs.Running.{activation_at, nowhere}
 use Rattle.ns_act.proofs.Beside.{not_taken}
 use Rattle.ns_act.proofs.locals.local_at.Goals as goal

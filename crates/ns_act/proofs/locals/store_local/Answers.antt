@@ -1,8 +1,8 @@
 use Rattle.std.proofs.Common.{ℕ, length, ap, sym, ◌∙◌, arith}
 use Rattle.ns_world.specs.Heap.{open_words_at}
 use Rattle.ns_world.specs.World.{WorldView, written}
-use Rattle.ns_send.specs.Control.{in_world}
-use Rattle.ns_send.specs.Bodies.{is_beside, environment_at}
+use Rattle.ns_actions.specs.Control.{in_world}
+use Rattle.ns_actions.specs.Bodies.{is_beside, environment_at}
 use Rattle.ns_act.specs.Running.{activation_at, code_of, nowhere}
 use Rattle.ns_act.specs.Locals.{environments_out}
 use Rattle.ns_act.proofs.Beside.{not_taken, locals_open}

@@ -1,10 +1,10 @@
 use Rattle.std.proofs.Common.{◌+◌, ap, ◌∙◌}
 use Rattle.ns_world.specs.declared.ending.LimitKind.TheVariants.{Depth}
 use Rattle.ns_world.specs.World.{entered}
-use Rattle.ns_send.specs.Control.{in_world, Enter, FromMethod, halts, charged}
-use Rattle.ns_send.specs.Bodies.{opened}
-use Rattle.ns_send.specs.Sends.{Wrapped, given}
-use Rattle.ns_send.specs.Shown.{reached_shown}
+use Rattle.ns_actions.specs.Control.{in_world, Enter, FromMethod, halts, charged}
+use Rattle.ns_actions.specs.Bodies.{opened}
+use Rattle.ns_actions.specs.Sends.{Wrapped, given}
+use Rattle.ns_actions.specs.Shown.{reached_shown}
 use Rattle.ns_act.specs.Run.{progress_of}
 use Rattle.ns_act.specs.Running.{activation_at}
 use Rattle.ns_act.specs.declared.running.Running.{Running}

@@ -1,7 +1,7 @@
 use Rattle.std.proofs.Common.{List, ap, refl, sym, ◌∙◌}
 use Rattle.ns_world.specs.declared.value.Value.{Value}
-use Rattle.ns_send.specs.Classes.{instance}
-use Rattle.ns_send.specs.Control.{Progress, Control, After, in_world}
+use Rattle.ns_actions.specs.Classes.{instance}
+use Rattle.ns_actions.specs.Control.{Progress, Control, After, in_world}
 use Rattle.ns_act.specs.Wrapping.{with_message}
 use Rattle.ns_act.proofs.Wrapped.{given_wrapped}
 use Rattle.ns_act.proofs.sends.instance_with_message.Goals as goal

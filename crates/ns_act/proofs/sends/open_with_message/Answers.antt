@@ -1,6 +1,6 @@
 use Rattle.std.proofs.Common.{ap, refl, sym, ◌∙◌}
-use Rattle.ns_send.specs.Control.{After, in_world, Enter, FromMethod, halts}
-use Rattle.ns_send.specs.Bodies.{opened}
+use Rattle.ns_actions.specs.Control.{After, in_world, Enter, FromMethod, halts}
+use Rattle.ns_actions.specs.Bodies.{opened}
 use Rattle.ns_act.specs.Running.{activation_at}
 use Rattle.ns_act.specs.Wrapping.{with_message}
 use Rattle.ns_act.proofs.Wrapped.{given_wrapped}

@@ -2,8 +2,8 @@ use Rattle.std.proofs.Common.{List, ap, sym, ◌∙◌}
 use Rattle.ns_world.specs.declared.value.Value.{Value}
 use Rattle.ns_world.specs.World.{WorldView}
 use Rattle.ns_kdata.specs.Rows.{stored}
-use Rattle.ns_send.specs.Control.{Progress, Control, After, in_world, gives}
-use Rattle.ns_send.specs.Sends.{first_of}
+use Rattle.ns_actions.specs.Control.{Progress, Control, After, in_world, gives}
+use Rattle.ns_actions.specs.Sends.{first_of}
 use Rattle.ns_act.specs.Wrapping.{with_message}
 use Rattle.ns_act.proofs.Wrapped.{given_wrapped}
 use Rattle.ns_act.proofs.sends.set_with_message.Goals as goal

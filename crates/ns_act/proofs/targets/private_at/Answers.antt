@@ -1,7 +1,7 @@
 use Rattle.std.proofs.Common.{ap, sym, ◌∙◌}
 use Rattle.ns_world.specs.Heap.{find_cell, is_class}
 use Rattle.ns_find.specs.Find.{found_private, side_of}
-use Rattle.ns_send.specs.Bodies.{Place, enclosing}
+use Rattle.ns_actions.specs.Bodies.{Place, enclosing}
 use Rattle.ns_act.specs.Running.{code_of, nowhere}
 use Rattle.ns_act.proofs.targets.private_at.Goals as goal
 

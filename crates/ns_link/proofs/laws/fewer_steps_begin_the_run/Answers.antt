@@ -1,4 +1,4 @@
-use Rattle.ns_gen.specs.Code.{code_of}
+use Rattle.ns_gen_code.specs.Code.{code_of}
 use Rattle.ns_link.proofs.FewerSteps.{fewer_begin}
 use Rattle.ns_link.proofs.laws.fewer_steps_begin_the_run.Goals as goal
 

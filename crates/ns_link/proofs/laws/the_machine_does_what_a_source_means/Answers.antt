@@ -1,4 +1,4 @@
-use Rattle.ns_meant.specs.Classes.{meant}
+use Rattle.ns_resolved.specs.Classes.{meant}
 use Rattle.ns_link.proofs.laws.the_machine_does_what_a_source_means.Goals as goal
 
 pub returns : goal.returns

@@ -1,6 +1,6 @@
-use Rattle.ns_meant.specs.Program.{Meant}
-use Rattle.ns_meant.specs.Tables.{tables}
-use Rattle.ns_gen.specs.Code.{code_of}
+use Rattle.ns_resolved.specs.Program.{Meant}
+use Rattle.ns_resolved.specs.Tables.{tables}
+use Rattle.ns_gen_code.specs.Code.{code_of}
 use Rattle.ns_model.specs.Tables.{MeansTheSame}
 use Rattle.ns_link.proofs.OverTables.{same_tables, over_tables, reported}
 use Rattle.ns_link.proofs.laws.the_machine_does_what_is_meant.Goals.{After-the_meaning_reads_tables_alone}

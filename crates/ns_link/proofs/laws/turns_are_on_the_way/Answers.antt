@@ -1,5 +1,5 @@
-use Rattle.ns_meant.specs.Tables.{tables}
-use Rattle.ns_gen.specs.Code.{code_of}
+use Rattle.ns_resolved.specs.Tables.{tables}
+use Rattle.ns_gen_code.specs.Code.{code_of}
 use Rattle.ns_model.specs.Whole.{ran}
 use Rattle.ns_link.specs.Laws.{begins}
 use Rattle.ns_link.proofs.OnTheWay.{on_the_way}

@@ -1,6 +1,6 @@
 use Rattle.std.proofs.Common.{◌≡◌, arith, sym, ◌∙◌, ap, length}
-use Rattle.ns_moves.specs.Steps.{super_place, steps_of, steps_from}
-use Rattle.ns_plan.specs.Steps.{places_of}
+use Rattle.ns_machine_moves.specs.Steps.{super_place, steps_of, steps_from}
+use Rattle.ns_machine_plan.specs.Steps.{places_of}
 use Rattle.ns_machine.proofs.Opening.{none_behind, no_place_is}
 use Rattle.ns_machine.proofs.own.super_place.Goals as goal
 

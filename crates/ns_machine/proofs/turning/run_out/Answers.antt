@@ -1,5 +1,5 @@
 use Rattle.ns_machine.proofs.Running.{must_end, goes_on, has_ran}
-use Rattle.ns_engine.specs.Shown.{shown}
+use Rattle.ns_machine_core.specs.Shown.{shown}
 use Rattle.std.proofs.Common.{◌∙◌, ap, min, ◌+◌}
 use Rattle.ns_base.specs.declared.limits.Limits.{Limits}
 use Rattle.ns_machine.proofs.turning.run_out.Goals as goal

@@ -2,13 +2,13 @@ use Rattle.std.proofs.Common.{◌∷◌, [], map, sym, ap, ◌∙◌, arith}
 use Rattle.std.proofs.lemmas.List.{map-append}
 use Rattle.ns_tree.specs.PlainOf.{side_of}
 use Rattle.ns_parse.specs.Classes as x
-use Rattle.ns_phrase.specs.Expressions.{primary}
-use Rattle.ns_terminal.specs.Leaf.{strings}
+use Rattle.ns_parse_exprs.specs.Expressions.{primary}
+use Rattle.ns_parse_tokens.specs.Leaf.{strings}
 use Rattle.ns_parse.specs.Views.{member_view}
 use Rattle.ns_parse.proofs.Labels.{labels_on, labels_end, member_pair, side_same}
-use Rattle.ns_terminal.specs.laws.Takes.{fewer, left_by}
+use Rattle.ns_parse_tokens.specs.laws.Takes.{fewer, left_by}
 use Rattle.ns_parse.specs.laws.TakesClasses.{takes_member}
-use Rattle.ns_terminal.specs.laws.TakesTokens.{takes_strings}
+use Rattle.ns_parse_tokens.specs.laws.TakesTokens.{takes_strings}
 use Rattle.ns_parse.proofs.classes.+classes.Goals as goal
 
 pub members-items-preserved : goal.members-items-preserved

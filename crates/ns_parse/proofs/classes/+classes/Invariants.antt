@@ -1,7 +1,7 @@
 use Rattle.std.proofs.Common.{◌+◌, ◌*◌, length, map}
 use Rattle.ns_parse.specs.Classes as x
-use Rattle.ns_phrase.specs.Expressions.{primary}
-use Rattle.ns_terminal.specs.Leaf.{strings}
+use Rattle.ns_parse_exprs.specs.Expressions.{primary}
+use Rattle.ns_parse_tokens.specs.Leaf.{strings}
 use Rattle.ns_parse.proofs.Labels.{Labels, member_pair}
 use Rattle.ns_parse.proofs.classes.+classes.Given as goal
 

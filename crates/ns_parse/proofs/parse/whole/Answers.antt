@@ -4,12 +4,12 @@ use Rattle.ns_tree.specs.Plain as p
 use Rattle.ns_tree.specs.PlainOf.{unit_of}
 use Rattle.ns_tree.specs.Tokens.{kinds}
 use Rattle.ns_tree.specs.declared.token.Token.{Token}
-use Rattle.ns_terminal.specs.declared.fault.ParseFault.TheVariants.{Syntax}
+use Rattle.ns_parse_tokens.specs.declared.fault.ParseFault.TheVariants.{Syntax}
 use Rattle.ns_parse.specs.Classes.{file}
-use Rattle.ns_terminal.specs.Left.{Left, all_of}
+use Rattle.ns_parse_tokens.specs.Left.{Left, all_of}
 use Rattle.ns_parse.specs.Parse.{unit, whole}
-use Rattle.ns_terminal.specs.Read.{Outcome, got}
-use Rattle.ns_terminal.specs.Reads.{Gives}
+use Rattle.ns_parse_tokens.specs.Read.{Outcome, got}
+use Rattle.ns_parse_tokens.specs.Reads.{Gives}
 use Rattle.ns_parse.proofs.parse.whole.Goals as goal
 
 left_over : (o : Outcome p.SourceUnit) (u : p.SourceUnit) (n : ℕ) (rest : List Token) → o ≡ got u n (kinds rest) → 1 ≤ length rest → whole o ≡ Err (Syntax n)

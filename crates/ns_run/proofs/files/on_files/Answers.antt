@@ -1,13 +1,13 @@
 use Rattle.std.proofs.Common.{map, string_bytes, subst, sym}
 use Rattle.std.specs.Prelude.{All}
 use Rattle.std.proofs.lemmas.Result.{IfOk-weaker}
-use Rattle.ns_outcome.specs.Outcome.{IsMissing}
+use Rattle.ns_run_outcome.specs.Outcome.{IsMissing}
 use Rattle.ns_run.proofs.ReportLaws.{some_of}
 use Rattle.ns_run.proofs.TextLaws.{empty_texts, names_are_files}
 use Rattle.ns_run.proofs.files.on_files.Goals as goal
 use Rattle.ns_scope.specs.Whole.{IsFileName}
-use Rattle.ns_words.specs.Forms.{AreNames}
-use Rattle.ns_words.specs.declared.form.Item.TheVariants.{File}
+use Rattle.ns_run_words.specs.Forms.{AreNames}
+use Rattle.ns_run_words.specs.declared.form.Item.TheVariants.{File}
 
 pub on_texts-requires-clause-named : goal.on_texts-requires-clause-named
 on_texts-requires-clause-named g c =

@@ -1,6 +1,6 @@
 use Rattle.std.proofs.Common.{Err, IfOk, ap, map, string_bytes, subst, sym, ◌≡◌}
 use Rattle.std.proofs.lemmas.Result.{IfOk-weaker}
-use Rattle.ns_outcome.specs.Outcome.{IsMissing}
+use Rattle.ns_run_outcome.specs.Outcome.{IsMissing}
 use Rattle.ns_run.proofs.FaultLaws.{fault_says}
 use Rattle.ns_run.proofs.ReportLaws.{stop_keeps, units_plain}
 use Rattle.ns_run.proofs.TextLaws.{refusal_of_texts, units_of_texts}

@@ -1,6 +1,6 @@
 use Rattle.std.proofs.Common.{◌≡◌, ◌∙◌, Some, ap}
 use Rattle.ns_base.specs.Count.{Rose}
-use Rattle.ns_outcome.specs.Outcome.{IsEnding, IsMissing}
+use Rattle.ns_run_outcome.specs.Outcome.{IsEnding, IsMissing}
 use Rattle.ns_run.proofs.ImageLaws.{image_cut, made_so, short_plain, told_of_some, whole_image}
 use Rattle.ns_run.specs.Image.{of_image_file, of_short, work_of}
 use Rattle.ns_run.proofs.image.on_image.Goals as goal

@@ -1,7 +1,7 @@
 use Rattle.ns_run.proofs.LineLaws.{are_applications, exec_told, help_texts, run_told}
 use Rattle.ns_run.proofs.ReportLaws.{stop_keeps}
 use Rattle.ns_run.proofs.top.on_line.Goals as goal
-use Rattle.ns_words.specs.Line.{line_seen}
+use Rattle.ns_run_words.specs.Line.{line_seen}
 
 pub returns-in-Run-clause-told : goal.returns-in-Run-clause-told
 returns-in-Run-clause-told g c = λ files e. run_told (line_seen c.args.line) c.limits-limits-in-Run.result files c.on_files-in-Run.result c.in-Run.is c.limits-limits-in-Run.ensures (c.on_files-in-Run.ensures.told files e)

@@ -1,9 +1,9 @@
 use Rattle.std.proofs.Common.{◌≡◌, [], refl, map, string_bytes}
-use Rattle.ns_outcome.specs.Report.{bad_word}
+use Rattle.ns_run_outcome.specs.Report.{bad_word}
 use Rattle.ns_run.proofs.ReportLaws.{stop_keeps}
 use Rattle.ns_run.proofs.TextLaws.{missing_of_reading, over_reading, told_reading}
 use Rattle.ns_run.proofs.top.work.Goals as goal
-use Rattle.ns_words.specs.Words.{bad}
+use Rattle.ns_run_words.specs.Words.{bad}
 
 pub returns-in-Ok-clause-told : goal.returns-in-Ok-clause-told
 returns-in-Ok-clause-told g c = λ files e. told_reading _ (map string_bytes c.args.line.now) files c.on_line.result c.in-Ok.ensures.reading (c.on_line.ensures.told files e)

@@ -2,7 +2,7 @@ use Rattle.std.proofs.Common.{◌≡◌}
 use Rattle.std.specs.Prelude.{fold, map, zip}
 use Rattle.ns_tree.specs.PlainOf.{unit_of}
 use Rattle.ns_static.specs.Check.{fault_of}
-use Rattle.ns_rules.specs.Least.{earlier, faults_behind}
+use Rattle.ns_static_rules.specs.Least.{earlier, faults_behind}
 use Rattle.ns_static.proofs.check.least_fault.Given as goal
 
 abbrev pub invariant-loop-unit : goal.invariant-loop-unit

@@ -1,6 +1,6 @@
 use Rattle.std.proofs.Common.{◌≡◌, ◌++◌, drop}
 use Rattle.ns_tree.specs.PlainOf.{members_of}
-use Rattle.ns_rules.specs.Faults.{members_names}
+use Rattle.ns_static_rules.specs.Faults.{members_names}
 use Rattle.ns_static.proofs.counting.+names.Given as goal
 
 abbrev pub invariant-members_names-loop-member : goal.invariant-members_names-loop-member

@@ -1,6 +1,6 @@
 use Rattle.std.proofs.Common.{◌≡◌, ◌+◌, drop, length}
-use Rattle.ns_rules.specs.Faults.{classes_found}
-use Rattle.ns_rules.specs.Walk.{with_found}
+use Rattle.ns_static_rules.specs.Faults.{classes_found}
+use Rattle.ns_static_rules.specs.Walk.{with_found}
 use Rattle.ns_static.proofs.counting.classes_found.Given as goal
 
 abbrev pub invariant-loop-at : goal.invariant-loop-at

@@ -1,7 +1,7 @@
 use Rattle.std.proofs.Common.{◌≡◌, drop}
 use Rattle.ns_tree.specs.PlainOf.{members_of}
-use Rattle.ns_rules.specs.Faults.{members_faults}
-use Rattle.ns_rules.specs.Walk.{with_found}
+use Rattle.ns_static_rules.specs.Faults.{members_faults}
+use Rattle.ns_static_rules.specs.Walk.{with_found}
 use Rattle.ns_static.proofs.declarations.+declarations.Given as goal
 
 abbrev pub invariant-members_faults-loop-member : goal.invariant-members_faults-loop-member

@@ -1,8 +1,8 @@
 use Rattle.std.proofs.Common.{sym, subst}
 use Rattle.ns_code.specs.declared.program.CodeProgram.{CodeProgram}
-use Rattle.ns_engine.specs.Ready.{IsReady}
-use Rattle.ns_engine.specs.declared.state.Next.TheVariants as next
-use Rattle.ns_turns.specs.Turning.{RunsBy}
+use Rattle.ns_machine_core.specs.Ready.{IsReady}
+use Rattle.ns_machine_core.specs.declared.state.Next.TheVariants as next
+use Rattle.ns_machine_turns.specs.Turning.{RunsBy}
 use Rattle.ns_machine.specs.Machine.{IsMachine}
 use Rattle.ns_machine.specs.declared.stage.Stage.{Stage}
 use Rattle.ns_machine.proofs.Standing.{machine_runs, machine_ready, machine_on}

@@ -1,11 +1,11 @@
 use Rattle.std.proofs.Common.{◌≡◌, ◌+◌, zero, true, false, refl, arith, subst, sym, inr}
 use Rattle.ns_code.specs.declared.program.CodeProgram.{CodeProgram}
-use Rattle.ns_moves.specs.Turn.{is_still, Turns}
-use Rattle.ns_moves.specs.Valid.{Valid}
-use Rattle.ns_reach.specs.Reached.{StaysInReach}
-use Rattle.ns_engine.specs.Shown.{shown}
-use Rattle.ns_engine.specs.Ready.{IsReady}
-use Rattle.ns_turns.specs.Turning.{RunsBy}
+use Rattle.ns_machine_moves.specs.Turn.{is_still, Turns}
+use Rattle.ns_machine_moves.specs.Valid.{Valid}
+use Rattle.ns_machine_reach.specs.Reached.{StaysInReach}
+use Rattle.ns_machine_core.specs.Shown.{shown}
+use Rattle.ns_machine_core.specs.Ready.{IsReady}
+use Rattle.ns_machine_turns.specs.Turning.{RunsBy}
 use Rattle.ns_machine.specs.Machine.{MachineView, IsMachine, stage_shown}
 use Rattle.ns_machine.specs.declared.stage.Stage.{Stage}
 use Rattle.ns_machine.proofs.Standing.{machine_runs, machine_ready, machine_on}

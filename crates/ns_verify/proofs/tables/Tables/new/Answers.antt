@@ -1,7 +1,7 @@
 use Rattle.std.proofs.Common.{subst, sym, map, ap, ◌∙◌}
 use Rattle.std.specs.List.{AllZip}
 use Rattle.ns_code.specs.declared.class.ClassCode.{ClassCode}
-use Rattle.ns_members.specs.Numbers.{IsPrivatesOf}
+use Rattle.ns_verify_members.specs.Numbers.{IsPrivatesOf}
 use Rattle.ns_verify.specs.Chains.{arounds_from}
 use Rattle.ns_verify.proofs.Outward.{outers_are, arounds_are}
 use Rattle.ns_verify.proofs.tables.Tables.new.Goals as goal

@@ -1,0 +1,12 @@
+use Rattle.std.proofs.Common.{refl, arith}
+use Rattle.std.proofs.lemmas.Grind.{common_steps}
+use Rattle.ns_base.proofs.spelled.are_keys.Goals as goal
+
+pub bytes-init : goal.bytes-init
+bytes-init c = refl
+
+pub bytes-preserved : goal.bytes-preserved
+bytes-preserved c = grind (arith, common_steps)
+
+pub returns : goal.returns
+returns c = grind (arith, common_steps)

@@ -1,2 +1,0 @@
--- Laws of these definitions, for the crates above.
-pub mod BlockCounts

@@ -1,4 +1,0 @@
-//! How many blocks stand in the parts of a tree.
-#![tactic(auto)]
-
-pub mod counting;

@@ -1,5 +1,0 @@
-//! The compiler: a program without static faults to code that a machine can run.
-#![tactic(auto)]
-
-pub mod compile;
-pub mod fault;

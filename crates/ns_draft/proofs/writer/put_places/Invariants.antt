@@ -1,6 +1,0 @@
-use Rattle.std.proofs.Common.{◌≡◌, ◌++◌, drop}
-use Rattle.ns_draft.specs.Drafts.{draft_places}
-use Rattle.ns_draft.proofs.writer.put_places.Given as goal
-
-abbrev pub invariant-loop-draft : goal.invariant-loop-draft
-invariant-loop-draft l = l.places.items ++ draft_places l.number (drop l.draft-index l.drafts) ≡ l.fn.places.items ++ draft_places 0 l.fn.drafts

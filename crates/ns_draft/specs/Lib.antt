@@ -1,4 +1,0 @@
-pub mod Drafts
-pub mod Keys
-pub mod Standing
-pub mod laws

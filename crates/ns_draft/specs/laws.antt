@@ -1,4 +1,0 @@
--- Laws of these definitions, for the crates above.
-pub mod Keywords
-pub mod Numbers
-pub mod Writing

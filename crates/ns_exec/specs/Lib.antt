@@ -1,4 +1,0 @@
-pub mod Build
-pub mod Exec
-pub mod Listing
-pub mod Laws

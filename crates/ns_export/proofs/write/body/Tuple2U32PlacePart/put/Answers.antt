@@ -1,6 +1,0 @@
-use Rattle.std.proofs.Common.{arith}
-use Rattle.std.proofs.lemmas.Grind.{common_steps}
-use Rattle.ns_export.proofs.write.body.Tuple2U32PlacePart.put.Goals as goal
-
-pub returns : goal.returns
-returns c = grind (arith, common_steps)

@@ -1,4 +1,0 @@
-pub mod Falling
-pub mod Doubling
-pub mod lemmas
-pub mod laws

@@ -1,5 +1,0 @@
-use Rattle.ns_gen.proofs.Shown.{shown_is}
-use Rattle.ns_gen.proofs.laws.lines_are_shown.Goals as goal
-
-pub returns : goal.returns
-returns c = shown_is

@@ -1,0 +1,31 @@
+use Rattle.std.proofs.Common.{arith}
+use Rattle.std.proofs.lemmas.Grind.{common_steps}
+use Rattle.ns_tree.specs.laws.Nodes.{bin_out, expr_out, statements_out, key_expr_none, key_expr_some, block_none, block_some, keywords_out, tuple_out}
+use Rattle.ns_gen_draft.proofs.counting.+counting.Goals as goal
+
+pub count_bin-returns : goal.count_bin-returns
+count_bin-returns t c = rw (bin_out c.args.expr.now) (grind (arith, common_steps))
+
+pub count_expr-returns : goal.count_expr-returns
+count_expr-returns t c = rw (expr_out c.args.expr.now) (grind (arith, common_steps))
+
+pub count_key_expr-returns-in-None : goal.count_key_expr-returns-in-None
+count_key_expr-returns-in-None t c = rw (key_expr_none c.args.expr.now c.in-None.is) (grind (arith, common_steps))
+
+pub count_key_expr-returns-in_ok-count_bin-in-Some : goal.count_key_expr-returns-in_ok-count_bin-in-Some
+count_key_expr-returns-in_ok-count_bin-in-Some t c = rw (key_expr_some c.args.expr.now _ c.in-Some.is) (grind (arith, common_steps))
+
+pub count_message-returns-in-Keys : goal.count_message-returns-in-Keys
+count_message-returns-in-Keys t c = rw (keywords_out c.args.message.now _ c.in-Keys.is) (grind (arith, common_steps))
+
+pub count_primary-returns-in-Tuple : goal.count_primary-returns-in-Tuple
+count_primary-returns-in-Tuple t c = rw (tuple_out c.args.primary.now _ _ c.in-Tuple.is) (grind (arith, common_steps))
+
+pub count_statements-returns : goal.count_statements-returns
+count_statements-returns t c = rw (statements_out c.args.body.now) (grind (arith, common_steps))
+
+pub count_inside-returns-in-None : goal.count_inside-returns-in-None
+count_inside-returns-in-None t c = rw (block_none c.args.block.now c.in-None.is) (grind (arith, common_steps))
+
+pub count_inside-returns-in_ok-count_slots-in-Some : goal.count_inside-returns-in_ok-count_slots-in-Some
+count_inside-returns-in_ok-count_slots-in-Some t c = rw (block_some c.args.block.now _ c.in-Some.is) (grind (arith, common_steps))

@@ -1,0 +1,5 @@
+pub mod Drafts
+pub mod Keys
+pub mod Standing
+pub mod laws
+pub mod Counting

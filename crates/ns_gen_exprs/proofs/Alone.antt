@@ -1,0 +1,63 @@
+-- An expression without a further part is what stands before that part.
+use Rattle.std.proofs.Common.{◌≡◌, ◌<◌, ℕ, List, [], ◌∷◌, length, refl, ap, ◌∙◌, length-append, arith}
+use Rattle.std.specs.Prelude.{Some}
+use Rattle.ns_tree.specs.declared.tree.BinExpr.{BinExpr, out-BinExpr}
+use Rattle.ns_tree.specs.declared.tree.Expr.{Expr, out-Expr}
+use Rattle.ns_tree.specs.declared.tree.KeyExpr.{KeyExpr, out-KeyExpr}
+use Rattle.ns_tree.specs.PlainOf.{un_of, bin_of, opers_of, keys_of, key_expr_of, cascade_of, expr_of}
+use Rattle.ns_tree.specs.Plain as p
+use Rattle.ns_tree.specs.laws.Nodes.{bin_out, key_expr_some, expr_out}
+use Rattle.ns_scope.specs.declared.scope.Scope.{Scope}
+use Rattle.ns_scope.specs.Bodies as b
+use Rattle.ns_resolved.specs.Expressions as e
+use Rattle.ns_gen_exprs.specs.Cascading.{unset_node}
+
+none_left : {A : Type 0} (items : List A) → length items < 1 → items ≡ []
+none_left [] h = refl
+none_left (item ∷ items) h = absurd (omega (h, arith))
+
+-- ---- without binary messages
+
+un_alone : (bin : BinExpr) → length (out-BinExpr bin).more.items < 1 → bin_of bin ≡ p.bin_with (un_of (out-BinExpr bin).first) p.no_opers
+un_alone bin h = bin_out bin ∙ ap (λ l. p.bin_with (un_of (out-BinExpr bin).first) (opers_of l)) (none_left (out-BinExpr bin).more.items h)
+
+pub un_alone_said : (here : e.Standing) (next : ℕ) (bin : BinExpr) → length (out-BinExpr bin).more.items < 1 →
+    e.bin_said here next (bin_of bin) ≡ e.un_said here next (un_of (out-BinExpr bin).first)
+un_alone_said here next bin h = ap (e.bin_said here next) (un_alone bin h)
+
+pub un_alone_counted : (scope : Scope) (bin : BinExpr) → length (out-BinExpr bin).more.items < 1 →
+    length (b.bin_blocks scope (bin_of bin)) ≡ length (b.un_blocks scope (un_of (out-BinExpr bin).first))
+un_alone_counted scope bin h =
+    ap (λ x. length (b.bin_blocks scope x)) (un_alone bin h) ∙ omega (length-append (b.un_blocks scope (un_of (out-BinExpr bin).first)) [], arith)
+
+-- ---- without keys
+
+bin_alone : (expr : KeyExpr) (bin : BinExpr) → (out-KeyExpr expr).receiver ≡ Some bin → length (out-KeyExpr expr).keys.items < 1 →
+    key_expr_of expr ≡ p.sent (bin_of bin) p.no_keys
+bin_alone expr bin is h = key_expr_some expr bin is ∙ ap (λ l. p.sent (bin_of bin) (keys_of l)) (none_left (out-KeyExpr expr).keys.items h)
+
+pub bin_alone_said : (here : e.Standing) (next : ℕ) (expr : KeyExpr) (bin : BinExpr) → (out-KeyExpr expr).receiver ≡ Some bin →
+    length (out-KeyExpr expr).keys.items < 1 → e.key_expr_said here next (key_expr_of expr) ≡ e.bin_said here next (bin_of bin)
+bin_alone_said here next expr bin is h = ap (e.key_expr_said here next) (bin_alone expr bin is h)
+
+pub bin_alone_counted : (scope : Scope) (expr : KeyExpr) (bin : BinExpr) → (out-KeyExpr expr).receiver ≡ Some bin →
+    length (out-KeyExpr expr).keys.items < 1 → length (b.key_expr_blocks scope (key_expr_of expr)) ≡ length (b.bin_blocks scope (bin_of bin))
+bin_alone_counted scope expr bin is h =
+    ap (λ x. length (b.key_expr_blocks scope x)) (bin_alone expr bin is h) ∙ omega (length-append (b.bin_blocks scope (bin_of bin)) [], arith)
+
+-- ---- without a cascade
+
+key_alone : (expr : Expr) → length (out-Expr expr).more.items < 1 →
+    expr_of expr ≡ p.expr_with (out-Expr expr).sets.items (key_expr_of (out-Expr expr).first) p.no_messages
+key_alone expr h =
+    expr_out expr ∙ ap (λ l. p.expr_with (out-Expr expr).sets.items (key_expr_of (out-Expr expr).first) (cascade_of l)) (none_left (out-Expr expr).more.items h)
+
+pub key_alone_node : (here : e.Standing) (next : ℕ) (expr : Expr) → length (out-Expr expr).more.items < 1 →
+    unset_node here next (expr_of expr) ≡ e.as_value here (e.key_expr_said here next (key_expr_of (out-Expr expr).first))
+key_alone_node here next expr h = ap (unset_node here next) (key_alone expr h)
+
+pub key_alone_counted : (scope : Scope) (expr : Expr) → length (out-Expr expr).more.items < 1 →
+    length (b.expr_blocks scope (expr_of expr)) ≡ length (b.key_expr_blocks scope (key_expr_of (out-Expr expr).first))
+key_alone_counted scope expr h =
+    ap (λ x. length (b.expr_blocks scope x)) (key_alone expr h)
+    ∙ omega (length-append (b.key_expr_blocks scope (key_expr_of (out-Expr expr).first)) [], arith)

@@ -1,4 +1,0 @@
-pub mod Inner
-pub mod Walking
-pub mod Sizes
-pub mod Whole

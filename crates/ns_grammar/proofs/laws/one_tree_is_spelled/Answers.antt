@@ -1,5 +1,0 @@
-use Rattle.ns_grammar.proofs.Whole.{spelled_once}
-use Rattle.ns_grammar.proofs.laws.one_tree_is_spelled.Goals as goal
-
-pub returns : goal.returns
-returns c = spelled_once

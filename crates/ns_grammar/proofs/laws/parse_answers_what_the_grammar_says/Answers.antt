@@ -1,5 +1,0 @@
-use Rattle.ns_grammar.proofs.Answered.{answers}
-use Rattle.ns_grammar.proofs.laws.parse_answers_what_the_grammar_says.Goals as goal
-
-pub returns : goal.returns
-returns c = answers

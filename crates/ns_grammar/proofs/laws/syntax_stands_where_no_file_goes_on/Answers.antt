@@ -1,5 +1,0 @@
-use Rattle.ns_grammar.proofs.StopsAt.{stops_at}
-use Rattle.ns_grammar.proofs.laws.syntax_stands_where_no_file_goes_on.Goals as goal
-
-pub returns : goal.returns
-returns c = stops_at

@@ -1,5 +1,0 @@
-use Rattle.ns_grammar.proofs.Whole.{parsed_trees}
-use Rattle.ns_grammar.proofs.laws.what_is_spelled_is_parsed.Goals as goal
-
-pub returns : goal.returns
-returns c = parsed_trees

@@ -1,6 +1,0 @@
-use Rattle.std.proofs.Common.{◌-◌, length}
-use Rattle.ns_joint.proofs.telling.+tell.Given as goal
-
--- Those that aren't told yet become fewer.
-abbrev pub decreases-tell : goal.decreases-tell
-decreases-tell l = length l.session.now.members - l.number

@@ -1,4 +1,0 @@
-pub mod Resting
-pub mod Begun
-pub mod Ends
-pub mod Meant

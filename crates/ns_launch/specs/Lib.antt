@@ -1,4 +1,0 @@
-pub mod Run
-pub mod Running
-pub mod Machine
-pub mod Laws

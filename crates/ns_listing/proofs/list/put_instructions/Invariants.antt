@@ -1,6 +1,0 @@
-use Rattle.std.proofs.Common.{◌≡◌, ◌++◌, drop}
-use Rattle.ns_listing.specs.Listing.{numbered, instr_line}
-use Rattle.ns_listing.proofs.list.put_instructions.Given as goal
-
-abbrev pub invariant-instrs : goal.invariant-instrs
-invariant-instrs l = l.out.items ++ numbered (instr_line l.code) l.place (drop l.place l.instrs) ≡ l.fn.out.items ++ numbered (instr_line l.code) 0 l.instrs

@@ -1,0 +1,33 @@
+use Rattle.std.proofs.Common.{◌≡◌, false, sym, ◌∙◌, subst}
+use Rattle.ns_actions.specs.declared.site.Site.{Site}
+use Rattle.ns_actions.specs.Control.{Progress, in_world}
+use Rattle.ns_actions.specs.Bodies.{has_environment, is_beside, local_stored}
+use Rattle.ns_act.specs.declared.running.Running.{Running}
+use Rattle.ns_act.specs.Locals.{HasLocal}
+use Rattle.ns_act.specs.Running.{activation_at, code_of}
+use Rattle.ns_machine_core.proofs.LocalsDone.{stored_there, outside_stored, known_there}
+use Rattle.ns_machine_core.proofs.locals.store_local_of.Goals as goal
+
+pub stands_beside-requires : goal.stands_beside-requires
+stands_beside-requires c =
+    subst (λ (here : Running). c.args.top.environment ≡ has_environment c.args.code.now here.body) (sym c.running_code-here.ensures)
+    (known_there c.args.code.now c.args.top c.args.core.now.stack.frames.items c.running.result c.requires.top c.running.ensures)
+
+pub store_local-requires : goal.store_local-requires
+store_local-requires c =
+    let core = c.args.core.now in
+    subst (λ (here : Running). HasLocal core.run.world.world.cells c.args.code.now (code_of here) c.args.hops c.args.index) (sym c.running_code-here.ensures)
+    (stored_there c.args.code.now core c.args.at c.args.hops c.args.index c.running.result c.requires.can c.running.ensures).outside
+
+pub returns : goal.returns
+returns c place =
+    let core = c.args.core.now in
+    let code = c.args.code.now in
+    outside_stored code core c.store_local.new.world c.args.at c.args.hops c.args.index c.running.result c.operand-value.result place c.requires.can c.running.ensures
+    c.operand-value.ensures
+    (subst (λ (here : Running). (site : Site) → is_beside code (activation_at site here) c.args.hops ≡ false) c.running_code-here.ensures
+    (λ site. sym (c.stands_beside.ensures site) ∙ c.if-stands_beside.false))
+    (subst (λ (here : Running). (site : Site) (rest : Progress) → in_world rest c.store_local.new.world.world
+    ≡ local_stored code (activation_at site here) c.args.hops c.args.index c.operand-value.result (in_world rest core.run.world.world))
+    c.running_code-here.ensures c.store_local.ensures.stored)
+    c.store_local.ensures.rest

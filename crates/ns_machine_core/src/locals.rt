@@ -1,0 +1,167 @@
+//! Instructions that read and store locals.
+
+ghost use Rattle.std.specs.Prelude.{◌≡◌, Option};
+ghost use Rattle.ns_base.specs.declared.place.Place.{Place as SourcePlace};
+ghost use Rattle.ns_code.specs.declared.instruction.Instr.TheVariants as instr;
+ghost use Rattle.ns_actions.specs.declared.site.Site.{Site};
+ghost use Rattle.ns_actions.specs.Bodies as bodies;
+ghost use Rattle.ns_act.specs.Running.{activation_at};
+ghost use Rattle.ns_act.specs.Locals.{HasEnvironments, environments_out};
+ghost use Rattle.ns_machine_frames.specs.Standing.{locals_in};
+ghost use Rattle.ns_machine_frames.specs.Stack.{stood};
+ghost use Rattle.ns_machine_core.specs.declared.state.Next.TheVariants as next;
+ghost use Rattle.ns_machine_core.specs.Doing.{CanDo, Does};
+ghost use Rattle.ns_machine_core.specs.Locals.{LocalIsThere};
+ghost use Rattle.ns_machine_core.specs.Straight.{IsOnTop};
+
+use crate::on_top::{OnTop, on_top};
+use crate::settling::{push, running, running_code};
+use crate::state::Core;
+use ns_act::locals::{environment_out, store_local as store_outside};
+use ns_act::running::Running;
+use ns_code::program::CodeProgram;
+use ns_machine_frames::registers::Registers;
+use ns_machine_frames::stack::Stack;
+use ns_world::value::{Value, cell_number};
+use ns_world::world::World;
+
+/// Whether a local stands beside the frame of the body that runs on top.
+#[inline(always)]
+fn stands_beside(code: &CodeProgram, here: Running, top: OnTop, hops: u8) -> bool
+    requires { top.environment ≡ bodies.has_environment code.now here.body }
+    ensures { (site : Site) → result ≡ bodies.is_beside code.now (activation_at site here) hops }
+{
+    let _code = code;
+    let _here = here;
+    match hops {
+        0 => !top.environment,
+        _ => false,
+    }
+}
+
+/// The number of the environment in which a local stands that doesn't stand beside the frame of the body that runs on top.
+#[inline(always)]
+fn environment_of(code: &CodeProgram, world: &World, here: Running, top: OnTop, hops: u8) -> u32
+    requires way { HasEnvironments world.now.world.cells here.env (environments_out code.now here.body hops) }
+    requires top { top.environment ≡ bodies.has_environment code.now here.body }
+    ensures { (site : Site) → result ≡ bodies.environment_at world.now.world.cells code.now (activation_at site here) hops }
+{
+    let _code = code;
+    if top.environment {
+        return cell_number(environment_out(world, here.env, hops));
+    }
+    cell_number(environment_out(world, here.env, hops.saturating_sub(1)))
+}
+
+/// A local of the code that runs or of a body around it: it stands beside the frame, or in an environment.
+#[inline(always)]
+fn local(
+    code: &CodeProgram,
+    stack: &Stack,
+    world: &World,
+    at: Registers,
+    here: Running,
+    top: OnTop,
+    hops: u8,
+    index: u8,
+) -> Value
+    requires there { LocalIsThere code.now stack.now at world.now.world.cells here hops index }
+    requires top { top.environment ≡ bodies.has_environment code.now here.body }
+    ensures { (site : Site) → result ≡ bodies.local_at world.now.world.cells code.now (activation_at site here) (locals_in (stood stack.now at)) hops index }
+{
+    if stands_beside(code, here, top, hops) {
+        return stack.local(at, u32::from(index));
+    }
+    world.read(
+        environment_of(code, world, here, top, hops),
+        u32::from(index),
+    )
+}
+
+/// Pushes a local.
+#[inline(always)]
+#[tactic(auto, using(crate::specs::laws::Pushed::runs))]
+pub fn push_local(
+    code: &CodeProgram,
+    core: &mut Core,
+    at: Registers,
+    hops: u8,
+    index: u8,
+) -> Registers
+    requires { CanDo code.now core.old at (instr.PushLocal hops index) }
+    ensures { (place : Option SourcePlace) → Does code.now (instr.PushLocal hops index) place core.old at core.new (next.On result) }
+{
+    let top = on_top(code, &core.stack);
+    push_local_of(code, core, at, top, hops, index)
+}
+
+/// The same, where the body that runs on top is known.
+#[inline(always)]
+#[tactic(auto, using(crate::specs::laws::Pushed::one_more, crate::specs::laws::Pushed::runs))]
+pub fn push_local_of(
+    code: &CodeProgram,
+    core: &mut Core,
+    at: Registers,
+    top: OnTop,
+    hops: u8,
+    index: u8,
+) -> Registers
+    requires can { CanDo code.now core.old at (instr.PushLocal hops index) }
+    requires top { IsOnTop code.now top core.old.stack.frames.items }
+    ensures { (place : Option SourcePlace) → Does code.now (instr.PushLocal hops index) place core.old at core.new (next.On result) }
+{
+    let here = running_code(running(&mut core.stack).activation);
+    let value = local(
+        code,
+        &mut core.stack,
+        &mut core.run.world,
+        at,
+        here,
+        top,
+        hops,
+        index,
+    );
+    push(code, core, at, value)
+}
+
+/// Stores the topmost operand, which stays, in a local.
+#[inline(always)]
+#[tactic(auto, using(crate::specs::laws::Pushed::runs))]
+pub fn store_local(
+    code: &CodeProgram,
+    core: &mut Core,
+    at: Registers,
+    hops: u8,
+    index: u8,
+) -> Registers
+    requires { CanDo code.now core.old at (instr.StoreLocal hops index) }
+    ensures { (place : Option SourcePlace) → Does code.now (instr.StoreLocal hops index) place core.old at core.new (next.On result) }
+{
+    let top = on_top(code, &core.stack);
+    store_local_of(code, core, at, top, hops, index)
+}
+
+/// The same, where the body that runs on top is known.
+#[inline(always)]
+#[tactic(auto, using(crate::specs::laws::Pushed::runs, crate::specs::laws::Taken::some_operand))]
+pub fn store_local_of(
+    code: &CodeProgram,
+    core: &mut Core,
+    at: Registers,
+    top: OnTop,
+    hops: u8,
+    index: u8,
+) -> Registers
+    requires can { CanDo code.now core.old at (instr.StoreLocal hops index) }
+    requires top { IsOnTop code.now top core.old.stack.frames.items }
+    ensures { (place : Option SourcePlace) → Does code.now (instr.StoreLocal hops index) place core.old at core.new (next.On result) }
+{
+    let here = running_code(running(&mut core.stack).activation);
+    let value = core.stack.operand(at, 0);
+    if stands_beside(code, here, top, hops) {
+        core.stack.set_local(at, u32::from(index), value);
+        return at;
+    }
+    store_outside(&mut core.run.world, code, here, hops, index, value);
+    at
+}

@@ -1,0 +1,79 @@
+-- Steps in eight bytes: what a packed step stands for, over the tables that hold what doesn't fit into it.
+use Rattle.std.specs.Prelude.{◌≡◌, ◌<◌, [], length, map}
+use Rattle.std.specs.List.{slice_index_or}
+use Rattle.ns_machine_plan.specs.declared.packed.Packed.{Packed}
+use Rattle.ns_machine_plan.specs.declared.packed.Packed.TheVariants as packed
+use Rattle.ns_machine_plan.specs.declared.packed.ValueSend.{ValueSend}
+use Rattle.ns_machine_plan.specs.declared.packed.PrivateSend.{PrivateSend}
+use Rattle.ns_machine_plan.specs.declared.packed.SuperSend.{SuperSend}
+use Rattle.ns_machine_plan.specs.declared.step.Step.{Step}
+use Rattle.ns_machine_plan.specs.declared.step.Step.TheVariants.{PushNil, PushTrue, PushFalse, PushInt, PushSym, PushText, PushSelf, PushOuter, PushLocal}
+use Rattle.ns_machine_plan.specs.declared.step.Step.TheVariants.{StoreLocal, PushBlock, MakeArray, Pop, Pick, Send, SendPrivate, SendSuper, InitSuper}
+use Rattle.ns_machine_plan.specs.declared.step.Step.TheVariants.{StoreSlot, Return, ReturnSelf, ReturnHome, Jump, JumpFalse, JumpTrue}
+use Rattle.ns_machine_plan.specs.declared.tables.Tables.{Tables}
+
+-- Nothing is in the tables.
+pub record AreEmpty (tables : Tables) : Type 0 where
+  pub integers : tables.integers.items ≡ []
+  pub sends : tables.sends.items ≡ []
+  pub privates : tables.privates.items ≡ []
+  pub supers : tables.supers.items ≡ []
+
+-- the step of a send to a value
+abbrev pub value_send : ValueSend → Step
+value_send send = Send send.sel send.argc send.kind send.place send.row
+
+-- the step of a private send
+abbrev pub private_send : PrivateSend → Step
+private_send send = SendPrivate send.level send.sel send.argc send.place send.member
+
+-- the step of a send to the superclass
+abbrev pub super_send : SuperSend → Step
+super_send send = SendSuper send.sel send.argc send.place
+
+-- the step that a packed one stands for, over the tables
+abbrev pub unpacked : Tables → Packed → Step
+unpacked tables packed.PushNil = PushNil
+unpacked tables packed.PushTrue = PushTrue
+unpacked tables packed.PushFalse = PushFalse
+unpacked tables (packed.PushShort number) = PushInt number
+unpacked tables (packed.PushLong at) = slice_index_or (map PushInt tables.integers.items) at PushNil
+unpacked tables (packed.PushSym sel) = PushSym sel
+unpacked tables (packed.PushText text) = PushText text
+unpacked tables packed.PushSelf = PushSelf
+unpacked tables (packed.PushOuter level) = PushOuter level
+unpacked tables (packed.PushLocal hops index) = PushLocal hops index
+unpacked tables (packed.StoreLocal hops index) = StoreLocal hops index
+unpacked tables (packed.PushBlock block) = PushBlock block
+unpacked tables (packed.MakeArray count) = MakeArray count
+unpacked tables packed.Pop = Pop
+unpacked tables (packed.Pick number) = Pick number
+unpacked tables (packed.Send at) = slice_index_or (map value_send tables.sends.items) at PushNil
+unpacked tables (packed.SendPrivate at) = slice_index_or (map private_send tables.privates.items) at PushNil
+unpacked tables (packed.SendSuper at) = slice_index_or (map super_send tables.supers.items) at PushNil
+unpacked tables (packed.InitSuper argc place) = InitSuper argc place
+unpacked tables (packed.StoreSlot slot) = StoreSlot slot
+unpacked tables packed.Return = Return
+unpacked tables packed.ReturnSelf = ReturnSelf
+unpacked tables packed.ReturnHome = ReturnHome
+unpacked tables (packed.Jump target) = Jump target
+unpacked tables (packed.JumpFalse target) = JumpFalse target
+unpacked tables (packed.JumpTrue target) = JumpTrue target
+
+-- The number of a packed step, if it has one, is in its table.
+abbrev pub IsWithin : Tables → Packed → Type 0
+IsWithin tables (packed.PushLong at) = at < length tables.integers.items
+IsWithin tables (packed.Send at) = at < length tables.sends.items
+IsWithin tables (packed.SendPrivate at) = at < length tables.privates.items
+IsWithin tables (packed.SendSuper at) = at < length tables.supers.items
+IsWithin tables other = Unit {0}
+
+-- A packed step stands for that step.
+pub record StandsFor (tables : Tables) (step : Step) (packed : Packed) : Type 0 where
+  pub within : IsWithin tables packed
+  pub is : unpacked tables packed ≡ step
+
+-- What stood for a step over the old tables stands for it over the new ones.
+pub record Keeps (old new : Tables) : Type 0 where
+  pub within : (packed : Packed) → IsWithin old packed → IsWithin new packed
+  pub is : (packed : Packed) → IsWithin old packed → unpacked new packed ≡ unpacked old packed

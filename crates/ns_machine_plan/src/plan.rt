@@ -1,0 +1,126 @@
+//! Code prepared for running.
+
+ghost use Rattle.std.specs.Prelude.{◌≡◌, ◌<◌, length, IfOk};
+ghost use Rattle.ns_code.specs.declared.program.CodeProgram.{CodeProgram};
+ghost use Rattle.ns_code.specs.Selector.{selector_arity, own_number};
+ghost use Rattle.ns_machine_plan.specs.Plan.{IsPlanOf, IsStep, IsStepAt};
+ghost use Rattle.ns_machine_plan.specs.Rows.{entry_of, IsRowOf};
+ghost use Rattle.ns_machine_plan.specs.Steps.{places_of};
+ghost use Rattle.ns_actions.specs.Bodies.{greatest_of};
+
+use crate::making::Draft;
+use crate::members::Privates;
+use crate::packed_steps::PackedSteps;
+use crate::row::Row;
+use crate::spelled::SpelledRows;
+use crate::step::Step;
+use ns_base::items::Items;
+use ns_base::no_memory::NoMemory;
+use ns_base::place::Place;
+use ns_base::selector::Sel;
+use ns_code::own::Own;
+use ns_code::program::CodeProgram;
+use ns_code::selectors::SelectorTable;
+use ns_verify::laws::sound_instructions_are_usable;
+use ns_verify::verify::Verified;
+use std::alloc::Global;
+
+/// Code prepared for running: its steps, one body behind the other; a row for each body; the places of its sends, in
+/// the order of the code; its selectors; and the greatest number of locals and operands of a body.
+#[derive(Drop)]
+pub struct Plan {
+    steps: PackedSteps,
+    bodies: Items<Row>,
+    places: Items<Place>,
+    selectors: SelectorTable,
+    greatest: u32,
+}
+
+impl Plan {
+    /// Prepares code that was verified. Only this takes memory.
+    pub fn new(alloc: Global, verified: &Verified) -> Result<Plan, NoMemory>
+        ensures { IfOk result (λ plan. IsPlanOf verified.now plan) }
+    {
+        let code = verified.code();
+        let selectors = SelectorTable::new(alloc, code)?;
+        let privates = Privates::new(alloc, code)?;
+        let rows = SpelledRows::new(alloc, code)?;
+        sound_instructions_are_usable();
+        let mut draft = Draft::new(alloc);
+        'bodies: for body in code.bodies.as_slice() {
+            draft.add(alloc, code, &privates, &rows, body)?;
+        }
+        Ok(Plan {
+            steps: draft.steps,
+            bodies: Items::from_vec(draft.bodies),
+            places: Items::from_vec(draft.places),
+            selectors,
+            greatest: draft.greatest,
+        })
+    }
+
+    /// The row of a body.
+    #[inline(always)]
+    pub fn row(&self, code: &CodeProgram, body: u32) -> &Row
+        requires plan { IsPlanOf code.now self.now }
+        requires there { body < length code.now.bodies }
+        ensures { IsRowOf code.now body result.now }
+    {
+        let _code = code;
+        &self.bodies.as_slice()[body as usize]
+    }
+
+    /// The step of that number of a body. Its place is the one of its number among the places.
+    #[inline(always)]
+    pub fn step(&self, code: &CodeProgram, body: u32, next: u32) -> Step
+        requires plan { IsPlanOf code.now self.now }
+        requires there { IsStep code.now body next }
+        ensures { IsStepAt code.now body next result }
+    {
+        let entry = self.row(code, body).entry;
+        self.step_from(code, body, entry, next)
+    }
+
+    /// The same, from where the steps of the body begin.
+    #[inline(always)]
+    pub fn step_from(&self, code: &CodeProgram, body: u32, entry: usize, next: u32) -> Step
+        requires plan { IsPlanOf code.now self.now }
+        requires there { IsStep code.now body next }
+        requires entry { entry ≡ entry_of code.now body }
+        ensures { IsStepAt code.now body next result }
+    {
+        let _code = code;
+        let _body = body;
+        self.steps.at(entry, next)
+    }
+
+    /// The places of the code, in its order. A step's place has its number here.
+    pub fn places(&self) -> &[Place]
+        ensures { (code : CodeProgram) → IsPlanOf code self.now → result.now ≡ places_of code }
+    {
+        self.places.as_slice()
+    }
+
+    /// How many arguments a selector takes.
+    #[inline(always)]
+    pub fn arity(&self, sel: Sel) -> usize
+        ensures { (code : CodeProgram) → IsPlanOf code self.now → result ≡ selector_arity code sel.0 }
+    {
+        self.selectors.arity(sel)
+    }
+
+    /// The number of an own selector.
+    #[inline(always)]
+    pub fn own(&self, own: Own) -> Sel
+        ensures { (code : CodeProgram) → IsPlanOf code self.now → result.0 ≡ own_number code own }
+    {
+        self.selectors.own(own)
+    }
+
+    /// The greatest number of locals and operands that a body has.
+    pub fn greatest_frame(&self) -> u32
+        ensures { (code : CodeProgram) → IsPlanOf code self.now → result ≡ greatest_of code.bodies }
+    {
+        self.greatest
+    }
+}

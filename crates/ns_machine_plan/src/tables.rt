@@ -1,0 +1,243 @@
+//! The tables of packed steps: what doesn't fit into eight bytes, each under a number.
+
+ghost use Rattle.std.specs.Prelude.{◌≡◌, ◌<◌, [], ◌∷◌, ◌++◌, length, map, IfOk, OnErr};
+ghost use Rattle.std.specs.List.{slice_index_or};
+ghost use Rattle.ns_machine_plan.specs.declared.step.Step.TheVariants.{PushNil, PushInt};
+ghost use Rattle.ns_machine_plan.specs.Packed as spec;
+
+use crate::packed::{Packed, PrivateSend, SuperSend, ValueSend};
+use crate::step::Step;
+use ns_base::no_memory::NoMemory;
+use std::alloc::Global;
+
+/// Long integers; sends to values; private sends; and sends to the superclass.
+#[derive(Drop)]
+pub struct Tables {
+    integers: Vec<i64>,
+    sends: Vec<ValueSend>,
+    privates: Vec<PrivateSend>,
+    supers: Vec<SuperSend>,
+}
+
+impl Tables {
+    /// Empty tables.
+    pub fn new(alloc: Global) -> Tables
+        ensures { spec.AreEmpty result }
+    {
+        Tables {
+            integers: Vec::new(alloc),
+            sends: Vec::new(alloc),
+            privates: Vec::new(alloc),
+            supers: Vec::new(alloc),
+        }
+    }
+
+    /// Packs a step. What doesn't fit gets the next number of its table; more than have numbers find no memory.
+    pub fn pack(&mut self, step: Step) -> Result<Packed, NoMemory>
+        ensures keeps { spec.Keeps self.old self.new }
+        ensures packed { IfOk result (spec.StandsFor self.new step) }
+    {
+        match step {
+            Step::PushNil => Ok(Packed::PushNil),
+            Step::PushTrue => Ok(Packed::PushTrue),
+            Step::PushFalse => Ok(Packed::PushFalse),
+            Step::PushInt(number) => self.pack_integer(number),
+            Step::PushSym(sel) => Ok(Packed::PushSym(sel)),
+            Step::PushText(text) => Ok(Packed::PushText(text)),
+            Step::PushSelf => Ok(Packed::PushSelf),
+            Step::PushOuter(level) => Ok(Packed::PushOuter(level)),
+            Step::PushLocal { hops, index } => Ok(Packed::PushLocal { hops, index }),
+            Step::StoreLocal { hops, index } => Ok(Packed::StoreLocal { hops, index }),
+            Step::PushBlock(block) => Ok(Packed::PushBlock(block)),
+            Step::MakeArray(count) => Ok(Packed::MakeArray(count)),
+            Step::Pop => Ok(Packed::Pop),
+            Step::Pick(number) => Ok(Packed::Pick(number)),
+            Step::Send {
+                sel,
+                argc,
+                kind,
+                place,
+                row,
+            } => self.pack_send(ValueSend {
+                sel,
+                place,
+                argc,
+                kind,
+                row,
+            }),
+            Step::SendPrivate {
+                level,
+                sel,
+                argc,
+                place,
+                member,
+            } => self.pack_private(PrivateSend {
+                sel,
+                place,
+                member,
+                level,
+                argc,
+            }),
+            Step::SendSuper { sel, argc, place } => self.pack_super(SuperSend { sel, place, argc }),
+            Step::InitSuper { argc, place } => Ok(Packed::InitSuper { argc, place }),
+            Step::StoreSlot(slot) => Ok(Packed::StoreSlot(slot)),
+            Step::Return => Ok(Packed::Return),
+            Step::ReturnSelf => Ok(Packed::ReturnSelf),
+            Step::ReturnHome => Ok(Packed::ReturnHome),
+            Step::Jump(target) => Ok(Packed::Jump(target)),
+            Step::JumpFalse(target) => Ok(Packed::JumpFalse(target)),
+            Step::JumpTrue(target) => Ok(Packed::JumpTrue(target)),
+        }
+    }
+
+    /// The step that a packed one stands for.
+    #[inline(always)]
+    pub fn unpack(&self, packed: Packed) -> Step
+        requires { spec.IsWithin self.now packed }
+        ensures { result ≡ spec.unpacked self.now packed }
+    {
+        match packed {
+            Packed::PushNil => Step::PushNil,
+            Packed::PushTrue => Step::PushTrue,
+            Packed::PushFalse => Step::PushFalse,
+            Packed::PushShort(number) => Step::PushInt(i64::from(number)),
+            Packed::PushLong(at) => integer_at(self.integers.as_slice(), at),
+            Packed::PushSym(sel) => Step::PushSym(sel),
+            Packed::PushText(text) => Step::PushText(text),
+            Packed::PushSelf => Step::PushSelf,
+            Packed::PushOuter(level) => Step::PushOuter(level),
+            Packed::PushLocal { hops, index } => Step::PushLocal { hops, index },
+            Packed::StoreLocal { hops, index } => Step::StoreLocal { hops, index },
+            Packed::PushBlock(block) => Step::PushBlock(block),
+            Packed::MakeArray(count) => Step::MakeArray(count),
+            Packed::Pop => Step::Pop,
+            Packed::Pick(number) => Step::Pick(number),
+            Packed::Send(at) => send_at(self.sends.as_slice(), at),
+            Packed::SendPrivate(at) => private_at(self.privates.as_slice(), at),
+            Packed::SendSuper(at) => super_at(self.supers.as_slice(), at),
+            Packed::InitSuper { argc, place } => Step::InitSuper { argc, place },
+            Packed::StoreSlot(slot) => Step::StoreSlot(slot),
+            Packed::Return => Step::Return,
+            Packed::ReturnSelf => Step::ReturnSelf,
+            Packed::ReturnHome => Step::ReturnHome,
+            Packed::Jump(target) => Step::Jump(target),
+            Packed::JumpFalse(target) => Step::JumpFalse(target),
+            Packed::JumpTrue(target) => Step::JumpTrue(target),
+        }
+    }
+
+    /// An integer, which fits where it has 32 bits.
+    fn pack_integer(&mut self, number: i64) -> Result<Packed, NoMemory>
+        ensures keeps { spec.Keeps self.old self.new }
+        ensures packed { IfOk result (spec.StandsFor self.new (PushInt number)) }
+    {
+        match i32::try_from(number) {
+            Ok(short) => Ok(Packed::PushShort(short)),
+            Err(_) => self.pack_long(number),
+        }
+    }
+
+    /// An integer, in its table.
+    fn pack_long(&mut self, number: i64) -> Result<Packed, NoMemory>
+        ensures keeps { spec.Keeps self.old self.new }
+        ensures packed { IfOk result (spec.StandsFor self.new (PushInt number)) }
+    {
+        let at = put(&mut self.integers, number)?;
+        Ok(Packed::PushLong(at))
+    }
+
+    /// A send to a value, in its table.
+    fn pack_send(&mut self, send: ValueSend) -> Result<Packed, NoMemory>
+        ensures keeps { spec.Keeps self.old self.new }
+        ensures packed { IfOk result (spec.StandsFor self.new (spec.value_send send)) }
+    {
+        let at = put(&mut self.sends, send)?;
+        Ok(Packed::Send(at))
+    }
+
+    /// A private send, in its table.
+    fn pack_private(&mut self, send: PrivateSend) -> Result<Packed, NoMemory>
+        ensures keeps { spec.Keeps self.old self.new }
+        ensures packed { IfOk result (spec.StandsFor self.new (spec.private_send send)) }
+    {
+        let at = put(&mut self.privates, send)?;
+        Ok(Packed::SendPrivate(at))
+    }
+
+    /// A send to the superclass, in its table.
+    fn pack_super(&mut self, send: SuperSend) -> Result<Packed, NoMemory>
+        ensures keeps { spec.Keeps self.old self.new }
+        ensures packed { IfOk result (spec.StandsFor self.new (spec.super_send send)) }
+    {
+        let at = put(&mut self.supers, send)?;
+        Ok(Packed::SendSuper(at))
+    }
+}
+
+/// Puts an entry into a table, under the next number. More entries than have numbers find no memory.
+fn put<T: Copy>(table: &mut Vec<T>, entry: T) -> Result<u32, NoMemory>
+    ensures number { IfOk result (λ number. number ≡ length table.old.items) }
+    ensures put { IfOk result (λ _. table.new.items ≡ table.old.items ++ entry ∷ []) }
+    ensures err { OnErr result (table.new.items ≡ table.old.items) }
+{
+    let Ok(number) = u32::try_from(table.len()) else {
+        return Err(NoMemory);
+    };
+    table.push(entry)?;
+    Ok(number)
+}
+
+/// The step of an integer in a table.
+#[inline(always)]
+fn integer_at(integers: &[i64], at: u32) -> Step
+    requires { at < length integers.now }
+    ensures { result ≡ slice_index_or (map PushInt integers.now) at PushNil }
+{
+    Step::PushInt(integers[at as usize])
+}
+
+/// The step of a send to a value in a table.
+#[inline(always)]
+fn send_at(sends: &[ValueSend], at: u32) -> Step
+    requires { at < length sends.now }
+    ensures { result ≡ slice_index_or (map spec.value_send sends.now) at PushNil }
+{
+    let send = &sends[at as usize];
+    Step::Send {
+        sel: send.sel,
+        argc: send.argc,
+        kind: send.kind,
+        place: send.place,
+        row: send.row,
+    }
+}
+
+/// The step of a private send in a table.
+#[inline(always)]
+fn private_at(sends: &[PrivateSend], at: u32) -> Step
+    requires { at < length sends.now }
+    ensures { result ≡ slice_index_or (map spec.private_send sends.now) at PushNil }
+{
+    let send = &sends[at as usize];
+    Step::SendPrivate {
+        level: send.level,
+        sel: send.sel,
+        argc: send.argc,
+        place: send.place,
+        member: send.member,
+    }
+}
+
+/// The step of a send to the superclass in a table.
+#[inline(always)]
+fn super_at(sends: &[SuperSend], at: u32) -> Step
+    requires { at < length sends.now }
+    ensures { result ≡ slice_index_or (map spec.super_send sends.now) at PushNil }
+{
+    let send = &sends[at as usize];
+    Step::SendSuper {
+        sel: send.sel,
+        argc: send.argc,
+        place: send.place,
+    }
+}

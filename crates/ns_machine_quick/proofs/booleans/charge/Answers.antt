@@ -1,0 +1,11 @@
+use Rattle.std.proofs.Common.{refl}
+use Rattle.ns_actions.specs.Sends.{To}
+use Rattle.ns_machine_core.specs.declared.state.Next.TheVariants.{On}
+use Rattle.ns_machine_quick.proofs.Stepped.{step_answers}
+use Rattle.ns_machine_quick.proofs.booleans.charge.Goals as goal
+
+pub returns-in-Ok : goal.returns-in-Ok
+returns-in-Ok c activation =
+    step_answers c.a_send_is_its_step_and_its_answer.ensures.running c.args.code.now c.args.core.now c.answer.new.core c.args.at c.args.sent c.args.receiver activation
+    (To c.args.receiver c.args.kind) c.step.new.self (On c.answer.result) c.in-Ok.ensures.charges.0 c.in-Ok.ensures.charges.1 refl c.requires.can
+    (c.answer.ensures activation)

@@ -1,0 +1,251 @@
+-- Sends that waited.
+use Rattle.std.proofs.Common.{◌≡◌, ◌+◌, ℕ, List, length, ap, sym, ◌∙◌, refl, subst, arith, Option, Some, None, All}
+use Rattle.ns_code.specs.declared.program.CodeProgram.{CodeProgram}
+use Rattle.ns_code.specs.Soundness.{initialiser_kind}
+use Rattle.ns_world.specs.declared.value.Value.{Value}
+use Rattle.ns_world.specs.declared.ending.Ending.TheVariants as ending
+use Rattle.ns_world.specs.declared.ending.LimitKind.TheVariants.{Steps}
+use Rattle.ns_world.specs.Heap.{Heap}
+use Rattle.ns_world.specs.Lawful.{IsLawful}
+use Rattle.ns_world.specs.Starts.{start_of}
+use Rattle.ns_world.specs.World.{World, WorldView, SameRoom, stepped}
+use Rattle.ns_facets.specs.declared.board.Board.{Board}
+use Rattle.ns_find.specs.declared.found.Found.{Found}
+use Rattle.ns_find.specs.declared.found.Sending.TheVariants.{Plain}
+use Rattle.ns_find.specs.declared.memo.Kept.{Kept}
+use Rattle.ns_find.specs.Find.{found_from}
+use Rattle.ns_find.specs.Memo.{IsRight}
+use Rattle.ns_actions.specs.declared.row.Row.{Row}
+use Rattle.ns_actions.specs.declared.control.Reached.{Reached}
+use Rattle.ns_actions.specs.declared.control.Reached.TheVariants as reached
+use Rattle.ns_actions.specs.Control.{Control, halts, charged, in_world}
+use Rattle.ns_actions.specs.Bodies.{no_home}
+use Rattle.ns_actions.specs.Kernel.{row_reached}
+use Rattle.ns_actions.specs.Lawful.{FitsSelector}
+use Rattle.ns_actions.specs.Rows.{row_at}
+use Rattle.ns_actions.specs.Sends.{answered_by}
+use Rattle.ns_actions.specs.Stated.{WaitedIsLawful, WaitedFits, WaitedStays, WaitedSpends}
+use Rattle.ns_actions.specs.Suiting.{FoundSuits}
+use Rattle.ns_machine_moves.specs.Arrivals.{arrived}
+use Rattle.ns_act.specs.declared.run.Run.{Run}
+use Rattle.ns_act.specs.declared.sends.Answered.{Answered}
+use Rattle.ns_act.specs.declared.sends.Answered.TheVariants as answers
+use Rattle.ns_act.specs.Answered.{IsAnswered}
+use Rattle.ns_act.specs.Room.{SameRest}
+use Rattle.ns_kernel_rows.specs.Reaching.{Reaches}
+use Rattle.ns_machine_frames.specs.declared.frame.Frame.{Frame}
+use Rattle.ns_machine_frames.specs.declared.registers.Registers.{Registers}
+use Rattle.ns_machine_frames.specs.Stack.{stood, with_top}
+use Rattle.ns_machine_frames.specs.View.{site_shown, frames_shown}
+use Rattle.ns_machine_core.specs.declared.state.Core.{Core}
+use Rattle.ns_machine_core.specs.declared.state.Next.TheVariants as next
+use Rattle.ns_machine_core.specs.Shown.{phase_shown, progress_in}
+use Rattle.ns_machine_core.specs.laws.Pushed.{stack_stays, ended_stays}
+use Rattle.ns_machine_core.specs.laws.Worlds.{in_other}
+use Rattle.ns_machine_sends.specs.declared.led.Led.{Led}
+use Rattle.ns_machine_sends.specs.declared.led.Led.TheVariants as led
+use Rattle.ns_machine_sends.specs.declared.sent.Sent.{Sent}
+use Rattle.ns_machine_sends.specs.Going.{arguments_in, control_at, GoesOn, ComesToBody, answered_at, CanAnswer}
+use Rattle.ns_machine_sends.specs.Waiting.{CanSendOn, sent_on_at, looked_on, LeadsTo, LeadsKept}
+use Rattle.ns_machine_sends.specs.laws.Goes.{room_above}
+use Rattle.ns_machine_sends.proofs.Leads.{with_world, row_control}
+use Rattle.ns_machine_core.specs.laws.Charged.{step_is}
+use Rattle.ns_machine_sends.proofs.Stepped.{left_in}
+
+-- ---- where they lead
+
+pub no_value : (r : Reached) (frames : List Frame) → ((value : Value) → r ≡ reached.Gives value → ⊥) → ComesToBody r frames
+no_value (reached.Gives value) frames none = absurd (none value refl)
+no_value (reached.Fails fault) frames none = tt
+no_value (reached.Refused sel) frames none = tt
+no_value (reached.Enters exit entered) frames none = tt
+no_value (reached.Evaluates block given) frames none = tt
+no_value (reached.Begins method state) frames none = tt
+no_value (reached.Performs receiver sel array) frames none = tt
+
+pub value_led : (code : CodeProgram) (core : Core) (at : Registers) (sent : Sent) (value : Value)
+    → LeadsKept code core at sent.floor (control_at code core at sent (reached.Gives value)) core (led.Gives value)
+value_led code core at sent value =
+    record { control_is = refl; stack = refl; phase = refl; stays = stack_stays core core.stack refl refl; memo = refl }
+
+pub row_led : (code : CodeProgram) (core new : Core) (at : Registers) (sent : Sent) (receiver : Value) (number : ℕ) (row : Row) (world : WorldView) (board : Board) (r : Reached)
+    (to : Led) → row ≡ row_at number
+    → Reaches code (arguments_in core at sent) (row_reached code row sent.site.sel receiver (arguments_in core at sent)) core.run.world core.run.board r world board
+    → world.world.limits ≡ core.run.world.world.limits → SameRoom core.run.world world
+    → LeadsKept code (with_world core world board) at sent.floor (control_at code (with_world core world board) at sent r) new to
+    → LeadsKept code core at sent.floor (answered_at code core at sent receiver (answers.Row number)) new to
+row_led code core new at sent receiver number row world board r (led.Goes n) same reaches limits room is = record {
+  state = is.state
+      ∙ ap (λ (c : Control). arrived code (phase_shown core.phase) c (frames_shown code core.places (stood core.stack (with_top sent.floor at))))
+      (row_control code core at sent receiver number row world board r same reaches);
+  stand = is.stand;
+  memo = is.memo;
+  stays = record {
+    world = record {
+      limits = is.stays.world.limits ∙ limits;
+      room = (is.stays.world.room.0 ∙ room.0, is.stays.world.room.1 ∙ room.1);
+    };
+    values = is.stays.values;
+    frames = is.stays.frames;
+    places = is.stays.places;
+  };
+}
+row_led code core new at sent receiver number row world board r (led.Gives value) same reaches limits room is = record {
+  control_is = sym (row_control code core at sent receiver number row world board r same reaches) ∙ is.control_is;
+  stack = is.stack;
+  phase = is.phase;
+  stays = record {
+    world = record {
+      limits = is.stays.world.limits ∙ limits;
+      room = (is.stays.world.room.0 ∙ room.0, is.stays.world.room.1 ∙ room.1);
+    };
+    values = is.stays.values;
+    frames = is.stays.frames;
+    places = is.stays.places;
+  };
+  memo = is.memo;
+}
+
+-- ---- the lookup
+
+pub answer_can_on : (code : CodeProgram) (core : Core) (at : Registers) (sent : Sent) (receiver : Value) (run : Run) (member : Found) (answer : Answered)
+    → CanSendOn code core at sent receiver → FoundSuits core.run.world.world.cells receiver member → IsAnswered member core.run.world answer run.world
+    → CanAnswer code (record core { run = run }) at sent receiver answer
+answer_can_on code core at sent receiver run member (answers.Comes r) can suits is = is
+answer_can_on code core at sent receiver run member (answers.Row number) can suits is = record {
+  lawful = rw is.1 can.lawful;
+  live = rw is.1 can.live;
+  all_live = rw is.1 can.selector.live;
+  suits = rw is.1 (subst (λ (f : Found). FoundSuits core.run.world.world.cells receiver f) is.0 suits);
+}
+
+pub answer_led : (code : CodeProgram) (core new : Core) (at : Registers) (sent : Sent) (receiver : Value) (run : Run) (answer : Answered) (control : Control) (to : Led)
+    → answered_at code (record core { run = run }) at sent receiver answer ≡ control → SameRest core.run.world run.world
+    → All (IsRight core.run.world.world.cells code) run.memo
+    → LeadsKept code (record core { run = run }) at sent.floor (answered_at code (record core { run = run }) at sent receiver answer) new to
+    → LeadsTo code core at sent.floor control new to
+answer_led code core new at sent receiver run answer control (led.Goes n) e rest kept is = record {
+  state = is.state
+      ∙ ap (λ (c : Control). arrived code (phase_shown core.phase) c (frames_shown code core.places (stood core.stack (with_top sent.floor at)))) e;
+  stand = is.stand;
+  stays = record {
+    world = record {
+      limits = is.stays.world.limits ∙ rest.limits;
+      room = (is.stays.world.room.0 ∙ rest.room.0, is.stays.world.room.1 ∙ rest.room.1);
+    };
+    values = is.stays.values;
+    frames = is.stays.frames;
+    places = is.stays.places;
+  };
+  kept = subst (λ (memo : List (Option Kept)). All (IsRight core.run.world.world.cells code) memo) (sym is.memo) kept;
+}
+answer_led code core new at sent receiver run answer control (led.Gives value) e rest kept is = record {
+  control_is = sym e ∙ is.control_is;
+  stack = is.stack;
+  phase = is.phase;
+  stays = record {
+    world = record {
+      limits = is.stays.world.limits ∙ rest.limits;
+      room = (is.stays.world.room.0 ∙ rest.room.0, is.stays.world.room.1 ∙ rest.room.1);
+    };
+    values = is.stays.values;
+    frames = is.stays.frames;
+    places = is.stays.places;
+  };
+  kept = subst (λ (memo : List (Option Kept)). All (IsRight core.run.world.world.cells code) memo) (sym is.memo) kept;
+}
+
+-- ---- the step
+
+pub step_can_on : ((world after : World) (code : CodeProgram) → IsLawful world code → stepped world ≡ Some after → IsLawful after code)
+    → (code : CodeProgram) (core : Core) (at : Registers) (sent : Sent) (receiver : Value) (world : WorldView) → stepped core.run.world.world ≡ Some world.world
+    → SameRoom core.run.world world → CanSendOn code core at sent receiver → CanSendOn code (in_other core world) at sent receiver
+step_can_on charging code core at sent receiver world e room can = record {
+  left = left_in code core at sent (record core.run { world = world }) (record { limits = ap (λ (w : World). w.limits) is; room = room }) can.left;
+  lawful = charging core.run.world.world world.world code can.lawful e;
+  begun = let begun = can.begun in let more = ap (λ (w : World). w.steps) is in omega (arith, begun, more);
+  kept = rw (ap (λ (w : World). w.cells) is) can.kept;
+  depth = ap (λ (w : World). w.depth) is ∙ can.depth;
+  live = rw (ap (λ (w : World). w.cells) is) can.live;
+  selector = rw (ap (λ (w : World). w.cells) is) can.selector;
+}
+  where
+    is : world.world ≡ record core.run.world.world { steps = core.run.world.world.steps + 1 }
+    is = step_is core.run.world.world world.world e
+
+-- such a send is its step, and what its lookup answers then
+pub on_stepped : (code : CodeProgram) (core : Core) (at : Registers) (sent : Sent) (receiver : Value) (world : WorldView) → stepped core.run.world.world ≡ Some world.world
+    → sent_on_at code core at sent receiver ≡ looked_on code (in_other core world) at sent receiver
+on_stepped code core at sent receiver world e =
+    ap (λ (o : Option World). charged halts Steps o (progress_in core)
+    (answered_by code (found_from core.run.world.world.cells code (start_of core.run.world.world.cells receiver) sent.site.sel.0 Plain) sent.site.sel receiver
+    (arguments_in core at sent) (site_shown core.places sent.site))) e
+    ∙ ap (λ (h : Heap). answered_by code (found_from h code (start_of h receiver) sent.site.sel.0 Plain) sent.site.sel receiver (arguments_in core at sent)
+    (site_shown core.places sent.site) (in_world (progress_in core) world.world))
+    (sym (ap (λ (w : World). w.cells) (step_is core.run.world.world world.world e)))
+
+pub on_goes : (code : CodeProgram) → WaitedIsLawful code → WaitedFits code → WaitedStays code → WaitedSpends code → (core : Core) (at : Registers) (sent : Sent) (receiver : Value)
+    (world : WorldView) → stepped core.run.world.world ≡ Some world.world → CanSendOn code core at sent receiver
+    → GoesOn code (length core.stack.frames.items) (looked_on code (in_other core world) at sent receiver)
+on_goes code lawful fits stays spends core at sent receiver world e can =
+    let values = arguments_in core at sent in
+    let site = site_shown core.places sent.site in
+    let after = lawful receiver sent.site.sel values site (progress_in core) can.lawful can.live can.selector in
+    subst (λ (c : Control). GoesOn code (length core.stack.frames.items) c) (on_stepped code core at sent receiver world e)
+    (record {
+      own = initialiser_kind;
+      lawful = after;
+      fits = fits receiver sent.site.sel values site (progress_in core) can.lawful can.live can.selector;
+      room = room_above code (length core.stack.frames.items) 1 no_home (FitsSelector core.run.world.world.cells code sent.site.sel values) (progress_in core) site
+          (sent_on_at code core at sent receiver) (spends receiver sent.site.sel values site (progress_in core)) after
+          (stays receiver sent.site.sel values site (progress_in core)) can.selector can.depth;
+    })
+
+pub on_leads : (code : CodeProgram) (core new : Core) (at : Registers) (sent : Sent) (receiver : Value) (world : WorldView) (to : Led)
+    → stepped core.run.world.world ≡ Some world.world → SameRoom core.run.world world
+    → LeadsTo code (in_other core world) at sent.floor (looked_on code (in_other core world) at sent receiver) new to
+    → LeadsTo code core at sent.floor (sent_on_at code core at sent receiver) new to
+on_leads code core new at sent receiver world (led.Goes n) e room is = record {
+  state = is.state
+      ∙ ap (λ (c : Control). arrived code (phase_shown core.phase) c (frames_shown code core.places (stood core.stack (with_top sent.floor at))))
+      (sym (on_stepped code core at sent receiver world e));
+  stand = is.stand;
+  stays = record {
+    world = record {
+      limits = is.stays.world.limits ∙ ap (λ (w : World). w.limits) (step_is core.run.world.world world.world e);
+      room = (is.stays.world.room.0 ∙ room.0, is.stays.world.room.1 ∙ room.1);
+    };
+    values = is.stays.values;
+    frames = is.stays.frames;
+    places = is.stays.places;
+  };
+  kept = subst (λ (h : Heap). All (IsRight h code) new.run.memo) (ap (λ (w : World). w.cells) (step_is core.run.world.world world.world e)) is.kept;
+}
+on_leads code core new at sent receiver world (led.Gives value) e room is = record {
+  control_is = on_stepped code core at sent receiver world e ∙ is.control_is;
+  stack = is.stack;
+  phase = is.phase;
+  stays = record {
+    world = record {
+      limits = is.stays.world.limits ∙ ap (λ (w : World). w.limits) (step_is core.run.world.world world.world e);
+      room = (is.stays.world.room.0 ∙ room.0, is.stays.world.room.1 ∙ room.1);
+    };
+    values = is.stays.values;
+    frames = is.stays.frames;
+    places = is.stays.places;
+  };
+  kept = subst (λ (h : Heap). All (IsRight h code) new.run.memo) (ap (λ (w : World). w.cells) (step_is core.run.world.world world.world e)) is.kept;
+}
+
+pub no_step_leads : (code : CodeProgram) (core : Core) (at : Registers) (sent : Sent) (receiver : Value) → stepped core.run.world.world ≡ None
+    → CanSendOn code core at sent receiver
+    → LeadsTo code core at sent.floor (sent_on_at code core at sent receiver) (record core { ending = ending.Limit Steps }) (led.Goes next.Ended)
+no_step_leads code core at sent receiver e can = record {
+  state = ap (λ (c : Control). arrived code (phase_shown core.phase) c (frames_shown code core.places (stood core.stack (with_top sent.floor at))))
+      (sym (ap (λ (o : Option World). charged halts Steps o (progress_in core)
+      (answered_by code (found_from core.run.world.world.cells code (start_of core.run.world.world.cells receiver) sent.site.sel.0 Plain) sent.site.sel receiver
+      (arguments_in core at sent) (site_shown core.places sent.site))) e));
+  stand = tt;
+  stays = ended_stays core (ending.Limit Steps);
+  kept = can.kept;
+}

@@ -1,0 +1,128 @@
+-- Moves of a machine one after another, with steps left.
+use Rattle.std.proofs.Common.{◌≡◌, ℕ, ◌-◌, ◌<◌, ◌≤◌, refl, ap, sym, subst, arith, false}
+use Rattle.ns_code.specs.declared.program.CodeProgram.{CodeProgram}
+use Rattle.ns_facets.specs.declared.row.Grants.{Grants}
+use Rattle.ns_machine_moves.specs.Falling.{run_left, MovesLower}
+use Rattle.ns_machine_moves.specs.State.{State, world_of}
+use Rattle.ns_machine_moves.specs.Turn.{is_still}
+use Rattle.ns_machine_plan.specs.declared.plan.Plan.{Plan}
+use Rattle.ns_machine_frames.specs.declared.frame.Pending.{Pending}
+use Rattle.ns_machine_frames.specs.declared.frame.Pending.TheVariants as pending
+use Rattle.ns_machine_frames.specs.declared.registers.Registers.{Registers}
+use Rattle.ns_machine_frames.specs.View.{state_shown}
+use Rattle.ns_machine_core.specs.declared.own.OwnSends.{OwnSends}
+use Rattle.ns_machine_core.specs.declared.state.Core.{Core}
+use Rattle.ns_machine_core.specs.declared.state.Next.{Next}
+use Rattle.ns_machine_core.specs.declared.state.Next.TheVariants.{On, Waits}
+use Rattle.ns_machine_core.specs.Shown.{phase_shown, progress_in, shown}
+use Rattle.ns_machine_core.specs.Ready.{Moves, MovesKeepReady}
+use Rattle.ns_machine_turns.specs.Turning.{steps_left, RunsBy, IsTurning, GoesAlong, HasGone, MovesGoAlong}
+use Rattle.ns_machine_turns.proofs.Turned.{Known, runs_on, turning_on, counted, left_is, since_begun}
+
+-- what is known of moves of a machine
+pub record KnownMoves (code : CodeProgram) : Type 0 where
+  pub known : Known code
+  pub keeps : (grants : Grants) → MovesKeepReady code grants
+  pub lower : (grants : Grants) → MovesLower code grants
+
+-- a move takes no step back
+pub since_on : (code : CodeProgram) → Known code → (old new : Core) (from next : Next) → Moves code old from new next
+    → old.run.world.world.steps ≤ new.run.world.world.steps
+since_on code known old new from next moved =
+    let on = (known.onward 1 (shown code old from)).later.steps in
+    let is = ap (λ (s : State). (world_of s).steps) moved.state in
+    let a = counted code old from in
+    let b = counted code new next in
+    omega (arith, on, is, a, b)
+
+pub none_gone : (code : CodeProgram) (plan : Plan) (sends : OwnSends) (left : ℕ) (old : Core) (from : Next) → RunsBy code plan sends old from
+    → GoesAlong code plan sends left old from old from
+none_gone code plan sends left old from runs = record { runs = runs; turning = λ steps first began e turning. turning; onward = omega arith; lower = omega arith }
+
+module _ (code : CodeProgram) (all : KnownMoves code) (plan : Plan) (sends : OwnSends) (left : ℕ) (old : Core) (from : Next) where
+  module _ (goes : is_still (shown code old from) ≡ false) (now new : Core) (here next : Next) (on : is_still (shown code now here) ≡ false)
+      (few : now.run.world.world.steps - old.run.world.world.steps < left) (moved : Moves code now here new next) where
+    some_left : (steps : ℕ) (first : Core) (began : Next) → left ≡ steps_left steps (shown code first began) (shown code old from)
+        → IsTurning code steps first began old from → 1 ≤ steps_left steps (shown code first began) (shown code now here)
+    some_left steps first began e turning =
+        let since = since_begun code steps first old began from goes turning.under in
+        let a = left_is code steps first old began from in
+        let b = left_is code steps first now began here in
+        omega (arith, e, since, a, b, few)
+
+    falls_on : GoesAlong code plan sends left old from now here → run_left code (shown code new next) < run_left code (shown code old from)
+    falls_on along =
+        let a = subst (λ (s : State). run_left code s < run_left code (shown code now here)) (sym moved.state)
+        (all.lower along.runs.can.grants (shown code now here) along.runs.can.ready.valid on) in
+        let b = along.lower in
+        omega (arith, a, b)
+
+    pub gone_on : GoesAlong code plan sends left old from now here → HasGone code plan sends left old from new next
+    gone_on along = record {
+      along = record {
+        runs = runs_on code plan sends now new here next all.keeps along.runs moved;
+        turning = λ steps first began e turning.
+            turning_on code all.known all.keeps steps first now new began here next along.runs.can on
+            (λ told. some_left steps first began e turning) (along.turning steps first began e turning) moved;
+        onward = let a = along.onward in let b = since_on code all.known now new here next moved in omega (arith, a, b);
+        lower = let a = falls_on along in omega (arith, a);
+      };
+      falls = falls_on along;
+    }
+
+-- Moves that led on with the steps that were left then, of those with which others had led there, have led on from where those began.
+module _ (code : CodeProgram) (plan : Plan) (sends : OwnSends) (left : ℕ) (old now new : Core) (from here next : Next) where
+  left_there : GoesAlong code plan sends left old from now here → is_still (shown code old from) ≡ false → (steps : ℕ) (first : Core) (began : Next)
+      → left ≡ steps_left steps (shown code first began) (shown code old from) → IsTurning code steps first began old from
+      → left - (now.run.world.world.steps - old.run.world.world.steps) ≡ steps_left steps (shown code first began) (shown code now here)
+  left_there along goes steps first began e turning =
+      let since = since_begun code steps first old began from goes turning.under in
+      let a = left_is code steps first old began from in
+      let b = left_is code steps first now began here in
+      let on = along.onward in
+      omega (arith, e, since, a, b, on)
+
+  pub gone_far : GoesAlong code plan sends left old from now here → is_still (shown code old from) ≡ false
+      → HasGone code plan sends (left - (now.run.world.world.steps - old.run.world.world.steps)) now here new next
+      → HasGone code plan sends left old from new next
+  gone_far along goes gone = record {
+    along = record {
+      runs = gone.along.runs;
+      turning = λ steps first began e turning.
+          gone.along.turning steps first began (left_there along goes steps first began e turning) (along.turning steps first began e turning);
+      onward = let a = along.onward in let b = gone.along.onward in omega (arith, a, b);
+      lower = let a = along.lower in let b = gone.along.lower in omega (arith, a, b);
+    };
+    falls = let a = along.lower in let b = gone.falls in omega (arith, a, b);
+  }
+
+-- The same, where so many were left.
+pub gone_since : (code : CodeProgram) (plan : Plan) (sends : OwnSends) (left some : ℕ) (old now new : Core) (from here next : Next)
+    → GoesAlong code plan sends left old from now here → is_still (shown code old from) ≡ false
+    → some ≡ left - (now.run.world.world.steps - old.run.world.world.steps) → HasGone code plan sends some now here new next
+    → HasGone code plan sends left old from new next
+gone_since code plan sends left some old now new from here next along goes e gone =
+    gone_far code plan sends left old now new from here next along goes (subst (λ n. HasGone code plan sends n now here new next) e gone)
+
+-- With so many steps left, a move of a body that runs leads on,
+pub body_gone : (code : CodeProgram) → MovesGoAlong code → (plan : Plan) (sends : OwnSends) (left some : ℕ) (old now new : Core) (at here : Registers) (next : Next)
+    → 1 ≤ some → some ≡ left - (now.run.world.world.steps - old.run.world.world.steps) → GoesAlong code plan sends left old (On at) now (On here)
+    → Moves code now (On here) new next → HasGone code plan sends left old (On at) new next
+body_gone code law plan sends left some old now new at here next one e along moved =
+    law plan sends left old now new (On at) (On here) next along refl refl (omega (arith, one, e)) moved
+
+-- and leaves less to be done.
+pub body_falls : (code : CodeProgram) → MovesGoAlong code → (plan : Plan) (sends : OwnSends) (now new : Core) (here : Registers) (next : Next)
+    → RunsBy code plan sends now (On here) → Moves code now (On here) new next → run_left code (shown code new next) < run_left code (shown code now (On here))
+body_falls code law plan sends now new here next runs moved =
+    (body_gone code law plan sends 1 1 now now new here here next (omega arith) (omega arith) (none_gone code plan sends 1 now (On here) runs) moved).falls
+
+-- A run in which something waits goes on.
+pub waits_goes : (code : CodeProgram) (core : Core) (at : Registers) → is_still (shown code core (Waits at)) ≡ false
+waits_goes code core at = by_pending core.waiting
+  where
+    by_pending : (p : Pending) → is_still (state_shown code core.places (phase_shown core.phase) p core.stack at (progress_in core)) ≡ false
+    by_pending pending.Nothing = refl
+    by_pending (pending.Sending receiver sel site floor first) = refl
+    by_pending (pending.Performing receiver sel array site floor) = refl
+    by_pending (pending.Evaluating block site floor first) = refl

@@ -1,0 +1,96 @@
+use Rattle.std.proofs.Common.{◌-◌, ◌<◌, refl, arith, sym, subst}
+use Rattle.ns_machine_core.specs.declared.state.Next.{Next}
+use Rattle.ns_machine_core.specs.declared.state.Next.TheVariants.{On}
+use Rattle.ns_machine_turns.specs.Turning.{HasGone}
+use Rattle.ns_machine_turns.proofs.Along.{none_gone, body_gone, body_falls}
+use Rattle.ns_machine_turns.proofs.Untouched.{untouched_along, untouched_far, untouched_steps}
+use Rattle.ns_machine_turns.proofs.Fetched.{body_has_step}
+use Rattle.ns_machine_turns.proofs.turning.go_straight.Goals as goal
+
+pub row-row-requires-clause-there : goal.row-row-requires-clause-there
+row-row-requires-clause-there c =
+    (body_has_step c.args.code.now c.requires.runs.can.grants c.args.core.now c.args.at c.args.body c.requires.runs.can.ready.valid c.requires.body
+    (c.running_bodies_have_steps.ensures c.args.code.now)).body_there
+
+pub straight-init : goal.straight-init
+straight-init c =
+    let some = c.requires.some in
+    record {
+      along = none_gone c.args.code.now c.args.plan.now c.args.own c.args.left c.args.core.now (On c.args.at) c.requires.runs;
+      rest = omega (arith, some);
+      some = some;
+      runs = c.requires.body;
+    }
+
+-- ---- straight on, with no step charged
+
+pub straight-smaller-in-Straight : goal.straight-smaller-in-Straight
+straight-smaller-in-Straight c =
+    body_falls c.args.code.now (c.moves_go_along.ensures c.args.code.now) c.args.plan.now c.args.own c.straight.core c.go_quickly.new.core c.straight.here
+    (On c.in-Straight.to) c.straight.invariant.along.runs c.in-Straight.ensures.moves
+
+pub straight-preserved-in-Straight : goal.straight-preserved-in-Straight
+straight-preserved-in-Straight c =
+    let gone = body_gone c.args.code.now (c.moves_go_along.ensures c.args.code.now) c.args.plan.now c.args.own c.args.left c.straight.rest c.args.core.now
+    c.straight.core c.go_quickly.new.core c.args.at c.straight.here (On c.in-Straight.to) c.straight.invariant.some c.straight.invariant.rest
+    c.straight.invariant.along c.in-Straight.ensures.moves in
+    let stays = c.in-Straight.ensures.stays c.args.body c.straight.invariant.runs in
+    let rest = c.straight.invariant.rest in
+    let same = stays.steps in
+    record { along = gone.along; rest = omega (arith, rest, same); some = c.straight.invariant.some; runs = stays.runs }
+
+-- ---- straight on, with one charged
+
+pub returns-then-rest-eq0 : goal.returns-then-rest-eq0
+returns-then-rest-eq0 c =
+    body_gone c.args.code.now (c.moves_go_along.ensures c.args.code.now) c.args.plan.now c.args.own c.args.left c.straight.rest c.args.core.now
+    c.straight.core c.go_quickly.new.core c.args.at c.straight.here (On c.in-Charged.to) c.straight.invariant.some c.straight.invariant.rest
+    c.straight.invariant.along c.in-Charged.ensures.moves
+
+pub straight-smaller : goal.straight-smaller
+straight-smaller c =
+    body_falls c.args.code.now (c.moves_go_along.ensures c.args.code.now) c.args.plan.now c.args.own c.straight.core c.go_quickly.new.core c.straight.here
+    (On c.in-Charged.to) c.straight.invariant.along.runs c.in-Charged.ensures.moves
+
+pub straight-preserved : goal.straight-preserved
+straight-preserved c =
+    let gone = body_gone c.args.code.now (c.moves_go_along.ensures c.args.code.now) c.args.plan.now c.args.own c.args.left c.straight.rest c.args.core.now
+    c.straight.core c.go_quickly.new.core c.args.at c.straight.here (On c.in-Charged.to) c.straight.invariant.some c.straight.invariant.rest
+    c.straight.invariant.along c.in-Charged.ensures.moves in
+    let stays = c.in-Charged.ensures.stays c.args.body c.straight.invariant.runs in
+    let rest = c.straight.invariant.rest in
+    let some = c.straight.invariant.some in
+    let more = stays.steps in
+    let onward = c.straight.invariant.along.onward in
+    record { along = gone.along; rest = omega (arith, rest, more, onward); some = omega (arith, some, c.if-rest-eq0.false); runs = stays.runs }
+
+-- ---- one move more
+
+pub returns-in-On : goal.returns-in-On
+returns-in-On c =
+    body_gone c.args.code.now (c.moves_go_along.ensures c.args.code.now) c.args.plan.now c.args.own c.args.left c.straight.rest c.args.core.now
+    c.straight.core c.go_quickly.new.core c.args.at c.straight.here (On c.in-On.to) c.straight.invariant.some c.straight.invariant.rest
+    c.straight.invariant.along c.in-On.ensures
+
+pub returns-in-Answered : goal.returns-in-Answered
+returns-in-Answered c =
+    let some = c.straight.invariant.some in
+    let rest = c.straight.invariant.rest in
+    let few : c.straight.core.run.world.world.steps - c.args.core.now.run.world.world.steps < c.args.left = omega (arith, some, rest) in
+    c.passing_goes_along.ensures c.args.code.now c.args.plan.now c.args.own c.args.left c.args.core.now c.straight.core c.go_quickly.new.core
+    (On c.args.at) (On c.straight.here) (On c.in-Answered.to) c.straight.invariant.along refl refl few c.in-Answered.ensures
+
+pub go_apart-requires-clause-runs : goal.go_apart-requires-clause-runs
+go_apart-requires-clause-runs c =
+    (untouched_along c.args.code.now c.args.plan.now c.args.own c.args.left c.args.core.now (On c.args.at) c.straight.core c.go_quickly.new.core
+    c.straight.here c.straight.invariant.along c.in-Nowhere.ensures).runs
+
+pub returns-in-Nowhere : goal.returns-in-Nowhere
+returns-in-Nowhere c =
+    let rest = c.straight.invariant.rest in
+    let untouched = untouched_steps c.args.code.now c.straight.core c.go_quickly.new.core c.in-Nowhere.ensures in
+    subst (λ (next : Next). HasGone c.args.code.now c.args.plan.now c.args.own c.args.left c.args.core.now (On c.args.at) c.go_apart.new.core next)
+    (sym c.as_value.ensures)
+    (untouched_far c.args.code.now c.args.plan.now c.args.own c.args.left c.straight.rest c.args.core.now c.straight.core c.go_quickly.new.core
+    c.go_apart.new.core (On c.args.at) c.straight.here c.go_apart.result c.straight.invariant.along refl c.in-Nowhere.ensures
+    (omega (arith, rest, untouched)) c.go_apart.ensures)

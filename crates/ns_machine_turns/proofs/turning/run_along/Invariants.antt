@@ -1,0 +1,16 @@
+use Rattle.std.proofs.Common.{◌≡◌, ◌-◌, ◌<◌}
+use Rattle.ns_machine_core.specs.declared.state.Next.TheVariants.{On}
+use Rattle.ns_machine_core.specs.Shown.{shown}
+use Rattle.ns_machine_moves.specs.Falling.{run_left}
+use Rattle.ns_machine_turns.specs.Turning.{GoesAlong}
+use Rattle.ns_machine_turns.proofs.turning.run_along.Given as goal
+
+abbrev pub invariant-along : goal.invariant-along
+invariant-along l = record {
+  along : GoesAlong l.code l.plan l.own l.left l.fn.core (On l.fn.at) l.core (On l.here);
+  begun : l.begun ≡ l.fn.core.run.world.world.steps;
+  few : l.core.run.world.world.steps - l.fn.core.run.world.world.steps < l.left;
+}
+
+abbrev pub decreases-along : goal.decreases-along
+decreases-along l = run_left l.code (shown l.code l.core (On l.here))

@@ -1,0 +1,78 @@
+//! One move of a run.
+
+ghost use Rattle.std.specs.Prelude.{◌≡◌, false};
+ghost use Rattle.ns_machine_moves.specs.Turn.{is_still};
+ghost use Rattle.ns_machine_core.specs.declared.state.Next.TheVariants as next;
+ghost use Rattle.ns_machine_core.specs.Ready.{Moves};
+ghost use Rattle.ns_machine_core.specs.Shown.{shown};
+ghost use Rattle.ns_machine_turns.specs.Turning.{RunsBy};
+
+use crate::resending::{perform_waiting, send_waiting};
+use crate::stepping::go_on;
+use ns_code::program::CodeProgram;
+use ns_machine_core::own::OwnSends;
+use ns_machine_core::state::{Core, Next};
+use ns_machine_frames::frame::Pending;
+use ns_machine_frames::registers::Registers;
+use ns_machine_plan::plan::Plan;
+use ns_machine_sends::sent::Sent;
+use ns_machine_sends::waiting::evaluate;
+
+/// One move of a run that goes on: the next step of the body that runs, the next action of a method of the kernel, or
+/// what waits.
+#[inline(always)]
+pub fn step(plan: &Plan, code: &CodeProgram, core: &mut Core, next: Next, own: OwnSends) -> Next
+    requires runs { RunsBy code.now plan.now own core.old next }
+    requires goes { is_still (shown code.now core.old next) ≡ false }
+    ensures { Moves code.now core.old next core.new result }
+{
+    match next {
+        Next::On(at) => go_on(plan, code, core, at, own),
+        Next::Waits(at) => take_up(plan, code, core, at, own),
+        Next::Ended => unreachable!(),
+    }
+}
+
+/// Does what waits, if anything does.
+pub fn take_up(
+    plan: &Plan,
+    code: &CodeProgram,
+    core: &mut Core,
+    at: Registers,
+    own: OwnSends,
+) -> Next
+    requires { RunsBy code.now plan.now own core.old (next.Waits at) }
+    ensures { Moves code.now core.old (next.Waits at) core.new result }
+{
+    match core.waiting {
+        Pending::Nothing => go_on(plan, code, core, at, own),
+        Pending::Evaluating {
+            block,
+            site,
+            floor,
+            first,
+        } => evaluate(code, core, at, Sent { site, floor, first }, block),
+        Pending::Sending {
+            receiver,
+            sel,
+            site,
+            floor,
+            first,
+        } => send_waiting(
+            code,
+            core,
+            at,
+            Sent { site, floor, first },
+            receiver,
+            sel,
+            own,
+        ),
+        Pending::Performing {
+            receiver,
+            sel,
+            array,
+            site,
+            floor,
+        } => perform_waiting(code, core, at, site, floor, receiver, sel, array, own),
+    }
+}

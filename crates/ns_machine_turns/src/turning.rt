@@ -1,0 +1,289 @@
+//! Turns: so many moves as so many steps allow.
+
+ghost use Rattle.std.specs.Prelude.{◌≡◌, ◌≤◌, false};
+ghost use Rattle.ns_code.specs.declared.program.CodeProgram.{CodeProgram};
+ghost use Rattle.ns_facets.specs.declared.row.Grants.{Grants};
+ghost use Rattle.ns_machine_moves.specs.Turn.{is_still, Turns};
+ghost use Rattle.ns_machine_core.specs.declared.state.Core.{Core as AnyCore};
+ghost use Rattle.ns_machine_core.specs.Doing.{IsRunning};
+ghost use Rattle.ns_machine_core.specs.Shown.{shown};
+ghost use Rattle.ns_machine_core.specs.Ready.{IsReady, Moves};
+ghost use Rattle.ns_machine_core.specs.Standing.{Stays};
+ghost use Rattle.ns_machine_core.specs.Straight.{RunsBody};
+ghost use Rattle.ns_machine_core.specs.declared.state.Next.TheVariants as next;
+ghost use Rattle.ns_machine_turns.specs.Turning.{RunsBy, HasGone};
+
+use crate::acting::act_along;
+use crate::charging::charges;
+use crate::laws::{moves_go_along, passing_goes_along};
+use crate::moving::{step, take_up};
+use crate::quickly::go_quickly;
+use crate::stepping::run_on;
+use ns_code::program::CodeProgram;
+use ns_machine_core::laws::{moves_keep_machines_ready, turns_go_by_moves};
+use ns_machine_core::led::Led;
+use ns_machine_core::on_top::OnTop;
+use ns_machine_core::own::OwnSends;
+use ns_machine_core::state::{Core, Next};
+use ns_machine_frames::frame::Frame;
+use ns_machine_frames::registers::Registers;
+use ns_machine_moves::falling::moves_lower;
+use ns_machine_moves::laws::{moves_charge_as_told, moves_go_onward};
+use ns_machine_moves::valid_frames::moves_keep_valid;
+use ns_machine_plan::laws::running_bodies_have_steps;
+use ns_machine_plan::plan::Plan;
+
+/// A turn of so many steps: moves up to the end of the run, or up to the first that would charge a step more.
+///
+/// While steps are left no move is tested before it is made, since none can charge more than one.
+pub fn turn(
+    plan: &Plan,
+    code: &CodeProgram,
+    core: &mut Core,
+    next: Next,
+    steps: u64,
+    own: OwnSends,
+) -> Next
+    requires { RunsBy code.now plan.now own core.old next }
+    ensures turns { Turns code.now steps (shown code.now core.old next) (shown code.now core.new result) }
+    ensures ready { (grants : Grants) → IsReady code.now grants core.old next → IsReady code.now grants core.new result }
+    ensures stays { Stays core.old core.new }
+{
+    turns_go_by_moves();
+    moves_charge_as_told();
+    moves_keep_valid();
+    moves_keep_machines_ready();
+    moves_go_onward();
+    moves_lower();
+    let begun = core.run.world.counters().steps;
+    let mut here = next;
+    'moves: loop {
+        if is_ended(here) {
+            return here;
+        }
+        let used = core.run.world.counters().steps - begun;
+        if steps <= used {
+            break 'moves;
+        }
+        here = go_along(plan, code, core, here, steps - used, own);
+    }
+    'last: loop {
+        if is_ended(here) {
+            return here;
+        }
+        if charges(plan, code, core, here) {
+            return here;
+        }
+        here = step_apart(plan, code, core, here, own);
+    }
+}
+
+/// Moves with so many steps left: as long as the topmost frame goes on, and else the one of what waits.
+#[inline(always)]
+fn go_along(
+    plan: &Plan,
+    code: &CodeProgram,
+    core: &mut Core,
+    next: Next,
+    left: u64,
+    own: OwnSends,
+) -> Next
+    requires runs { RunsBy code.now plan.now own core.old next }
+    requires goes { is_still (shown code.now core.old next) ≡ false }
+    requires some { 1 ≤ left }
+    ensures { HasGone code.now plan.now own left core.old next core.new result }
+{
+    moves_go_along();
+    match next {
+        Next::On(at) => run_along(plan, code, core, at, left, own),
+        Next::Waits(at) => take_up(plan, code, core, at, own),
+        Next::Ended => unreachable!(),
+    }
+}
+
+/// Moves with so many steps left, for as long as the topmost frame goes on. The registers stay in local variables: no other way
+/// on is carried from one move to the next.
+#[inline(always)]
+fn run_along(
+    plan: &Plan,
+    code: &CodeProgram,
+    core: &mut Core,
+    at: Registers,
+    left: u64,
+    own: OwnSends,
+) -> Next
+    requires runs { RunsBy code.now plan.now own core.old (next.On at) }
+    requires some { 1 ≤ left }
+    ensures { HasGone code.now plan.now own left core.old (next.On at) core.new result }
+{
+    moves_go_along();
+    let begun = core.run.world.counters().steps;
+    let mut here = at;
+    'along: loop {
+        let used = core.run.world.counters().steps - begun;
+        let moved = advance(plan, code, core, here, left - used, own);
+        match moved {
+            Next::On(to) => {
+                if left <= core.run.world.counters().steps - begun {
+                    return moved;
+                }
+                here = to;
+            }
+            Next::Waits(_) | Next::Ended => return moved,
+        }
+    }
+}
+
+/// Goes on with the topmost frame: straight on in a body, as far as that goes, and one move more; or with a method of the kernel.
+#[inline(always)]
+fn advance(
+    plan: &Plan,
+    code: &CodeProgram,
+    core: &mut Core,
+    at: Registers,
+    left: u64,
+    own: OwnSends,
+) -> Next
+    requires runs { RunsBy code.now plan.now own core.old (next.On at) }
+    requires some { 1 ≤ left }
+    ensures { HasGone code.now plan.now own left core.old (next.On at) core.new result }
+{
+    match *core.stack.topmost() {
+        Frame::Running(frame) => go_straight(
+            plan,
+            code,
+            core,
+            at,
+            frame.activation.body,
+            left,
+            own,
+        ),
+        Frame::Looping(_) => as_value(go_apart(plan, code, core, at, left, own)),
+    }
+}
+
+/// Goes straight on in the body that runs in the topmost frame, and makes one move more, by the quick way where that does it.
+/// Up to there the body stays on top, so the frame isn't looked at, and the steps that moves charge are taken off those left here,
+/// so neither are the world's counters. With none left that was the last move.
+#[inline(always)]
+fn go_straight(
+    plan: &Plan,
+    code: &CodeProgram,
+    core: &mut Core,
+    at: Registers,
+    body: u32,
+    left: u64,
+    own: OwnSends,
+) -> Next
+    requires runs { RunsBy code.now plan.now own core.old (next.On at) }
+    requires body { RunsBody body core.old.stack.frames.items }
+    requires some { 1 ≤ left }
+    ensures { HasGone code.now plan.now own left core.old (next.On at) core.new result }
+{
+    moves_go_along();
+    passing_goes_along();
+    running_bodies_have_steps();
+    let row = plan.row(code, body);
+    let entry = row.entry;
+    let top = OnTop {
+        body,
+        environment: row.environment,
+    };
+    let mut here = at;
+    let mut rest = left;
+    'straight: loop {
+        match go_quickly(plan, code, core, here, top, entry) {
+            Led::Straight(to) => here = to,
+            Led::Charged(to) => {
+                rest -= 1;
+                if rest == 0 {
+                    return Next::On(to);
+                }
+                here = to;
+            }
+            Led::On(to) => return Next::On(to),
+            Led::Answered(to) => return Next::On(to),
+            Led::Nowhere => return as_value(go_apart(plan, code, core, here, rest, own)),
+        }
+    }
+}
+
+/// Goes on with the topmost frame, where the quick way doesn't do it: a method of the kernel, or a body.
+#[inline(always)]
+fn go_apart(
+    plan: &Plan,
+    code: &CodeProgram,
+    core: &mut Core,
+    at: Registers,
+    left: u64,
+    own: OwnSends,
+) -> Next
+    requires runs { RunsBy code.now plan.now own core.old (next.On at) }
+    requires some { 1 ≤ left }
+    ensures { HasGone code.now plan.now own left core.old (next.On at) core.new result }
+{
+    moves_go_along();
+    match *core.stack.topmost() {
+        Frame::Looping(_) => act_along(plan, code, core, at, left, own),
+        Frame::Running(_) => run_apart(plan, code, core, at, left, own),
+    }
+}
+
+/// Does the next step of a body, and then what waits, where a step is left.
+#[inline(never)]
+fn run_apart(
+    plan: &Plan,
+    code: &CodeProgram,
+    core: &mut Core,
+    at: Registers,
+    left: u64,
+    own: OwnSends,
+) -> Next
+    requires runs { RunsBy code.now plan.now own core.old (next.On at) }
+    requires running { IsRunning core.old.stack.frames.items }
+    requires some { 1 ≤ left }
+    ensures { HasGone code.now plan.now own left core.old (next.On at) core.new result }
+{
+    moves_go_along();
+    let begun = core.run.world.counters().steps;
+    let moved = run_on(plan, code, core, at, own);
+    if left <= core.run.world.counters().steps - begun {
+        return moved;
+    }
+    match moved {
+        Next::Waits(to) => take_up(plan, code, core, to, own),
+        Next::On(_) | Next::Ended => moved,
+    }
+}
+
+/// The same, read once from where a call has written it, so that no other way on goes through memory.
+#[inline(always)]
+fn as_value(next: Next) -> Next
+    ensures { result ≡ next }
+{
+    match next {
+        Next::On(at) => Next::On(at),
+        Next::Waits(at) => Next::Waits(at),
+        Next::Ended => Next::Ended,
+    }
+}
+
+/// One move, apart from the loop in which it is made for as long as steps are left.
+fn step_apart(plan: &Plan, code: &CodeProgram, core: &mut Core, next: Next, own: OwnSends) -> Next
+    requires runs { RunsBy code.now plan.now own core.old next }
+    requires goes { is_still (shown code.now core.old next) ≡ false }
+    ensures { Moves code.now core.old next core.new result }
+{
+    step(plan, code, core, next, own)
+}
+
+/// Whether a run has ended.
+#[inline(always)]
+fn is_ended(next: Next) -> bool
+    ensures { (code : CodeProgram) (core : AnyCore) → result ≡ is_still (shown code core next) }
+{
+    match next {
+        Next::On(_) | Next::Waits(_) => false,
+        Next::Ended => true,
+    }
+}

@@ -1,7 +1,0 @@
-use Rattle.std.proofs.Common.{◌≡◌, ◌+◌, drop}
-use Rattle.ns_tree.specs.PlainOf.{members_of}
-use Rattle.ns_meant.specs.Classes as c
-use Rattle.ns_records.proofs.members.+count.Given as goal
-
-abbrev pub invariant-count_members-loop-member : goal.invariant-count_members-loop-member
-invariant-count_members-loop-member l = l.count + c.members_count (members_of (drop l.member-index l.members)) ≡ l.fn.count + c.members_count (members_of l.members)

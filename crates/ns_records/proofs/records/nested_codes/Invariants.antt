@@ -1,6 +1,0 @@
-use Rattle.std.proofs.Common.{◌≡◌, ◌++◌, map, drop}
-use Rattle.ns_meant.specs.Tables.{nested_code}
-use Rattle.ns_records.proofs.records.nested_codes.Given as goal
-
-abbrev pub invariant-loop-class : goal.invariant-loop-class
-invariant-loop-class l = l.codes.items ++ map (nested_code) (drop l.class-index l.nested) ≡ map (nested_code) l.nested

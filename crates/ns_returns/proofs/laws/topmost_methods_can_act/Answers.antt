@@ -1,5 +1,0 @@
-use Rattle.ns_returns.proofs.Topmost.{ready_acts}
-use Rattle.ns_returns.proofs.laws.topmost_methods_can_act.Goals as goal
-
-pub returns : goal.returns
-returns c = ready_acts c.valid_frames_are_framed.ensures.framed

@@ -1,6 +1,0 @@
-use Rattle.ns_right.specs.Reached.{IsReached}
-use Rattle.ns_right.proofs.Expressions.{expr_has}
-use Rattle.ns_right.proofs.laws.expressions_use_what_is_reached.Goals as goal
-
-pub returns : goal.returns
-returns c program number body here next expr reaches e texts = expr_has (IsReached program number body) here reaches expr next e texts

@@ -1,9 +1,0 @@
--- When the bodies of a program use what is there.
-use Rattle.std.specs.Prelude.{◌≡◌, ℕ, Some, slice_get}
-use Rattle.ns_meant.specs.Program as m
-use Rattle.ns_meant.specs.Uses.{DoesHave}
-use Rattle.ns_right.specs.Reached.{IsReached}
-
--- What each body uses is there, and its numbers fit; of blocks it says nothing.
-abbrev pub UseWhatIsThere : m.Meant → Type 0
-UseWhatIsThere meant = (number : ℕ) (body : m.Body) → slice_get meant.bodies number ≡ Some body → DoesHave (IsReached meant number body) body.does

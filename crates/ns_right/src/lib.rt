@@ -1,4 +1,0 @@
-//! Laws: which programs mean what is right. There is nothing here to call.
-#![tactic(auto)]
-
-pub mod laws;

@@ -1,5 +1,0 @@
-use Rattle.ns_rules.proofs.Order as law
-use Rattle.ns_rules.proofs.laws.least_is_least.Goals as goal
-
-pub returns : goal.returns
-returns c = law.least_is_least

@@ -1,0 +1,5 @@
+pub mod Resting
+pub mod Begun
+pub mod Ends
+pub mod Meant
+pub mod Stored

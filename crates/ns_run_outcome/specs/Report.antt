@@ -1,0 +1,89 @@
+-- What a command stores and writes, and its status.
+use Rattle.std.specs.Prelude.{ℕ, List, [], ◌∷◌, ◌++◌, Some, None, codes, nat_eq, if◌then◌else◌}
+use Rattle.std.specs.Fmt.{decimal}
+use Rattle.ns_base.specs.declared.place.Place.{Place}
+use Rattle.ns_base.specs.declared.status.Status.TheVariants as status
+use Rattle.ns_gen_code.specs.declared.size.SizeKind.{SizeKind}
+use Rattle.ns_gen_code.specs.declared.size.SizeKind.TheVariants as size
+use Rattle.ns_run_outcome.specs.declared.report.Report.{Report}
+use Rattle.ns_static_rules.specs.declared.fault.Many.{Many}
+use Rattle.ns_static_rules.specs.declared.fault.Many.TheVariants.{Parameters, Locals, Elements, Members, Classes}
+use Rattle.ns_static_rules.specs.declared.fault.StaticCause.{StaticCause}
+use Rattle.ns_static_rules.specs.declared.fault.StaticCause.TheVariants.{DuplicateMember, DuplicateLocal, FixedLocal, BadReturn, BareReceiver}
+use Rattle.ns_static_rules.specs.declared.fault.StaticCause.TheVariants.{NoSuchOuter, BadCascade, PlainTooLarge, TooMany, TopSuper, DuplicateTop}
+use Rattle.ns_verify.specs.declared.fault.VerifyCause.{VerifyCause}
+use Rattle.ns_verify.specs.declared.fault.VerifyCause.TheVariants.{BadJump, BadHeight, BadSlot, BadScope, BadLiteral, NoReturn}
+
+-- what is wrong with a text, by its number from 1 to 6
+abbrev pub spelling_name : ℕ → List ℕ
+spelling_name number =
+    if nat_eq number 1 then codes "BadByte"
+    else (if nat_eq number 2 then codes "UnclosedComment"
+    else (if nat_eq number 3 then codes "UnclosedString"
+    else (if nat_eq number 4 then codes "BigNumber"
+    else (if nat_eq number 5 then codes "TooDeep"
+    else codes "Syntax"))))
+
+abbrev pub many_name : Many → List ℕ
+many_name Parameters = codes "TooMany(Parameters)"
+many_name Locals = codes "TooMany(Locals)"
+many_name Elements = codes "TooMany(Elements)"
+many_name Members = codes "TooMany(Members)"
+many_name Classes = codes "TooMany(Classes)"
+
+abbrev pub static_name : StaticCause → List ℕ
+static_name DuplicateMember = codes "DuplicateMember"
+static_name DuplicateLocal = codes "DuplicateLocal"
+static_name FixedLocal = codes "FixedLocal"
+static_name BadReturn = codes "BadReturn"
+static_name BareReceiver = codes "BareReceiver"
+static_name NoSuchOuter = codes "NoSuchOuter"
+static_name BadCascade = codes "BadCascade"
+static_name PlainTooLarge = codes "PlainTooLarge"
+static_name (TooMany kind) = many_name kind
+static_name TopSuper = codes "TopSuper"
+static_name DuplicateTop = codes "DuplicateTop"
+
+abbrev pub size_name : SizeKind → List ℕ
+size_name size.Names = codes "TooLarge(Names)"
+size_name size.Bodies = codes "TooLarge(Bodies)"
+size_name size.Code = codes "TooLarge(Code)"
+size_name size.Height = codes "TooLarge(Height)"
+
+-- why code isn't admitted
+abbrev pub verify_name : VerifyCause → List ℕ
+verify_name BadJump = codes "BadJump"
+verify_name BadHeight = codes "BadHeight"
+verify_name BadSlot = codes "BadSlot"
+verify_name BadScope = codes "BadScope"
+verify_name BadLiteral = codes "BadLiteral"
+verify_name NoReturn = codes "NoReturn"
+
+-- A refusal writes its line alone.
+abbrev pub refused : List ℕ → Report
+refused line = record { out = []; err = line; status = status.Refused; stored = None }
+
+-- the refusal of a command line: its first bad word
+abbrev pub bad_word : ℕ → Report
+bad_word word = refused (codes "nspk: bad word " ++ decimal word ++ 10 ∷ [])
+
+-- the refusal of a file: its name and the cause
+abbrev pub refused_file : List ℕ → List ℕ → Report
+refused_file file cause = refused (file ++ codes ": " ++ cause ++ 10 ∷ [])
+
+-- the refusal of a program of which a size passes its limit
+abbrev pub too_large : SizeKind → Report
+too_large kind = refused_file (codes "nspk") (size_name kind)
+
+-- the refusal of a text: where it is wrong, and the cause
+abbrev pub refused_text : List ℕ → Place → List ℕ → Report
+refused_text file place cause =
+    refused (file ++ codes ":" ++ decimal place.line ++ codes ":" ++ decimal place.col ++ codes ": " ++ cause ++ 10 ∷ [])
+
+-- A command that only tells a text writes it, and is done.
+abbrev pub told : List ℕ → Report
+told text = record { out = text; err = []; status = status.Done; stored = None }
+
+-- A command that only stores a file writes nothing, and is done.
+abbrev pub stores : List ℕ → List ℕ → Report
+stores name bytes = record { out = []; err = []; status = status.Done; stored = Some (record { name = name; bytes = bytes }) }

@@ -1,5 +1,0 @@
-use Rattle.ns_run_tests.specs.Looking.{IsNext}
-use Rattle.ns_run_tests.proofs.looking.is_cell.Given as goal
-
-abbrev pub invariant-cells : goal.invariant-cells
-invariant-cells l = IsNext l.world.world.cells l.at

@@ -1,5 +1,0 @@
-use Rattle.ns_run_tests.specs.Ready.{IsReady}
-use Rattle.ns_run_tests.proofs.setting.fill.Given as goal
-
-abbrev pub invariant-texts : goal.invariant-texts
-invariant-texts l = IsReady l.world

@@ -1,5 +1,0 @@
-use Rattle.ns_run_tests.specs.Ready.{IsReady}
-use Rattle.ns_run_tests.proofs.setting.make_text.Given as goal
-
-abbrev pub invariant-bytes : goal.invariant-bytes
-invariant-bytes l = IsReady l.world

@@ -1,0 +1,373 @@
+//! Commands over a few files. Expected bytes come from the language's worked examples.
+
+use crate::command::{Setting, Want, leaves};
+use ns_base::no_memory::NoMemory;
+use ns_run_outcome::usage::{HELP, VERSION};
+use std::alloc::Global;
+
+const HELLO: &[u8] = b"class Hello packageUsing: manifest = () (
+public main: platform args: args = (
+platform console printLine: 'Hello'
+)
+)
+";
+
+/// The same with a marker, categories and comments, and nearly without gaps.
+const GAPS: &[u8] = b"Newspeak3 'Greetings'
+(* (* nested *) \" *)class Hello\tpackageUsing: manifest=()(\"first\"'starting'
+public main: platform args: args = (platform \"'\" console printLine:'Hello')'end' 'of it')";
+
+const LINES: &[u8] = b"class Lines packageUsing: m = () (
+public main: p args: a = (p console printLine: 'it''s'.
+\tp console printLine:''. p console printLine: 'c')
+)
+";
+
+const WORDS: &[u8] = b"class Words packageUsing: m = () (
+public main: p args: a = (p console printLine: (a at: 2). ^a size)
+)
+";
+
+const MAIN: &[u8] = b"Newspeak3
+'Bank'
+class App packageUsing: manifest = (
+| Collections = manifest Collections. Bank = manifest Bank. |) (
+'starting'
+public main: platform args: args = (
+| bank ann |
+bank:: Bank list: (Collections usingKernel: platform kernel) List new.
+ann:: bank open: 'Ann'.
+ann deposit: 120; deposit: -20; deposit: 5.
+(bank open: 'Bob') deposit: 7.
+bank report: platform console.
+^ann line)
+)
+";
+
+const BANK: &[u8] = b"class Bank list: aList = (| private accounts = aList. |) (
+public class Account owner: o = (| public owner = o. balance ::= 0. |) (
+public deposit: n = (n < 0 ifTrue: [^false]. addUp: n. ^true)
+protected addUp: n = (balance:: balance + n)
+public line = (^owner , ' ' , balance printString)
+)
+public open: o = (^accounts add: (Account owner: o))
+public report: console = (accounts do: [:each | console printLine: each line])
+)
+";
+
+/// The files that each command finds.
+const FILES: &[(&str, &[u8])] = &[
+    ("H.ns", HELLO),
+    ("Gaps.ns", GAPS),
+    ("Lines.ns", LINES),
+    ("Main.ns", MAIN),
+    ("Bank.ns", BANK),
+    ("Words.ns", WORDS),
+    ("Empty.ns", b""),
+    ("Super.ns", b"class B = () (a = (^super))"),
+    ("Lib.ns", b"class Collections = () ()"),
+];
+
+/// The words of a command, and what it leaves.
+type Row = (&'static [&'static str], Want);
+
+const DONE: &[Row] = &[
+    (&["--help"], (HELP, "", 0)),
+    (&["--version"], (VERSION, "", 0)),
+    (&["check", "H.ns"], ("ok\n", "", 0)),
+    (&["check", "--lib", "Main.ns", "Bank.ns"], ("ok\n", "", 0)),
+    (&["check", "Main.ns", "Bank.ns"], ("ok\n", "", 0)),
+    (&["check", "--lib", "Bank.ns"], ("ok\n", "", 0)),
+    (
+        &["show", "H.ns"],
+        (
+            "class Hello packageUsing: manifest = ( ) ( public main: platform args: args = ( platform console printLine: 'Hello' ) )\n",
+            "",
+            0,
+        ),
+    ),
+    (
+        &["show", "Lines.ns"],
+        (
+            "class Lines packageUsing: m = ( ) ( public main: p args: a = ( p console printLine: 'it''s' .\np console printLine: '' .\np console printLine: 'c' ) )\n",
+            "",
+            0,
+        ),
+    ),
+    (&["run", "H.ns"], ("Hello\n", "=> object Hello\n", 0)),
+    (&["run", "Gaps.ns"], ("Hello\n", "=> object Hello\n", 0)),
+    (
+        &["run", "--lib", "Main.ns", "Bank.ns"],
+        ("Ann 125\nBob 7\n", "=> 'Ann 125'\n", 0),
+    ),
+    (
+        &["run", "--out=6", "--lib", "--depth=9", "H.ns", "--"],
+        ("Hello\n", "=> object Hello\n", 0),
+    ),
+    (
+        &["run", "Words.ns", "--", "", "--steps=1"],
+        ("--steps=1\n", "=> 2\n", 0),
+    ),
+    (&["sample", "1"], ("1\nclasses 1 steps 9\n", "=> 1\n", 0)),
+    (&["sample", "3"], ("9\nclasses 3 steps 27\n", "=> 9\n", 0)),
+    (
+        &["sample", "1000"],
+        ("600000\nclasses 1000 steps 204999\n", "=> 600000\n", 0),
+    ),
+];
+
+/// Each send is a step.
+const STEPS: &[Row] = &[
+    (
+        &["run", "--steps=4", "H.ns"],
+        ("Hello\n", "=> object Hello\n", 0),
+    ),
+    (&["run", "--steps=3", "H.ns"], ("", "limit: steps\n", 3)),
+    (&["run", "--steps=1", "H.ns"], ("", "limit: steps\n", 3)),
+    (
+        &["run", "--steps=1000000000000", "H.ns"],
+        ("Hello\n", "=> object Hello\n", 0),
+    ),
+    (
+        &["run", "--steps=8", "Lines.ns"],
+        ("it's\n\nc\n", "=> object Lines\n", 0),
+    ),
+    (
+        &["run", "--steps=7", "Lines.ns"],
+        ("it's\n\n", "limit: steps\n", 3),
+    ),
+    (
+        &["run", "--steps=5", "Lines.ns"],
+        ("it's\n", "limit: steps\n", 3),
+    ),
+];
+
+const BAD_WORDS: &[Row] = &[
+    (&[], ("", "nspk: bad word 0\n", 2)),
+    (&["run"], ("", "nspk: bad word 1\n", 2)),
+    (&["run", "--steps=0", "H.ns"], ("", "nspk: bad word 1\n", 2)),
+    (
+        &["run", "--steps=07", "H.ns"],
+        ("", "nspk: bad word 1\n", 2),
+    ),
+    (
+        &["run", "--steps=1000000000001", "H.ns"],
+        ("", "nspk: bad word 1\n", 2),
+    ),
+    (&["run", "--steps=", "H.ns"], ("", "nspk: bad word 1\n", 2)),
+    (&["run", "--steps=5"], ("", "nspk: bad word 2\n", 2)),
+    (
+        &["run", "--steps=5", "--steps=5", "H.ns"],
+        ("", "nspk: bad word 2\n", 2),
+    ),
+    (&["run", "H.ns", "--steps=5"], ("", "nspk: bad word 2\n", 2)),
+    (&["run", ""], ("", "nspk: bad word 1\n", 2)),
+    (
+        &["run", "--out=16777217", "H.ns"],
+        ("", "nspk: bad word 1\n", 2),
+    ),
+    (
+        &["run", "--lib", "--cells=64000001", "H.ns"],
+        ("", "nspk: bad word 2\n", 2),
+    ),
+    (
+        &["run", "--depth=1", "--out=1", "--depth=2", "H.ns"],
+        ("", "nspk: bad word 3\n", 2),
+    ),
+    (&["run", "--"], ("", "nspk: bad word 1\n", 2)),
+    (&["run", "-", "H.ns"], ("", "nspk: bad word 1\n", 2)),
+    (
+        &["check", "--steps=5", "H.ns"],
+        ("", "nspk: bad word 1\n", 2),
+    ),
+    (&["check", "H.ns", "--"], ("", "nspk: bad word 2\n", 2)),
+    (&["show", "--lib", "H.ns"], ("", "nspk: bad word 1\n", 2)),
+    (&["show", "H.ns", "H.ns"], ("", "nspk: bad word 2\n", 2)),
+    (&["--help", "run"], ("", "nspk: bad word 1\n", 2)),
+    (&["build"], ("", "nspk: bad word 1\n", 2)),
+    (&["build", "a.img"], ("", "nspk: bad word 2\n", 2)),
+    (
+        &["build", "--steps=5", "a.img", "H.ns"],
+        ("", "nspk: bad word 1\n", 2),
+    ),
+    (&["build", "a.img", "--lib"], ("", "nspk: bad word 2\n", 2)),
+    (&["exec"], ("", "nspk: bad word 1\n", 2)),
+    (&["exec", "--lib", "a.img"], ("", "nspk: bad word 1\n", 2)),
+    (&["exec", "a.img", "b.img"], ("", "nspk: bad word 2\n", 2)),
+    (&["list"], ("", "nspk: bad word 1\n", 2)),
+    (&["list", "a.img", "--"], ("", "nspk: bad word 2\n", 2)),
+    (&["sample"], ("", "nspk: bad word 1\n", 2)),
+    (&["sample", "0"], ("", "nspk: bad word 1\n", 2)),
+    (&["sample", "01"], ("", "nspk: bad word 1\n", 2)),
+    (&["sample", "1001"], ("", "nspk: bad word 1\n", 2)),
+    (&["sample", "1", "2"], ("", "nspk: bad word 2\n", 2)),
+    (&["sample", "--lib", "1"], ("", "nspk: bad word 1\n", 2)),
+    (&["walk", "H.ns"], ("", "nspk: bad word 0\n", 2)),
+    (&["check"], ("", "nspk: bad word 1\n", 2)),
+    (&["check", "-a"], ("", "nspk: bad word 1\n", 2)),
+    (&["check", "H.ns", "-b"], ("", "nspk: bad word 2\n", 2)),
+    (&["check", "H.ns", "--lib"], ("", "nspk: bad word 2\n", 2)),
+    (&["check", "--lib"], ("", "nspk: bad word 2\n", 2)),
+    (
+        &["check", "--lib", "--lib", "H.ns"],
+        ("", "nspk: bad word 2\n", 2),
+    ),
+    (&["check", "", "H.ns"], ("", "nspk: bad word 1\n", 2)),
+    (&["show"], ("", "nspk: bad word 1\n", 2)),
+    (
+        &["show", "H.ns", "--steps=5"],
+        ("", "nspk: bad word 2\n", 2),
+    ),
+    (
+        &[
+            "check", "H.ns", "H.ns", "H.ns", "H.ns", "H.ns", "H.ns", "H.ns", "H.ns", "H.ns",
+            "H.ns", "H.ns", "H.ns", "H.ns", "H.ns", "H.ns", "H.ns", "H.ns",
+        ],
+        ("", "nspk: bad word 17\n", 2),
+    ),
+];
+
+const REFUSED_FILES: &[Row] = &[
+    (
+        &["check", "H.ns", "H.ns"],
+        ("", "H.ns:1:7: DuplicateTop\n", 2),
+    ),
+    (
+        &[
+            "check", "H.ns", "H.ns", "H.ns", "H.ns", "H.ns", "H.ns", "H.ns", "H.ns", "H.ns",
+            "H.ns", "H.ns", "H.ns", "H.ns", "H.ns", "H.ns", "H.ns",
+        ],
+        ("", "H.ns:1:7: DuplicateTop\n", 2),
+    ),
+    (
+        &["check", "H.ns", "Empty.ns"],
+        ("", "Empty.ns:1:1: Syntax\n", 2),
+    ),
+    (
+        &["check", "H.ns", "Z.ns", "Empty.ns"],
+        ("", "Z.ns: Missing\n", 2),
+    ),
+    (
+        &["check", "Empty.ns", "Z.ns"],
+        ("", "Empty.ns:1:1: Syntax\n", 2),
+    ),
+    (
+        &["check", "Super.ns", "Empty.ns"],
+        ("", "Empty.ns:1:1: Syntax\n", 2),
+    ),
+    (
+        &["check", "H.ns", "Super.ns"],
+        ("", "Super.ns:1:21: BareReceiver\n", 2),
+    ),
+    (
+        &["check", "Super.ns", "H.ns", "H.ns"],
+        ("", "Super.ns:1:21: BareReceiver\n", 2),
+    ),
+    (
+        &["check", "--lib", "Lib.ns"],
+        ("", "lib:Collections:1:7: DuplicateTop\n", 2),
+    ),
+    (
+        &["build", "a.img", "H.ns", "Super.ns"],
+        ("", "Super.ns:1:21: BareReceiver\n", 2),
+    ),
+    (&["build", "H.ns", "Z.ns"], ("", "Z.ns: Missing\n", 2)),
+    (&["exec", "a.img"], ("", "a.img: Missing\n", 2)),
+    (&["exec", "H.ns"], ("", "H.ns: NotAnImage\n", 2)),
+    (&["list", "a.img"], ("", "a.img: Missing\n", 2)),
+    (&["list", "Empty.ns"], ("", "Empty.ns: NotAnImage\n", 2)),
+    (&["run", "Z.ns"], ("", "Z.ns: Missing\n", 2)),
+    (
+        &["run", "--lib", "H.ns", "Z.ns"],
+        ("", "Z.ns: Missing\n", 2),
+    ),
+    (
+        &["run", "H.ns", "Super.ns"],
+        ("", "Super.ns:1:21: BareReceiver\n", 2),
+    ),
+    (
+        &["run", "--lib", "Lib.ns"],
+        ("", "lib:Collections:1:7: DuplicateTop\n", 2),
+    ),
+];
+
+#[test]
+fn commands_leave_what_they_mean(rt: HostRuntime) {
+    for rows in [DONE, STEPS, BAD_WORDS, REFUSED_FILES] {
+        assert_eq!(rt; first_other(rt.alloc(), rows), None);
+    }
+}
+
+/// The first command that leaves something else.
+fn first_other(alloc: Global, rows: &[Row]) -> Option<&'static [&'static str]> {
+    for (words, want) in rows {
+        if !leaves(alloc, FILES, words, *want) {
+            return Some(words);
+        }
+    }
+    None
+}
+
+/// The words of a command, the calls that fail, of the shelf and of each stream with how many bytes
+/// they still take, and what it leaves.
+struct Failing {
+    words: &'static [&'static str],
+    loads: &'static [u64],
+    out: &'static [(u64, u64)],
+    err: &'static [(u64, u64)],
+    want: Want,
+}
+
+/// A file that isn't there is no fault.
+const FAILING: &[Failing] = &[
+    Failing {
+        words: &["run", "H.ns"],
+        loads: &[0],
+        out: &[],
+        err: &[],
+        want: ("", "", 4),
+    },
+    Failing {
+        words: &["check", "H.ns", "H.ns"],
+        loads: &[1],
+        out: &[],
+        err: &[],
+        want: ("", "", 4),
+    },
+    Failing {
+        words: &["run", "Z.ns"],
+        loads: &[0],
+        out: &[],
+        err: &[],
+        want: ("", "Z.ns: Missing\n", 2),
+    },
+    Failing {
+        words: &["run", "H.ns"],
+        loads: &[],
+        out: &[],
+        err: &[(0, 3)],
+        want: ("Hello\n", "=> ", 5),
+    },
+    Failing {
+        words: &["run", "H.ns"],
+        loads: &[],
+        out: &[(0, 0)],
+        err: &[],
+        want: ("", "", 5),
+    },
+];
+
+#[test]
+fn a_fault_ends_the_command(rt: HostRuntime) {
+    for row in FAILING {
+        assert!(rt; ends_so(rt.alloc(), row) == Ok(true));
+    }
+}
+
+fn ends_so(alloc: Global, row: &Failing) -> Result<bool, NoMemory> {
+    let mut setting = Setting::of(alloc, FILES)?;
+    setting.shelf.fail_at.extend_from_slice(row.loads)?;
+    setting.out.fail_at.extend_from_slice(row.out)?;
+    setting.err.fail_at.extend_from_slice(row.err)?;
+    Ok(setting.leaves(alloc, row.words, row.want))
+}

@@ -1,0 +1,194 @@
+-- What the parts of a command line are read as.
+use Rattle.std.specs.Prelude.{◌≡◌, ℕ, ◌&&◌, nat_eq, nat_le, nat_lt, not, length, List, [], ◌∷◌, ◌++◌, Bool, true, false, Option, Some, None, codes, take, option_and_then, refl}
+use Rattle.std.proofs.Common.{◌≤◌, ◌<◌, ◌+◌, arith, ap, sym, subst, ◌∙◌, append_assoc}
+use Rattle.std.proofs.lemmas.Bool.Decides.{nat_tests}
+use Rattle.std.proofs.lemmas.List.{append-nil}
+use Rattle.std.specs.Option.{is_some}
+use Rattle.std.specs.Str.{bytes_eq}
+use Rattle.ns_base.specs.declared.limits.Limits.{Limits}
+use Rattle.ns_run_words.specs.Application.{is_application}
+use Rattle.ns_run_words.specs.FileName.{is_file_name}
+use Rattle.ns_run_words.specs.Forms.{AreNames, all_given}
+use Rattle.ns_run_words.specs.Table.{form_of}
+use Rattle.ns_run_words.specs.Words.{Options, Names, Arguments, bad, says, given_or, is_item, limit_where, number_given, number_of, option_or, part_or, quantum_where, read_from, with_cells, with_depth, with_limit, with_name, with_option, with_out, with_quantum, with_steps}
+use Rattle.ns_run_words.specs.declared.form.Form.{Form}
+use Rattle.ns_run_words.specs.declared.form.Item.{Item}
+use Rattle.ns_run_words.specs.declared.form.Item.TheVariants.{File, Number, Application}
+use Rattle.ns_run_words.specs.declared.form.Verb.{Verb}
+use Rattle.ns_run_words.specs.declared.words.Given.{Given}
+
+-- ---- words that are no options
+
+pub no_number : (name : List ℕ) (greatest : ℕ) (before : Option ℕ) (word : List ℕ) → bytes_eq (take (length name) word) name ≡ false → number_given name greatest before word ≡ None
+no_number name greatest (Some n) word e = refl
+no_number name greatest None word e = rw e refl
+
+-- The word begins with the front of no option.
+abbrev pub BeginsOtherwise : List ℕ → Type 0
+BeginsOtherwise word = (c : ℕ) (name : List ℕ) → bytes_eq (take (length (45 ∷ 45 ∷ c ∷ name)) word) (45 ∷ 45 ∷ c ∷ name) ≡ false
+
+pub no_limit : (greatest : Limits) (given : Given) (word : List ℕ) → BeginsOtherwise word → with_limit greatest given word ≡ None
+no_limit greatest given word e =
+    ap (λ n. with_steps given n (with_cells given (number_given (codes "--cells=") greatest.cells given.cells word) (with_depth given (number_given (codes "--depth=") greatest.depth given.depth word) (with_out given (number_given (codes "--out=") greatest.out given.out word)))))
+    (no_number (codes "--steps=") greatest.steps given.steps word (e 115 (codes "teps=")))
+    ∙ ap (λ n. with_cells given n (with_depth given (number_given (codes "--depth=") greatest.depth given.depth word) (with_out given (number_given (codes "--out=") greatest.out given.out word))))
+    (no_number (codes "--cells=") greatest.cells given.cells word (e 99 (codes "ells=")))
+    ∙ ap (λ n. with_depth given n (with_out given (number_given (codes "--out=") greatest.out given.out word))) (no_number (codes "--depth=") greatest.depth given.depth word (e 100 (codes "epth=")))
+    ∙ ap (with_out given) (no_number (codes "--out=") greatest.out given.out word (e 111 (codes "ut=")))
+
+pub no_limit_where : (greatest : Option Limits) (given : Given) (word : List ℕ) → BeginsOtherwise word → limit_where greatest given word ≡ None
+no_limit_where None given word e = refl
+no_limit_where (Some greatest) given word e = no_limit greatest given word e
+
+pub no_quantum : (takes : Bool) (given : Given) (word : List ℕ) → BeginsOtherwise word → quantum_where takes given word ≡ None
+no_quantum true given word e = ap (with_quantum given) (no_number (codes "--quantum=") 1000000 given.quantum word (e 113 (codes "uantum=")))
+no_quantum false given word e = refl
+
+pub no_option : (form : Form) (given : Given) (word : List ℕ) → bytes_eq word (codes "--lib") ≡ false → BeginsOtherwise word → with_option form given word ≡ None
+no_option form given word e n =
+    rw e (ap (λ o. given_or o (limit_where form.greatest given word)) (no_quantum form.quantum given word n) ∙ no_limit_where form.greatest given word n)
+
+-- A name has no dash in front.
+pub no_dash : (b : ℕ) (bs : List ℕ) → is_file_name (b ∷ bs) ≡ true → nat_eq b 45 ≡ false
+no_dash b bs h =
+    elim (nat_eq b 45) as (λ q. (not q && nat_le (length (b ∷ bs)) 4294967295) ≡ true → q ≡ false) [
+      | true ↦ λ k. absurd (cc (k))
+      | false ↦ λ k. refl
+    ] h
+
+-- A number has no dash in front.
+pub no_dash_of_number : (greatest b : ℕ) (bs : List ℕ) → is_some (number_of greatest (b ∷ bs)) ≡ true → nat_eq b 45 ≡ false
+no_dash_of_number greatest b bs h =
+    elim (nat_eq b 45) as (λ q. nat_eq b 45 ≡ q → q ≡ false) [
+      | true ↦ λ e.
+          let is : b ≡ 45 = grind (arith, nat_tests, e) in
+          let none : false ≡ true = subst (λ x. is_some (number_of greatest (x ∷ bs)) ≡ true) is h in
+          absurd (cc (none))
+      | false ↦ λ e. refl
+    ] refl
+
+-- An application has no dash in front.
+pub no_dash_of_application : (b : ℕ) (bs : List ℕ) → is_application (b ∷ bs) ≡ true → nat_eq b 45 ≡ false
+no_dash_of_application b bs h =
+    elim (nat_eq b 45) as (λ q. nat_eq b 45 ≡ q → q ≡ false) [
+      | true ↦ λ e.
+          let is : b ≡ 45 = grind (arith, nat_tests, e) in
+          let none : false ≡ true = subst (λ x. is_application (x ∷ bs) ≡ true) is h in
+          absurd (cc (none))
+      | false ↦ λ e. refl
+    ] refl
+
+pub no_dash_of_item : (item : Item) (b : ℕ) (bs : List ℕ) → is_item item (b ∷ bs) ≡ true → nat_eq b 45 ≡ false
+no_dash_of_item File b bs h = no_dash b bs h
+no_dash_of_item (Number greatest) b bs h = no_dash_of_number greatest b bs h
+no_dash_of_item Application b bs h = no_dash_of_application b bs h
+
+pub some_item : {P : Type 0} (item : Item) → is_item item [] ≡ true → P
+some_item File h = absurd (cc (h))
+some_item (Number greatest) h = absurd (cc (h))
+some_item Application h = absurd (cc (h))
+
+pub name_is_no_option : (form : Form) (given : Given) (word : List ℕ) → is_item form.item word ≡ true → with_option form given word ≡ None
+name_is_no_option form given [] h = some_item form.item h
+name_is_no_option form given (b ∷ bs) h =
+    let e : nat_eq b 45 ≡ false = no_dash_of_item form.item b bs h in
+    no_option form given (b ∷ bs) (rw e refl) (λ c name. rw e refl)
+
+-- `--` is no name.
+pub dashes_are_no_item : (item : Item) → is_item item (codes "--") ≡ false
+dashes_are_no_item File = refl
+dashes_are_no_item (Number greatest) = refl
+dashes_are_no_item Application = refl
+
+pub dashes_are_no_option : (form : Form) (given : Given) → with_option form given (codes "--") ≡ None
+dashes_are_no_option form given = no_option form given (codes "--") refl (λ c name. refl)
+
+-- ---- options
+
+pub all_given_append : (form : Form) (given last : Given) (options more : List (List ℕ)) → all_given form given options ≡ Some last → all_given form given (options ++ more) ≡ all_given form last more
+all_given_append form given last [] more h = let e : given ≡ last = cc (h) in ap (λ g. all_given form g more) e
+all_given_append form given last (w ∷ ws) more h =
+    elim (with_option form given w) as (λ o. option_and_then (λ g. all_given form g ws) o ≡ Some last → option_and_then (λ g. all_given form g (ws ++ more)) o ≡ all_given form last more) [
+      | None ↦ λ k. absurd (cc (k))
+      | Some next ↦ λ k. all_given_append form next last ws more k
+    ] h
+
+pub options_read : (verb : Verb) (given last : Given) (options words : List (List ℕ)) (k : ℕ) → all_given (form_of verb) given options ≡ Some last
+    → read_from verb (Options given) k (options ++ words) ≡ read_from verb (Options last) (k + length options) words
+options_read verb given last [] words k h =
+    let e : given ≡ last = cc (h) in
+    let n : k ≡ k + 0 = omega arith in
+    ap (λ g. read_from verb (Options g) k words) e ∙ ap (λ j. read_from verb (Options last) j words) n
+options_read verb given last (w ∷ ws) words k h =
+    elim (with_option (form_of verb) given w) as (λ o. option_and_then (λ g. all_given (form_of verb) g ws) o ≡ Some last
+    → part_or (bad k) (λ part. read_from verb part (k + 1) (ws ++ words)) (option_or (with_name (form_of verb) given [] w) o) ≡ read_from verb (Options last) (k + length (w ∷ ws)) words) [
+      | None ↦ λ q. absurd (cc (q))
+      | Some next ↦ λ q.
+          let n : k + 1 + length ws ≡ k + length (w ∷ ws) = omega arith in
+          options_read verb next last ws words (k + 1) q ∙ ap (λ j. read_from verb (Options last) j words) n
+    ] h
+
+-- ---- names
+
+pub length_one : (xs : List (List ℕ)) (x : List ℕ) → length (xs ++ x ∷ []) ≡ length xs + 1
+length_one [] x = omega arith
+length_one (y ∷ ys) x = omega (arith, length_one ys x)
+
+pub names_append : (item : Item) (names : List (List ℕ)) (w : List ℕ) → AreNames item names → is_item item w ≡ true → AreNames item (names ++ w ∷ [])
+names_append item [] w a e = (e, tt)
+names_append item (n ∷ ns) w a e = (a.0, names_append item ns w a.1 e)
+
+pub names_read : (verb : Verb) (given : Given) (before names words : List (List ℕ)) (k : ℕ) → AreNames (form_of verb).item names → length before + length names ≤ (form_of verb).most
+    → read_from verb (Names given before) k (names ++ words) ≡ read_from verb (Names given (before ++ names)) (k + length names) words
+names_read verb given before [] words k a l =
+    let n : k ≡ k + 0 = omega arith in
+    ap (λ b. read_from verb (Names given b) k words) (sym (append-nil before)) ∙ ap (λ j. read_from verb (Names given (before ++ [])) j words) n
+names_read verb given before (w ∷ ws) words k a l =
+    let room : nat_lt (length before) (form_of verb).most ≡ true = grind (arith, nat_tests) in
+    let n : k + 1 + length ws ≡ k + length (w ∷ ws) = omega arith in
+    let size : length (before ++ w ∷ []) + length ws ≤ (form_of verb).most = omega (arith, length_one before w) in
+    first room
+    ∙ names_read verb given (before ++ w ∷ []) ws words (k + 1) a.1 size
+    ∙ ap (λ b. read_from verb (Names given b) (k + 1 + length ws) words) (append_assoc before (w ∷ []) ws)
+    ∙ ap (λ j. read_from verb (Names given (before ++ w ∷ ws)) j words) n
+  where
+    first : nat_lt (length before) (form_of verb).most ≡ true → read_from verb (Names given before) k (w ∷ ws ++ words) ≡ read_from verb (Names given (before ++ w ∷ [])) (k + 1) (ws ++ words)
+    first r = rw (a.0, r) refl
+
+-- ---- arguments
+
+pub arguments_read : (verb : Verb) (given : Given) (names before words : List (List ℕ)) (k m : ℕ) → (form_of verb).arguments ≡ Some m → (form_of verb).least ≤ length names → length before + length words ≤ m
+    → read_from verb (Arguments given names before) k words ≡ says (record { verb = verb; given = given; names = names; arguments = before ++ words })
+arguments_read verb given names before [] k m a e l =
+    let enough : nat_le (form_of verb).least (length names) ≡ true = grind (arith, nat_tests) in
+    rw enough (ap (λ b. says (record { verb = verb; given = given; names = names; arguments = b })) (sym (append-nil before)))
+arguments_read verb given names before (w ∷ ws) k m a e l =
+    let room : nat_lt (length before) m ≡ true = grind (arith, nat_tests) in
+    let size : length (before ++ w ∷ []) + length ws ≤ m = omega (arith, length_one before w) in
+    first room
+    ∙ arguments_read verb given names (before ++ w ∷ []) ws (k + 1) m a e size
+    ∙ ap (λ b. says (record { verb = verb; given = given; names = names; arguments = b })) (append_assoc before (w ∷ []) ws)
+  where
+    first : nat_lt (length before) m ≡ true → read_from verb (Arguments given names before) k (w ∷ ws) ≡ read_from verb (Arguments given names (before ++ w ∷ [])) (k + 1) ws
+    first r = rw (a, r) refl
+
+-- The first argument that is too many is a bad word.
+pub arguments_past : (verb : Verb) (given : Given) (names before words : List (List ℕ)) (k m : ℕ) → (form_of verb).arguments ≡ Some m → length before ≤ m → m < length before + length words
+    → (j : ℕ) → j + length before ≡ k + m → read_from verb (Arguments given names before) k words ≡ bad j
+arguments_past verb given names before [] k m a b l j e = absurd (omega (arith, b, l))
+arguments_past verb given names before (w ∷ ws) k m a b l j e =
+    by (λ lt. arguments_past verb given names (before ++ w ∷ []) ws (k + 1) m a (omega (arith, lt, length_one before w)) (omega (arith, l, length_one before w)) j (omega (arith, e, length_one before w)))
+    (nat_lt (length before) m) refl
+  where
+    first : nat_lt (length before) m ≡ true → read_from verb (Arguments given names before) k (w ∷ ws) ≡ read_from verb (Arguments given names (before ++ w ∷ [])) (k + 1) ws
+    first r = rw (a, r) refl
+
+    none : nat_lt (length before) m ≡ false → read_from verb (Arguments given names before) k (w ∷ ws) ≡ bad k
+    none r = rw (a, r) refl
+
+    by : (length before < m → read_from verb (Arguments given names (before ++ w ∷ [])) (k + 1) ws ≡ bad j) → (q : Bool) → nat_lt (length before) m ≡ q → read_from verb (Arguments given names before) k (w ∷ ws) ≡ bad j
+    by more true r =
+        let lt : length before < m = grind (arith, nat_tests, r) in first r ∙ more lt
+    by more false r =
+        let full : m ≤ length before = grind (arith, nat_tests, r) in
+        let n : k ≡ j = omega (arith, e, b, full) in none r ∙ ap bad n

@@ -1,0 +1,360 @@
+-- What is read of words is what they spell, or tells the first bad word.
+use Rattle.std.specs.Prelude.{◌≡◌, ℕ, ◌&&◌, nat_le, nat_lt, length, List, [], ◌∷◌, ◌++◌, true, false, Option, Some, None, cond, codes, take, refl}
+use Rattle.std.proofs.Common.{◌≤◌, ◌+◌, ◌-◌, zero, suc, arith, ap, sym, ◌∙◌, subst, inl, inr, append_assoc}
+use Rattle.std.proofs.Math.Seq.{take-append-add}
+use Rattle.std.proofs.lemmas.Bool.Decides.{nat_tests}
+use Rattle.std.proofs.lemmas.List.{append-nil, length-append}
+use Rattle.std.proofs.lemmas.Slice.Eq.{bytes_eq-Decides}
+use Rattle.std.specs.Str.{bytes_eq}
+use Rattle.ns_run_words.proofs.FormLaws.{form_is_read, word_is_read}
+use Rattle.ns_run_words.proofs.PartLaws.{all_given_append, length_one, names_append}
+use Rattle.ns_run_words.specs.Forms.{AreArguments, AreNames, Begins, IsForm, IsReadingOf, all_given}
+use Rattle.ns_run_words.specs.Table.{form_of, verb_of, word_of}
+use Rattle.ns_run_words.specs.Words.{Line, Part, Options, Names, Arguments, Reading, bad, bad_of, says, arguments_behind, first_bad, has_room, is_item, line_of, names_read, nothing_given, option_or, part_or, read_from, reading_of, with_argument, with_dashes, with_name, with_option, with_word}
+use Rattle.ns_run_words.specs.declared.form.Form.{Form}
+use Rattle.ns_run_words.specs.declared.form.Item.{Item}
+use Rattle.ns_run_words.specs.declared.form.Item.TheVariants.{File, Number, Application}
+use Rattle.ns_run_words.specs.declared.form.Verb.{Verb}
+use Rattle.ns_run_words.specs.declared.form.Verb.TheVariants.{Check, Show, Run, Build, Exec, Listing, Session, Sample, Help, Version}
+use Rattle.ns_run_words.specs.declared.words.Given.{Given}
+
+-- ---- what was read so far
+
+-- Options that give this, and names of which the form takes so many.
+pub record AreNamed (form : Form) (words : List (List ℕ)) (given : Given) (names : List (List ℕ)) : Type 0 where
+  pub options : List (List ℕ)
+  pub spelled : words ≡ options ++ names
+  pub gives : all_given form nothing_given options ≡ Some given
+  pub named : AreNames form.item names
+  pub few : length names ≤ form.most
+
+-- The form takes `--` behind so many names, and so many arguments behind it.
+abbrev pub TakesArguments : Form → List (List ℕ) → List (List ℕ) → Type 0
+TakesArguments form names arguments = (m : ℕ) × (form.arguments ≡ Some m) × (form.least ≤ length names) × (length arguments ≤ m)
+
+-- The words spell what was read, and the form can go on behind them.
+abbrev pub IsPart : Form → List (List ℕ) → Part → Type 0
+IsPart form words (Options given) = all_given form nothing_given words ≡ Some given
+IsPart form words (Names given names) = AreNamed form words given names
+IsPart form words (Arguments given names arguments) =
+    (front : List (List ℕ)) × (words ≡ front ++ codes "--" ∷ arguments) × AreNamed form front given names × TakesArguments form names arguments
+
+-- ---- one word more
+
+pub argument_more : (form : Form) (words : List (List ℕ)) (given : Given) (names arguments : List (List ℕ)) (w : List ℕ) (next : Part) → IsPart form words (Arguments given names arguments)
+    → with_argument form given names arguments w ≡ Some next → IsPart form (words ++ w ∷ []) next
+argument_more form words given names arguments w next (front, s, n, (m, a, e, l)) h =
+    elim (has_room form.arguments (length arguments)) as (λ q. has_room form.arguments (length arguments) ≡ q → cond q (Some (Arguments given names (arguments ++ w ∷ []))) None ≡ Some next → IsPart form (words ++ w ∷ []) next) [
+      | false ↦ λ r k. absurd (cc (k))
+      | true ↦ λ r k.
+          let room : nat_lt (length arguments) m ≡ true = sym (ap (λ o. has_room o (length arguments)) a) ∙ r in
+          let few : length (arguments ++ w ∷ []) ≤ m = grind (arith, nat_tests, room, length_one arguments w) in
+          let is : Arguments given names (arguments ++ w ∷ []) ≡ next = cc (k) in
+          subst (IsPart form (words ++ w ∷ [])) is (front, ap (λ x. x ++ w ∷ []) s ∙ append_assoc front (codes "--" ∷ arguments) (w ∷ []), n, (m, a, e, few))
+    ] refl h
+
+pub dashes_more : (form : Form) (words : List (List ℕ)) (given : Given) (names : List (List ℕ)) (w : List ℕ) (next : Part) → AreNamed form words given names
+    → with_dashes given names (arguments_behind form (length names) w) ≡ Some next → IsPart form (words ++ w ∷ []) next
+dashes_more form words given names w next n h =
+    elim (bytes_eq w (codes "--")) as (λ q. bytes_eq w (codes "--") ≡ q → with_dashes given names (cond (q && nat_le form.least (length names)) form.arguments None) ≡ Some next → IsPart form (words ++ w ∷ []) next) [
+      | false ↦ λ e k. absurd (cc (k))
+      | true ↦ λ e k.
+          let dashes : w ≡ codes "--" = (bytes_eq-Decides w (codes "--")).0 e in
+          enough dashes k
+    ] refl h
+  where
+    taken : (o : Option ℕ) → w ≡ codes "--" → form.least ≤ length names → form.arguments ≡ o → with_dashes given names o ≡ Some next → IsPart form (words ++ w ∷ []) next
+    taken None e l a k = absurd (cc (k))
+    taken (Some m) e l a k =
+        let is : Arguments given names [] ≡ next = cc (k) in
+        subst (IsPart form (words ++ w ∷ [])) is (words, ap (λ v. words ++ v ∷ []) e, n, (m, a, l, omega arith))
+
+    enough : w ≡ codes "--" → with_dashes given names (cond (nat_le form.least (length names)) form.arguments None) ≡ Some next → IsPart form (words ++ w ∷ []) next
+    enough e k =
+        elim (nat_le form.least (length names)) as (λ q. nat_le form.least (length names) ≡ q → with_dashes given names (cond q form.arguments None) ≡ Some next → IsPart form (words ++ w ∷ []) next) [
+          | false ↦ λ r j. absurd (cc (j))
+          | true ↦ λ r j.
+              let l : form.least ≤ length names = grind (arith, nat_tests, r) in taken form.arguments e l refl j
+        ] refl k
+
+pub name_more : (form : Form) (words : List (List ℕ)) (given : Given) (names : List (List ℕ)) (w : List ℕ) (next : Part) → AreNamed form words given names
+    → with_name form given names w ≡ Some next → IsPart form (words ++ w ∷ []) next
+name_more form words given names w next n h =
+    elim (is_item form.item w) as (λ q. is_item form.item w ≡ q
+    → cond (q && nat_lt (length names) form.most) (Some (Names given (names ++ w ∷ []))) (with_dashes given names (arguments_behind form (length names) w)) ≡ Some next → IsPart form (words ++ w ∷ []) next) [
+      | false ↦ λ e k. dashes_more form words given names w next n k
+      | true ↦ λ e k. room e k
+    ] refl h
+  where
+    room : is_item form.item w ≡ true → cond (nat_lt (length names) form.most) (Some (Names given (names ++ w ∷ []))) (with_dashes given names (arguments_behind form (length names) w)) ≡ Some next → IsPart form (words ++ w ∷ []) next
+    room e k =
+        elim (nat_lt (length names) form.most) as (λ q. nat_lt (length names) form.most ≡ q
+        → cond q (Some (Names given (names ++ w ∷ []))) (with_dashes given names (arguments_behind form (length names) w)) ≡ Some next → IsPart form (words ++ w ∷ []) next) [
+          | false ↦ λ r j. dashes_more form words given names w next n j
+          | true ↦ λ r j.
+              let few : length (names ++ w ∷ []) ≤ form.most = grind (arith, nat_tests, r, length_one names w) in
+              let is : Names given (names ++ w ∷ []) ≡ next = cc (j) in
+              let all : AreNamed form (words ++ w ∷ []) given (names ++ w ∷ []) =
+              record { options = n.options; spelled = ap (λ x. x ++ w ∷ []) n.spelled ∙ append_assoc n.options names (w ∷ []); gives = n.gives; named = names_append form.item names w n.named e; few = few }
+              in
+              subst (IsPart form (words ++ w ∷ [])) is all
+        ] refl k
+
+-- Options alone are options and no names.
+pub no_names : (form : Form) (words : List (List ℕ)) (given : Given) → IsPart form words (Options given) → AreNamed form words given []
+no_names form words given o = record { options = words; spelled = sym (append-nil words); gives = o; named = tt; few = omega arith }
+
+pub option_more : (form : Form) (words : List (List ℕ)) (given : Given) (w : List ℕ) (next : Part) → IsPart form words (Options given) → with_word form (Options given) w ≡ Some next → IsPart form (words ++ w ∷ []) next
+option_more form words given w next o h =
+    elim (with_option form given w) as (λ g. with_option form given w ≡ g → option_or (with_name form given [] w) g ≡ Some next → IsPart form (words ++ w ∷ []) next) [
+      | None ↦ λ e k. name_more form words given [] w next (no_names form words given o) k
+      | Some more ↦ λ e k.
+          let is : Options more ≡ next = cc (k) in
+          let one : all_given form given (w ∷ []) ≡ Some more = rw e refl in
+          subst (IsPart form (words ++ w ∷ [])) is (all_given_append form nothing_given given words (w ∷ []) o ∙ one)
+    ] refl h
+
+-- The words of a part, with a word more with which the form can go on.
+pub part_more : (form : Form) (words : List (List ℕ)) (part : Part) (w : List ℕ) (next : Part) → IsPart form words part → with_word form part w ≡ Some next → IsPart form (words ++ w ∷ []) next
+part_more form words (Options given) w next p h = option_more form words given w next p h
+part_more form words (Names given names) w next p h = name_more form words given names w next p h
+part_more form words (Arguments given names arguments) w next p h = argument_more form words given names arguments w next p h
+
+-- ---- what a part begins
+
+-- a name of each kind: `1` can be the name of a file, and is a number
+abbrev pub filler : Item → List ℕ
+filler File = codes "1"
+filler (Number greatest) = codes "1"
+filler Application = codes "=1"
+
+-- so many names
+abbrev pub fill : Item → ℕ → List (List ℕ)
+fill item zero = []
+fill item (suc n) = filler item ∷ fill item n
+
+pub fill_length : (item : Item) (n : ℕ) → length (fill item n) ≡ n
+fill_length item zero = refl
+fill_length item (suc n) = omega (arith, fill_length item n)
+
+pub fill_item : (verb : Verb) → is_item (form_of verb).item (filler (form_of verb).item) ≡ true
+fill_item Check = refl
+fill_item Show = refl
+fill_item Run = refl
+fill_item Build = refl
+fill_item Exec = refl
+fill_item Listing = refl
+fill_item Session = refl
+fill_item Sample = refl
+fill_item Help = refl
+fill_item Version = refl
+
+pub fill_named : (item : Item) (n : ℕ) → is_item item (filler item) ≡ true → AreNames item (fill item n)
+fill_named item zero e = tt
+fill_named item (suc n) e = (e, fill_named item n e)
+
+pub both_named : (item : Item) (names more : List (List ℕ)) → AreNames item names → AreNames item more → AreNames item (names ++ more)
+both_named item [] more a b = b
+both_named item (n ∷ ns) more a b = (a.0, both_named item ns more a.1 b)
+
+pub least_is_less : (verb : Verb) → (form_of verb).least ≤ (form_of verb).most
+least_is_less Check = omega arith
+least_is_less Show = omega arith
+least_is_less Run = omega arith
+least_is_less Build = omega arith
+least_is_less Exec = omega arith
+least_is_less Listing = omega arith
+least_is_less Session = omega arith
+least_is_less Sample = omega arith
+least_is_less Help = omega arith
+least_is_less Version = omega arith
+
+pub no_arguments : (most : Option ℕ) → AreArguments most [] []
+no_arguments None = (refl, refl)
+no_arguments (Some m) = inl (refl, refl)
+
+pub some_arguments : (most : Option ℕ) (m : ℕ) (arguments : List (List ℕ)) → most ≡ Some m → length arguments ≤ m → AreArguments most (codes "--" ∷ arguments) arguments
+some_arguments most m arguments e l = subst (λ o. AreArguments o (codes "--" ∷ arguments) arguments) (sym e) (inr (refl, l))
+
+-- Names, and as many more as the form needs.
+pub named_begin : (verb : Verb) (words : List (List ℕ)) (given : Given) (names : List (List ℕ)) → AreNamed (form_of verb) words given names → Begins (word_of verb ∷ words)
+named_begin verb words given names n =
+    let more : List (List ℕ) = fill (form_of verb).item ((form_of verb).least - length names) in
+    let size : length (names ++ more) ≡ length names + ((form_of verb).least - length names) = length-append names more ∙ ap (λ j. length names + j) (fill_length (form_of verb).item ((form_of verb).least - length names)) in
+    let spelled : words ++ more ≡ n.options ++ (names ++ more) ++ [] =
+    ap (λ x. x ++ more) n.spelled ∙ append_assoc n.options names more ∙ sym (append-nil (n.options ++ (names ++ more)))
+    in (
+      more,
+      record { verb = verb; given = given; names = names ++ more; arguments = [] },
+      record {
+        options = n.options;
+        last = [];
+        spelled = ap (λ x. word_of verb ∷ x) spelled;
+        given = n.gives;
+        enough = omega (arith, size);
+        few = omega (arith, size, n.few, least_is_less verb);
+        named = both_named (form_of verb).item names more n.named (fill_named (form_of verb).item ((form_of verb).least - length names) (fill_item verb));
+        ends = no_arguments (form_of verb).arguments;
+      },
+    )
+
+pub part_begins : (verb : Verb) (words : List (List ℕ)) (part : Part) → IsPart (form_of verb) words part → Begins (word_of verb ∷ words)
+part_begins verb words (Options given) p = named_begin verb words given [] (no_names (form_of verb) words given p)
+part_begins verb words (Names given names) p = named_begin verb words given names p
+part_begins verb words (Arguments given names arguments) (front, s, n, (m, a, e, l)) =
+    let spelled : words ++ [] ≡ n.options ++ names ++ codes "--" ∷ arguments =
+    append-nil words ∙ s ∙ ap (λ x. x ++ codes "--" ∷ arguments) n.spelled
+    in (
+      [],
+      record { verb = verb; given = given; names = names; arguments = arguments },
+      record { options = n.options; last = codes "--" ∷ arguments; spelled = ap (λ x. word_of verb ∷ x) spelled; given = n.gives; enough = e; few = n.few; named = n.named; ends = some_arguments (form_of verb).arguments m arguments a l },
+    )
+
+-- Where there are names enough, the words are a form.
+pub named_form : (verb : Verb) (words : List (List ℕ)) (given : Given) (names : List (List ℕ)) → AreNamed (form_of verb) words given names → (form_of verb).least ≤ length names
+    → IsForm (word_of verb ∷ words) (record { verb = verb; given = given; names = names; arguments = [] })
+named_form verb words given names n l =
+    let spelled : words ≡ n.options ++ names ++ [] = n.spelled ∙ sym (append-nil (n.options ++ names)) in
+    record { options = n.options; last = []; spelled = ap (λ x. word_of verb ∷ x) spelled; given = n.gives; enough = l; few = n.few; named = n.named; ends = no_arguments (form_of verb).arguments }
+
+pub part_form : (verb : Verb) (words : List (List ℕ)) (part : Part) → IsPart (form_of verb) words part → (form_of verb).least ≤ length (names_read part) → IsForm (word_of verb ∷ words) (line_of verb part)
+part_form verb words (Options given) p l = named_form verb words given [] (no_names (form_of verb) words given p) l
+part_form verb words (Names given names) p l = named_form verb words given names p l
+part_form verb words (Arguments given names arguments) (front, s, n, (m, a, e, few)) l =
+    let spelled : words ≡ n.options ++ names ++ codes "--" ∷ arguments = s ∙ ap (λ x. x ++ codes "--" ∷ arguments) n.spelled in
+    record { options = n.options; last = codes "--" ∷ arguments; spelled = ap (λ x. word_of verb ∷ x) spelled; given = n.gives; enough = e; few = n.few; named = n.named; ends = some_arguments (form_of verb).arguments m arguments a few }
+
+-- ---- the first bad word
+
+-- The word behind those that begin a form, where no form goes on with it.
+pub bad_behind : (words next : List (List ℕ)) (k : ℕ) → k ≡ length words → Begins words
+    → ((w : List ℕ) (rest : List (List ℕ)) → next ≡ w ∷ rest → (more : List (List ℕ)) (line : Line) → IsForm (words ++ w ∷ more) line → ⊥) → IsReadingOf (words ++ next) (bad k)
+bad_behind words [] k at b n =
+    let all : words ++ [] ≡ words = append-nil words in
+    let cut : take k (words ++ []) ≡ words = ap (λ j. take j (words ++ [])) (omega (arith, at)) ∙ take-append-add words [] 0 ∙ append-nil words in
+    (omega (arith, at, ap length all), subst Begins (sym cut) b, λ l. absurd (omega (arith, at, ap length all, l)))
+bad_behind words (w ∷ rest) k at b n =
+    let size : length (words ++ w ∷ rest) ≡ length words + length (w ∷ rest) = length-append words (w ∷ rest) in
+    let cut : take k (words ++ w ∷ rest) ≡ words = ap (λ j. take j (words ++ w ∷ rest)) (omega (arith, at)) ∙ take-append-add words (w ∷ rest) 0 ∙ append-nil words in
+    let next : take (k + 1) (words ++ w ∷ rest) ≡ words ++ w ∷ [] = ap (λ j. take j (words ++ w ∷ rest)) (omega (arith, at)) ∙ take-append-add words (w ∷ rest) 1 in
+    (omega (arith, at, size), subst Begins (sym cut) b, λ l c. further (subst Begins next c))
+  where
+    further : Begins (words ++ w ∷ []) → ⊥
+    further (more, line, f) = n w rest refl more line (subst (λ x. IsForm x line) (append_assoc words (w ∷ []) more) f)
+
+-- ---- all words
+
+-- Behind these words is read on from the part.
+abbrev pub ReadsOn : Verb → List (List ℕ) → Part → Type 0
+ReadsOn verb words part = (rest : List (List ℕ)) → reading_of (word_of verb ∷ words ++ rest) ≡ read_from verb part (1 + length words) rest
+
+pub reading_from : (verb : Verb) (words rest : List (List ℕ)) (part : Part) → IsPart (form_of verb) words part → ReadsOn verb words part → IsReadingOf (word_of verb ∷ words ++ rest) (read_from verb part (1 + length words) rest)
+reading_from verb words [] part p r =
+    elim (nat_le (form_of verb).least (length (names_read part))) as (λ q. nat_le (form_of verb).least (length (names_read part)) ≡ q → IsReadingOf (word_of verb ∷ words ++ []) (cond q (says (line_of verb part)) (bad (1 + length words)))) [
+      | true ↦ λ e.
+          let l : (form_of verb).least ≤ length (names_read part) = grind (arith, nat_tests, e) in
+          subst (λ x. IsForm (word_of verb ∷ x) (line_of verb part)) (sym (append-nil words)) (part_form verb words part p l)
+      | false ↦ λ e. bad_behind (word_of verb ∷ words) [] (1 + length words) (omega arith) (part_begins verb words part p) (λ w rest h. absurd (cc (h)))
+    ] refl
+reading_from verb words (w ∷ rest) part p r =
+    elim (with_word (form_of verb) part w) as (λ o. with_word (form_of verb) part w ≡ o → IsReadingOf (word_of verb ∷ words ++ w ∷ rest) (part_or (bad (1 + length words)) (λ more. read_from verb more (1 + length words + 1) rest) o)) [
+      | None ↦ λ e. bad_behind (word_of verb ∷ words) (w ∷ rest) (1 + length words) (omega arith) (part_begins verb words part p) (λ v others same more line f.
+          let v_is : w ≡ v = cc (same) in
+          let stops : read_from verb part (1 + length words) (v ∷ more) ≡ bad (1 + length words) =
+          ap (part_or (bad (1 + length words)) (λ part. read_from verb part (1 + length words + 1) more)) (ap (with_word (form_of verb) part) (sym v_is) ∙ e)
+          in
+          let both : says line ≡ bad (1 + length words) = sym (form_is_read (word_of verb ∷ words ++ v ∷ more) line f) ∙ r (v ∷ more) ∙ stops in
+          cc)
+      | Some next ↦ λ e.
+          let more : List (List ℕ) = words ++ w ∷ [] in
+          let size : 1 + length words + 1 ≡ 1 + length more = omega (arith, length_one words w) in
+          let on : ReadsOn verb more next = λ others.
+          ap (λ x. reading_of (word_of verb ∷ x)) (append_assoc words (w ∷ []) others)
+          ∙ r (w ∷ others)
+          ∙ ap (part_or (bad (1 + length words)) (λ part. read_from verb part (1 + length words + 1) others)) e
+          ∙ ap (λ k. read_from verb next k others) size
+          in
+          let is : IsReadingOf (word_of verb ∷ more ++ rest) (read_from verb next (1 + length more) rest) = reading_from verb more rest next (part_more (form_of verb) words part w next p e) on in
+          subst (λ k. IsReadingOf (word_of verb ∷ words ++ w ∷ rest) (read_from verb next k rest)) (sym size)
+          (subst (λ x. IsReadingOf (word_of verb ∷ x) (read_from verb next (1 + length more) rest)) (append_assoc words (w ∷ []) rest) is)
+    ] refl
+
+-- ---- the first word
+
+pub apart : (a b : List ℕ) → bytes_eq a b ≡ false → a ≡ b → ⊥
+apart a b e f = let t : true ≡ false = sym ((bytes_eq-Decides a b).1 f) ∙ e in cc
+
+-- what follows of the command that the first word names
+pub by_verb : (w : List ℕ) (P : Option Verb → Type 0) → ((verb : Verb) → w ≡ word_of verb → P (Some verb)) → (((verb : Verb) → w ≡ word_of verb → ⊥) → P None) → P (verb_of w)
+by_verb w P some none =
+    test (codes "check") _ _ (some Check) λ a.
+    test (codes "show") _ _ (some Show) λ b.
+    test (codes "run") _ _ (some Run) λ c.
+    test (codes "build") _ _ (some Build) λ d.
+    test (codes "exec") _ _ (some Exec) λ e.
+    test (codes "list") _ _ (some Listing) λ f.
+    test (codes "session") _ _ (some Session) λ j.
+    test (codes "sample") _ _ (some Sample) λ g.
+    test (codes "--help") _ _ (some Help) λ h.
+    test (codes "--version") _ _ (some Version) λ i.
+    none (all a b c d e f j g h i)
+  where
+    test : (text : List ℕ) (x y : Option Verb) → (w ≡ text → P x) → (bytes_eq w text ≡ false → P y) → P (cond (bytes_eq w text) x y)
+    test text x y f g =
+        elim (bytes_eq w text) as (λ q. bytes_eq w text ≡ q → P (cond q x y)) [
+          | true ↦ λ e. f ((bytes_eq-Decides w text).0 e)
+          | false ↦ g
+        ] refl
+
+    all : bytes_eq w (codes "check") ≡ false → bytes_eq w (codes "show") ≡ false → bytes_eq w (codes "run") ≡ false → bytes_eq w (codes "build") ≡ false → bytes_eq w (codes "exec") ≡ false → bytes_eq w (codes "list") ≡ false → bytes_eq w (codes "session") ≡ false → bytes_eq w (codes "sample") ≡ false → bytes_eq w (codes "--help") ≡ false → bytes_eq w (codes "--version") ≡ false → (verb : Verb) → w ≡ word_of verb → ⊥
+    all a b c d e f j g h i Check is = apart w (codes "check") a is
+    all a b c d e f j g h i Show is = apart w (codes "show") b is
+    all a b c d e f j g h i Run is = apart w (codes "run") c is
+    all a b c d e f j g h i Build is = apart w (codes "build") d is
+    all a b c d e f j g h i Exec is = apart w (codes "exec") e is
+    all a b c d e f j g h i Listing is = apart w (codes "list") f is
+    all a b c d e f j g h i Session is = apart w (codes "session") j is
+    all a b c d e f j g h i Sample is = apart w (codes "sample") g is
+    all a b c d e f j g h i Help is = apart w (codes "--help") h is
+    all a b c d e f j g h i Version is = apart w (codes "--version") i is
+
+pub begins_nothing : Begins []
+begins_nothing = let b : Begins (word_of Help ∷ []) = part_begins Help [] (Options nothing_given) refl in (word_of Help ∷ b.0, b.1, b.2)
+
+pub after_first : (w : List ℕ) (words : List (List ℕ)) → IsReadingOf (w ∷ words) (reading_of (w ∷ words))
+after_first w words = by_verb w (λ o. IsReadingOf (w ∷ words) (after words o)) known unknown
+  where
+    after : List (List ℕ) → Option Verb → Reading
+    after rest None = bad 0
+    after rest (Some verb) = read_from verb (Options nothing_given) 1 rest
+
+    known : (verb : Verb) → w ≡ word_of verb → IsReadingOf (w ∷ words) (read_from verb (Options nothing_given) 1 words)
+    known verb e =
+        let at : 1 ≡ 1 + length {A = List ℕ} [] = omega arith in
+        let on : ReadsOn verb [] (Options nothing_given) = λ rest. word_is_read verb rest ∙ ap (λ k. read_from verb (Options nothing_given) k rest) at in
+        subst (λ v. IsReadingOf (v ∷ words) (read_from verb (Options nothing_given) 1 words)) (sym e)
+        (subst (λ k. IsReadingOf (word_of verb ∷ words) (read_from verb (Options nothing_given) k words)) (sym at) (reading_from verb [] words (Options nothing_given) refl on))
+
+    first : (more : List (List ℕ)) (line : Line) → IsForm (w ∷ more) line → w ≡ word_of line.verb
+    first more line f = cc (f.spelled)
+
+    unknown : ((verb : Verb) → w ≡ word_of verb → ⊥) → IsReadingOf (w ∷ words) (bad 0)
+    unknown n = (omega arith, begins_nothing, λ l b. n b.1.verb (first b.0 b.1 b.2))
+
+-- What is read of words is what they spell, or tells the first bad word.
+pub reading_is : (words : List (List ℕ)) → IsReadingOf words (reading_of words)
+reading_is [] = (omega arith, begins_nothing, λ l. absurd (omega arith))
+reading_is (w ∷ ws) = after_first w ws
+
+-- ---- a word that is no text
+
+-- Where a word that is no text stands behind them, the first bad word of a line is told.
+pub cut_is : (words : List (List ℕ)) → IsReadingOf words (bad (first_bad words))
+cut_is words = by (reading_of words) (reading_is words)
+  where
+    by : (reading : Reading) → IsReadingOf words reading → IsReadingOf words (bad (bad_of (length words) reading))
+    by (bad word) r = r
+    by (says line) r =
+        let all : words ++ [] ≡ words = append-nil words in
+        let b : Begins words = ([], line, subst (λ x. IsForm x line) (sym all) r) in
+        subst (λ x. IsReadingOf x (bad (length words))) all (bad_behind words [] (length words) refl b (λ w rest h. absurd (cc (h))))

@@ -1,0 +1,54 @@
+-- The forms of a command line as relations, apart from how words are read.
+use Rattle.std.specs.Prelude.{◌≡◌, ◌⊎◌, ℕ, ◌+◌, ◌<◌, ◌≤◌, List, [], ◌∷◌, ◌++◌, Option, Some, None, true, option_and_then, codes, take, length}
+use Rattle.ns_run_words.specs.Table.{form_of, word_of}
+use Rattle.ns_run_words.specs.Words.{Line, Reading, says, bad, is_item, nothing_given, with_option}
+use Rattle.ns_run_words.specs.declared.form.Form.{Form}
+use Rattle.ns_run_words.specs.declared.form.Item.{Item}
+use Rattle.ns_run_words.specs.declared.form.Item.TheVariants.{File}
+use Rattle.ns_run_words.specs.declared.words.Given.{Given}
+
+-- Each of these words can be a name of that kind.
+abbrev pub AreNames : Item → List (List ℕ) → Type 0
+AreNames item [] = Unit {0}
+AreNames item (word ∷ words) = (is_item item word ≡ true) × AreNames item words
+
+-- 1 to 16 names of files
+abbrev pub AreFiles : List (List ℕ) → Type 0
+AreFiles words = (1 ≤ length words) × (length words ≤ 16) × AreNames File words
+
+-- what these words give beside what was given, each of them an option that the form takes and that wasn't given before
+abbrev pub all_given : Form → Given → List (List ℕ) → Option Given
+all_given form given [] = Some given
+all_given form given (word ∷ words) = option_and_then (λ more. all_given form more words) (with_option form given word)
+
+-- The words are nothing; or, where a form takes so many arguments, `--` and at most so many.
+abbrev pub AreArguments : Option ℕ → List (List ℕ) → List (List ℕ) → Type 0
+AreArguments None words arguments = (words ≡ []) × (arguments ≡ [])
+AreArguments (Some most) words arguments =
+    ((words ≡ []) × (arguments ≡ [])) ⊎ ((words ≡ codes "--" ∷ arguments) × (length arguments ≤ most))
+
+-- The words are the first word of a command, options in any order, names, and arguments, as its form takes them.
+pub record IsForm (words : List (List ℕ)) (line : Line) : Type 0 where
+  pub options : List (List ℕ)
+  pub last : List (List ℕ)
+  pub spelled : words ≡ word_of line.verb ∷ options ++ line.names ++ last
+  pub given : all_given (form_of line.verb) nothing_given options ≡ Some line.given
+  pub enough : (form_of line.verb).least ≤ length line.names
+  pub few : length line.names ≤ (form_of line.verb).most
+  pub named : AreNames (form_of line.verb).item line.names
+  pub ends : AreArguments (form_of line.verb).arguments last line.arguments
+
+-- The line is what some words spell.
+abbrev pub IsSpelled : Line → Type 0
+IsSpelled line = (words : List (List ℕ)) × IsForm words line
+
+-- Some form begins with these words.
+abbrev pub Begins : List (List ℕ) → Type 0
+Begins words = (more : List (List ℕ)) × (line : Line) × IsForm (words ++ more) line
+
+-- What is read is what the words spell; or its bad word is the first, counted from 0, such that no form begins with
+-- the words up to it, and the number of words where some form begins with them all.
+abbrev pub IsReadingOf : List (List ℕ) → Reading → Type 0
+IsReadingOf words (says line) = IsForm words line
+IsReadingOf words (bad word) =
+    (word ≤ length words) × Begins (take word words) × (word < length words → Begins (take (word + 1) words) → ⊥)

@@ -1,0 +1,239 @@
+-- How the words of a command line are read, one after the other, over the form of its command (this profile).
+use Rattle.std.specs.Prelude.{ℕ, ◌+◌, ◌-◌, ◌*◌, ◌&&◌, nat_le, nat_lt, List, [], ◌∷◌, ◌++◌, Bool, true, false, Option, Some, None, option_and_then, take, drop, length, codes, nat_eq, if◌then◌else◌}
+use Rattle.std.specs.Option.{is_some, unwrap_or}
+use Rattle.std.specs.Str.{bytes_eq}
+use Rattle.ns_base.specs.Spelling.{is_digit}
+use Rattle.ns_base.specs.declared.limits.Limits.{Limits}
+use Rattle.ns_run_words.specs.Application.{is_application}
+use Rattle.ns_run_words.specs.FileName.{is_file_name}
+use Rattle.ns_run_words.specs.Table.{form_of, verb_of}
+use Rattle.ns_run_words.specs.declared.form.Form.{Form}
+use Rattle.ns_run_words.specs.declared.form.Item.{Item}
+use Rattle.ns_run_words.specs.declared.form.Item.TheVariants.{File, Number, Application}
+use Rattle.ns_run_words.specs.declared.form.Verb.{Verb}
+use Rattle.ns_run_words.specs.declared.words.Given.{Given}
+
+-- What a command line says: its command, what its options give, the names and the arguments.
+pub record Line : Type 0 where
+  pub verb : Verb
+  pub given : Given
+  pub names : List (List ℕ)
+  pub arguments : List (List ℕ)
+
+-- What the words of a command line are read as: what they say, or the first bad word.
+pub data Reading : Type 0 where
+  says : (line : Line) → Reading
+  bad : (word : ℕ) → Reading
+
+-- What was read so far behind the first word: options; or also names; or also `--` and arguments.
+pub data Part : Type 0 where
+  Options : (given : Given) → Part
+  Names : (given : Given) (names : List (List ℕ)) → Part
+  Arguments : (given : Given) (names arguments : List (List ℕ)) → Part
+
+-- ---- numbers
+
+-- the number whose first digits are n, and whose others follow
+abbrev pub value_from : ℕ → List ℕ → Option ℕ
+value_from n [] = Some n
+value_from n (d ∷ ds) = if is_digit d then value_from (n * 10 + (d - 48)) ds else None
+
+-- the number, where it is from 1 to the greatest
+abbrev pub in_range : ℕ → ℕ → Option ℕ
+in_range greatest n = if nat_le 1 n && nat_le n greatest then Some n else None
+
+-- Nothing, or a leading zero: no number begins so.
+abbrev pub begins_bad : List ℕ → Bool
+begins_bad [] = true
+begins_bad (d ∷ ds) = nat_eq d 48
+
+-- a decimal number without a leading zero, from 1 to the greatest
+abbrev pub number_of : ℕ → List ℕ → Option ℕ
+number_of greatest text = if begins_bad text then None else option_and_then (in_range greatest) (value_from 0 text)
+
+-- ---- options
+
+-- no option
+abbrev pub nothing_given : Given
+nothing_given = record { steps = None; cells = None; depth = None; out = None; quantum = None; lib = false }
+
+-- the number that a word gives which begins with an option's name, where that option wasn't given before
+abbrev pub number_given : List ℕ → ℕ → Option ℕ → List ℕ → Option ℕ
+number_given name greatest (Some n) word = None
+number_given name greatest None word =
+    if bytes_eq (take (length name) word) name then number_of greatest (drop (length name) word) else None
+
+abbrev pub with_lib : Given → Option Given
+with_lib given =
+    if given.lib then None
+    else Some (record { steps = given.steps; cells = given.cells; depth = given.depth; out = given.out; quantum = given.quantum; lib = true })
+
+abbrev pub with_out : Given → Option ℕ → Option Given
+with_out given None = None
+with_out given (Some n) = Some (record given { out = Some n })
+
+abbrev pub with_depth : Given → Option ℕ → Option Given → Option Given
+with_depth given None other = other
+with_depth given (Some n) other = Some (record given { depth = Some n })
+
+abbrev pub with_cells : Given → Option ℕ → Option Given → Option Given
+with_cells given None other = other
+with_cells given (Some n) other = Some (record given { cells = Some n })
+
+abbrev pub with_steps : Given → Option ℕ → Option Given → Option Given
+with_steps given None other = other
+with_steps given (Some n) other = Some (record given { steps = Some n })
+
+-- what is given with a word more that is the option of a limit, where these are the greatest
+abbrev pub with_limit : Limits → Given → List ℕ → Option Given
+with_limit greatest given word =
+    with_steps given (number_given (codes "--steps=") greatest.steps given.steps word)
+    (with_cells given (number_given (codes "--cells=") greatest.cells given.cells word)
+    (with_depth given (number_given (codes "--depth=") greatest.depth given.depth word)
+    (with_out given (number_given (codes "--out=") greatest.out given.out word))))
+
+abbrev pub limit_where : Option Limits → Given → List ℕ → Option Given
+limit_where None given word = None
+limit_where (Some greatest) given word = with_limit greatest given word
+
+abbrev pub with_quantum : Given → Option ℕ → Option Given
+with_quantum given None = None
+with_quantum given (Some n) = Some (record given { quantum = Some n })
+
+-- what is given with a word more that is the option of the quantum
+abbrev pub quantum_where : Bool → Given → List ℕ → Option Given
+quantum_where takes given word =
+    if takes then with_quantum given (number_given (codes "--quantum=") 1000000 given.quantum word) else None
+
+-- the first that is there
+abbrev pub given_or : Option Given → Option Given → Option Given
+given_or (Some given) other = Some given
+given_or None other = other
+
+-- what is given with one word more: an option that the form takes, and that wasn't given before
+abbrev pub with_option : Form → Given → List ℕ → Option Given
+with_option form given word =
+    if bytes_eq word (codes "--lib") then (if form.lib then with_lib given else None)
+    else given_or (quantum_where form.quantum given word) (limit_where form.greatest given word)
+
+-- the limits that are given, and the defaults of the others
+abbrev pub limits_of : Given → Limits
+limits_of given =
+    record {
+      steps = unwrap_or given.steps 10000000;
+      cells = unwrap_or given.cells 4000000;
+      depth = unwrap_or given.depth 10000;
+      out = unwrap_or given.out 1048576;
+    }
+
+-- the steps of a turn that are given, or the default
+abbrev pub quantum_of : Given → ℕ
+quantum_of given = unwrap_or given.quantum 1000
+
+-- ---- one word
+
+-- a word that can be a name of a command: the name of a file, a number from 1 to the greatest, or an application
+abbrev pub is_item : Item → List ℕ → Bool
+is_item File word = is_file_name word
+is_item (Number greatest) word = is_some (number_of greatest word)
+is_item Application word = is_application word
+
+-- Behind so many arguments another one may stand.
+abbrev pub has_room : Option ℕ → ℕ → Bool
+has_room None count = false
+has_room (Some most) count = nat_lt count most
+
+-- what is read with an argument more
+abbrev pub with_argument : Form → Given → List (List ℕ) → List (List ℕ) → List ℕ → Option Part
+with_argument form given names arguments word =
+    if has_room form.arguments (length arguments) then Some (Arguments given names (arguments ++ word ∷ [])) else None
+
+-- how many arguments may stand behind the word, where it is `--` and the form takes it behind so many names
+abbrev pub arguments_behind : Form → ℕ → List ℕ → Option ℕ
+arguments_behind form count word = if bytes_eq word (codes "--") && nat_le form.least count then form.arguments else None
+
+-- what is read with `--` behind the names, where so many arguments may stand behind it
+abbrev pub with_dashes : Given → List (List ℕ) → Option ℕ → Option Part
+with_dashes given names None = None
+with_dashes given names (Some most) = Some (Arguments given names [])
+
+-- what is read with a word more behind names: another name, or `--`
+abbrev pub with_name : Form → Given → List (List ℕ) → List ℕ → Option Part
+with_name form given names word =
+    if is_item form.item word && nat_lt (length names) form.most then Some (Names given (names ++ word ∷ []))
+    else with_dashes given names (arguments_behind form (length names) word)
+
+-- an option more, or else the other
+abbrev pub option_or : Option Part → Option Given → Option Part
+option_or other None = other
+option_or other (Some given) = Some (Options given)
+
+-- what is read with a word more, where a form can go on so
+abbrev pub with_word : Form → Part → List ℕ → Option Part
+with_word form (Options given) word = option_or (with_name form given [] word) (with_option form given word)
+with_word form (Names given names) word = with_name form given names word
+with_word form (Arguments given names arguments) word = with_argument form given names arguments word
+
+-- ---- all words
+
+abbrev pub given_of : Part → Given
+given_of (Options given) = given
+given_of (Names given names) = given
+given_of (Arguments given names arguments) = given
+
+abbrev pub names_read : Part → List (List ℕ)
+names_read (Options given) = []
+names_read (Names given names) = names
+names_read (Arguments given names arguments) = names
+
+abbrev pub arguments_read : Part → List (List ℕ)
+arguments_read (Options given) = []
+arguments_read (Names given names) = []
+arguments_read (Arguments given names arguments) = arguments
+
+-- what all words say, of which this was read
+abbrev pub line_of : Verb → Part → Line
+line_of verb part = record { verb = verb; given = given_of part; names = names_read part; arguments = arguments_read part }
+
+-- what the words are read as that end here, where the next would be number k
+abbrev pub ended : Verb → ℕ → Part → Reading
+ended verb k part = if nat_le (form_of verb).least (length (names_read part)) then says (line_of verb part) else bad k
+
+abbrev pub part_or : Reading → (Part → Reading) → Option Part → Reading
+part_or other next None = other
+part_or other next (Some part) = next part
+
+-- what the words are read as that stand behind those that were read, of which the first is number k
+abbrev pub read_from : Verb → Part → ℕ → List (List ℕ) → Reading
+read_from verb part k [] = ended verb k part
+read_from verb part k (word ∷ words) =
+    part_or (bad k) (λ more. read_from verb more (k + 1) words) (with_word (form_of verb) part word)
+
+abbrev pub after_verb : List (List ℕ) → Option Verb → Reading
+after_verb words None = bad 0
+after_verb words (Some verb) = read_from verb (Options nothing_given) 1 words
+
+-- what the words say, or the first bad word
+abbrev pub reading_of : List (List ℕ) → Reading
+reading_of [] = bad 0
+reading_of (word ∷ words) = after_verb words (verb_of word)
+
+-- the number of the sample that a line asks for, which is its one name
+abbrev pub sample_number : List (List ℕ) → Option ℕ
+sample_number [] = None
+sample_number (name ∷ []) = number_of 1000 name
+sample_number (name ∷ next ∷ more) = None
+
+-- the names of a line
+abbrev pub names_of : Reading → List (List ℕ)
+names_of (says line) = line.names
+names_of (bad word) = []
+
+-- the first bad word where that of this number is none of any form
+abbrev pub bad_of : ℕ → Reading → ℕ
+bad_of k (says line) = k
+bad_of k (bad word) = word
+
+-- the first bad word of a line on which a word that is no text stands behind these
+abbrev pub first_bad : List (List ℕ) → ℕ
+first_bad words = bad_of (length words) (reading_of words)

@@ -1,0 +1,86 @@
+use Rattle.std.proofs.Common.{refl, arith}
+use Rattle.std.proofs.lemmas.Grind.{common_steps}
+use Rattle.ns_tree.specs.laws.Nodes.{bin_out, expr_out, statements_out, key_expr_none, key_expr_some, block_none, block_some, keywords_out, tuple_out}
+use Rattle.ns_scope_bodies.proofs.Inside.{block_and_inside}
+use Rattle.ns_scope_bodies.proofs.blocks.+blocks.Goals as goal
+
+pub put_bin-returns : goal.put_bin-returns
+put_bin-returns t c = rw (bin_out c.args.expr.now) (grind (arith, common_steps))
+
+pub put_expr-returns : goal.put_expr-returns
+put_expr-returns t c = rw (expr_out c.args.expr.now) (grind (arith, common_steps))
+
+pub put_key_expr-returns-in-None : goal.put_key_expr-returns-in-None
+put_key_expr-returns-in-None t c = rw (key_expr_none c.args.expr.now c.in-None.is) (grind (arith, common_steps))
+
+pub put_key_expr-returns-in_ok-put_bin-in-Some : goal.put_key_expr-returns-in_ok-put_bin-in-Some
+put_key_expr-returns-in_ok-put_bin-in-Some t c = rw (key_expr_some c.args.expr.now _ c.in-Some.is) (grind (arith, common_steps))
+
+pub put_message-returns-in-Keys : goal.put_message-returns-in-Keys
+put_message-returns-in-Keys t c = rw (keywords_out c.args.message.now _ c.in-Keys.is) (grind (arith, common_steps))
+
+pub put_primary-returns-in-Tuple : goal.put_primary-returns-in-Tuple
+put_primary-returns-in-Tuple t c = rw (tuple_out c.args.primary.now _ _ c.in-Tuple.is) (grind (arith, common_steps))
+
+pub put_statements-returns : goal.put_statements-returns
+put_statements-returns t c = rw (statements_out c.args.body.now) (grind (arith, common_steps))
+
+pub put_inside-returns-in-None : goal.put_inside-returns-in-None
+put_inside-returns-in-None t c = rw (block_none c.args.block.now c.in-None.is) (grind (arith, common_steps))
+
+pub put_inside-returns-in_ok-put_slots-in-Some : goal.put_inside-returns-in_ok-put_slots-in-Some
+put_inside-returns-in_ok-put_slots-in-Some t c = rw (block_some c.args.block.now _ c.in-Some.is) (grind (arith, common_steps))
+
+pub put_block-returns : goal.put_block-returns
+put_block-returns t c = rw (block_and_inside c.args.scope.now c.args.block.now) (grind (arith, common_steps))
+
+pub put_cascade-loop-message-preserved : goal.put_cascade-loop-message-preserved
+put_cascade-loop-message-preserved t c = grind (arith, common_steps)
+
+pub put_keys-loop-key-preserved : goal.put_keys-loop-key-preserved
+put_keys-loop-key-preserved t c = grind (arith, common_steps)
+
+pub put_opers-loop-oper-preserved : goal.put_opers-loop-oper-preserved
+put_opers-loop-oper-preserved t c = grind (arith, common_steps)
+
+pub put_items-loop-item-preserved : goal.put_items-loop-item-preserved
+put_items-loop-item-preserved t c = grind (arith, common_steps)
+
+pub put_slots-loop-slot-preserved : goal.put_slots-loop-slot-preserved
+put_slots-loop-slot-preserved t c = grind (arith, common_steps)
+
+pub put_cascade-loop-message-init : goal.put_cascade-loop-message-init
+put_cascade-loop-message-init t c = refl
+
+pub put_cascade-returns : goal.put_cascade-returns
+put_cascade-returns t c = grind (arith, common_steps)
+
+pub put_keys-loop-key-init : goal.put_keys-loop-key-init
+put_keys-loop-key-init t c = refl
+
+pub put_keys-returns : goal.put_keys-returns
+put_keys-returns t c = grind (arith, common_steps)
+
+pub put_opers-loop-oper-init : goal.put_opers-loop-oper-init
+put_opers-loop-oper-init t c = refl
+
+pub put_opers-returns : goal.put_opers-returns
+put_opers-returns t c = grind (arith, common_steps)
+
+pub put_items-loop-item-init : goal.put_items-loop-item-init
+put_items-loop-item-init t c = refl
+
+pub put_items-returns : goal.put_items-returns
+put_items-returns t c = grind (arith, common_steps)
+
+pub put_slots-loop-slot-init : goal.put_slots-loop-slot-init
+put_slots-loop-slot-init t c = refl
+
+pub put_slots-returns : goal.put_slots-returns
+put_slots-returns t c = grind (arith, common_steps)
+
+pub put_list-loop-statement-init : goal.put_list-loop-statement-init
+put_list-loop-statement-init t c = refl
+
+pub put_list-returns : goal.put_list-returns
+put_list-returns t c = grind (arith, common_steps)

@@ -1,5 +1,0 @@
-use Rattle.ns_send.specs.laws.Spending.{action_spends}
-use Rattle.ns_send.proofs.laws.actions_spend_exactly.Goals as goal
-
-pub returns : goal.returns
-returns c = action_spends

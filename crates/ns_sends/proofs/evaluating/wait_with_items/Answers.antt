@@ -1,6 +1,0 @@
-use Rattle.ns_sends.proofs.Placed.{items_fit}
-use Rattle.ns_sends.proofs.evaluating.wait_with_items.Goals as goal
-
-pub place_items-to-requires-clause-room : goal.place_items-to-requires-clause-room
-place_items-to-requires-clause-room c =
-    items_fit c.args.code.now c.args.core.now c.args.at c.args.sent c.args.block c.args.array c.requires.left c.requires.goes

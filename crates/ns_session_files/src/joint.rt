@@ -1,0 +1,99 @@
+//! Several applications that take turns until all have ended, and what is told of them.
+
+ghost use Rattle.std.specs.Prelude.{◌≡◌, ◌≤◌, IfOk, IfErr, IsErrOf, List, [], Some, map, length, string_bytes};
+ghost use Rattle.ns_base.specs.Count.{Rose};
+ghost use Rattle.ns_base.specs.Files.{Files};
+ghost use Rattle.ns_base.specs.Limits.{InRange};
+ghost use Rattle.ns_base.specs.declared.limits.Limits.{Limits as AnyLimits};
+ghost use Rattle.ns_base.specs.Shelf.{OnlyRead};
+ghost use Rattle.ns_run_code.specs.Running.{IsRunStatus};
+ghost use Rattle.ns_session.specs.Play.{opened};
+ghost use Rattle.ns_run_words.specs.Application.{AreApplications};
+ghost use Rattle.ns_session_files.specs.Answer.{AreAdmitted, HasRefusedFile, IsMissingFile, OfSomeTexts, SomeIsThere, Tells};
+ghost use Rattle.ns_session_files.specs.Joint as spec;
+ghost use Rattle.ns_session_files.specs.Making.{Source, application_of, files_named};
+ghost use Rattle.ns_session_files.specs.declared.fault.JointFault.TheVariants.{Memory, Unread};
+
+use crate::fault::JointFault;
+use crate::laws::{applications_run_as_their_sources_mean, sessions_keep_their_applications};
+use crate::making::make_all;
+use crate::telling::tell;
+use ns_base::limits::Limits;
+use ns_base::no_memory::NoMemory;
+use ns_base::shelf::Shelf;
+use ns_base::status::Status;
+use ns_base::text::Text;
+use ns_session::robin_laws::sessions_run_as_a_function;
+use ns_session::rounds::run_round_robin;
+use ns_session::session::Session;
+use std::alloc::Global;
+
+/// What is told of all applications: the number, output and report line of each, and their status.
+#[derive(Drop)]
+pub struct Told {
+    pub out: Text,
+    pub status: Status,
+}
+
+/// The session of the applications that these words ask for, each within these limits: when all are made, they take turns of
+/// so many steps until all have ended.
+pub fn run_jointly<S: Shelf>(
+    alloc: Global,
+    words: &[String],
+    lib: bool,
+    limits: Limits,
+    quantum: u64,
+    shelf: &mut S,
+) -> Result<Told, JointFault>
+    requires range { InRange limits }
+    requires quantum { 1 ≤ quantum }
+    requires asked { AreApplications (map string_bytes words.now) }
+    requires few { length words.now ≤ 16 }
+    ensures told { (files : Files) → S.holds shelf.old ≡ Some files → Tells (spec.joint_over files lib limits quantum (map string_bytes words.now)) result }
+    ensures texts { OfSomeTexts (files_named (map string_bytes words.now)) (λ texts.
+        Tells (spec.joint_of lib limits quantum (map string_bytes words.now) texts) result) }
+    ensures status { IfOk result (λ told. IsRunStatus told.status) }
+    ensures refused { IfErr result HasRefusedFile }
+    ensures only_read { OnlyRead S.holds S.misses S.faults S.store_faults shelf.old shelf.new }
+    ensures missing { IfErr result (λ why. IsMissingFile why → Rose (S.misses shelf.old) (S.misses shelf.new)) }
+    ensures read_fault { IsErrOf result Unread → Rose (S.faults shelf.old) (S.faults shelf.new) }
+    ensures read_fault_there { (files : Files) → S.holds shelf.old ≡ Some files → IsErrOf result Unread →
+        SomeIsThere files (files_named (map string_bytes words.now)) }
+{
+    let mut session = Session::new(alloc);
+    match make_all(alloc, words, lib, limits, shelf, &mut session) {
+        Ok(()) => run_all(alloc, quantum, session),
+        Err(why) => Err(why),
+    }
+}
+
+/// The turns of all applications of a session, and what is told of them.
+fn run_all(alloc: Global, quantum: u64, session: Session) -> Result<Told, JointFault>
+    requires { 1 ≤ quantum }
+    ensures told { (limits : AnyLimits) (sources : List Source) → InRange limits →
+        session ≡ opened (map (application_of limits) sources) → AreAdmitted sources →
+        IfOk result (λ told. told ≡ spec.told_of (spec.runs limits quantum sources)) }
+    ensures status { IfOk result (λ told. IsRunStatus told.status) }
+    ensures memory { IfErr result (λ why. why ≡ Memory) }
+{
+    sessions_run_as_a_function();
+    sessions_keep_their_applications();
+    applications_run_as_their_sources_mean();
+    let mut session = session;
+    run_round_robin(&mut session, quantum);
+    match tell(alloc, &session, 0, nothing(alloc)) {
+        Ok(told) => Ok(told),
+        Err(NoMemory) => Err(JointFault::Memory),
+    }
+}
+
+/// Nothing is told yet.
+fn nothing(alloc: Global) -> Told
+    ensures out { result.out ≡ [] }
+    ensures status { result.status ≡ Status.Done }
+{
+    Told {
+        out: Text::from_vec(Vec::new(alloc)),
+        status: Status::Done,
+    }
+}

@@ -1,6 +1,0 @@
-use Rattle.ns_meant.specs.Classes.{meant}
-use Rattle.ns_sound.proofs.laws.code_is_sound.Goals as goal
-
-pub returns : goal.returns
-returns c program whole e size =
-    c.right_programs_have_sound_code.ensures (meant program) (c.whole_programs_are_right.ensures program whole e) size

@@ -1,4 +1,0 @@
-//! How names are spelled.
-#![tactic(auto)]
-
-pub mod spelling;

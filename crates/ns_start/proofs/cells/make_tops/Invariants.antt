@@ -1,7 +1,0 @@
-use Rattle.std.proofs.Common.{take, Ok}
-use Rattle.ns_send.specs.Start.{tops_of}
-use Rattle.ns_start.specs.Making.{Makes}
-use Rattle.ns_start.proofs.cells.make_tops.Given as goal
-
-abbrev pub invariant-classes : goal.invariant-classes
-invariant-classes l = Makes (tops_of 0 (take l.decl l.classes)) l.initial.world (Ok tt) l.world

@@ -1,0 +1,89 @@
+use Rattle.std.proofs.Common.{arith, refl}
+use Rattle.std.proofs.lemmas.Grind.{common_steps}
+use Rattle.ns_tree.specs.laws.Nodes.{bin_out, expr_out, statements_out, key_expr_none, key_expr_some, block_none, block_some, keywords_out, tuple_out}
+use Rattle.ns_static_rules.proofs.Inside.{block_and_inside}
+use Rattle.ns_static_rules.proofs.expressions.+expressions.Goals as goal
+
+pub bin_faults-returns : goal.bin_faults-returns
+bin_faults-returns t c = rw (bin_out c.args.expr.now) (grind (arith, common_steps))
+
+pub expr_faults-returns : goal.expr_faults-returns
+expr_faults-returns t c = rw (expr_out c.args.expr.now) (grind (arith, common_steps))
+
+pub key_expr_faults-returns-in-None : goal.key_expr_faults-returns-in-None
+key_expr_faults-returns-in-None t c = rw (key_expr_none c.args.expr.now c.in-None.is) (grind (arith, common_steps))
+
+pub key_expr_faults-returns-in_ok-bin_faults-in-Some : goal.key_expr_faults-returns-in_ok-bin_faults-in-Some
+key_expr_faults-returns-in_ok-bin_faults-in-Some t c = rw (key_expr_some c.args.expr.now _ c.in-Some.is) (grind (arith, common_steps))
+
+pub message_faults-returns-in-Keys : goal.message_faults-returns-in-Keys
+message_faults-returns-in-Keys t c = rw (keywords_out c.args.message.now _ c.in-Keys.is) (grind (arith, common_steps))
+
+pub statements_faults-returns : goal.statements_faults-returns
+statements_faults-returns t c = rw (statements_out c.args.body.now) (grind (arith, common_steps))
+
+pub block_faults-returns : goal.block_faults-returns
+block_faults-returns t c = rw (block_and_inside c.args.scope.now c.args.block.now) (grind (arith, common_steps))
+
+pub inside_faults-returns-in-None : goal.inside_faults-returns-in-None
+inside_faults-returns-in-None t c = rw (block_none c.args.block.now c.in-None.is) (grind (arith, common_steps))
+
+pub inside_faults-returns-in_ok-slots_faults-in-Some : goal.inside_faults-returns-in_ok-slots_faults-in-Some
+inside_faults-returns-in_ok-slots_faults-in-Some t c = rw (block_some c.args.block.now _ c.in-Some.is) (grind (arith, common_steps))
+
+pub primary_faults-returns-in-Tuple : goal.primary_faults-returns-in-Tuple
+primary_faults-returns-in-Tuple t c = rw (tuple_out c.args.primary.now _ _ c.in-Tuple.is) (grind (arith, common_steps))
+
+pub cascade_faults-loop-message-init : goal.cascade_faults-loop-message-init
+cascade_faults-loop-message-init t c = refl
+
+pub cascade_faults-loop-message-preserved : goal.cascade_faults-loop-message-preserved
+cascade_faults-loop-message-preserved t c = grind (arith, common_steps)
+
+pub cascade_faults-returns : goal.cascade_faults-returns
+cascade_faults-returns t c = grind (arith, common_steps)
+
+pub keys_faults-loop-key-init : goal.keys_faults-loop-key-init
+keys_faults-loop-key-init t c = refl
+
+pub keys_faults-loop-key-preserved : goal.keys_faults-loop-key-preserved
+keys_faults-loop-key-preserved t c = grind (arith, common_steps)
+
+pub keys_faults-returns : goal.keys_faults-returns
+keys_faults-returns t c = grind (arith, common_steps)
+
+pub opers_faults-loop-oper-init : goal.opers_faults-loop-oper-init
+opers_faults-loop-oper-init t c = refl
+
+pub opers_faults-loop-oper-preserved : goal.opers_faults-loop-oper-preserved
+opers_faults-loop-oper-preserved t c = grind (arith, common_steps)
+
+pub opers_faults-returns : goal.opers_faults-returns
+opers_faults-returns t c = grind (arith, common_steps)
+
+pub items_faults-loop-item-init : goal.items_faults-loop-item-init
+items_faults-loop-item-init t c = refl
+
+pub items_faults-loop-item-preserved : goal.items_faults-loop-item-preserved
+items_faults-loop-item-preserved t c = grind (arith, common_steps)
+
+pub items_faults-returns : goal.items_faults-returns
+items_faults-returns t c = grind (arith, common_steps)
+
+pub slots_faults-loop-slot-init : goal.slots_faults-loop-slot-init
+slots_faults-loop-slot-init t c = refl
+
+pub slots_faults-loop-slot-preserved : goal.slots_faults-loop-slot-preserved
+slots_faults-loop-slot-preserved t c = grind (arith, common_steps)
+
+pub slots_faults-returns : goal.slots_faults-returns
+slots_faults-returns t c = grind (arith, common_steps)
+
+pub list_faults-loop-statement-init : goal.list_faults-loop-statement-init
+list_faults-loop-statement-init t c = refl
+
+pub list_faults-loop-statement-preserved : goal.list_faults-loop-statement-preserved
+list_faults-loop-statement-preserved t c = grind (arith, common_steps)
+
+pub list_faults-returns : goal.list_faults-returns
+list_faults-returns t c = grind (arith, common_steps)

@@ -1,0 +1,10 @@
+use Rattle.std.proofs.Common.{arith}
+use Rattle.std.proofs.lemmas.Grind.{common_steps}
+use Rattle.ns_tree.specs.laws.Nodes.{bin_out}
+use Rattle.ns_static_rules.proofs.rules.written_bin.Goals as goal
+
+pub returns : goal.returns
+returns c = rw (bin_out c.args.expr.now) (grind (arith, common_steps))
+
+pub returns-then-has_opers : goal.returns-then-has_opers
+returns-then-has_opers c = rw (bin_out c.args.expr.now) (grind (arith, common_steps))

@@ -1,7 +1,0 @@
-use Rattle.ns_turns.proofs.Fetched.{body_has_step}
-use Rattle.ns_turns.proofs.fetching.fetch.Goals as goal
-
-pub row-requires-clause-there : goal.row-requires-clause-there
-row-requires-clause-there c =
-    (body_has_step c.args.code.now c.requires.can.grants c.args.core.now c.args.at c.args.body c.requires.can.ready.valid c.requires.runs
-    (c.running_bodies_have_steps.ensures c.args.code.now)).body_there

@@ -1,5 +1,0 @@
-use Rattle.ns_words.proofs.FormLaws.{form_is_read}
-use Rattle.ns_words.proofs.laws.forms_are_read.Goals as goal
-
-pub returns : goal.returns
-returns c = form_is_read
