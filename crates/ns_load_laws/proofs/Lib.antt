@@ -1,5 +1,5 @@
 pub mod Sources
 pub mod Texts
-pub mod Canonical
+pub mod CanonicalSources
 pub mod Numerals
 pub mod Spelled

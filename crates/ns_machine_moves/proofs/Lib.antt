@@ -1,7 +1,7 @@
 pub mod Turns
 pub mod Homes
 pub mod Values
-pub mod Falling
+pub mod Falls
 pub mod Back
 pub mod Taking
 pub mod Examples

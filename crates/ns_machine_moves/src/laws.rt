@@ -47,7 +47,7 @@ pub fn returns_land()
 {}
 
 /// Where the homes of methods fall from below a number on, each home that is there is below it.
-#[tactic(auto, using(crate::proofs::Falling::homes_below))]
+#[tactic(auto, using(crate::proofs::Falls::homes_below))]
 pub fn homes_are_below()
     ensures { (bound : ℕ) → HomesAreBelow bound }
 {}

@@ -1,5 +1,5 @@
 use Rattle.ns_print.specs.Printed.{printed}
-use Rattle.ns_load_laws.proofs.Canonical.{printed_spaced}
+use Rattle.ns_load_laws.proofs.CanonicalSources.{printed_spaced}
 use Rattle.ns_load_laws.proofs.canonical.printed_kinds_are_cut.Goals as goal
 
 pub returns : goal.returns

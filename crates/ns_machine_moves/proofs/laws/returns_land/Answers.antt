@@ -1,5 +1,5 @@
 use Rattle.ns_machine_moves.proofs.Homes.{return_lands}
-use Rattle.ns_machine_moves.proofs.Falling.{lands_below}
+use Rattle.ns_machine_moves.proofs.Falls.{lands_below}
 use Rattle.ns_machine_moves.proofs.laws.returns_land.Goals as goal
 
 pub returns-clause-lands : goal.returns-clause-lands
