@@ -2,4 +2,5 @@ pub mod Machine
 pub mod Fresh
 pub mod Opening
 pub mod Waiting
+pub mod Turned
 pub mod Turning
