@@ -8,6 +8,7 @@ pub mod Bytes
 pub mod Shapes
 pub mod Seeking
 pub mod HeadTests
+pub mod Receivers
 pub mod Next
 pub mod Bounding
 pub mod Lasting

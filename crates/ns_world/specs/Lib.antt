@@ -7,6 +7,7 @@ pub mod Seek
 pub mod World
 pub mod Starts
 pub mod Head
+pub mod Receivers
 pub mod Layout
 pub mod Lawful
 pub mod Keeping

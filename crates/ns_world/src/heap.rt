@@ -8,6 +8,7 @@ ghost use Rattle.ns_world.specs.Heap.{heap_size, has_superclass, words_at, word_
 ghost use Rattle.ns_world.specs.Heap.{write_byte, find_cell, shape_at, next_number, is_class, chain_of, superclass_of, is_chain_start};
 ghost use Rattle.ns_world.specs.Heap.{declared_class};
 ghost use Rattle.ns_world.specs.Head.{head_at};
+ghost use Rattle.ns_world.specs.Starts.{is_receiver_cell};
 ghost use Rattle.ns_world.specs.Words.{shape_in, head_in, words_behind};
 ghost use Rattle.ns_world.specs.Seek.{first_such, is_sought, is_nil, is_top, may_be_first};
 ghost use Rattle.ns_world.specs.declared.word.Word.TheVariants.{Bytes, Nil};
@@ -18,7 +19,7 @@ use crate::kernel::NO_CLASS;
 use crate::lay::{lay, lay_bytes, lay_items, lay_locals, text_words};
 use crate::seek::{Sought, is_sought_at};
 use crate::value::Value;
-use crate::word::{Word, beside_in, value_in, word_of};
+use crate::word::{Word, beside_in, is_receiver_head, value_in, word_of};
 use ns_base::no_memory::NoMemory;
 use std::alloc::Global;
 use std::marker::Model;
@@ -208,6 +209,13 @@ impl Heap {
         ensures { result ≡ head_at self.now.cells at }
     {
         head_in(self.words[at as usize])
+    }
+
+    /// Whether a number is that of a cell that is no environment. Any number may be asked for.
+    pub fn is_receiver(&self, at: u32) -> bool
+        ensures { result ≡ is_receiver_cell (find_cell self.now.cells at) }
+    {
+        is_receiver_head(word_or_nil(&self.words, at as usize))
     }
 
     /// The number behind a cell: that of the next, or how many cells are used.

@@ -7,6 +7,7 @@
 
 ghost use Rattle.std.specs.Prelude.{◌≡◌};
 ghost use Rattle.ns_world.specs.Words.{word_of, word_beside, value_in, beside_in};
+ghost use Rattle.ns_world.specs.Receivers.{is_receiver_head};
 
 use crate::cell::FacetKind;
 use crate::value::{KClass, Value};
@@ -109,5 +110,23 @@ pub fn beside_in(word: Word) -> u32
         Word::KernelWith { beside, .. } => beside,
         Word::RefWith { beside, .. } => beside,
         _ => 0,
+    }
+}
+
+/// Whether a word is the head of a cell that is no environment. The words behind heads hold values and bytes, so none of them
+/// is such a head, whatever a program has put there.
+pub fn is_receiver_head(word: Word) -> bool
+    ensures { result ≡ is_receiver_head word }
+{
+    match word {
+        Word::Object { .. } => true,
+        Word::Class { .. } => true,
+        Word::Block { .. } => true,
+        Word::Array { .. } => true,
+        Word::Text { .. } => true,
+        Word::Facet(_) => true,
+        Word::Mirror => true,
+        Word::Message(_) => true,
+        _ => false,
     }
 }

@@ -255,6 +255,17 @@ impl World {
         base_at_head(self.heap.head(class))
     }
 
+    /// Whether a value can be a receiver: it refers to no cell, or to one that is there and no environment. Any value may be
+    /// asked for, and the answer comes by one read.
+    pub fn is_receiver(&self, value: Value) -> bool
+        ensures { result ≡ is_receiver self.now.world.cells value }
+    {
+        match value {
+            Value::Ref(at) => self.heap.is_receiver(at),
+            _ => true,
+        }
+    }
+
     /// Where the lookup of a send to this value starts. An environment is no receiver.
     #[inline(always)]
     #[tactic(auto, using(crate::proofs::HeadTests::start_told))]
