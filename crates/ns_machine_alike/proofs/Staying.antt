@@ -1,8 +1,6 @@
 -- Two sends of a host from alike states are paired as they begin, stay so, and so come to alike states.
-use Rattle.std.proofs.Common.{◌≡◌, ◌≢◌, ◌⊎◌, inl, inr, ℕ, zero, suc, ◌+◌, ◌-◌, ◌<◌, ◌≤◌, List, [], ◌∷◌, ◌++◌, length, Option, Some, None, Bool, true, false, cond, refl, sym, ap, ◌∙◌, subst, arith}
-use Rattle.std.specs.Prelude.{Contains, IsSome, is_some, IsTrue}
-use Rattle.ns_base.specs.declared.limits.Limits.{Limits}
-use Rattle.ns_base.specs.declared.selector.Sel.{Sel}
+use Rattle.std.proofs.Common.{◌≡◌, ◌≢◌, inl, inr, ℕ, zero, suc, ◌+◌, ◌≤◌, List, [], ◌∷◌, ◌++◌, Option, Some, None, Bool, false, refl, sym, subst, arith}
+use Rattle.std.specs.Prelude.{Contains, IsSome}
 use Rattle.ns_code.specs.declared.program.CodeProgram.{CodeProgram}
 use Rattle.ns_code.specs.declared.instruction.Instr.{Instr}
 use Rattle.ns_code.specs.declared.instruction.Instr.TheVariants as instr
@@ -19,9 +17,8 @@ use Rattle.ns_world.specs.Heap.{Heap, heap_size, find_cell, no_class}
 use Rattle.ns_world.specs.Seek.{first_such, is_facet, is_top}
 use Rattle.ns_world.specs.Reach.{Reach, all_referred}
 use Rattle.ns_world.specs.World.{World}
-use Rattle.ns_world.specs.Lawful.{IsLawful, IsLiveValue}
+use Rattle.ns_world.specs.Lawful.{IsLawful}
 use Rattle.ns_world.specs.Alike.{Renaming, AlikeValue, AlikeValues, AlikeClass, AlikeNumber, AlikeCell, AlikeHeld, AlikePairs, Alike}
-use Rattle.ns_world.specs.laws.Firsts.{found_past}
 use Rattle.ns_kdata.specs.Arguments.{IsThere}
 use Rattle.ns_actions.specs.Suiting.{is_reference}
 use Rattle.ns_actions.specs.Control.{Progress, Activation}
@@ -29,24 +26,26 @@ use Rattle.ns_actions.specs.Bodies.{enclosing}
 use Rattle.ns_actions.specs.Lawful.{FitsActivation, declaration_at}
 use Rattle.ns_actions.specs.Suits.{IsEnclosingPlace}
 use Rattle.ns_actions.specs.Start.{standing_cells}
-use Rattle.ns_machine_moves.specs.State.{Leaving, Running, Looping, Phase, Start, First, Second, Hosted, State, Unbegun, Going, Pends, Ended, Stuck, progress_of, world_of, ending_of}
+use Rattle.ns_machine_moves.specs.State.{Leaving, Running, Looping, Phase, Hosted, State, Unbegun, Going, Pends, Ended, Stuck, progress_of, world_of, ending_of}
 use Rattle.ns_machine_moves.specs.Move.{move, moves}
 use Rattle.ns_machine_moves.specs.Turn.{is_still}
 use Rattle.ns_machine_moves.specs.Starts.{begun}
 use Rattle.ns_machine_moves.specs.Standing.{ValidFindsAsked, MovesKeepValid}
 use Rattle.ns_machine_moves.specs.WorldAsks.{InstrAsks, FindsAsked}
-use Rattle.ns_machine_moves.specs.Beginning.{MayBegin, HostKeepsValid}
+use Rattle.ns_machine_moves.specs.Beginning.{HostKeepsValid}
 use Rattle.ns_machine_moves.specs.Valid.{WorldIsValid, EndingIsValid, EndsIn, Valid}
-use Rattle.ns_machine_reach.specs.Within.{In, AllIn}
+use Rattle.ns_machine_reach.specs.Within.{IsGranted, In, AllIn}
 use Rattle.ns_machine_reach.specs.Reached.{InReach}
-use Rattle.ns_machine_alike.specs.Paired.{IsPairing, IsGranted, Paired, Partners, Same, AllPaired, NumberPaired, FacetPaired, CellPaired, EndingPaired, PhasePaired, Abreast, StatePaired}
-use Rattle.ns_machine_alike.specs.Isolated.{SendPair, Earlier, Made, NoClass, RenamesOn, StatesAlike, BoardsAlike, EndingAlike, MaybeEndingAlike, ended_with, done_values, PrintsAlike, RunsAlike, SendsAreAlike, SendsComeToTheSame}
+use Rattle.ns_machine_alike.specs.Paired.{IsPairing, Paired, Partners, Same, AllPaired, NumberPaired, FacetPaired, CellPaired, EndingPaired, PhasePaired, Abreast, StatePaired}
+use Rattle.ns_machine_alike.specs.Isolated.{SendPair, Earlier, Made, NoClass, RenamesOn, BoardsAlike, EndingAlike, MaybeEndingAlike, ended_with, done_values, SendsAreAlike, SendsComeToTheSame}
 use Rattle.ns_machine_alike.proofs.Values.{all_append}
 use Rattle.ns_machine_alike.proofs.Sends.{Known}
 use Rattle.ns_machine_alike.proofs.Moves.{InstrFinds, StepFinds, move_paired}
-use Rattle.ns_machine_alike.proofs.Starting.{reach_there, first_once, second_once, there_below, AllThere, ClassThere, CellThere, cell_there, first_there, all_live_there, live_there, all_in_roots, send_pairing, begun_paired, received, given, reached, reached'}
+use Rattle.ns_machine_alike.proofs.There.{reach_there, there_below, AllThere, ClassThere, CellThere, cell_there, first_there, all_live_there, live_there}
+use Rattle.ns_machine_alike.proofs.Matching.{first_once}
+use Rattle.ns_machine_alike.proofs.Starting.{send_pairing, begun_paired, received, given, reached, reached'}
 use Rattle.ns_machine_alike.proofs.Beginning.{may_begin_too}
-use Rattle.ns_machine_alike.proofs.Ending.{BothCells, both_cells, reach_forth, reach_back}
+use Rattle.ns_machine_alike.proofs.Ending.{both_cells, reach_forth, reach_back}
 
 -- what the laws of a run give
 pub record Laws (code : CodeProgram) (grants : Grants) : Type 0 where
@@ -402,7 +401,7 @@ sends_alike code grants grants' laws laws' pairs receiver other sel arguments ot
       alike = λ after on. (
         worlds_alike code grants grants' pairs (receiver ∷ arguments) (other ∷ others) first second alike.0 pairing (r, g) one two p worlds.0 worlds.1 a after on
             (start_values code grants grants' pairs (receiver ∷ arguments) (other ∷ others) first second alike.0 pairing (r, g) one two p worlds.0 worlds.1 a after on (receiver ∷ arguments) (other ∷ others) alike.0.roots
-            (h.0, all_in_roots (InReach (world_of first).cells (all_referred (receiver ∷ arguments))) arguments h.1) (h'.0, all_in_roots (InReach (world_of second).cells (all_referred (other ∷ others))) others h'.1)
+            h h'
             (live_there (world_of first).cells code receiver may.live.0, all_live_there (world_of first).cells code arguments may.fits.live)
             (live_there (world_of second).cells code other may'.live.0, all_live_there (world_of second).cells code others may'.fits.live)),
         boards_alike code grants grants' pairs (receiver ∷ arguments) (other ∷ others) first second alike.0 pairing (r, g) one two p worlds.0 worlds.1 a after on,
