@@ -71,7 +71,7 @@ same_bool false false f g = refl
 same_bool true false f g = absurd (let x = f refl in cc)
 same_bool false true f g = absurd (let x = g refl in cc)
 
-same_lt : (a b c d : ℕ) → b - a ≡ d - c → nat_lt a b ≡ nat_lt c d
+pub same_lt : (a b c d : ℕ) → b - a ≡ d - c → nat_lt a b ≡ nat_lt c d
 same_lt a b c d e = same_bool (nat_lt a b) (nat_lt c d) (λ t. lt-ltb c d (let x = ltb-true a b t in omega arith)) (λ t. lt-ltb a b (let x = ltb-true c d t in omega arith))
 
 pub same_le : (a z b c d : ℕ) → b - a ≡ d - c → 1 ≤ z → nat_le (a + z) b ≡ nat_le (c + z) d

@@ -79,7 +79,7 @@ module _ (code : CodeProgram) (grants grants' : Grants) (pairs : Renaming) (firs
   abbrev Q : ℕ → ℕ → Type 0
   Q = SendPair pairs (world_of first) (world_of second) (all_referred firsts) (all_referred seconds)
 
-  heaps_start : HeapPaired Q (progress_of first) (progress_of second) (world_of first).cells (world_of second).cells
+  pub heaps_start : HeapPaired Q (progress_of first) (progress_of second) (world_of first).cells (world_of second).cells
   heaps_start =
       alike_heaps pairs code (world_of first) (world_of second) firsts seconds alike.0 idle.world.lawful idle'.world.lawful (progress_of first) (progress_of second) refl refl idle.world.homes idle'.world.homes
       (manifest_is code grants (world_of first).cells idle.world.begins) (manifest_is code grants' (world_of second).cells idle'.world.begins)

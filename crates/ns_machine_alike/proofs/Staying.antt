@@ -1,6 +1,7 @@
 -- Two sends of a host from alike states are paired as they begin, stay so, and so come to alike states.
-use Rattle.std.proofs.Common.{◌≡◌, ◌≢◌, inl, inr, ℕ, zero, suc, ◌+◌, ◌≤◌, List, [], ◌∷◌, ◌++◌, Option, Some, None, Bool, false, refl, sym, subst, arith}
+use Rattle.std.proofs.Common.{◌≡◌, ◌≢◌, inl, inr, ℕ, zero, suc, ◌+◌, ◌-◌, ◌≤◌, List, [], ◌∷◌, ◌++◌, Option, Some, None, Bool, false, refl, sym, ap, subst, arith}
 use Rattle.std.specs.Prelude.{Contains, IsSome}
+use Rattle.ns_base.specs.declared.limits.Limits.{Limits}
 use Rattle.ns_code.specs.declared.program.CodeProgram.{CodeProgram}
 use Rattle.ns_code.specs.declared.instruction.Instr.{Instr}
 use Rattle.ns_code.specs.declared.instruction.Instr.TheVariants as instr
@@ -43,7 +44,7 @@ use Rattle.ns_machine_alike.proofs.Sends.{Known}
 use Rattle.ns_machine_alike.proofs.Moves.{InstrFinds, StepFinds, move_paired}
 use Rattle.ns_machine_alike.proofs.There.{reach_there, there_below, AllThere, ClassThere, CellThere, cell_there, first_there, all_live_there, live_there}
 use Rattle.ns_machine_alike.proofs.Matching.{first_once}
-use Rattle.ns_machine_alike.proofs.Starting.{send_pairing, begun_paired, received, given, reached, reached'}
+use Rattle.ns_machine_alike.proofs.Starting.{idle_world, send_pairing, begun_paired, received, given, reached, reached'}
 use Rattle.ns_machine_alike.proofs.Beginning.{may_begin_too}
 use Rattle.ns_machine_alike.proofs.Ending.{both_cells, reach_forth, reach_back}
 
@@ -376,6 +377,15 @@ module _ (code : CodeProgram) (grants grants' : Grants) (pairs : Renaming) (firs
 
 -- ---- the law
 
+-- as many steps were charged
+same_use : (Pair : ℕ → ℕ → Type 0) (first second one two : Progress) → Abreast Pair first second one two → first.world.limits.steps - first.world.steps ≡ second.world.limits.steps - second.world.steps
+    → first.world.steps ≤ first.world.limits.steps → second.world.steps ≤ second.world.limits.steps → one.world.steps ≤ one.world.limits.steps → two.world.steps ≤ two.world.limits.steps
+    → one.world.steps + second.world.steps ≡ two.world.steps + first.world.steps
+same_use Pair first second one two a left within within' now now' =
+    let limit : one.world.limits.steps ≡ first.world.limits.steps = ap (λ (l : Limits). l.steps) a.limits in
+    let limit' : two.world.limits.steps ≡ second.world.limits.steps = ap (λ (l : Limits). l.steps) a.other_limits in
+    omega (arith, left, within, within', now, now', limit, limit', a.steps)
+
 pub sends_alike : (code : CodeProgram) (grants grants' : Grants) → Laws code grants → Laws code grants' → SendsAreAlike code grants grants'
 sends_alike code grants grants' laws laws' pairs receiver other sel arguments others count first second valid valid' may idle alike =
     let may' = may_begin_too code pairs receiver other sel arguments others first second may idle alike.0 in
@@ -393,8 +403,11 @@ sends_alike code grants grants' laws laws' pairs receiver other sel arguments ot
     let g = given code grants grants' pairs receiver other sel arguments others first second valid valid' may may' alike in
     let h = reached code grants grants' pairs receiver other sel arguments others first second valid valid' may may' alike in
     let h' = reached' code grants grants' pairs receiver other sel arguments others first second valid valid' may may' alike in
+    let used = same_use R (progress_of first) (progress_of second) (progress_of one) (progress_of two) a alike.0.steps (idle_world code grants first valid may.idle).world.lawful.within.steps
+    (idle_world code grants' second valid' may'.idle).world.lawful.within.steps worlds.0.world.lawful.within.steps worlds.1.world.lawful.within.steps in
     record {
       prints = record { bytes = a.printed; one_is = a.prints; two_is = a.other_prints };
+      uses = record { steps = used; cells = omega (arith, a.size, a.other_size); depth = a.depth };
       grows = omega (arith, a.size);
       still = same_still R (progress_of first) (progress_of second) pairing code grants grants' laws laws' one two p;
       ends = λ after on. endings_alike code grants grants' pairs (receiver ∷ arguments) (other ∷ others) first second alike.0 pairing (r, g) one two p worlds.0 worlds.1 a after on one two p worlds.0.done;

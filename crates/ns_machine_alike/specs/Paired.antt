@@ -271,9 +271,11 @@ module _ (Pair : ℕ → ℕ → Type 0) (first second : Progress) where
 
   -- Two states are paired: they stand at the same place, with paired frames, and have done the same.
   abbrev pub StatePaired : State → State → Type 0
-  StatePaired (Going phase frames progress) (Going phase' frames' progress') = PhasePaired phase phase' × FramesPaired frames frames' × Abreast progress progress'
+  StatePaired (Going phase frames progress) (Going phase' frames' progress') =
+      PhasePaired phase phase' × FramesPaired frames frames' × Abreast progress progress'
   StatePaired (Pends phase pending frames progress) (Pends phase' pending' frames' progress') =
       PhasePaired phase phase' × PendingPaired pending pending' × FramesPaired frames frames' × Abreast progress progress'
-  StatePaired (Ended ending phase progress) (Ended ending' phase' progress') = EndingPaired Pair ending ending' × PhasePaired phase phase' × Abreast progress progress'
+  StatePaired (Ended ending phase progress) (Ended ending' phase' progress') =
+      EndingPaired Pair ending ending' × PhasePaired phase phase' × Abreast progress progress'
   StatePaired (Stuck progress) (Stuck progress') = Abreast progress progress'
   StatePaired state other = ⊥
