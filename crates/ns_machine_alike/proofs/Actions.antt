@@ -1,5 +1,5 @@
 -- The actions of a run that make instances and classes, begin bodies and end them keep two runs paired.
-use Rattle.std.proofs.Common.{◌≡◌, ℕ, ◌-◌, List, [], ◌∷◌, Option, Some, None, Bool, true, false, cond, refl, sym, ap, ◌∙◌, subst, replicate, arith}
+use Rattle.std.proofs.Common.{◌≡◌, ℕ, ◌-◌, List, [], ◌∷◌, Option, Some, None, false, cond, refl, ap, ◌∙◌, subst, replicate, arith}
 use Rattle.std.specs.Prelude.{◌==◌, codes, length, nat_lt}
 use Rattle.std.specs.Str.{bytes_eq}
 use Rattle.ns_code.specs.declared.program.CodeProgram.{CodeProgram}
@@ -15,13 +15,13 @@ use Rattle.ns_world.specs.declared.ending.Kind.TheVariants as kind
 use Rattle.ns_world.specs.declared.ending.LimitKind.TheVariants.{Cells, Depth}
 use Rattle.ns_world.specs.declared.cell.NewCell.{NewCell}
 use Rattle.ns_world.specs.declared.cell.NewCell.TheVariants as new
-use Rattle.ns_world.specs.Cell.{Cell, ObjectCell, EnvironmentCell, ClassCell}
+use Rattle.ns_world.specs.Cell.{Cell, ObjectCell, EnvironmentCell}
 use Rattle.ns_world.specs.Heap.{Heap, heap_size, find_cell, superclass_in, word_at, is_class, chain_of}
-use Rattle.ns_world.specs.Layout.{declaration_of, layout_of, entry_word, entries_above}
-use Rattle.ns_world.specs.World.{World, made, entered, written}
+use Rattle.ns_world.specs.Layout.{declaration_of, layout_of, entry_word}
+use Rattle.ns_world.specs.World.{made, entered, written}
 use Rattle.ns_classes.specs.declared.apply.MakeFault.{MakeFault}
 use Rattle.ns_classes.specs.declared.apply.MakeFault.TheVariants.{NotAClass, ChainLimit}
-use Rattle.ns_classes.specs.Apply.{class_fault, class_cell, kernel_fault, chain_fault, declared_fault}
+use Rattle.ns_classes.specs.Apply.{class_fault, class_cell, chain_fault}
 use Rattle.ns_classes.specs.Nested.{kept_in, kept_class, nested_entry}
 use Rattle.ns_actions.specs.Suiting.{is_reference}
 use Rattle.ns_actions.specs.Control.{Progress, in_world, Activation, Exit, FromMethod, FromBody, FromClause, After, Gives, Halts, Enter, Skip, Stop, EnterPart, halts, charged, frame_left}
@@ -30,10 +30,11 @@ use Rattle.ns_kdata.specs.Rows.{stored}
 use Rattle.ns_actions.specs.declared.site.Site.{Site}
 use Rattle.ns_actions.specs.Bodies.{no_home, first_locals, opened, has_environment, locals_of, parameters_of, initialiser_of, clause_of}
 use Rattle.ns_actions.specs.Classes.{class_made, mixed, keeping, newly_kept, kept_or, class_over, head, nested, instance, super_selector, factory_selector, declared_part, object_part, part_of, super_part, slot_filled, body_ended}
-use Rattle.ns_machine_alike.specs.Paired.{IsPairing, HomePaired, Homeless, Paired, Partners, Same, AllPaired, NumberPaired, NumbersPaired, EndingPaired, CellPaired, HeapPaired, Abreast, ActivationPaired, ExitPaired, AfterPaired, ControlPaired, PartPaired}
+use Rattle.ns_machine_alike.specs.Paired.{IsPairing, Homeless, Paired, Partners, Same, AllPaired, NumberPaired, NumbersPaired, EndingPaired, CellPaired, HeapPaired, Abreast, ActivationPaired, ExitPaired, AfterPaired, ControlPaired, PartPaired}
 use Rattle.ns_machine_alike.proofs.Values.{cond_so, all_append, all_nil}
-use Rattle.ns_machine_alike.proofs.Keeping.{NoBoard, faulted, frame_charged, cell_charged, left_abreast, written_abreast}
-use Rattle.ns_machine_alike.proofs.Reading.{ShapePaired, word_at_paired, superclass_paired, same_class, same_declaration, same_layout, same_entry, same_above}
+use Rattle.ns_machine_alike.proofs.Charging.{faulted, frame_charged, left_abreast}
+use Rattle.ns_machine_alike.proofs.Keeping.{NoBoard, cell_charged, written_abreast}
+use Rattle.ns_machine_alike.proofs.Reading.{ShapePaired, word_at_paired, superclass_paired, same_class, same_declaration, same_layout, same_entry}
 use Rattle.ns_machine_alike.proofs.Rows.{stored_abreast}
 
 -- an error ends both with the same

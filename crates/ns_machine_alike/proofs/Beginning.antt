@@ -1,6 +1,6 @@
 -- A host may make the send also in a machine that is alike.
-use Rattle.std.proofs.Common.{◌≡◌, ℕ, zero, suc, List, [], ◌∷◌, length, Option, Some, None, true, false, refl, sym, ap, ◌∙◌, subst, arith}
-use Rattle.std.specs.Prelude.{Contains, IsSome, is_some, IsTrue, All}
+use Rattle.std.proofs.Common.{◌≡◌, ℕ, suc, List, [], ◌∷◌, length, Some, true, refl, sym, ap, ◌∙◌, subst, arith}
+use Rattle.std.specs.Prelude.{Contains, is_some, IsTrue, All}
 use Rattle.std.proofs.lemmas.List.Elements.{All-nil, All-cons}
 use Rattle.ns_base.specs.declared.selector.Sel.{Sel}
 use Rattle.ns_code.specs.declared.program.CodeProgram.{CodeProgram}
@@ -17,9 +17,10 @@ use Rattle.ns_machine_reach.specs.Within.{In, AllIn}
 use Rattle.ns_machine_reach.specs.Reached.{InReach}
 use Rattle.ns_machine_moves.specs.State.{State, is_idle, world_of}
 use Rattle.ns_machine_moves.specs.Beginning.{MayBegin}
-use Rattle.ns_machine_alike.proofs.Starting.{reach_there, first_once, roots_reached, in_roots, all_in_roots}
+use Rattle.ns_machine_alike.proofs.There.{roots_reached}
+use Rattle.ns_machine_reach.specs.laws.Holding.{all_in_from}
 
--- an alike cell is an environment in both
+-- of two alike cells each may receive a send, or neither
 receiver_alike : (pairs : Renaming) (one two : Cell) → AlikeCell pairs one two → is_receiver_cell (Some one) ≡ true → is_receiver_cell (Some two) ≡ true
 receiver_alike pairs (ObjectCell class entries) (ObjectCell class' entries') c e = refl
 receiver_alike pairs (ClassCell decl base encl holder over) (ClassCell decl' base' encl' holder' over') c e = refl
@@ -67,17 +68,16 @@ same_count pairs (value ∷ values) [] c = absurd c
 pub may_begin_too : (code : CodeProgram) (pairs : Renaming) (receiver other : Value) (sel : Sel) (arguments others : List Value) (first second : State) → MayBegin code receiver sel arguments first → IsTrue (is_idle second)
     → Alike pairs (world_of first) (world_of second) (receiver ∷ arguments) (other ∷ others) → MayBegin code other sel others second
 may_begin_too code pairs receiver other sel arguments others first second may idle alike =
-    let roots = roots_reached (world_of first).cells (all_referred (receiver ∷ arguments)) in
-    let parts = in_roots (InReach (world_of first).cells (all_referred (receiver ∷ arguments))) receiver arguments roots in
+    let reached = all_in_from (InReach (world_of first).cells (all_referred (receiver ∷ arguments))) (receiver ∷ arguments) (roots_reached (world_of first).cells (all_referred (receiver ∷ arguments))) in
     let count = same_count pairs arguments others alike.roots.1 in
     record {
       idle = idle;
-      live = live_too pairs code (world_of first) (world_of second) (receiver ∷ arguments) (other ∷ others) alike receiver other alike.roots.0 parts.0 may.live;
+      live = live_too pairs code (world_of first) (world_of second) (receiver ∷ arguments) (other ∷ others) alike receiver other alike.roots.0 reached.0 may.live;
       fits = record {
         selector = may.fits.selector;
         arity = sym count ∙ may.fits.arity;
         live = all_live_too pairs code (world_of first) (world_of second) (receiver ∷ arguments) (other ∷ others) alike arguments others alike.roots.1
-            (all_in_roots (InReach (world_of first).cells (all_referred (receiver ∷ arguments))) arguments parts.1) may.fits.live;
+            reached.1 may.fits.live;
       };
       few = omega (arith, count, may.few);
     }

@@ -1,20 +1,18 @@
 -- Blocks, and the methods of the kernel that evaluate them, keep two runs paired.
-use Rattle.std.proofs.Common.{◌≡◌, ℕ, ℤ, pos, List, [], ◌∷◌, length, Option, Some, None, Bool, true, false, cond, refl, sym, ap, ◌∙◌, subst}
+use Rattle.std.proofs.Common.{◌≡◌, ℕ, ℤ, pos, List, [], ◌∷◌, length, Option, Some, None, true, false, cond, refl, ap, ◌∙◌, subst}
 use Rattle.std.specs.Prelude.{◌==◌, nat_lt, int_lt, unsigned_abs, ◌+ℤ◌, ◌&&◌}
 use Rattle.std.specs.Int.{w64, saturate_signed}
 use Rattle.std.specs.Ordering.{int_eq}
 use Rattle.ns_code.specs.declared.program.CodeProgram.{CodeProgram}
 use Rattle.ns_world.specs.declared.value.Value.{Value}
 use Rattle.ns_world.specs.declared.value.Value.TheVariants.{Nil, True, False, Int, Sym, Kernel, Ref}
-use Rattle.ns_world.specs.declared.ending.Ending.TheVariants.{Limit}
-use Rattle.ns_world.specs.declared.ending.Kind.{Kind}
-use Rattle.ns_world.specs.declared.ending.Kind.TheVariants.{WrongArity, WrongKind, MustBeBoolean}
-use Rattle.ns_world.specs.declared.ending.LimitKind.TheVariants.{Steps, Depth, Cells}
+use Rattle.ns_world.specs.declared.ending.Kind.TheVariants.{WrongArity, WrongKind}
+use Rattle.ns_world.specs.declared.ending.LimitKind.TheVariants.{Steps, Depth}
 use Rattle.ns_world.specs.declared.cell.NewCell.{NewCell}
 use Rattle.ns_world.specs.declared.cell.NewCell.TheVariants as new
 use Rattle.ns_world.specs.Cell.{Cell, BlockCell, ArrayCell, TextCell}
 use Rattle.ns_world.specs.Heap.{Heap, heap_size}
-use Rattle.ns_world.specs.World.{made, stepped, entered}
+use Rattle.ns_world.specs.World.{stepped, entered}
 use Rattle.ns_kdata.specs.Arguments.{items_of, is_array, is_array_shape, shape_of_value}
 use Rattle.ns_kcode.specs.declared.state.KMethod.{KMethod}
 use Rattle.ns_kcode.specs.declared.state.KMethod.TheVariants as method
@@ -26,12 +24,13 @@ use Rattle.ns_kcode.specs.Rows.{beginning}
 use Rattle.ns_actions.specs.declared.site.Site.{Site}
 use Rattle.ns_actions.specs.Site.{error}
 use Rattle.ns_actions.specs.Suiting.{is_reference}
-use Rattle.ns_actions.specs.Control.{Progress, Activation, FromBody, After, Gives, Halts, Control, Enter, Evaluate, Begin, Waiting, Waits, Finishes, halts, fails, charged, frame_left}
+use Rattle.ns_actions.specs.Control.{Progress, Activation, FromBody, Gives, Halts, Enter, Evaluate, Begin, Waits, Finishes, halts, fails, charged}
 use Rattle.ns_actions.specs.Bodies.{parameters_of, opened}
-use Rattle.ns_actions.specs.Blocks.{new_cell, new_block, new_text, new_array, is_block_shape, is_block, block_body_in, block_arity, block_entered, evaluated, value_with_arguments, is_integer, has_arguments, turns_of, method_begun, listed, waiting, item_at, acted, turned, method_next, taken}
+use Rattle.ns_actions.specs.Blocks.{new_cell, new_block, new_text, new_array, is_block_shape, is_block, block_body_in, block_arity, block_entered, evaluated, value_with_arguments, is_integer, has_arguments, turns_of, method_begun, listed, waiting, item_at, acted, method_next, taken}
 use Rattle.ns_machine_alike.specs.Paired.{IsPairing, Paired, Partners, Same, AllPaired, MaybePaired, EndingPaired, CellPaired, HeapPaired, KStatePaired, Abreast, ActivationPaired, AfterPaired, ControlPaired, WaitingPaired}
 use Rattle.ns_machine_alike.proofs.Values.{cond_so, at_index, same_length}
-use Rattle.ns_machine_alike.proofs.Keeping.{NoBoard, step_charged, frame_charged, cell_charged, left_abreast}
+use Rattle.ns_machine_alike.proofs.Charging.{step_charged, frame_charged, left_abreast}
+use Rattle.ns_machine_alike.proofs.Keeping.{NoBoard, cell_charged}
 use Rattle.ns_machine_alike.proofs.Reading.{ShapePaired, value_shape_paired, items_paired}
 use Rattle.ns_machine_alike.proofs.Actions.{same_error, opened_paired}
 

@@ -1,32 +1,20 @@
 -- Two runs that are paired have come to alike states.
-use Rattle.std.proofs.Common.{◌≡◌, ◌≢◌, ◌⊎◌, inl, inr, ℕ, zero, suc, ◌+◌, ◌-◌, ◌<◌, ◌≤◌, List, [], ◌∷◌, ◌++◌, length, Option, Some, None, Bool, true, false, cond, refl, sym, ap, ◌∙◌, subst, arith}
-use Rattle.std.specs.Prelude.{Contains, IsSome, is_some, ◌==◌}
-use Rattle.ns_base.specs.declared.limits.Limits.{Limits}
-use Rattle.ns_code.specs.declared.program.CodeProgram.{CodeProgram}
-use Rattle.ns_facets.specs.declared.row.Grants.{Grants}
+use Rattle.std.proofs.Common.{◌≡◌, ◌⊎◌, inl, inr, ℕ, ◌≤◌, List, [], ◌∷◌, Option, Some, None, false, refl, sym, subst, arith}
+use Rattle.std.specs.Prelude.{Contains, IsSome}
 use Rattle.ns_world.specs.declared.value.Value.{Value}
 use Rattle.ns_world.specs.declared.value.Value.TheVariants.{Nil, True, False, Int, Sym, Kernel, Ref}
 use Rattle.ns_world.specs.declared.cell.FacetKind.{FacetKind}
 use Rattle.ns_world.specs.declared.cell.FacetKind.TheVariants.{Manifest, Platform, Console, Mirrors, Kernel as KernelFacet, Board}
-use Rattle.ns_world.specs.declared.ending.Ending.{Ending}
-use Rattle.ns_world.specs.declared.ending.Ending.TheVariants.{Done, Error, Limit}
 use Rattle.ns_world.specs.Cell.{Cell, ObjectCell, ClassCell, BlockCell, EnvironmentCell, ArrayCell, TextCell, FacetCell, MirrorCell, MessageCell}
 use Rattle.ns_world.specs.Heap.{Heap, heap_size, find_cell, no_class}
 use Rattle.ns_world.specs.Seek.{first_such, is_facet, is_top}
-use Rattle.ns_world.specs.Reach.{Reach, IsRoot, IsHeld, held, referred, all_referred}
-use Rattle.ns_world.specs.World.{World}
-use Rattle.ns_world.specs.Lawful.{IsLawful}
-use Rattle.ns_world.specs.Alike.{Renaming, AlikeValue, AlikeValues, AlikeClass, AlikeNumber, AlikeCell, AlikeHeld, AlikePairs, Alike}
-use Rattle.ns_world.specs.laws.Chains.{found_below}
-use Rattle.ns_world.specs.laws.Firsts.{found_past}
-use Rattle.ns_kdata.specs.Arguments.{IsThere}
+use Rattle.ns_world.specs.Reach.{Reach, IsRoot, IsHeld, held, all_referred}
 use Rattle.ns_actions.specs.Suiting.{is_reference}
 use Rattle.ns_actions.specs.Control.{Progress}
-use Rattle.ns_machine_reach.specs.Within.{In, AllIn, NumberIn, CellIn, IsGranted as WithinGranted}
-use Rattle.ns_machine_reach.proofs.Reaching.{AllHave, each_has, has_each, cell_from, from_cell}
-use Rattle.ns_machine_alike.specs.Paired.{IsPairing, IsGranted, Paired, Partners, Same, AllPaired, NumberPaired, FacetPaired, CellPaired, MaybeCellPaired, HeapPaired, Abreast}
-use Rattle.ns_machine_alike.specs.Isolated.{SendPair, Earlier, Made, NoClass, RenamesOn}
-use Rattle.ns_machine_alike.proofs.Starting.{reach_there, first_once, second_once, there_below, AllThere, ClassThere, CellThere, cell_there, first_there}
+use Rattle.ns_machine_reach.specs.Within.{In, AllIn, NumberIn, CellIn}
+use Rattle.ns_machine_reach.specs.laws.Holding.{each_has, has_each, all_in_from, from_all_in, cell_from, from_cell}
+use Rattle.ns_machine_alike.specs.Paired.{IsPairing, Paired, Partners, Same, AllPaired, NumberPaired, FacetPaired, CellPaired, MaybeCellPaired, HeapPaired}
+use Rattle.ns_machine_alike.proofs.There.{there_below}
 
 -- ---- what a cell holds has partners that the other holds
 
@@ -61,17 +49,9 @@ module _ (Pair : ℕ → ℕ → Type 0) (first second : Progress) where
     forth_number (Some n) None p i = absurd p
     forth_number None (Some m) p i = absurd p
 
-    granted_in : (kind : FacetKind) → WithinGranted kind → IsGranted kind
-    granted_in Manifest g = absurd g
-    granted_in Platform g = absurd g
-    granted_in Console g = tt
-    granted_in Mirrors g = tt
-    granted_in KernelFacet g = tt
-    granted_in Board g = tt
-
     forth_facet : (heap other : Heap) (kind : FacetKind) → FacetPaired Pair heap other kind → CellIn Has other (FacetCell kind) → CellIn Forth heap (FacetCell kind)
     forth_facet heap other Manifest p i = λ decl. forth_number (first_such (is_top decl) heap) (first_such (is_top decl) other) (p decl) (i decl)
-    forth_facet heap other Platform p i = λ kind g. forth_number (first_such (is_facet kind) heap) (first_such (is_facet kind) other) (p kind (granted_in kind g)) (i kind g)
+    forth_facet heap other Platform p i = λ kind g. forth_number (first_such (is_facet kind) heap) (first_such (is_facet kind) other) (p kind g) (i kind g)
     forth_facet heap other Console p i = tt
     forth_facet heap other Mirrors p i = tt
     forth_facet heap other KernelFacet p i = tt
@@ -120,7 +100,7 @@ module _ (Pair : ℕ → ℕ → Type 0) (first second : Progress) where
 
     back_facet : (heap other : Heap) (kind : FacetKind) → FacetPaired Pair heap other kind → CellIn Has heap (FacetCell kind) → CellIn Back other (FacetCell kind)
     back_facet heap other Manifest p i = λ decl. back_number (first_such (is_top decl) heap) (first_such (is_top decl) other) (p decl) (i decl)
-    back_facet heap other Platform p i = λ kind g. back_number (first_such (is_facet kind) heap) (first_such (is_facet kind) other) (p kind (granted_in kind g)) (i kind g)
+    back_facet heap other Platform p i = λ kind g. back_number (first_such (is_facet kind) heap) (first_such (is_facet kind) other) (p kind g) (i kind g)
     back_facet heap other Console p i = tt
     back_facet heap other Mirrors p i = tt
     back_facet heap other KernelFacet p i = tt
@@ -137,20 +117,6 @@ module _ (Pair : ℕ → ℕ → Type 0) (first second : Progress) where
     back_cell heap other (MirrorCell mirrored) (MirrorCell mirrored') p i = back_value mirrored mirrored' p i
     back_cell heap other (MessageCell sel args) (MessageCell sel' args') p i = back_value args args' p.1 i
     back_cell heap other cell cell' p i = absurd p
-
-    -- roots
-    from_value : (H : ℕ → Type 0) (value : Value) (values : List Value) → In H value → AllHave H (all_referred values) → AllHave H (all_referred (value ∷ values))
-    from_value H (Ref at) values i all = (i, all)
-    from_value H Nil values i all = all
-    from_value H True values i all = all
-    from_value H False values i all = all
-    from_value H (Int number) values i all = all
-    from_value H (Sym sel) values i all = all
-    from_value H (Kernel class) values i all = all
-
-    pub from_values : (H : ℕ → Type 0) (values : List Value) → AllIn H values → AllHave H (all_referred values)
-    from_values H [] i = tt
-    from_values H (value ∷ values) i = from_value H value values i.0 (from_values H values i.1)
 
 -- ---- reaches
 
@@ -224,30 +190,19 @@ module _ (Pair : ℕ → ℕ → Type 0) (first second : Progress) (pairing : Is
       (from_cell (Back Pair first second (Among (held heap cell))) other cell'
       (back_cell Pair first second (Among (held heap cell)) heap other cell cell' p (cell_from (Among (held heap cell)) heap cell (inr refl) (each_has (Among (held heap cell)) (held heap cell) (λ n d. inl d))))) c)
 
-  -- what roots refer to is in a set
-  all_in_from : (H : ℕ → Type 0) (values : List Value) → AllHave H (all_referred values) → AllIn H values
-  all_in_from H [] all = tt
-  all_in_from H (Ref at ∷ values) all = (all.0, all_in_from H values all.1)
-  all_in_from H (Nil ∷ values) all = (tt, all_in_from H values all)
-  all_in_from H (True ∷ values) all = (tt, all_in_from H values all)
-  all_in_from H (False ∷ values) all = (tt, all_in_from H values all)
-  all_in_from H (Int number ∷ values) all = (tt, all_in_from H values all)
-  all_in_from H (Sym sel ∷ values) all = (tt, all_in_from H values all)
-  all_in_from H (Kernel class ∷ values) all = (tt, all_in_from H values all)
-
   module _ (roots others : List Value) (paired : AllPaired Pair roots others) where
     root_forth : (n : ℕ) → Contains (all_referred roots) n → IsSome (find_cell heap n) → (m : ℕ) × Pair n m × Contains (all_referred others) m
     root_forth n c s =
         among_held (all_referred others) n s
         (has_each (Forth Pair first second (Among (all_referred others))) (all_referred roots) n
-        (from_values Pair first second (Among (all_referred others)) (Forth Pair first second (Among (all_referred others))) roots
+        (from_all_in (Forth Pair first second (Among (all_referred others))) roots
         (forth_values Pair first second (Among (all_referred others)) roots others paired (all_in_from (Among (all_referred others)) others (each_has (Among (all_referred others)) (all_referred others) (λ m d. inl d))))) c)
 
     root_back : (m : ℕ) → Contains (all_referred others) m → IsSome (find_cell other m) → (n : ℕ) × Pair n m × Contains (all_referred roots) n
     root_back m c s =
         among_held_back (all_referred roots) m s
         (has_each (Back Pair first second (Among (all_referred roots))) (all_referred others) m
-        (from_values Pair first second (Among (all_referred roots)) (Back Pair first second (Among (all_referred roots))) others
+        (from_all_in (Back Pair first second (Among (all_referred roots))) others
         (back_values Pair first second (Among (all_referred roots)) roots others paired (all_in_from (Among (all_referred roots)) roots (each_has (Among (all_referred roots)) (all_referred roots) (λ n d. inl d))))) c)
 
     -- each cell that is reached has a partner that is

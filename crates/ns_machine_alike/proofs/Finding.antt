@@ -1,5 +1,5 @@
 -- Lookups from paired starts find the same members, of partners; and sites name the same classes.
-use Rattle.std.proofs.Common.{◌≡◌, ℕ, ◌+◌, List, [], ◌∷◌, ◌++◌, Option, Some, None, Bool, true, false, cond, refl, sym, ap, ◌∙◌, subst}
+use Rattle.std.proofs.Common.{◌≡◌, ℕ, ◌+◌, List, [], ◌∷◌, ◌++◌, Option, Some, None, Bool, false, cond, refl, ap, ◌∙◌, subst}
 use Rattle.std.specs.Prelude.{◌==◌, ◌&&◌, is_none, is_some, unwrap_or, slice_get, codes}
 use Rattle.std.specs.Option.{option_map_or}
 use Rattle.ns_base.specs.declared.place.Place.{Place as SourcePlace}
@@ -12,7 +12,6 @@ use Rattle.ns_code.specs.declared.class.MethodCode.{MethodCode}
 use Rattle.ns_code.specs.Access.{public_access}
 use Rattle.ns_world.specs.declared.value.Value.{Value}
 use Rattle.ns_world.specs.declared.value.Value.TheVariants.{Nil, True, False, Int, Sym, Kernel, Ref}
-use Rattle.ns_world.specs.declared.value.KClass.{KClass}
 use Rattle.ns_world.specs.declared.value.KClass.TheVariants as kernel_class
 use Rattle.ns_world.specs.declared.kernel.Start.{Start}
 use Rattle.ns_world.specs.declared.kernel.Start.TheVariants as start
@@ -25,8 +24,8 @@ use Rattle.ns_world.specs.declared.cell.NewCell.TheVariants as new
 use Rattle.ns_world.specs.Cell.{Cell, ObjectCell, ClassCell, BlockCell, EnvironmentCell, ArrayCell, TextCell, FacetCell, MirrorCell, MessageCell, shape_of}
 use Rattle.ns_world.specs.Heap.{Heap, chain_of, superclass_of, no_class}
 use Rattle.ns_world.specs.Seek.{first_such, is_facet, is_top}
-use Rattle.ns_world.specs.Starts.{start_of, start_of_cell, facet_row, kernel_class_row, class_name_at, class_name_of}
-use Rattle.ns_world.specs.Layout.{declaration_of, entry_word}
+use Rattle.ns_world.specs.Starts.{start_of, start_of_cell, facet_row, class_name_at, class_name_of}
+use Rattle.ns_world.specs.Layout.{declaration_of}
 use Rattle.ns_find.specs.declared.found.Found.{Found}
 use Rattle.ns_find.specs.declared.found.Found.TheVariants as found
 use Rattle.ns_find.specs.declared.found.Sending.{Sending}
@@ -35,7 +34,7 @@ use Rattle.ns_find.specs.declared.members.Side.{Side}
 use Rattle.ns_find.specs.declared.members.Side.TheVariants.{Instance as InstanceSide, Class as ClassSide}
 use Rattle.ns_find.specs.declared.members.Wanted.{Wanted}
 use Rattle.ns_find.specs.declared.members.Wanted.TheVariants.{Visible, Private}
-use Rattle.ns_find.specs.Members.{Member, Numbered, is_named, allowed, search, slot_members, slots_members, nested_members, method_members, side_members, holder_members, members_along, factory_member}
+use Rattle.ns_find.specs.Members.{Member, Numbered, is_named, allowed, search, slots_members, nested_members, method_members, side_members, holder_members, members_along, factory_member}
 use Rattle.ns_find.specs.Rows as rows
 use Rattle.ns_find.specs.Find.{members_from, found_from, found_private, super_start}
 use Rattle.ns_actions.specs.Suiting.{is_reference}

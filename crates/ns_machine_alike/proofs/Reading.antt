@@ -1,25 +1,22 @@
 -- What is read of partners is paired: shapes, words, elements, bytes, superclasses, and the places of entries.
-use Rattle.std.proofs.Common.{◌≡◌, ℕ, ◌+◌, List, [], ◌∷◌, length, Option, Some, None, Bool, true, false, cond, refl, sym, ap, ◌∙◌, subst}
-use Rattle.std.specs.Prelude.{◌==◌}
+use Rattle.std.proofs.Common.{◌≡◌, ℕ, ◌+◌, List, [], ◌∷◌, length, Option, Some, None, false, refl, ap}
 use Rattle.std.specs.Option.{option_map_or}
 use Rattle.ns_code.specs.declared.program.CodeProgram.{CodeProgram}
 use Rattle.ns_world.specs.declared.value.Value.{Value}
 use Rattle.ns_world.specs.declared.value.Value.TheVariants.{Nil, True, False, Int, Sym, Kernel, Ref}
-use Rattle.ns_world.specs.declared.cell.FacetKind.TheVariants.{Manifest}
 use Rattle.ns_world.specs.declared.cell.NewCell.{NewCell}
 use Rattle.ns_world.specs.declared.cell.NewCell.TheVariants as new
 use Rattle.ns_world.specs.declared.kernel.Start.{Start}
 use Rattle.ns_world.specs.declared.kernel.Start.TheVariants as start
 use Rattle.ns_world.specs.Cell.{Cell, ObjectCell, ClassCell, BlockCell, EnvironmentCell, ArrayCell, TextCell, FacetCell, MirrorCell, MessageCell, cell_words, cell_bytes, shape_of}
-use Rattle.ns_world.specs.Heap.{Heap, find_cell, chain_of, chain_above, shape_at, words_at, word_at, bytes_at, superclass_in, superclass_of, declared_class, no_class, is_class}
-use Rattle.ns_world.specs.Starts.{start_of, start_of_cell, declaration_in, class_name_at, class_name_of}
-use Rattle.ns_world.specs.Layout.{declaration_of, entries_of, entries_along, layout_of, layout_above, entries_above, entry_word}
-use Rattle.ns_kdata.specs.Arguments.{items_of, array_items, argument, shape_of_value, bytes_of}
+use Rattle.ns_world.specs.Heap.{Heap, find_cell, chain_of, shape_at, words_at, word_at, superclass_in, superclass_of, declared_class, is_class}
+use Rattle.ns_world.specs.Starts.{declaration_in}
+use Rattle.ns_world.specs.Layout.{declaration_of, entries_of, entries_along, layout_of, entries_above, entry_word}
+use Rattle.ns_kdata.specs.Arguments.{items_of, array_items, shape_of_value, bytes_of}
 use Rattle.ns_actions.specs.Suiting.{is_reference}
 use Rattle.ns_actions.specs.Control.{Progress}
 use Rattle.ns_machine_alike.specs.Paired.{IsPairing, HomePaired, Paired, Partners, Same, AllPaired, NumbersPaired, CellPaired, MaybeCellPaired, HeapPaired}
 use Rattle.ns_machine_alike.proofs.Values.{words_paired, at_index, same_length}
-use Rattle.ns_machine_alike.proofs.Keeping.{same_number}
 
 module _ (Pair : ℕ → ℕ → Type 0) (first second : Progress) (pairing : IsPairing Pair first.world second.world) where
   -- ---- shapes and words

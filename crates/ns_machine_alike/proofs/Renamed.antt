@@ -1,21 +1,20 @@
 -- A renaming goes on with the pairs of the cells that were there, and of those that were made since.
 use Rattle.std.proofs.lemmas.Bool.Decides.{leb_tells}
-use Rattle.std.proofs.Common.{◌≡◌, ◌≢◌, ◌⊎◌, inl, inr, ℕ, zero, suc, ◌+◌, ◌-◌, ◌<◌, ◌≤◌, List, [], ◌∷◌, ◌++◌, length, Option, Some, None, Bool, true, false, cond, refl, sym, ap, ◌∙◌, subst, arith}
-use Rattle.std.specs.Prelude.{Contains, IsSome, All, nat_lt, ◌==◌, ◌&&◌}
-use Rattle.std.specs.List.{AllPairs, filter, slice_index_or}
+use Rattle.std.proofs.Common.{◌≡◌, ◌≢◌, ◌⊎◌, inl, inr, ℕ, zero, suc, ◌+◌, ◌-◌, ◌<◌, ◌≤◌, List, [], ◌∷◌, ◌++◌, Some, Bool, true, false, cond, refl, sym, ap, ◌∙◌, arith}
+use Rattle.std.specs.Prelude.{Contains, IsSome, All, nat_lt, ◌==◌}
+use Rattle.std.specs.List.{AllPairs, filter}
 use Rattle.std.proofs.lemmas.Bool.{eqb-true, ltb-true, lt-ltb}
 use Rattle.std.proofs.lemmas.List.Elements.{All-nil, All-cons, Contains-append_right}
 use Rattle.std.proofs.lemmas.List.Kept.{AllPairs-filter, AllPairs-cons}
-use Rattle.ns_world.specs.Cell.{Cell, cell_size}
 use Rattle.ns_world.specs.Heap.{Heap, heap_size, find_cell}
-use Rattle.ns_world.specs.Reach.{Reach, all_referred}
+use Rattle.ns_world.specs.Reach.{all_referred}
 use Rattle.ns_world.specs.World.{World}
 use Rattle.ns_world.specs.Alike.{Renaming, Alike}
 use Rattle.ns_world.specs.laws.Chains.{both_of, size_above}
 use Rattle.ns_world.specs.declared.value.Value.{Value}
 use Rattle.ns_machine_alike.specs.Renamed.{made_pairs, was_there, renamed_on}
 use Rattle.ns_machine_alike.specs.Isolated.{RenamesOn}
-use Rattle.ns_machine_alike.proofs.Starting.{reach_there, there_below}
+use Rattle.ns_machine_alike.proofs.There.{reach_there, there_below}
 
 -- ---- lists that are filtered
 

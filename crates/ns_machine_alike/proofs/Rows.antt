@@ -1,6 +1,6 @@
--- The rows of data and of Integer answer paired values to paired receivers and arguments, and keep two runs abreast.
-use Rattle.std.proofs.Common.{◌≡◌, ℕ, ℤ, pos, List, [], ◌∷◌, ◌++◌, length, Option, Some, None, Bool, true, false, cond, refl, sym, ap, ◌∙◌, subst, replicate}
-use Rattle.std.specs.Prelude.{Result, Ok, Err, int_lt, int_le, neg_ℤ, ◌+ℤ◌, ◌-ℤ◌, ◌*ℤ◌, bit_and, bit_or, bit_xor, ◌||◌, ◌==◌, not, codes, unsigned_abs, is_some}
+-- The rows of values, texts, symbols, arrays and messages answer paired values and leave the runs abreast.
+use Rattle.std.proofs.Common.{◌≡◌, ℕ, ℤ, pos, List, [], ◌++◌, length, Option, Some, None, false, cond, refl, ap, ◌∙◌, subst, replicate}
+use Rattle.std.specs.Prelude.{Result, Ok, Err, int_lt, ◌||◌, not, codes, unsigned_abs, is_some}
 use Rattle.std.specs.Fmt.{signed_decimal}
 use Rattle.std.specs.Str.{bytes_eq}
 use Rattle.ns_base.specs.Quoted.{quoted}
@@ -17,10 +17,6 @@ use Rattle.ns_world.specs.Cell.{Cell, ObjectCell, ArrayCell, TextCell}
 use Rattle.ns_world.specs.Heap.{Heap, heap_size, no_class}
 use Rattle.ns_world.specs.World.{World, made}
 use Rattle.ns_world.specs.Booleans.{truth}
-use Rattle.ns_kint.specs.Integer.{integer, is_integer, fitting, integer_of, divisor_of, given, same_integer, on_bits}
-use Rattle.ns_kint.specs.Division.{floored_quotient, floored_remainder}
-use Rattle.ns_kint.specs.declared.row.IntRow.{IntRow}
-use Rattle.ns_kint.specs.declared.row.IntRow.TheVariants as int
 use Rattle.ns_kdata.specs.Outcome.{Outcome, Answers, Fails, making, made_as, unchanged, wrong_kind, out_of_range}
 use Rattle.ns_kdata.specs.declared.arguments.Part.{Part}
 use Rattle.ns_kdata.specs.Arguments.{argument, items_of, shape_of_value, is_text, is_text_shape, is_message, is_message_shape, bytes_of, symbol_text, number_of, place_in, part_in}
@@ -31,86 +27,16 @@ use Rattle.ns_kdata.specs.declared.row.DataRow.{DataRow}
 use Rattle.ns_kdata.specs.declared.row.DataRow.TheVariants as row
 use Rattle.ns_kdata.specs.Rows.{stored}
 use Rattle.ns_actions.specs.declared.site.Site.{Site}
-use Rattle.ns_actions.specs.Site.{fault_ending}
 use Rattle.ns_actions.specs.Suiting.{is_reference}
 use Rattle.ns_actions.specs.Control.{Progress, in_world}
 use Rattle.ns_actions.specs.Kernel as kernel
-use Rattle.ns_machine_alike.specs.Paired.{IsPairing, Paired, Partners, Same, AllPaired, EndingPaired, CellPaired, HeapPaired, Abreast, ControlPaired}
+use Rattle.ns_machine_alike.specs.Paired.{IsPairing, Paired, Partners, Same, AllPaired, CellPaired, Abreast, ControlPaired}
 use Rattle.ns_machine_alike.proofs.Values.{cond_so, at_index, all_nil, same_length}
-use Rattle.ns_machine_alike.proofs.Keeping.{NoBoard, faulted, same_number, same_made, made_abreast, written_abreast}
+use Rattle.ns_machine_alike.proofs.Keeping.{NoBoard, same_number, same_made, made_abreast, written_abreast}
 use Rattle.ns_machine_alike.proofs.Reading.{ShapePaired, value_shape_paired, items_paired, bytes_same}
-
--- a fault and its site
-pub same_fault : (Pair : ℕ → ℕ → Type 0) (one two : Fault) (site site' : Site) → one ≡ two → site ≡ site' → EndingPaired Pair (fault_ending one site) (fault_ending two site')
-same_fault Pair one two site site' e s = subst (λ f. EndingPaired Pair (fault_ending one site) (fault_ending f site')) e (faulted Pair one site site' s)
+use Rattle.ns_machine_alike.proofs.Integers.{same_fault, AnswerPaired, truth_paired, int_paired, same_number_of}
 
 module _ (Pair : ℕ → ℕ → Type 0) where
-  -- two answers are paired, or the same fault
-  abbrev pub AnswerPaired : Result Value Fault → Result Value Fault → Type 0
-  AnswerPaired (Ok value) (Ok value') = Paired Pair value value'
-  AnswerPaired (Ok value) (Err f') = ⊥
-  AnswerPaired (Err f) (Ok value') = ⊥
-  AnswerPaired (Err f) (Err f') = f ≡ f'
-
-  pub truth_paired : (b c : Bool) → b ≡ c → Paired Pair (truth b) (truth c)
-  truth_paired true true e = Same True refl
-  truth_paired false false e = Same False refl
-  truth_paired true false e = absurd (cc (e))
-  truth_paired false true e = absurd (cc (e))
-
-  pub int_paired : (n m : ℤ) → n ≡ m → Paired Pair (Int n) (Int m)
-  int_paired n m e = subst (λ k. Paired Pair (Int n) (Int k)) e (Same (Int n) refl)
-
-  -- ---- Integer
-
-  same_number_of : (value value' : Value) → Paired Pair value value' → number_of value ≡ number_of value'
-  same_number_of value value' (Partners n m p) = refl
-  same_number_of value value' (Same same e) = refl
-
-  fitting_self : (n : ℤ) → AnswerPaired (fitting n) (fitting n)
-  fitting_self n = cond_so AnswerPaired (is_integer n) (is_integer n) (Ok (Int n)) (Err (fault.Kind kind.Overflow)) (Ok (Int n)) (Err (fault.Kind kind.Overflow)) refl (λ t. Same (Int n) refl) (λ t. refl)
-
-  given_self : (r : Result ℤ Fault) (answer : ℤ → Result Value Fault) → ((n : ℤ) → AnswerPaired (answer n) (answer n)) → AnswerPaired (given r answer) (given r answer)
-  given_self (Ok n) answer h = h n
-  given_self (Err f) answer h = refl
-
-  integer_self : (asked : IntRow) (left : ℤ) (right : Value) → AnswerPaired (integer asked left right) (integer asked left right)
-  integer_self int.Add left right = given_self (integer_of right) (λ n. fitting (left +ℤ n)) (λ n. fitting_self (left +ℤ n))
-  integer_self int.Subtract left right = given_self (integer_of right) (λ n. fitting (left -ℤ n)) (λ n. fitting_self (left -ℤ n))
-  integer_self int.Multiply left right = given_self (integer_of right) (λ n. fitting (left *ℤ n)) (λ n. fitting_self (left *ℤ n))
-  integer_self int.Quotient left right = given_self (divisor_of right) (λ n. fitting (floored_quotient left n)) (λ n. fitting_self (floored_quotient left n))
-  integer_self int.Remainder left right = given_self (divisor_of right) (λ n. Ok (Int (floored_remainder left n))) (λ n. Same (Int (floored_remainder left n)) refl)
-  integer_self int.Less left right = given_self (integer_of right) (λ n. Ok (truth (int_lt left n))) (λ n. truth_paired (int_lt left n) (int_lt left n) refl)
-  integer_self int.LessEqual left right = given_self (integer_of right) (λ n. Ok (truth (int_le left n))) (λ n. truth_paired (int_le left n) (int_le left n) refl)
-  integer_self int.Greater left right = given_self (integer_of right) (λ n. Ok (truth (int_lt n left))) (λ n. truth_paired (int_lt n left) (int_lt n left) refl)
-  integer_self int.GreaterEqual left right = given_self (integer_of right) (λ n. Ok (truth (int_le n left))) (λ n. truth_paired (int_le n left) (int_le n left) refl)
-  integer_self int.Equal left right = truth_paired (same_integer left right) (same_integer left right) refl
-  integer_self int.BitAnd left right = given_self (integer_of right) (λ n. Ok (on_bits bit_and left n)) (λ n. Same (on_bits bit_and left n) refl)
-  integer_self int.BitOr left right = given_self (integer_of right) (λ n. Ok (on_bits bit_or left n)) (λ n. Same (on_bits bit_or left n) refl)
-  integer_self int.BitXor left right = given_self (integer_of right) (λ n. Ok (on_bits bit_xor left n)) (λ n. Same (on_bits bit_xor left n) refl)
-  integer_self int.Negated left right = fitting_self (neg_ℤ left)
-
-  -- a reference is no Integer in both
-  same_right : (asked : IntRow) (left : ℤ) (n m : ℕ) → integer asked left (Ref n) ≡ integer asked left (Ref m)
-  same_right int.Add left n m = refl
-  same_right int.Subtract left n m = refl
-  same_right int.Multiply left n m = refl
-  same_right int.Quotient left n m = refl
-  same_right int.Remainder left n m = refl
-  same_right int.Less left n m = refl
-  same_right int.LessEqual left n m = refl
-  same_right int.Greater left n m = refl
-  same_right int.GreaterEqual left n m = refl
-  same_right int.Equal left n m = refl
-  same_right int.BitAnd left n m = refl
-  same_right int.BitOr left n m = refl
-  same_right int.BitXor left n m = refl
-  same_right int.Negated left n m = refl
-
-  integer_paired : (asked : IntRow) (left : ℤ) (right right' : Value) → Paired Pair right right' → AnswerPaired (integer asked left right) (integer asked left right')
-  integer_paired asked left right right' (Partners n m p) = subst (AnswerPaired (integer asked left (Ref n))) (same_right asked left n m) (integer_self asked left (Ref n))
-  integer_paired asked left right right' (Same same e) = integer_self asked left same
-
   -- ---- values
 
   same_is_nil : (value value' : Value) → Paired Pair value value' → rows.is_nil value ≡ rows.is_nil value'
@@ -169,11 +95,11 @@ module _ (Pair : ℕ → ℕ → Type 0) where
       by (Kernel class) = Same False refl
       by (Ref at) = Same False refl
 
-  conjunction_paired : (receiver receiver' x x' : Value) → Paired Pair receiver receiver' → Paired Pair x x' → AnswerPaired (rows.conjunction receiver x) (rows.conjunction receiver' x')
+  conjunction_paired : (receiver receiver' x x' : Value) → Paired Pair receiver receiver' → Paired Pair x x' → AnswerPaired Pair (rows.conjunction receiver x) (rows.conjunction receiver' x')
   conjunction_paired receiver receiver' x x' r (Partners n m p) = refl
   conjunction_paired receiver receiver' x x' r (Same same e) = by same
     where
-      by : (v : Value) → AnswerPaired (rows.conjunction receiver v) (rows.conjunction receiver' v)
+      by : (v : Value) → AnswerPaired Pair (rows.conjunction receiver v) (rows.conjunction receiver' v)
       by True = only_true_paired receiver receiver' r
       by False = Same False refl
       by Nil = refl
@@ -182,11 +108,11 @@ module _ (Pair : ℕ → ℕ → Type 0) where
       by (Kernel class) = refl
       by (Ref at) = refl
 
-  disjunction_paired : (receiver receiver' x x' : Value) → Paired Pair receiver receiver' → Paired Pair x x' → AnswerPaired (rows.disjunction receiver x) (rows.disjunction receiver' x')
+  disjunction_paired : (receiver receiver' x x' : Value) → Paired Pair receiver receiver' → Paired Pair x x' → AnswerPaired Pair (rows.disjunction receiver x) (rows.disjunction receiver' x')
   disjunction_paired receiver receiver' x x' r (Partners n m p) = refl
   disjunction_paired receiver receiver' x x' r (Same same e) = by same
     where
-      by : (v : Value) → AnswerPaired (rows.disjunction receiver v) (rows.disjunction receiver' v)
+      by : (v : Value) → AnswerPaired Pair (rows.disjunction receiver v) (rows.disjunction receiver' v)
       by True = Same True refl
       by False = only_true_paired receiver receiver' r
       by Nil = refl
@@ -195,17 +121,17 @@ module _ (Pair : ℕ → ℕ → Type 0) where
       by (Kernel class) = refl
       by (Ref at) = refl
 
-  byte_self : (bytes : List ℕ) (r : Result ℕ Fault) → AnswerPaired (texts.byte_at_place bytes r) (texts.byte_at_place bytes r)
+  byte_self : (bytes : List ℕ) (r : Result ℕ Fault) → AnswerPaired Pair (texts.byte_at_place bytes r) (texts.byte_at_place bytes r)
   byte_self bytes (Ok place) = Same (Int _) refl
   byte_self bytes (Err f) = refl
 
-  symbol_less_paired : (code : CodeProgram) (symbol symbol' x x' : Value) → Paired Pair symbol symbol' → Paired Pair x x' → AnswerPaired (rows.symbol_less code symbol x) (rows.symbol_less code symbol' x')
+  symbol_less_paired : (code : CodeProgram) (symbol symbol' x x' : Value) → Paired Pair symbol symbol' → Paired Pair x x' → AnswerPaired Pair (rows.symbol_less code symbol x) (rows.symbol_less code symbol' x')
   symbol_less_paired code symbol symbol' x x' r (Partners n m p) = refl
   symbol_less_paired code symbol symbol' x x' r (Same same e) = by same
     where
-      by : (v : Value) → AnswerPaired (rows.symbol_less code symbol v) (rows.symbol_less code symbol' v)
+      by : (v : Value) → AnswerPaired Pair (rows.symbol_less code symbol v) (rows.symbol_less code symbol' v)
       by (Sym sel) =
-          truth_paired (texts.is_before (symbol_text code symbol) (symbol_text code (Sym sel))) (texts.is_before (symbol_text code symbol') (symbol_text code (Sym sel))) (ap (λ t. texts.is_before t (symbol_text code (Sym sel))) (same_symbol code symbol symbol' r))
+          truth_paired Pair (texts.is_before (symbol_text code symbol) (symbol_text code (Sym sel))) (texts.is_before (symbol_text code symbol') (symbol_text code (Sym sel))) (ap (λ t. texts.is_before t (symbol_text code (Sym sel))) (same_symbol code symbol symbol' r))
       by Nil = refl
       by True = refl
       by False = refl
@@ -213,10 +139,10 @@ module _ (Pair : ℕ → ℕ → Type 0) where
       by (Kernel class) = refl
       by (Ref at) = refl
 
-  item_paired : (items items' : List Value) (r r' : Result ℕ Fault) → AllPaired Pair items items' → r ≡ r' → AnswerPaired (rows.item_at_place items r) (rows.item_at_place items' r')
-  item_paired items items' r r' all e = subst (λ q. AnswerPaired (rows.item_at_place items r) (rows.item_at_place items' q)) e (by r)
+  item_paired : (items items' : List Value) (r r' : Result ℕ Fault) → AllPaired Pair items items' → r ≡ r' → AnswerPaired Pair (rows.item_at_place items r) (rows.item_at_place items' r')
+  item_paired items items' r r' all e = subst (λ q. AnswerPaired Pair (rows.item_at_place items r) (rows.item_at_place items' q)) e (by r)
     where
-      by : (q : Result ℕ Fault) → AnswerPaired (rows.item_at_place items q) (rows.item_at_place items' q)
+      by : (q : Result ℕ Fault) → AnswerPaired Pair (rows.item_at_place items q) (rows.item_at_place items' q)
       by (Ok place) = at_index Pair items items' place all
       by (Err f) = refl
 
@@ -485,12 +411,6 @@ module _ (Pair : ℕ → ℕ → Type 0) (first second : Progress) (pairing : Is
     outcome_paired (Answers value world) (Fails f') site site' o e = absurd o
     outcome_paired (Fails f) (Answers value' world') site site' o e = absurd o
 
-    answer_paired : (answer answer' : Result Value Fault) (site site' : Site) → AnswerPaired Pair answer answer' → site ≡ site' → ControlPaired Pair first second (kernel.answer_reached answer site one) (kernel.answer_reached answer' site' two)
-    answer_paired (Ok value) (Ok value') site site' p e = (p, a)
-    answer_paired (Err f) (Err f') site site' p e = (same_fault Pair f f' site site' p e, a)
-    answer_paired (Ok value) (Err f') site site' p e = absurd p
-    answer_paired (Err f) (Ok value') site site' p e = absurd p
-
     refused_paired : (x x' : Value) (site site' : Site) → Paired Pair x x' → site ≡ site'
         → ControlPaired Pair first second (kernel.message_refused (Fails (rows.not_understood heap x)) (rows.message_selector heap x) site one) (kernel.message_refused (Fails (rows.not_understood other x')) (rows.message_selector other x') site' two)
     refused_paired x x' site site' p e = (
@@ -545,12 +465,3 @@ module _ (Pair : ℕ → ℕ → Type 0) (first second : Progress) (pairing : Is
       → Abreast Pair first second one two → Paired Pair receiver receiver' → AllPaired Pair arguments arguments' → site ≡ site'
       → ControlPaired Pair first second (kernel.data_reached code asked receiver arguments site one) (kernel.data_reached code asked receiver' arguments' site' two)
   data_row_paired code asked receiver receiver' arguments arguments' site site' one two a r all s = data_reached_paired one two a code asked receiver receiver' arguments arguments' site site' r all s
-
-  pub integer_row_paired : (int : IntRow) (receiver receiver' : Value) (arguments arguments' : List Value) (site site' : Site) (one two : Progress)
-      → Abreast Pair first second one two → Paired Pair receiver receiver' → AllPaired Pair arguments arguments' → site ≡ site'
-      → ControlPaired Pair first second (kernel.answer_reached (integer int (number_of receiver) (argument arguments 0)) site one)
-      (kernel.answer_reached (integer int (number_of receiver') (argument arguments' 0)) site' two)
-  integer_row_paired int receiver receiver' arguments arguments' site site' one two a r all s =
-      answer_paired one two a (integer int (number_of receiver) (argument arguments 0)) (integer int (number_of receiver') (argument arguments' 0)) site site'
-      (subst (λ n. AnswerPaired Pair (integer int (number_of receiver) (argument arguments 0)) (integer int n (argument arguments' 0))) (same_number_of Pair receiver receiver' r)
-      (integer_paired Pair int (number_of receiver) (argument arguments 0) (argument arguments' 0) (at_index Pair arguments arguments' 0 all))) s

@@ -1,5 +1,5 @@
 -- Sends keep two runs paired.
-use Rattle.std.proofs.Common.{◌≡◌, ℕ, zero, suc, List, [], ◌∷◌, pos, Some, false, refl, sym, ap, ◌∙◌, subst}
+use Rattle.std.proofs.Common.{◌≡◌, ℕ, zero, suc, List, [], ◌∷◌, pos, false, refl, sym, ap, ◌∙◌, subst}
 use Rattle.std.specs.Prelude.{Option}
 use Rattle.ns_base.specs.declared.selector.Sel.{Sel}
 use Rattle.ns_base.specs.declared.place.Place.{Place as SourcePlace}
@@ -9,17 +9,14 @@ use Rattle.ns_code.specs.Selector.{own_number}
 use Rattle.ns_world.specs.declared.value.Value.{Value}
 use Rattle.ns_world.specs.declared.value.Value.TheVariants.{Nil, True, False, Int, Sym, Kernel, Ref}
 use Rattle.ns_world.specs.declared.ending.Kind.TheVariants as kind
-use Rattle.ns_world.specs.declared.ending.Ending.TheVariants.{Limit}
-use Rattle.ns_world.specs.declared.ending.LimitKind.TheVariants.{Cells, Steps, Depth}
+use Rattle.ns_world.specs.declared.ending.LimitKind.TheVariants.{Cells}
 use Rattle.ns_world.specs.Cell.{ArrayCell, MessageCell}
-use Rattle.ns_world.specs.Heap.{Heap, heap_size, cell_number}
-use Rattle.ns_world.specs.World.{made, stepped, entered}
+use Rattle.ns_world.specs.Heap.{Heap, heap_size}
+use Rattle.ns_world.specs.World.{made}
 use Rattle.ns_world.specs.Starts.{start_of}
-use Rattle.ns_kint.specs.Integer.{integer}
-use Rattle.ns_kdata.specs.Arguments.{argument, number_of, shape_of_value}
+use Rattle.ns_kdata.specs.Arguments.{argument, shape_of_value}
 use Rattle.ns_kdata.specs.Rows.{stored}
 use Rattle.ns_facets.specs.declared.row.FacetRow.TheVariants as facet
-use Rattle.ns_mirror.specs.Mirror.{mirror}
 use Rattle.ns_mirror.specs.Slots.{word_of_object}
 use Rattle.ns_find.specs.declared.found.Found.{Found}
 use Rattle.ns_find.specs.declared.found.Found.TheVariants as found
@@ -38,14 +35,17 @@ use Rattle.ns_actions.specs.Rows.{row_at}
 use Rattle.ns_actions.specs.Kernel as kernel
 use Rattle.ns_actions.specs.Suiting.{RowSuits, FoundSuits, is_reference}
 use Rattle.ns_actions.specs.Blocks.{block_arity}
-use Rattle.ns_actions.specs.Sends.{Target, To, ToPrivate, ToSuper, receiver_of, found_at, site_at, Arguments, Listed, Wrapped, given, first_of, one_more, method_entered, factory_entered, set, nested_in, row_sent, done_with, message_sel, not_found, not_understood, answered_by, sent, sent_from}
-use Rattle.ns_machine_alike.specs.Paired.{IsPairing, BeganAlike, HomePaired, Began, Paired, Partners, Same, AllPaired, MemberPaired, HeapPaired, Abreast, ActivationPaired, ControlPaired}
+use Rattle.ns_actions.specs.Sends.{Target, To, ToPrivate, ToSuper, receiver_of, found_at, site_at, Arguments, Listed, Wrapped, given, first_of, one_more, method_entered, factory_entered, set, nested_in, row_sent, done_with, message_sel, not_found, answered_by, sent, sent_from}
+use Rattle.ns_machine_alike.specs.Paired.{IsPairing, BeganAlike, Began, Paired, Partners, Same, AllPaired, MemberPaired, Abreast, ActivationPaired, ControlPaired}
 use Rattle.ns_machine_alike.proofs.Values.{at_index}
-use Rattle.ns_machine_alike.proofs.Keeping.{step_charged, frame_charged, cell_charged, begun_abreast}
+use Rattle.ns_machine_alike.proofs.Charging.{step_charged, frame_charged, begun_abreast}
+use Rattle.ns_machine_alike.proofs.Keeping.{cell_charged}
 use Rattle.ns_machine_alike.proofs.Reading.{value_shape_paired}
 use Rattle.ns_machine_alike.proofs.Finding.{found_value_paired, found_super_paired, found_private_paired, same_site}
-use Rattle.ns_machine_alike.proofs.Rows.{stored_abreast, data_row_paired, integer_row_paired}
-use Rattle.ns_machine_alike.proofs.Facets.{word_of_object_paired, facet_row_paired, mirror_row_paired}
+use Rattle.ns_machine_alike.proofs.Integers.{integer_row_paired}
+use Rattle.ns_machine_alike.proofs.Rows.{stored_abreast, data_row_paired}
+use Rattle.ns_machine_alike.proofs.Mirrors.{word_of_object_paired, mirror_row_paired}
+use Rattle.ns_machine_alike.proofs.Facets.{facet_row_paired}
 use Rattle.ns_machine_alike.proofs.Actions.{same_error, opened_paired, mixed_paired, kept_class_paired, nested_paired, instance_paired}
 use Rattle.ns_machine_alike.proofs.Blocks.{same_arity, with_arguments_paired, method_begun_paired}
 

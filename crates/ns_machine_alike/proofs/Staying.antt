@@ -1,8 +1,7 @@
 -- Two sends of a host from alike states are paired as they begin, stay so, and so come to alike states.
-use Rattle.std.proofs.Common.{◌≡◌, ◌≢◌, ◌⊎◌, inl, inr, ℕ, zero, suc, ◌+◌, ◌-◌, ◌<◌, ◌≤◌, List, [], ◌∷◌, ◌++◌, length, Option, Some, None, Bool, true, false, cond, refl, sym, ap, ◌∙◌, subst, arith}
-use Rattle.std.specs.Prelude.{Contains, IsSome, is_some, IsTrue}
+use Rattle.std.proofs.Common.{◌≡◌, ◌≢◌, inl, inr, ℕ, zero, suc, ◌+◌, ◌-◌, ◌≤◌, List, [], ◌∷◌, ◌++◌, Option, Some, None, Bool, false, refl, sym, ap, subst, arith}
+use Rattle.std.specs.Prelude.{Contains, IsSome}
 use Rattle.ns_base.specs.declared.limits.Limits.{Limits}
-use Rattle.ns_base.specs.declared.selector.Sel.{Sel}
 use Rattle.ns_code.specs.declared.program.CodeProgram.{CodeProgram}
 use Rattle.ns_code.specs.declared.instruction.Instr.{Instr}
 use Rattle.ns_code.specs.declared.instruction.Instr.TheVariants as instr
@@ -19,9 +18,8 @@ use Rattle.ns_world.specs.Heap.{Heap, heap_size, find_cell, no_class}
 use Rattle.ns_world.specs.Seek.{first_such, is_facet, is_top}
 use Rattle.ns_world.specs.Reach.{Reach, all_referred}
 use Rattle.ns_world.specs.World.{World}
-use Rattle.ns_world.specs.Lawful.{IsLawful, IsLiveValue}
+use Rattle.ns_world.specs.Lawful.{IsLawful}
 use Rattle.ns_world.specs.Alike.{Renaming, AlikeValue, AlikeValues, AlikeClass, AlikeNumber, AlikeCell, AlikeHeld, AlikePairs, Alike}
-use Rattle.ns_world.specs.laws.Firsts.{found_past}
 use Rattle.ns_kdata.specs.Arguments.{IsThere}
 use Rattle.ns_actions.specs.Suiting.{is_reference}
 use Rattle.ns_actions.specs.Control.{Progress, Activation}
@@ -29,24 +27,26 @@ use Rattle.ns_actions.specs.Bodies.{enclosing}
 use Rattle.ns_actions.specs.Lawful.{FitsActivation, declaration_at}
 use Rattle.ns_actions.specs.Suits.{IsEnclosingPlace}
 use Rattle.ns_actions.specs.Start.{standing_cells}
-use Rattle.ns_machine_moves.specs.State.{Leaving, Running, Looping, Phase, Start, First, Second, Hosted, State, Unbegun, Going, Pends, Ended, Stuck, progress_of, world_of, ending_of}
+use Rattle.ns_machine_moves.specs.State.{Leaving, Running, Looping, Phase, Hosted, State, Unbegun, Going, Pends, Ended, Stuck, progress_of, world_of, ending_of}
 use Rattle.ns_machine_moves.specs.Move.{move, moves}
 use Rattle.ns_machine_moves.specs.Turn.{is_still}
 use Rattle.ns_machine_moves.specs.Starts.{begun}
 use Rattle.ns_machine_moves.specs.Standing.{ValidFindsAsked, MovesKeepValid}
 use Rattle.ns_machine_moves.specs.WorldAsks.{InstrAsks, FindsAsked}
-use Rattle.ns_machine_moves.specs.Beginning.{MayBegin, HostKeepsValid}
+use Rattle.ns_machine_moves.specs.Beginning.{HostKeepsValid}
 use Rattle.ns_machine_moves.specs.Valid.{WorldIsValid, EndingIsValid, EndsIn, Valid}
-use Rattle.ns_machine_reach.specs.Within.{In, AllIn}
+use Rattle.ns_machine_reach.specs.Within.{IsGranted, In, AllIn}
 use Rattle.ns_machine_reach.specs.Reached.{InReach}
-use Rattle.ns_machine_alike.specs.Paired.{IsPairing, IsGranted, Paired, Partners, Same, AllPaired, NumberPaired, FacetPaired, CellPaired, EndingPaired, PhasePaired, Abreast, StatePaired}
-use Rattle.ns_machine_alike.specs.Isolated.{SendPair, Earlier, Made, NoClass, RenamesOn, StatesAlike, BoardsAlike, EndingAlike, MaybeEndingAlike, ended_with, done_values, PrintsAlike, RunsAlike, SendsAreAlike, SendsComeToTheSame}
+use Rattle.ns_machine_alike.specs.Paired.{IsPairing, Paired, Partners, Same, AllPaired, NumberPaired, FacetPaired, CellPaired, EndingPaired, PhasePaired, Abreast, StatePaired}
+use Rattle.ns_machine_alike.specs.Isolated.{SendPair, Earlier, Made, NoClass, RenamesOn, BoardsAlike, EndingAlike, MaybeEndingAlike, ended_with, done_values, SendsAreAlike, SendsComeToTheSame}
 use Rattle.ns_machine_alike.proofs.Values.{all_append}
 use Rattle.ns_machine_alike.proofs.Sends.{Known}
 use Rattle.ns_machine_alike.proofs.Moves.{InstrFinds, StepFinds, move_paired}
-use Rattle.ns_machine_alike.proofs.Starting.{reach_there, first_once, second_once, there_below, AllThere, ClassThere, CellThere, cell_there, first_there, all_live_there, live_there, all_in_roots, send_pairing, begun_paired, received, given, reached, reached'}
+use Rattle.ns_machine_alike.proofs.There.{reach_there, there_below, AllThere, ClassThere, CellThere, cell_there, first_there, all_live_there, live_there}
+use Rattle.ns_machine_alike.proofs.Matching.{first_once}
+use Rattle.ns_machine_alike.proofs.Starting.{idle_world, send_pairing, begun_paired, received, given, reached, reached'}
 use Rattle.ns_machine_alike.proofs.Beginning.{may_begin_too}
-use Rattle.ns_machine_alike.proofs.Ending.{BothCells, both_cells, reach_forth, reach_back}
+use Rattle.ns_machine_alike.proofs.Ending.{both_cells, reach_forth, reach_back}
 
 -- what the laws of a run give
 pub record Laws (code : CodeProgram) (grants : Grants) : Type 0 where
@@ -377,6 +377,15 @@ module _ (code : CodeProgram) (grants grants' : Grants) (pairs : Renaming) (firs
 
 -- ---- the law
 
+-- as many steps were charged
+same_use : (Pair : ℕ → ℕ → Type 0) (first second one two : Progress) → Abreast Pair first second one two → first.world.limits.steps - first.world.steps ≡ second.world.limits.steps - second.world.steps
+    → first.world.steps ≤ first.world.limits.steps → second.world.steps ≤ second.world.limits.steps → one.world.steps ≤ one.world.limits.steps → two.world.steps ≤ two.world.limits.steps
+    → one.world.steps + second.world.steps ≡ two.world.steps + first.world.steps
+same_use Pair first second one two a left within within' now now' =
+    let limit : one.world.limits.steps ≡ first.world.limits.steps = ap (λ (l : Limits). l.steps) a.limits in
+    let limit' : two.world.limits.steps ≡ second.world.limits.steps = ap (λ (l : Limits). l.steps) a.other_limits in
+    omega (arith, left, within, within', now, now', limit, limit', a.steps)
+
 pub sends_alike : (code : CodeProgram) (grants grants' : Grants) → Laws code grants → Laws code grants' → SendsAreAlike code grants grants'
 sends_alike code grants grants' laws laws' pairs receiver other sel arguments others count first second valid valid' may idle alike =
     let may' = may_begin_too code pairs receiver other sel arguments others first second may idle alike.0 in
@@ -394,15 +403,18 @@ sends_alike code grants grants' laws laws' pairs receiver other sel arguments ot
     let g = given code grants grants' pairs receiver other sel arguments others first second valid valid' may may' alike in
     let h = reached code grants grants' pairs receiver other sel arguments others first second valid valid' may may' alike in
     let h' = reached' code grants grants' pairs receiver other sel arguments others first second valid valid' may may' alike in
+    let used = same_use R (progress_of first) (progress_of second) (progress_of one) (progress_of two) a alike.0.steps (idle_world code grants first valid may.idle).world.lawful.within.steps
+    (idle_world code grants' second valid' may'.idle).world.lawful.within.steps worlds.0.world.lawful.within.steps worlds.1.world.lawful.within.steps in
     record {
       prints = record { bytes = a.printed; one_is = a.prints; two_is = a.other_prints };
+      uses = record { steps = used; cells = omega (arith, a.size, a.other_size); depth = a.depth };
       grows = omega (arith, a.size);
       still = same_still R (progress_of first) (progress_of second) pairing code grants grants' laws laws' one two p;
       ends = λ after on. endings_alike code grants grants' pairs (receiver ∷ arguments) (other ∷ others) first second alike.0 pairing (r, g) one two p worlds.0 worlds.1 a after on one two p worlds.0.done;
       alike = λ after on. (
         worlds_alike code grants grants' pairs (receiver ∷ arguments) (other ∷ others) first second alike.0 pairing (r, g) one two p worlds.0 worlds.1 a after on
             (start_values code grants grants' pairs (receiver ∷ arguments) (other ∷ others) first second alike.0 pairing (r, g) one two p worlds.0 worlds.1 a after on (receiver ∷ arguments) (other ∷ others) alike.0.roots
-            (h.0, all_in_roots (InReach (world_of first).cells (all_referred (receiver ∷ arguments))) arguments h.1) (h'.0, all_in_roots (InReach (world_of second).cells (all_referred (other ∷ others))) others h'.1)
+            h h'
             (live_there (world_of first).cells code receiver may.live.0, all_live_there (world_of first).cells code arguments may.fits.live)
             (live_there (world_of second).cells code other may'.live.0, all_live_there (world_of second).cells code others may'.fits.live)),
         boards_alike code grants grants' pairs (receiver ∷ arguments) (other ∷ others) first second alike.0 pairing (r, g) one two p worlds.0 worlds.1 a after on,

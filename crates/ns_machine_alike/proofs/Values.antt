@@ -1,17 +1,15 @@
 -- Paired values, lists and cells: what they have in common.
-use Rattle.std.proofs.Common.{◌≡◌, ℕ, zero, suc, ◌+◌, List, [], ◌∷◌, ◌++◌, length, Option, Some, None, Bool, true, false, cond, refl, sym, ap, ◌∙◌, subst, replicate, arith}
-use Rattle.std.specs.Prelude.{slice_set, ◌&&◌}
+use Rattle.std.proofs.Common.{◌≡◌, ℕ, zero, suc, ◌+◌, List, [], ◌∷◌, ◌++◌, length, Bool, true, false, cond, refl, ap, replicate, arith}
+use Rattle.std.specs.Prelude.{slice_set}
 use Rattle.std.specs.List.{slice_index_or}
 use Rattle.ns_world.specs.declared.value.Value.{Value}
-use Rattle.ns_world.specs.declared.value.Value.TheVariants.{Nil, True, False, Int, Sym, Kernel, Ref}
+use Rattle.ns_world.specs.declared.value.Value.TheVariants.{Nil}
 use Rattle.ns_world.specs.declared.cell.FacetKind.{FacetKind}
-use Rattle.ns_world.specs.declared.cell.FacetKind.TheVariants.{Manifest, Platform, Console, Mirrors, Kernel as KernelFacet, Board}
 use Rattle.ns_world.specs.Cell.{Cell, ObjectCell, ClassCell, BlockCell, EnvironmentCell, ArrayCell, TextCell, FacetCell, MirrorCell, MessageCell, cell_size, cell_words, with_word, text_words}
 use Rattle.ns_world.specs.Heap.{Heap}
 use Rattle.ns_world.specs.Seek.{is_facet, is_top, is_nil}
 use Rattle.ns_actions.specs.Control.{Progress}
-use Rattle.ns_actions.specs.Suiting.{is_reference}
-use Rattle.ns_machine_alike.specs.Paired.{Paired, Partners, Same, AllPaired, NumberPaired, CellPaired}
+use Rattle.ns_machine_alike.specs.Paired.{Paired, Partners, Same, AllPaired, CellPaired}
 
 -- ---- tests
 

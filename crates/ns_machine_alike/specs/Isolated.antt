@@ -83,12 +83,19 @@ pub record PrintsAlike (first second one two : World) : Type 0 where
   pub one_is : one.output ≡ first.output ++ bytes
   pub two_is : two.output ≡ second.output ++ bytes
 
+-- As many steps were charged since, cells of as many words were made, and as many frames are live.
+pub record UsesAlike (first second one two : World) : Type 0 where
+  pub steps : one.steps + second.steps ≡ two.steps + first.steps
+  pub cells : heap_size one.cells + heap_size second.cells ≡ heap_size two.cells + heap_size first.cells
+  pub depth : one.depth ≡ two.depth
+
 -- ---- the law
 
--- Two runs that began where they were idle, with roots of their own, have come to states that are alike: they print the same bytes, and go on both or have the
--- equal ending; and from the roots and the value at which they ended their worlds and boards are alike, by each renaming that goes on.
+-- Two runs that began where they were idle, with roots of their own, have come to states that are alike: they print the same bytes, use as much, and go on both or
+-- have the equal ending; and from the roots and the value of the ending on their worlds and boards are alike, by each renaming that goes on.
 pub record RunsAlike (pairs : Renaming) (firsts seconds : List Value) (first second one two : State) : Type 0 where
   pub prints : PrintsAlike (world_of first) (world_of second) (world_of one) (world_of two)
+  pub uses : UsesAlike (world_of first) (world_of second) (world_of one) (world_of two)
   pub grows : heap_size (world_of first).cells ≤ heap_size (world_of one).cells
   pub still : is_still one ≡ is_still two
   pub ends : (after : Renaming)
@@ -131,5 +138,6 @@ SendsComeToTheSame code grants grants' =
 -- There is a renaming that goes on: with the pairs of the cells that were there, and of those that were made since.
 abbrev pub RenamingsGoOn : Type 0
 RenamingsGoOn =
-    (pairs : Renaming) (one two : World) (firsts seconds : List Value) (now : Heap) → Alike pairs one two firsts seconds → heap_size one.cells ≤ heap_size now
+    (pairs : Renaming) (one two : World) (firsts seconds : List Value) (now : Heap)
+    → Alike pairs one two firsts seconds → heap_size one.cells ≤ heap_size now
     → RenamesOn pairs (renamed_on pairs one two now) one two (all_referred firsts) (all_referred seconds) now

@@ -1,7 +1,7 @@
 -- What it means that values, cells, frames and states of two runs of one code are paired, by a relation between the numbers of their cells.
 use Rattle.std.specs.Prelude.{◌≡◌, ℕ, ◌+◌, ◌-◌, ◌<◌, ◌≤◌, List, [], ◌∷◌, ◌++◌, length, Option, Some, None, false}
 use Rattle.ns_world.specs.declared.value.Value.{Value}
-use Rattle.ns_world.specs.declared.value.Value.TheVariants.{Nil, True, False, Int, Sym, Kernel, Ref}
+use Rattle.ns_world.specs.declared.value.Value.TheVariants.{Ref}
 use Rattle.ns_world.specs.declared.cell.FacetKind.{FacetKind}
 use Rattle.ns_world.specs.declared.cell.FacetKind.TheVariants.{Manifest, Platform, Console, Mirrors, Kernel as KernelFacet, Board}
 use Rattle.ns_world.specs.declared.ending.Ending.{Ending}
@@ -17,8 +17,9 @@ use Rattle.ns_actions.specs.Suiting.{is_reference}
 use Rattle.ns_actions.specs.Bodies.{no_home}
 use Rattle.ns_actions.specs.Control.{Progress, Activation, Exit, FromMethod, FromBody, FromClause, After, Gives, Halts, Control, Now, Enter, Evaluate}
 use Rattle.ns_actions.specs.Control.{Begin, Perform, Part, Skip, Stop, EnterPart, Waiting, Waits, Finishes}
-use Rattle.ns_machine_moves.specs.State.{Leaving, Loud, Silent, Frame, Running, Looping, Pending, Sending, Performing, Evaluating, Phase, Start, First}
-use Rattle.ns_machine_moves.specs.State.{Second, Hosted, State, Unbegun, Going, Pends, Ended, Stuck}
+use Rattle.ns_machine_moves.specs.State.{Leaving, Loud, Silent, Frame, Running, Looping, Pending, Sending, Performing, Evaluating, Phase}
+use Rattle.ns_machine_moves.specs.State.{Hosted, State, Going, Pends, Ended, Stuck}
+use Rattle.ns_machine_reach.specs.Within.{IsGranted}
 
 -- ---- numbers of cells
 
@@ -29,15 +30,6 @@ pub record IsPairing (Pair : ℕ → ℕ → Type 0) (one two : World) : Type 0 
   pub back : (n m k : ℕ) → Pair n k → Pair m k → n ≡ m
   pub none : Pair no_class no_class
   pub later : (k : ℕ) → heap_size one.cells + k < one.limits.cells → Pair (heap_size one.cells + k) (heap_size two.cells + k)
-
--- the facets that Platform may hold
-abbrev pub IsGranted : FacetKind → Type 0
-IsGranted Manifest = ⊥
-IsGranted Platform = ⊥
-IsGranted Console = Unit {0}
-IsGranted Mirrors = Unit {0}
-IsGranted KernelFacet = Unit {0}
-IsGranted Board = Unit {0}
 
 -- ---- homes
 
@@ -279,9 +271,11 @@ module _ (Pair : ℕ → ℕ → Type 0) (first second : Progress) where
 
   -- Two states are paired: they stand at the same place, with paired frames, and have done the same.
   abbrev pub StatePaired : State → State → Type 0
-  StatePaired (Going phase frames progress) (Going phase' frames' progress') = PhasePaired phase phase' × FramesPaired frames frames' × Abreast progress progress'
+  StatePaired (Going phase frames progress) (Going phase' frames' progress') =
+      PhasePaired phase phase' × FramesPaired frames frames' × Abreast progress progress'
   StatePaired (Pends phase pending frames progress) (Pends phase' pending' frames' progress') =
       PhasePaired phase phase' × PendingPaired pending pending' × FramesPaired frames frames' × Abreast progress progress'
-  StatePaired (Ended ending phase progress) (Ended ending' phase' progress') = EndingPaired Pair ending ending' × PhasePaired phase phase' × Abreast progress progress'
+  StatePaired (Ended ending phase progress) (Ended ending' phase' progress') =
+      EndingPaired Pair ending ending' × PhasePaired phase phase' × Abreast progress progress'
   StatePaired (Stuck progress) (Stuck progress') = Abreast progress progress'
   StatePaired state other = ⊥

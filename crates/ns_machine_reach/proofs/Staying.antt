@@ -34,7 +34,8 @@ use Rattle.ns_machine_reach.proofs.Keeping.{start_kept, found_more}
 use Rattle.ns_machine_reach.proofs.Reading.{Closed}
 use Rattle.ns_machine_reach.proofs.Sends.{Known}
 use Rattle.ns_machine_reach.proofs.Moves.{InstrFinds, StepFinds, move_in}
-use Rattle.ns_machine_reach.proofs.Reaching.{AllHave, has_each, each_has, both_have, cell_from, from_cell, from_state, state_from, kept_of, reached_in}
+use Rattle.ns_machine_reach.specs.laws.Holding.{AllHave, has_each, each_has, both_have, cell_from, from_cell}
+use Rattle.ns_machine_reach.proofs.Reaching.{from_state, state_from, kept_of, reached_in}
 
 -- ---- the set of cells in reach
 

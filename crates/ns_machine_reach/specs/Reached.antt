@@ -102,7 +102,8 @@ pub record StaysInReach (before after : State) : Type 0 where
   pub reached : (number : ℕ) → Reach (world_of after).cells (roots_of before ++ roots_of after) number
       → InReach (world_of before).cells (roots_of before) number
   pub holds : (number other : ℕ) (cell : Cell) → InReach (world_of before).cells (roots_of before) number
-      → find_cell (world_of after).cells number ≡ Some cell → Contains (held (world_of after).cells cell) other → InReach (world_of before).cells (roots_of before) other
+      → find_cell (world_of after).cells number ≡ Some cell → Contains (held (world_of after).cells cell) other
+      → InReach (world_of before).cells (roots_of before) other
 
 -- So do moves from a valid state that goes on.
 abbrev pub MovesStayInReach : CodeProgram → Grants → Type 0

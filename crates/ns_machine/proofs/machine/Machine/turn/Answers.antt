@@ -3,6 +3,7 @@ use Rattle.ns_code.specs.declared.program.CodeProgram.{CodeProgram}
 use Rattle.ns_machine_moves.specs.Turn.{is_still, Turns}
 use Rattle.ns_machine_moves.specs.Valid.{Valid}
 use Rattle.ns_machine_reach.specs.Reached.{StaysInReach}
+use Rattle.ns_machine_alike.specs.Underway.{GoesOnAlike}
 use Rattle.ns_machine_core.specs.Shown.{shown}
 use Rattle.ns_machine_core.specs.Ready.{IsReady}
 use Rattle.ns_machine_turns.specs.Turning.{RunsBy}
@@ -50,3 +51,22 @@ returns-in-Begun-clause-reach c =
     subst (λ (view : MachineView). is_still view.state ≡ false → StaysInReach view.state last) c.self.view_is
     (subst (λ (s : Stage). is_still (stage_shown m.code m.core s) ≡ false → StaysInReach (stage_shown m.code m.core s) last) (sym c.in-Begun.is)
     (λ going. c.turns_stay_in_reach.ensures m.code m.grants c.args.steps (shown m.code m.core c.in-Begun.from) last valid going turns))
+
+pub returns-in-Unbegun-clause-alike : goal.returns-in-Unbegun-clause-alike
+returns-in-Unbegun-clause-alike c =
+    let m = c.self.inside in
+    let old = stage_shown m.code m.core m.stage in
+    let still = subst (λ (s : Stage). is_still (stage_shown m.code m.core s) ≡ true) (sym c.in-Unbegun.is) refl in
+    let all : zero + c.args.steps ≡ c.args.steps = omega arith in
+    subst (λ (view : MachineView). GoesOnAlike view.code view.grants c.args.steps view.state view.state) c.self.view_is
+    (c.turns_go_on_alike.ensures m.code m.grants c.args.steps old old (inr (record { count = zero; spared = c.args.steps; is = refl; charged = all; still = still })))
+
+pub returns-in-Begun-clause-alike : goal.returns-in-Begun-clause-alike
+returns-in-Begun-clause-alike c =
+    let m = c.self.inside in
+    let last = shown m.code c.turn-next.new.core c.turn-next.result in
+    let turns = subst (λ (code : CodeProgram). Turns code c.args.steps (shown code m.core c.in-Begun.from) (shown code c.turn-next.new.core c.turn-next.result))
+    c.code.ensures.code c.turn-next.ensures.turns in
+    subst (λ (view : MachineView). GoesOnAlike view.code view.grants c.args.steps view.state last) c.self.view_is
+    (subst (λ (s : Stage). GoesOnAlike m.code m.grants c.args.steps (stage_shown m.code m.core s) last) (sym c.in-Begun.is)
+    (c.turns_go_on_alike.ensures m.code m.grants c.args.steps (shown m.code m.core c.in-Begun.from) last turns))
