@@ -10,5 +10,4 @@ pub mod Shelf
 pub mod Sink
 pub mod Spelling
 pub mod Status
-pub mod TextIndex
 pub mod laws

@@ -2,6 +2,7 @@
 #![tactic(auto)]
 
 pub mod items;
+pub mod key;
 pub mod limits;
 pub mod mem_shelf;
 pub mod mem_sink;
@@ -18,5 +19,4 @@ pub mod stored;
 pub mod sure_shelf;
 pub mod sure_sink;
 pub mod text;
-pub mod text_index;
 pub mod text_set;

@@ -6,6 +6,7 @@ ghost use Rattle.std.specs.Str.{bytes_eq};
 ghost use Rattle.ns_base.specs.Names.{NoRepeats, has, put_in, place_of, IsFull};
 ghost use Rattle.ns_base.specs.declared.names.NamesFault.TheVariants as f;
 
+use crate::key::Key;
 use crate::selector::Sel;
 use crate::text::Text;
 use crate::text_set::TextSet;
@@ -41,13 +42,13 @@ impl Model for Names {
 }
 
 impl Names {
-    /// A table without names.
-    pub fn new(alloc: Global) -> Names
+    /// A table without names, and the key for those to come.
+    pub fn new(alloc: Global, key: Key) -> Names
         ensures { result ≡ [] }
     {
         Names {
             alloc,
-            texts: TextSet::new(alloc),
+            texts: TextSet::new(alloc, key),
         }
     }
 

@@ -1,17 +1,15 @@
 //! Texts, which are lists of bytes.
 
-ghost use Rattle.std.specs.Prelude.{◌≡◌, IfOk, Some};
-ghost use Rattle.std.specs.BTreeMap.Comparable.{le_lt_trans};
-ghost use Rattle.std.specs.Cmp.{partial_equiv_from_equiv};
-ghost use Rattle.std.specs.Cmp.Lexicographic.{slice_cmp, nat_list_cmp_total, nat_list_eq_equiv, texts_po, texts_ties};
-ghost use Rattle.std.specs.Ordering.{nat_cmp};
+ghost use Rattle.std.specs.Prelude.{◌≡◌, ◌∷◌, [], IfOk};
+ghost use Rattle.std.specs.Cmp.{on_equiv, partial_equiv_from_equiv};
+ghost use Rattle.std.specs.Cmp.Lexicographic.{nat_list_eq_equiv, bytes_decides};
 ghost use Rattle.std.specs.Str.{bytes_eq};
-ghost use Rattle.std.proofs.Common.{refl};
+ghost use Rattle.std.proofs.Common.{ap};
 
 use crate::no_memory::NoMemory;
+use indexmap::Equivalent;
 use std::alloc::Global;
-use std::cmp::Ordering;
-use std::collections::btree_map::Comparable;
+use std::hash::{Hash, Hasher};
 use std::marker::Model;
 
 /// A list of bytes. A clause sees the list alone.
@@ -78,40 +76,53 @@ impl Eq for Text {
     ghost laws = { nat_list_eq_equiv };
 }
 
-/// Texts are in the order of their bytes, the first that differs.
-impl PartialOrd for Text {
-    ghost partial_cmp = { λ x y. Some (slice_cmp nat_cmp x y) };
+/// A text is hashed by its bytes, which are read at once.
+impl Hash for Text {
+    ghost hash_input = { λ text. text ∷ [] };
 
-    ghost laws = { texts_po };
+    ghost respects_eq = { λ x y h. ap (λ text. text ∷ []) ((bytes_decides x y).0 h) };
 
-    fn partial_cmp(&self, other: &Text) -> Option<Ordering> {
-        Some(self.cmp(other))
+    fn hash<H: Hasher>(&self, state: &mut H) {
+        state.write(self.bytes());
     }
 }
 
-impl Ord for Text {
-    ghost cmp = { slice_cmp nat_cmp };
+/// Bytes that are looked for in a table of texts, so that no text is made for it.
+#[derive(Clone, Copy)]
+pub struct Sought<'a>(pub &'a [u8]);
 
-    ghost total = { nat_list_cmp_total };
+impl PartialEq for Sought<'_> {
+    ghost eq = { λ x y. bytes_eq x.0.now y.0.now };
 
-    ghost matches_partial_cmp = { λ x y. refl };
+    ghost laws = { partial_equiv_from_equiv (on_equiv (λ x. x.0.now) nat_list_eq_equiv) };
 
-    ghost matches_eq = { texts_ties };
-
-    fn cmp(&self, other: &Text) -> Ordering {
-        self.bytes().cmp(&other.bytes())
+    fn eq(&self, other: &Sought<'_>) -> bool {
+        self.0 == other.0
     }
 }
 
-/// Bytes stand for the text that has them in an ordered table too.
-impl Comparable<Text> for &[u8] {
-    ghost compare = { λ q text. slice_cmp nat_cmp q.now text };
+impl Eq for Sought<'_> {
+    ghost laws = { on_equiv (λ x. x.0.now) nat_list_eq_equiv };
+}
 
-    ghost respects_cmp = { λ q x y. nat_list_cmp_total.congr q.now x y };
+impl Hash for Sought<'_> {
+    ghost hash_input = { λ sought. sought.0.now ∷ [] };
 
-    ghost below_greater = { λ q x y. le_lt_trans nat_list_cmp_total q.now x y };
+    ghost respects_eq = { λ x y h. ap (λ text. text ∷ []) ((bytes_decides x.0.now y.0.now).0 h) };
 
-    fn compare(&self, key: &Text) -> Ordering {
-        (*self).cmp(&key.bytes())
+    fn hash<H: Hasher>(&self, state: &mut H) {
+        state.write(self.0);
+    }
+}
+
+impl Equivalent<Text> for Sought<'_> {
+    ghost equivalent = { λ sought text. bytes_eq sought.0.now text };
+
+    ghost respects_hash = { λ sought text h. ap (λ text. text ∷ []) ((bytes_decides sought.0.now text).0 h) };
+
+    ghost respects_eq = { λ sought x y. nat_list_eq_equiv.congr sought.0.now x y };
+
+    fn equivalent(&self, key: &Text) -> bool {
+        self.0 == key.bytes()
     }
 }

@@ -1,6 +1,7 @@
 //! Files, streams and names in memory, with ample memory, and what is fixed once: the limits of a command that names
 //! none, and the size of the library.
 
+use ns_base::key::Key;
 use ns_base::limits::Limits;
 use ns_base::mem_shelf::MemShelf;
 use ns_base::mem_sink::MemSink;
@@ -82,7 +83,7 @@ fn there_are_names_up_to_65536(rt: HostRuntime) {
 }
 
 fn fills_with_names(alloc: Global) -> bool {
-    let mut names = Names::new(alloc);
+    let mut names = Names::new(alloc, Key::of(b"names"));
     for number in 0..65_536u32 {
         if names.intern(&number.to_le_bytes()) != Ok(Sel(number)) {
             return false;

@@ -2,6 +2,7 @@
 
 use crate::reading::read;
 use ns_base::items::Items;
+use ns_base::key::Key;
 use ns_parse_tokens::fault::ParseFault;
 use ns_scope::program::Program;
 use ns_scope::resolve::Target;
@@ -138,6 +139,7 @@ fn scopes_of(alloc: Global, source: &str) -> Result<Scopes, ParseFault> {
         units: Items::from_vec(units),
         files: Items::from_vec(Vec::new(alloc)),
         marks: Items::from_vec(Vec::new(alloc)),
+        key: Key::of(source.as_bytes()),
     };
     Ok(scopes(alloc, &program)?)
 }

@@ -11,6 +11,7 @@ ghost use Rattle.ns_gen.specs.declared.fault.GenFault.TheVariants.{TooLarge};
 use crate::fault::GenFault;
 use crate::units::put_units;
 use ns_base::items::Items;
+use ns_base::key::Key;
 use ns_base::no_memory::NoMemory;
 use ns_code::program::CodeProgram;
 use ns_gen_bodies::output::Output;
@@ -36,7 +37,7 @@ pub fn generate(alloc: Global, program: &Program) -> Result<CodeProgram, GenFaul
     ensures large { (kind : SizeKind) → IsErrOf result (TooLarge kind) → size_fault (code_of (meant program.now)) ≡ Some kind }
 {
     let classes = declared(alloc, program.units.as_slice(), program.marks.as_slice())?;
-    let mut output = named(alloc, &classes)?;
+    let mut output = named(alloc, program.key, &classes)?;
     let count = put_units(
         &mut output,
         program.units.as_slice(),
@@ -52,10 +53,10 @@ pub fn generate(alloc: Global, program: &Program) -> Result<CodeProgram, GenFaul
 }
 
 /// The names of the classes, before all bodies.
-fn named(alloc: Global, classes: &[Declaration]) -> Result<Output, NoMemory>
+fn named(alloc: Global, key: Key, classes: &[Declaration]) -> Result<Output, NoMemory>
     ensures { IfOk result (λ output. output ≡ named classes.now) }
 {
-    let mut writer = Writer::new(alloc);
+    let mut writer = Writer::new(alloc, key);
     put_names(&mut writer, classes)?;
     Ok(Output::after(writer))
 }

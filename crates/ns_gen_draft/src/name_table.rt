@@ -7,6 +7,7 @@ ghost use Rattle.std.specs.Str.{bytes_eq};
 ghost use Rattle.ns_base.specs.Names.{NoRepeats, has, put_in, place_of};
 
 use ns_base::items::Items;
+use ns_base::key::Key;
 use ns_base::no_memory::NoMemory;
 use ns_base::selector::Sel;
 use ns_base::text::Text;
@@ -33,13 +34,13 @@ impl Model for NameTable {
 }
 
 impl NameTable {
-    /// A table without names.
-    pub fn new(alloc: Global) -> NameTable
+    /// A table without names, and the key for those to come.
+    pub fn new(alloc: Global, key: Key) -> NameTable
         ensures { result ≡ [] }
     {
         NameTable {
             alloc,
-            texts: TextSet::new(alloc),
+            texts: TextSet::new(alloc, key),
         }
     }
 

@@ -6,6 +6,7 @@ ghost use Rattle.ns_gen_draft.specs.Drafts.{with_line, with_name, with_text, wit
 
 use crate::draft::{Draft, SendWay};
 use crate::name_table::NameTable;
+use ns_base::key::Key;
 use ns_base::no_memory::NoMemory;
 use ns_base::place::Place;
 use ns_base::selector::Sel;
@@ -37,14 +38,14 @@ impl Model for Writer {
 }
 
 impl Writer {
-    /// A writer of a body without lines, which goes on with a table of names.
+    /// A writer of a body without lines, and the key of its table of names.
     #[tactic(auto, using(crate::proofs::Stand::table_distinct))]
-    pub fn new(alloc: Global) -> Writer
+    pub fn new(alloc: Global, key: Key) -> Writer
         ensures { result ≡ record { names = []; texts = []; lines = [] } }
     {
         Writer {
             alloc,
-            names: NameTable::new(alloc),
+            names: NameTable::new(alloc, key),
             texts: Vec::new(alloc),
             drafts: Vec::new(alloc),
         }

@@ -4,6 +4,7 @@ ghost use Rattle.std.specs.Prelude.{◌≡◌, [], ◌∷◌, ◌++◌, OnOk};
 
 use crate::read::Source;
 use ns_base::items::Items;
+use ns_base::key::Key;
 use ns_base::no_memory::NoMemory;
 use ns_base::place::Place;
 use ns_base::text::Text;
@@ -11,12 +12,14 @@ use ns_scope::program::Program;
 use ns_tree::tree::Unit;
 use std::alloc::Global;
 
-/// The units of the files that were read, the files' names, and the places of their tokens.
+/// The units of the files that were read, the files' names, the places of their tokens, and the key
+/// of tables of their names.
 #[derive(Drop)]
 pub struct Parts {
     pub units: Vec<Unit>,
     pub files: Vec<Text>,
     pub marks: Vec<Items<Place>>,
+    pub key: Key,
 }
 
 impl Parts {
@@ -30,6 +33,7 @@ impl Parts {
             units: Vec::new(alloc),
             files: Vec::new(alloc),
             marks: Vec::new(alloc),
+            key: Key::of(b""),
         }
     }
 
@@ -42,6 +46,7 @@ impl Parts {
         self.units.push(source.unit)?;
         self.marks.push(source.marks)?;
         self.files.push(name)?;
+        self.key = self.key.and(source.key);
         Ok(())
     }
 
@@ -55,6 +60,7 @@ impl Parts {
             units: Items::from_vec(self.units),
             files: Items::from_vec(self.files),
             marks: Items::from_vec(self.marks),
+            key: self.key,
         }
     }
 }

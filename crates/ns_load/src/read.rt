@@ -11,6 +11,7 @@ ghost use Rattle.ns_load.specs.declared.fault.LoadFault.TheVariants.{Memory};
 use crate::fault::{LoadCause, LoadFault};
 use crate::place::{marks, place_of};
 use ns_base::items::Items;
+use ns_base::key::Key;
 use ns_base::no_memory::NoMemory;
 use ns_base::place::Place;
 use ns_lex::fault::LexFault;
@@ -26,6 +27,8 @@ use std::alloc::Global;
 pub struct Source {
     pub unit: Unit,
     pub marks: Items<Place>,
+    /// The key of tables of its names.
+    pub key: Key,
 }
 
 /// What the source of that file spells, or its first fault: of its tokens, else of its brackets,
@@ -76,7 +79,11 @@ fn parsed(
     ensures spelling { IfErr result IsSpelling }
 {
     match parse(alloc, tokens) {
-        Ok(unit) => Ok(Source { unit, marks }),
+        Ok(unit) => Ok(Source {
+            unit,
+            marks,
+            key: Key::of(source),
+        }),
         Err(fault) => Err(grammatical(file, source, tokens, fault)),
     }
 }

@@ -9,6 +9,7 @@ ghost use Rattle.ns_scope.specs.Names.{access_or, setter_of, getter_setter, slot
 ghost use Rattle.ns_scope.specs.Names.{members_named, side_members, instance_members, class_members};
 
 use crate::table::Table;
+use ns_base::key::{FEW, Key, Origin};
 use ns_base::no_memory::NoMemory;
 use ns_base::text::Text;
 use ns_tree::tree::{Access, Class, Member, Method, Named, Side, Slot, SlotInit, What};
@@ -40,11 +41,23 @@ pub enum Setting {
 pub fn table_of<V: Copy>(alloc: Global, declared: &[Declared<V>]) -> Result<Table<V>, NoMemory>
     ensures { IfOk result (λ table. table ≡ table_of declared.now) }
 {
-    let mut table = Table::new(alloc);
+    let mut table = Table::new(alloc, key_of(declared));
     for one in declared {
         put_declared(alloc, &mut table, one)?;
     }
     Ok(table)
+}
+
+/// The key of a table of these names.
+pub fn key_of<V>(declared: &[Declared<V>]) -> Key {
+    if declared.len() <= FEW {
+        return Key::of_few();
+    }
+    let mut origin = Origin::new();
+    for one in declared {
+        origin.add(one.name.bytes());
+    }
+    origin.key()
 }
 
 /// Puts a name in, unless it is there. Tells whether it is new.

@@ -1,6 +1,7 @@
 //! A program: the trees of its files.
 
 use ns_base::items::Items;
+use ns_base::key::Key;
 use ns_base::place::Place;
 use ns_base::text::Text;
 use ns_tree::tree::Unit;
@@ -12,4 +13,6 @@ pub struct Program {
     pub units: Items<Unit>,
     pub files: Items<Text>,
     pub marks: Items<Items<Place>>,
+    /// The key of tables of its names.
+    pub key: Key,
 }

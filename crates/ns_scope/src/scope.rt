@@ -9,6 +9,7 @@ use crate::chain::{Chain, Link};
 use crate::names::{Local, class_members, instance_members, locals, table_of};
 use crate::resolve::{Target, innermost_local, innermost_member};
 use crate::table::Table;
+use ns_base::key::Key;
 use ns_base::no_memory::NoMemory;
 use ns_base::text::Text;
 use ns_tree::tree::{Access, Class, Named, Pattern, Slot};
@@ -45,7 +46,13 @@ impl Scope {
     pub fn clause(alloc: Global, classes: &Chain<ClassScope>) -> Result<Scope, NoMemory>
         ensures { IfOk result (λ scope. scope ≡ clause_scope classes.now) }
     {
-        Scope::outermost(alloc, Table::new(alloc), CodeSide::Instance, false, classes)
+        Scope::outermost(
+            alloc,
+            Table::new(alloc, Key::of_few()),
+            CodeSide::Instance,
+            false,
+            classes,
+        )
     }
 
     /// What an initialiser sees, in a class with this factory.
@@ -57,7 +64,13 @@ impl Scope {
         ensures { IfOk result (λ scope. scope ≡ initialiser_scope classes.now (option_map pattern_of factory.now)) }
     {
         match factory {
-            None => Scope::outermost(alloc, Table::new(alloc), CodeSide::Instance, false, classes),
+            None => Scope::outermost(
+                alloc,
+                Table::new(alloc, Key::of_few()),
+                CodeSide::Instance,
+                false,
+                classes,
+            ),
             Some(pattern) => {
                 let names = table_of(alloc, &locals(alloc, &pattern.params, &None)?)?;
                 Scope::outermost(alloc, names, CodeSide::Instance, false, classes)

@@ -74,7 +74,7 @@ fn least_fault(alloc: Global, program: &Program) -> Result<Option<Placed>, NoMem
     ensures { IfOk result (λ least. least ≡ fault_of program.now) }
 {
     let mut before = Before {
-        names: Table::new(alloc),
+        names: Table::new(alloc, program.key),
         classes: 0,
     };
     let mut least = None;

@@ -12,7 +12,7 @@ use crate::checker::{Checker, found_if, found_past};
 use crate::fault::{Many, StaticCause};
 use ns_base::no_memory::NoMemory;
 use ns_scope::chain::Chain;
-use ns_scope::names::{Declared, Local, locals, put_declared};
+use ns_scope::names::{Declared, Local, key_of, locals, put_declared};
 use ns_scope::scope::{ClassScope, CodeSide, Scope};
 use ns_scope::table::Table;
 use ns_tree::tree::{Named, Pattern, Slot};
@@ -115,7 +115,7 @@ pub fn found_repeated<V: Copy>(
     ensures found { OnOk result (checker.new ≡ with_found checker.old (found_repeated cause [] declared.now)) }
     ensures table { IfOk result (λ table. table ≡ table_of declared.now) }
 {
-    let mut table = Table::new(checker.alloc);
+    let mut table = Table::new(checker.alloc, key_of(declared));
     for one in declared {
         let new = put_declared(checker.alloc, &mut table, one)?;
         found_if(checker, !new, one.at, cause);

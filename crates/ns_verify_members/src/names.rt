@@ -9,6 +9,7 @@ ghost use Rattle.ns_code.specs.declared.program.CodeProgram.{CodeProgram};
 ghost use Rattle.ns_verify_members.specs.Numbers.{IsNameTable, setter_number, with_colon};
 
 use ns_base::items::Items;
+use ns_base::key::Key;
 use ns_base::names::Names;
 use ns_base::no_memory::NoMemory;
 use ns_base::selector::Sel;
@@ -153,7 +154,7 @@ fn table_of(alloc: Global, names: &[Text]) -> Result<Names, NoMemory>
     requires { AllPairs (λ a b. a ≢ b) names.now }
     ensures { IfOk result (λ table. table ≡ names.now) }
 {
-    let mut table = Names::new(alloc);
+    let mut table = Names::new(alloc, Key::of_texts(names));
     'names: for name in names {
         match table.intern(name.bytes()) {
             Ok(_) => {}

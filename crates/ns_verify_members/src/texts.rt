@@ -4,6 +4,7 @@ ghost use Rattle.std.specs.Prelude.{◌≡◌, IfOk, OnOk, not};
 ghost use Rattle.ns_base.specs.Names.{has, put_in};
 ghost use Rattle.ns_code.specs.Soundness.{are_different};
 
+use ns_base::key::Key;
 use ns_base::no_memory::NoMemory;
 use ns_base::text::Text;
 use ns_base::text_set::TextSet;
@@ -14,7 +15,7 @@ use std::alloc::Global;
 pub fn are_different(alloc: Global, texts: &[Text]) -> Result<bool, NoMemory>
     ensures { IfOk result (λ different. different ≡ are_different texts.now) }
 {
-    let mut seen = TextSet::new(alloc);
+    let mut seen = TextSet::new(alloc, Key::of_texts(texts));
     'texts: for text in texts {
         if !put(alloc, &mut seen, text)? {
             return Ok(false);

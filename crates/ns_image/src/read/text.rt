@@ -10,6 +10,7 @@ use crate::read::format::Format;
 use crate::read::input::Input;
 use crate::spelling::{is_file_name, is_local_name};
 use ns_base::items::Items;
+use ns_base::key::{FEW, Key, Origin};
 use ns_base::names::MOST_NAMES;
 use ns_base::spelled::is_selector;
 use ns_base::text::Text;
@@ -91,8 +92,24 @@ pub fn names(alloc: Global, input: &mut Input<'_>) -> Result<Items<Text>, Fault>
     ensures { Reads (spec.names input.old.rest.now) result input.new.rest.now }
 {
     let count = input.word_up_to(MOST_NAMES as u32)?;
-    let mut earlier = TextSet::new(alloc);
+    let mut earlier = TextSet::new(alloc, key_of(input.rest, count));
     names_of(alloc, input, &mut earlier, count)
+}
+
+/// The key of a table of so many names, with which these bytes begin.
+fn key_of(bytes: &[u8], count: u32) -> Key {
+    if count as usize <= FEW {
+        return Key::of_few();
+    }
+    let mut names = Input { rest: bytes };
+    let mut origin = Origin::new();
+    'names: for _ in 0..count {
+        match names.text() {
+            Ok(name) => origin.add(name),
+            Err(_) => break,
+        }
+    }
+    origin.key()
 }
 
 /// So many names behind earlier ones.
