@@ -7,8 +7,9 @@ ghost use Rattle.ns_world.specs.Heap as heap;
 use ns_base::selector::Sel;
 
 /// What a name, a slot or an operand holds. A reference is the number of a cell.
-#[derive(Clone, Copy, PartialEq, Eq)]
+#[derive(Clone, Copy, Default, PartialEq, Eq)]
 pub enum Value {
+    #[default]
     Nil,
     True,
     False,
