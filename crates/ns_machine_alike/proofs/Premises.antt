@@ -20,7 +20,7 @@ use Rattle.ns_machine_alike.specs.Premises.{ArePlain, PlainArgumentsAddNothing, 
 use Rattle.ns_machine_alike.proofs.There.{reach_there, there_below}
 use Rattle.ns_machine_alike.proofs.Matching.{first_once}
 use Rattle.ns_machine_alike.proofs.Starting.{IdleWorld, idle_world, send_pairing, heaps_start}
-use Rattle.ns_machine_alike.proofs.Ending.{reach_forth, reach_back}
+use Rattle.ns_machine_alike.proofs.Reaching.{reach_forth, reach_back}
 
 -- ---- plain arguments
 

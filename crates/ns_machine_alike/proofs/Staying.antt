@@ -1,5 +1,5 @@
 -- Two sends of a host from alike states are paired as they begin, stay so, and so come to alike states.
-use Rattle.std.proofs.Common.{◌≡◌, ◌≢◌, inl, inr, ℕ, zero, suc, ◌+◌, ◌-◌, ◌≤◌, List, [], ◌∷◌, ◌++◌, Option, Some, None, Bool, false, refl, sym, ap, subst, arith}
+use Rattle.std.proofs.Common.{◌≡◌, ◌≢◌, inl, inr, ℕ, zero, suc, ◌+◌, ◌-◌, ◌≤◌, List, [], ◌∷◌, ◌++◌, Option, Some, None, Bool, true, false, refl, sym, ap, ◌∙◌, subst, arith}
 use Rattle.std.specs.Prelude.{Contains, IsSome}
 use Rattle.ns_base.specs.declared.limits.Limits.{Limits}
 use Rattle.ns_code.specs.declared.program.CodeProgram.{CodeProgram}
@@ -32,13 +32,14 @@ use Rattle.ns_machine_moves.specs.Move.{move, moves}
 use Rattle.ns_machine_moves.specs.Turn.{is_still}
 use Rattle.ns_machine_moves.specs.Starts.{begun}
 use Rattle.ns_machine_moves.specs.Standing.{ValidFindsAsked, MovesKeepValid}
+use Rattle.ns_machine_moves.specs.Stated.{MovesAdd, StaysStill}
 use Rattle.ns_machine_moves.specs.WorldAsks.{InstrAsks, FindsAsked}
 use Rattle.ns_machine_moves.specs.Beginning.{HostKeepsValid}
 use Rattle.ns_machine_moves.specs.Valid.{WorldIsValid, EndingIsValid, EndsIn, Valid}
 use Rattle.ns_machine_reach.specs.Within.{IsGranted, In, AllIn}
 use Rattle.ns_machine_reach.specs.Reached.{InReach}
 use Rattle.ns_machine_alike.specs.Paired.{IsPairing, Paired, Partners, Same, AllPaired, NumberPaired, FacetPaired, CellPaired, EndingPaired, PhasePaired, Abreast, StatePaired}
-use Rattle.ns_machine_alike.specs.Isolated.{SendPair, Earlier, Made, NoClass, RenamesOn, BoardsAlike, EndingAlike, MaybeEndingAlike, ended_with, done_values, SendsAreAlike, SendsComeToTheSame}
+use Rattle.ns_machine_alike.specs.Isolated.{SendPair, Earlier, Made, NoClass, RenamesOn, BoardsAlike, EndingAlike, MaybeEndingAlike, ended_with, done_values, RunsAlike, SendsAreAlike, SendsComeToTheSame, EndedSendsAreAlike}
 use Rattle.ns_machine_alike.proofs.Values.{all_append}
 use Rattle.ns_machine_alike.proofs.Sends.{Known}
 use Rattle.ns_machine_alike.proofs.Moves.{InstrFinds, StepFinds, move_paired}
@@ -46,7 +47,7 @@ use Rattle.ns_machine_alike.proofs.There.{reach_there, there_below, AllThere, Cl
 use Rattle.ns_machine_alike.proofs.Matching.{first_once}
 use Rattle.ns_machine_alike.proofs.Starting.{idle_world, send_pairing, begun_paired, received, given, reached, reached'}
 use Rattle.ns_machine_alike.proofs.Beginning.{may_begin_too}
-use Rattle.ns_machine_alike.proofs.Ending.{both_cells, reach_forth, reach_back}
+use Rattle.ns_machine_alike.proofs.Reaching.{both_cells, reach_forth, reach_back}
 
 -- what the laws of a run give
 pub record Laws (code : CodeProgram) (grants : Grants) : Type 0 where
@@ -425,3 +426,21 @@ sends_alike code grants grants' laws laws' pairs receiver other sel arguments ot
 pub come_to_the_same : (code : CodeProgram) (grants grants' : Grants) → SendsAreAlike code grants grants' → SendsComeToTheSame code grants grants'
 come_to_the_same code grants grants' alike receiver sel arguments count first valid may pairs other others second valid' idle states =
     (moves code count (begun other sel others second), record { count = count; is = refl }, alike pairs receiver other sel arguments others count first second valid valid' may idle states)
+
+-- two runs from one state that move no more have come to one state
+still_one : (code : CodeProgram) (start : State) → MovesAdd code start → ((state : State) → StaysStill code state) → (a b : ℕ) → is_still (moves code a start) ≡ true → is_still (moves code b start) ≡ true
+    → moves code a start ≡ moves code b start
+still_one code start adds stays a b still still' =
+    let same : a + b ≡ b + a = omega arith in
+    sym (stays (moves code a start) b still) ∙ (sym (adds a b) ∙ (ap (λ k. moves code k start) same ∙ (adds b a ∙ stays (moves code b start) a still')))
+
+pub ended_alike : (code : CodeProgram) (grants grants' : Grants) → SendsAreAlike code grants grants' → ((state : State) → MovesAdd code state) → ((state : State) → StaysStill code state) → EndedSendsAreAlike code grants grants'
+ended_alike code grants grants' alike adds stays pairs receiver other sel arguments others first second one two valid valid' may idle states leads leads' still still' =
+    let start = begun receiver sel arguments first in
+    let start' = begun other sel others second in
+    let runs = alike pairs receiver other sel arguments others leads.count first second valid valid' may idle states in
+    let here : is_still (moves code leads.count start) ≡ true = ap is_still leads.is ∙ still in
+    let there : is_still (moves code leads'.count start') ≡ true = ap is_still leads'.is ∙ still' in
+    let same : moves code leads.count start' ≡ two = still_one code start' (adds start') stays leads.count leads'.count (sym runs.still ∙ here) there ∙ leads'.is in
+    subst (λ s. RunsAlike pairs (receiver ∷ arguments) (other ∷ others) first second s two) leads.is
+    (subst (λ s. RunsAlike pairs (receiver ∷ arguments) (other ∷ others) first second (moves code leads.count start) s) same runs)

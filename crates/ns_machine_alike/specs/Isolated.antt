@@ -135,6 +135,17 @@ SendsComeToTheSame code grants grants' =
     → MayBegin code receiver sel arguments first
     → ComesToTheSame code grants' receiver sel arguments first (moves code count (begun receiver sel arguments first))
 
+-- Two sends from states that are alike have gone on until they move no more: the runs are alike.
+abbrev pub EndedSendsAreAlike : CodeProgram → Grants → Grants → Type 0
+EndedSendsAreAlike code grants grants' =
+    (pairs : Renaming) (receiver other : Value) (sel : Sel) (arguments others : List Value) (first second one two : State)
+    → Valid code grants first → Valid code grants' second
+    → MayBegin code receiver sel arguments first → IsTrue (is_idle second)
+    → StatesAlike pairs (receiver ∷ arguments) (other ∷ others) first second
+    → SendsTo code receiver sel arguments first one → SendsTo code other sel others second two
+    → IsTrue (is_still one) → IsTrue (is_still two)
+    → RunsAlike pairs (receiver ∷ arguments) (other ∷ others) first second one two
+
 -- There is a renaming that goes on: with the pairs of the cells that were there, and of those that were made since.
 abbrev pub RenamingsGoOn : Type 0
 RenamingsGoOn =

@@ -2,7 +2,7 @@
 
 ghost use Rattle.ns_code.specs.declared.program.CodeProgram.{CodeProgram};
 ghost use Rattle.ns_facets.specs.declared.row.Grants.{Grants};
-ghost use Rattle.ns_machine_alike.specs.Isolated.{SendsAreAlike, SendsComeToTheSame, RenamingsGoOn};
+ghost use Rattle.ns_machine_alike.specs.Isolated.{SendsAreAlike, SendsComeToTheSame, EndedSendsAreAlike, RenamingsGoOn};
 ghost use Rattle.ns_machine_alike.specs.Underway.{TurnsAreAlike, TurnsComeToTheSame, TurnsGoOnAlike};
 ghost use Rattle.ns_machine_alike.specs.Premises.{PlainArgumentsAddNothing, UnreachedBoardsMayDiffer, ReachedValuesAreAlike};
 ghost use Rattle.ns_machine_alike.specs.Modules.{ModulesAreAlike, ModulesComeToTheSame, ModulesTouchNothing};
@@ -25,6 +25,15 @@ pub fn sends_come_to_the_same()
     ensures { (code : CodeProgram) (grants grants' : Grants) → SendsComeToTheSame code grants grants' }
 {
     sends_are_alike();
+}
+
+/// And two such sends that have run to their ends, each in as many moves as it takes, are alike.
+pub fn ended_sends_are_alike()
+    ensures { (code : CodeProgram) (grants grants' : Grants) → EndedSendsAreAlike code grants grants' }
+{
+    sends_are_alike();
+    ns_machine_moves::laws::moves_add();
+    ns_machine_moves::laws::ended_runs_stay();
 }
 
 /// A renaming goes on as one list of pairs, which can be computed.

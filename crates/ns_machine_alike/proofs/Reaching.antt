@@ -1,4 +1,4 @@
--- Two runs that are paired have come to alike states.
+-- From paired roots on, each cell that is reached in one world has a partner that is reached in the other.
 use Rattle.std.proofs.Common.{◌≡◌, ◌⊎◌, inl, inr, ℕ, ◌≤◌, List, [], ◌∷◌, Option, Some, None, false, refl, sym, subst, arith}
 use Rattle.std.specs.Prelude.{Contains, IsSome}
 use Rattle.ns_world.specs.declared.value.Value.{Value}
