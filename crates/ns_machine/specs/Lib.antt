@@ -3,3 +3,5 @@ pub mod Fresh
 pub mod Opening
 pub mod Waiting
 pub mod Turning
+pub mod Living
+pub mod Asking
