@@ -4,3 +4,5 @@ pub mod Waited
 pub mod Standing
 pub mod Running
 pub mod LiveEndings
+pub mod LiveTest
+pub mod Asked

@@ -15,7 +15,8 @@ use Rattle.ns_machine_moves.specs.Starts.{unbegun, new_machine}
 use Rattle.ns_machine_moves.specs.Valid.{Valid}
 use Rattle.ns_machine_core.specs.declared.state.Core.{Core}
 use Rattle.ns_machine_core.specs.Shown.{phase_shown, progress_in}
-use Rattle.ns_machine_core.specs.laws.Kept.{valid_lawful, shown_progress, rooms_stay}
+use Rattle.ns_machine_moves.specs.laws.Worlds.{valid_lawful}
+use Rattle.ns_machine_core.specs.laws.Kept.{shown_progress, rooms_stay}
 use Rattle.ns_machine_core.specs.declared.state.Phase.{Phase as KeptPhase}
 use Rattle.ns_machine_core.specs.declared.state.Phase.TheVariants.{Start, Hosted}
 use Rattle.ns_world.specs.declared.ending.Ending.{Ending}

@@ -4,3 +4,5 @@ pub mod Opening
 pub mod Waiting
 pub mod Turned
 pub mod Turning
+pub mod Living
+pub mod Asking

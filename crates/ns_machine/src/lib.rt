@@ -3,6 +3,8 @@
 //! Stands between ns_machine_turns and session, run.
 #![tactic(auto)]
 
+pub mod asking;
+mod living;
 pub mod machine;
 mod memory;
 mod own;

@@ -40,4 +40,5 @@ pub mod Earlier
 pub mod Lowered
 pub mod Bounded
 pub mod Ending
+pub mod LivesOn
 pub mod Powers

@@ -21,6 +21,7 @@ pub mod WorldStays
 pub mod WorldAsks
 pub mod Standing
 pub mod Beginning
+pub mod Living
 pub mod Stated
 pub mod laws
 pub mod Falling

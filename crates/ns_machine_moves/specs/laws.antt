@@ -4,4 +4,5 @@ pub mod Levels
 pub mod Operands
 pub mod Steps
 pub mod Still
+pub mod Worlds
 pub mod Doubling

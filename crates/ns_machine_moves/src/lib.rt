@@ -5,5 +5,6 @@
 
 pub mod falling;
 pub mod laws;
+pub mod living;
 pub mod valid_frames;
 pub mod valid_world;

@@ -10,7 +10,7 @@ ghost use Rattle.ns_load.specs.Loaded.{loaded, loaded_texts};
 ghost use Rattle.ns_scope.specs.Whole.{IsFileName, IsWhole};
 ghost use Rattle.ns_static.specs.Check.{fault_of};
 ghost use Rattle.ns_tree.specs.PlainOf.{unit_of};
-ghost use Rattle.ns_run_words.specs.Application.{are_few};
+ghost use Rattle.ns_run_words.specs.Application.{are_few, names_in};
 ghost use Rattle.ns_run_words.specs.Line.{asked_seen};
 ghost use Rattle.ns_session_files.specs.Answer.{HasRefusedFile, IsMadeAs, IsMissingFile, IsOfLoaded, fault_from, OfSomeTexts, SomeIsThere};
 ghost use Rattle.ns_session_files.specs.Making as spec;
@@ -51,7 +51,29 @@ pub fn code_of<S: Shelf>(
     ensures read_fault { IsErrOf result Unread → Rose (S.faults shelf.old) (S.faults shelf.new) }
     ensures read_fault_there { (files : Files) → S.holds shelf.old ≡ Some files → IsErrOf result Unread → SomeIsThere files (asked_seen asked.entry).names }
 {
-    let names = names_in(alloc, asked.names)?;
+    code_of_files(alloc, asked.names, lib, shelf)
+}
+
+/// The code of the application of 1 to 16 files, whose names are joined by `+`, and of the library where it is asked for; or
+/// why it can't be made. A host gives its texts on a shelf in memory (`ns_base::mem_shelf`).
+pub fn code_of_files<S: Shelf>(
+    alloc: Global,
+    names: &str,
+    lib: bool,
+    shelf: &mut S,
+) -> Result<Verified, JointFault>
+    requires few { are_few 16 (names_in names.now) ≡ true }
+    ensures told { (grants : AnyGrants) (files : Files) → S.holds shelf.old ≡ Some files →
+        IsMadeAs grants (spec.of_loading (names_in names.now) grants lib (loaded (names_in names.now) lib files)) result }
+    ensures texts { (grants : AnyGrants) → OfSomeTexts (names_in names.now) (λ read.
+        IsMadeAs grants (spec.of_loading (names_in names.now) grants lib (loaded_texts read lib)) result) }
+    ensures refused { IfErr result HasRefusedFile }
+    ensures only_read { OnlyRead S.holds S.misses S.faults S.store_faults shelf.old shelf.new }
+    ensures missing { IfErr result (λ why. IsMissingFile why → Rose (S.misses shelf.old) (S.misses shelf.new)) }
+    ensures read_fault { IsErrOf result Unread → Rose (S.faults shelf.old) (S.faults shelf.new) }
+    ensures read_fault_there { (files : Files) → S.holds shelf.old ≡ Some files → IsErrOf result Unread → SomeIsThere files (names_in names.now) }
+{
+    let names = names_in(alloc, names)?;
     let texts = names_of(alloc, names.as_slice())?;
     of_files(alloc, names, texts.as_slice(), lib, shelf)
 }

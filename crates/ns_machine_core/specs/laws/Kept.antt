@@ -3,13 +3,10 @@ use Rattle.std.proofs.Common.{◌≡◌, List, refl, subst, ◌∙◌}
 use Rattle.ns_base.specs.declared.place.Place.{Place as SourcePlace}
 use Rattle.ns_code.specs.declared.program.CodeProgram.{CodeProgram}
 use Rattle.ns_facets.specs.declared.row.Grants.{Grants}
-use Rattle.ns_world.specs.declared.ending.Ending.{Ending}
-use Rattle.ns_world.specs.declared.ending.Ending.TheVariants.{Done, Error, Limit}
-use Rattle.ns_world.specs.declared.ending.LimitKind.TheVariants as limit
 use Rattle.ns_world.specs.Lawful.{IsLawful}
-use Rattle.ns_machine_moves.specs.State.{Phase, State, Unbegun, Going, Pends, Ended, Stuck, progress_of}
-use Rattle.ns_machine_moves.specs.State as state
-use Rattle.ns_machine_moves.specs.Valid.{Valid, EndsIn}
+use Rattle.ns_machine_moves.specs.State.{Phase, progress_of}
+use Rattle.ns_machine_moves.specs.Valid.{Valid}
+use Rattle.ns_machine_moves.specs.laws.Worlds.{valid_lawful}
 use Rattle.ns_actions.specs.Control.{Progress}
 use Rattle.ns_machine_frames.specs.declared.frame.Pending.{Pending}
 use Rattle.ns_machine_frames.specs.declared.frame.Pending.TheVariants as pending
@@ -23,40 +20,6 @@ use Rattle.ns_machine_core.specs.Shown.{phase_shown, progress_in, shown}
 use Rattle.ns_machine_core.specs.Standing.{HasRooms, Stays}
 
 -- ---- worlds of valid states
-
-ended_lawful : (code : CodeProgram) (grants : Grants) (ending : Ending) (phase : Phase) (p : Progress) → EndsIn code grants ending phase p → IsLawful p.world code
-ended_lawful code grants (Limit limit.Cells) state.Start p v = v.lawful
-ended_lawful code grants (Limit limit.Steps) state.Start p v = absurd v
-ended_lawful code grants (Limit limit.Depth) state.Start p v = absurd v
-ended_lawful code grants (Limit limit.Out) state.Start p v = absurd v
-ended_lawful code grants (Done value) state.Start p v = absurd v
-ended_lawful code grants (Error error) state.Start p v = absurd v
-ended_lawful code grants (Done value) (state.First arguments) p v = absurd v
-ended_lawful code grants (Error error) (state.First arguments) p v = v.0.lawful
-ended_lawful code grants (Limit limit.Cells) (state.First arguments) p v = v.0.lawful
-ended_lawful code grants (Limit limit.Steps) (state.First arguments) p v = v.0.lawful
-ended_lawful code grants (Limit limit.Depth) (state.First arguments) p v = v.0.lawful
-ended_lawful code grants (Limit limit.Out) (state.First arguments) p v = v.0.lawful
-ended_lawful code grants (Done value) state.Second p v = v.0.lawful
-ended_lawful code grants (Error error) state.Second p v = v.0.lawful
-ended_lawful code grants (Limit limit.Cells) state.Second p v = v.0.lawful
-ended_lawful code grants (Limit limit.Steps) state.Second p v = v.0.lawful
-ended_lawful code grants (Limit limit.Depth) state.Second p v = v.0.lawful
-ended_lawful code grants (Limit limit.Out) state.Second p v = v.0.lawful
-ended_lawful code grants (Done value) state.Hosted p v = v.0.lawful
-ended_lawful code grants (Error error) state.Hosted p v = v.0.lawful
-ended_lawful code grants (Limit limit.Cells) state.Hosted p v = v.0.lawful
-ended_lawful code grants (Limit limit.Steps) state.Hosted p v = v.0.lawful
-ended_lawful code grants (Limit limit.Depth) state.Hosted p v = v.0.lawful
-ended_lawful code grants (Limit limit.Out) state.Hosted p v = v.0.lawful
-
--- The world of a valid state is lawful.
-pub valid_lawful : (code : CodeProgram) (grants : Grants) (s : State) → Valid code grants s → IsLawful (progress_of s).world code
-valid_lawful code grants (Unbegun arguments p) v = v.0.lawful
-valid_lawful code grants (Going phase frames p) v = v.0.world.lawful
-valid_lawful code grants (Pends phase pending frames p) v = v.0.world.lawful
-valid_lawful code grants (Ended ending phase p) v = ended_lawful code grants ending phase p v
-valid_lawful code grants (Stuck p) v = absurd v
 
 -- the world of what is shown is the machine's
 waiting_progress : (code : CodeProgram) (places : List SourcePlace) (phase : Phase) (p : Pending) (stack : Stack) (at : Registers) (progress : Progress)

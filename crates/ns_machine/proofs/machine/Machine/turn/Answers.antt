@@ -2,6 +2,7 @@ use Rattle.std.proofs.Common.{◌≡◌, ◌+◌, zero, true, false, refl, arith
 use Rattle.ns_code.specs.declared.program.CodeProgram.{CodeProgram}
 use Rattle.ns_machine_moves.specs.Turn.{is_still, Turns}
 use Rattle.ns_machine_moves.specs.Valid.{Valid}
+use Rattle.ns_machine_moves.specs.Living.{KeepsLive}
 use Rattle.ns_machine_reach.specs.Reached.{StaysInReach}
 use Rattle.ns_machine_alike.specs.Underway.{GoesOnAlike}
 use Rattle.ns_machine_core.specs.Shown.{shown}
@@ -70,3 +71,14 @@ returns-in-Begun-clause-alike c =
     subst (λ (view : MachineView). GoesOnAlike view.code view.grants c.args.steps view.state last) c.self.view_is
     (subst (λ (s : Stage). GoesOnAlike m.code m.grants c.args.steps (stage_shown m.code m.core s) last) (sym c.in-Begun.is)
     (c.turns_go_on_alike.ensures m.code m.grants c.args.steps (shown m.code m.core c.in-Begun.from) last turns))
+
+pub returns-in-Begun-clause-keeps_live : goal.returns-in-Begun-clause-keeps_live
+returns-in-Begun-clause-keeps_live c =
+    let m = c.self.inside in
+    let last = shown m.code c.turn-next.new.core c.turn-next.result in
+    let valid = subst (λ (s : Stage). Valid m.code m.grants (stage_shown m.code m.core s)) c.in-Begun.is c.self.invariant.valid in
+    let turns = subst (λ (code : CodeProgram). Turns code c.args.steps (shown code m.core c.in-Begun.from) (shown code c.turn-next.new.core c.turn-next.result))
+    c.code.ensures.code c.turn-next.ensures.turns in
+    subst (λ (view : MachineView). KeepsLive view.code view.state last) c.self.view_is
+    (subst (λ (s : Stage). KeepsLive m.code (stage_shown m.code m.core s) last) (sym c.in-Begun.is)
+    (c.moves_keep_live.ensures.turns m.code m.grants c.args.steps (shown m.code m.core c.in-Begun.from) last valid turns))

@@ -1,0 +1,92 @@
+//! A host of plug-ins that it doesn't trust, as a first program of an embedder: each is the text of one class, which it compiles in
+//! memory, lets run within limits and with no facet, and then asks by name.
+//! `crates/ns_machine/specs/Asking.antt` says what may be asked, and `crates/ns_machine/specs/Living.antt` what can be asked again.
+//! Stands on ns_machine and ns_session_files; nothing stands on it, and docs/HOSTING.md quotes it.
+#![tactic(auto)]
+
+ghost use Rattle.ns_machine_moves.specs.State.{world_of};
+ghost use Rattle.ns_machine_report.specs.Ending.{IsLiveEnding};
+
+#[cfg(test)]
+mod ask_tests;
+mod plugin;
+
+use ns_base::no_memory::NoMemory;
+use ns_machine::machine::Machine;
+use ns_world::ending::Ending;
+use ns_world::value::Value;
+use plugin::machine_of;
+use std::io;
+use std::io::Write;
+
+/// Keeps a sum from one send to the next.
+const ADDER: &str = "class Plugin packageUsing: manifest = (| private sum ::= 0. |) (
+public add: n = (sum:: sum + n. ^sum)
+public main: platform args: args = (^self)
+)
+";
+
+/// Never answers.
+const SPINNER: &str = "class Plugin packageUsing: manifest = () (
+public add: n = ([true] whileTrue: [])
+public main: platform args: args = (^self)
+)
+";
+
+/// Looks for the console.
+const SNOOP: &str = "class Plugin packageUsing: manifest = (| private found. |) (
+public add: n = (found console printLine: 'out')
+public main: platform args: args = (found:: platform)
+)
+";
+
+/// Is no program.
+const NONSENSE: &str = "class Plugin packageUsing: manifest = (";
+
+fn main(rt: HostRuntime) -> Result<(), io::Error> {
+    host(&rt, "adder", ADDER)?;
+    host(&rt, "spinner", SPINNER)?;
+    host(&rt, "snoop", SNOOP)?;
+    host(&rt, "nonsense", NONSENSE)
+}
+
+/// Makes a machine for a plug-in, lets its run begin, and asks what that answered.
+fn host(rt: &HostRuntime, name: &str, source: &str) -> Result<(), io::Error> {
+    println!(rt; "{name}")?;
+    let Some(machine) = machine_of(rt.alloc(), source) else {
+        return println!(rt; "refused");
+    };
+    let mut machine = machine;
+    match machine.run() {
+        Ending::Done(plugin) => {
+            ask(rt, &mut machine, plugin, "add:", 3)?;
+            ask(rt, &mut machine, plugin, "add:", 4)?;
+            ask(rt, &mut machine, plugin, "open:", 1)
+        }
+        ending => tell(rt, &machine, ending),
+    }
+}
+
+/// Sends a name with a number to a value of the run, and tells what that came to.
+fn ask(
+    rt: &HostRuntime,
+    machine: &mut Machine,
+    receiver: Value,
+    name: &str,
+    number: i64,
+) -> Result<(), io::Error> {
+    match machine.ask(receiver, name.as_bytes(), &[Value::Int(number)]) {
+        Some(ending) => tell(rt, machine, ending),
+        None => println!(rt; "{name} can't be asked"),
+    }
+}
+
+/// Tells how a run or a send has ended.
+fn tell(rt: &HostRuntime, machine: &Machine, ending: Ending) -> Result<(), io::Error>
+    requires { IsLiveEnding (world_of machine.now.state).cells machine.now.code ending }
+{
+    match machine.report(rt.alloc(), &ending, machine.code().files.as_slice()) {
+        Ok(line) => rt.stdout().write_all(line.as_slice()),
+        Err(NoMemory) => println!(rt; "no memory"),
+    }
+}

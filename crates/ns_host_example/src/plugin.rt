@@ -1,0 +1,42 @@
+//! A machine for a text in memory.
+
+use ns_base::limits::Limits;
+use ns_base::mem_shelf::MemShelf;
+use ns_base::shelf::Shelf;
+use ns_facets::row::Grants;
+use ns_machine::machine::Machine;
+use ns_session_files::source::code_of_files;
+use ns_verify::verify::Verified;
+use std::alloc::Global;
+
+/// What a run may use. The machine takes its memory for all of this when it is made.
+const LIMITS: Limits = Limits {
+    steps: 10_000,
+    cells: 10_000,
+    depth: 100,
+    out: 1,
+};
+
+/// A plug-in is granted nothing: it can compute and answer.
+const GRANTS: Grants = Grants {
+    console: false,
+    kernel: false,
+    mirrors: false,
+    board: false,
+};
+
+/// A machine that has made its start, or none where the text isn't a program or memory is wanted.
+pub fn machine_of(alloc: Global, source: &str) -> Option<Machine> {
+    let code = code(alloc, source)?;
+    if !LIMITS.are_in_range() {
+        return None;
+    }
+    Machine::new(alloc, code, LIMITS, GRANTS, &[]).ok()
+}
+
+/// The code of a text, which is the one file of its program.
+fn code(alloc: Global, source: &str) -> Option<Verified> {
+    let mut shelf = MemShelf::new(alloc, Vec::new(alloc));
+    shelf.store("Plugin.ns", source.as_bytes()).ok()?;
+    code_of_files(alloc, "Plugin.ns", false, &mut shelf).ok()
+}
