@@ -1,9 +1,6 @@
-//! The actions of a run, as a machine takes them: what a send comes to from its lookup up to the
-//! point where control moves, the evaluation of blocks, the kernel's methods that evaluate them,
-//! instances and nested classes, superclass parts, ends of bodies, slots, locals and new cells.
-//!
-//! Each is exactly the action of that name which the meaning of a program speaks of too. None
-//! takes memory: a send's arguments stand in a slice, and nothing is listed or copied on its way.
+//! The actions of a run as a machine takes them, none of which takes memory.
+//! `crates/ns_actions/specs/Shown.antt` says which end of which action each of their answers stands for.
+//! Stands between actions and the machine.
 #![tactic(auto)]
 
 pub mod answering;

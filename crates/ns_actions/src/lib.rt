@@ -1,11 +1,7 @@
-//! What a send does up to the point where control moves.
-//!
-//! The meaning of a program's text and the machine that runs its code share what is said here, in
-//! specs/: for each kind of send its receiver, where its lookup starts and how far it reaches; the
-//! charge of its step, the lookup, and how a send that finds nothing goes on; then an answer at
-//! once, a new activation with its depth and its cells, a block whose evaluation waits, a method of
-//! the kernel that has begun, or a send of `perform:with:` that waits. What is left to them is
-//! control alone: which instruction is next, and who gets an answer.
+//! What a send does up to the point where control moves, as definitions that model and machine share.
+//! `specs/Sends.antt` says the five sends: to what, from where and how far a selector is looked up, and what is done
+//! then.
+//! Stands between find, kernel and model, machine.
 #![tactic(auto)]
 
 pub mod begin;

@@ -1,4 +1,6 @@
-//! What every crate speaks of: texts, places, limits, statuses, and the files and streams outside.
+//! What all rooms speak of: texts, names with numbers, places, limits, statuses, and files and streams as traits.
+//! `specs/Shelf.antt` says what loading and storing a file come to, and `specs/Sink.antt` what a stream has taken.
+//! Stands on no other room; all stand on it.
 #![tactic(auto)]
 
 pub mod items;

@@ -1,4 +1,6 @@
-//! Making classes, and where the entries of objects stand.
+//! The making of classes, and where objects keep the entries of each class.
+//! `specs/Apply.antt` says which class is made over which superclass, or the first check that fails.
+//! Stands between world and find, kernel and actions.
 #![tactic(auto)]
 
 pub mod apply;

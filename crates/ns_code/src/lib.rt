@@ -1,4 +1,6 @@
 //! Code for the machine: instructions, bodies, class records, and the program that holds them.
+//! `specs/Table.antt` says what each instruction takes and leaves, and where it goes on.
+//! Stands between base and gen, image, verify, world and the machine.
 #![tactic(auto)]
 
 pub mod body;

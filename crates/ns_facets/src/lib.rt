@@ -1,4 +1,6 @@
-//! The facets of the platform: what a program may use of the outside.
+//! The kernel's rows of Manifest, Platform, Kernel, Console and Board.
+//! `specs/Facet.antt` says what each row comes to, in the world and on the board.
+//! Stands between world, ns_kdata and actions.
 #![tactic(auto)]
 
 pub mod board;

@@ -1,4 +1,6 @@
-//! Looking a selector up.
+//! Lookup: what a selector finds, from where a send starts.
+//! `specs/Find.antt` says through which members a lookup goes, and what it finds among them.
+//! Stands between classes and actions.
 #![tactic(auto)]
 
 pub mod find;

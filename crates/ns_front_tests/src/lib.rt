@@ -1,6 +1,7 @@
-//! The front, from bytes to what names mean, tried by tables: tokens with their spans, trees and the token at which a
-//! text stops to be one, names in the bodies of programs, and what all of it stands on: the library's size,
-//! names with numbers, and files and streams in memory.
+//! Tests of what reads a program, by tables, from bytes to what names mean.
+//! They try tokens with their spans, texts that are trees or stop to be one, names in bodies, the library's size, and
+//! files in memory.
+//! Stands on lex, parse, scope and lib.
 #![tactic(auto)]
 
 #[cfg(test)]

@@ -1,4 +1,6 @@
-//! What bodies do: the lines of methods, blocks, initialisers and clauses, and the code that lines are.
+//! Writes the code of one body: of a method, a block, an initialiser or a clause.
+//! `specs/Coding.antt` says what a further body makes of what was generated (`with_one`).
+//! Stands between ns_gen_exprs and ns_gen.
 #![tactic(auto)]
 
 pub mod clauses;

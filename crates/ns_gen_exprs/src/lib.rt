@@ -1,4 +1,6 @@
-//! What is written of expressions: the lines of code of each, in one walk over the tree.
+//! Writes the lines of expressions, in one walk over the tree.
+//! `specs/Sending.antt` says what is written of a node, and of a message behind its receiver.
+//! Stands between ns_gen_draft and ns_gen_bodies.
 #![tactic(auto)]
 
 pub mod expressions;

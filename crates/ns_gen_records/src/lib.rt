@@ -1,5 +1,6 @@
-//! The records of classes: what each class declares, by numbers of classes and bodies, and the record of
-//! it in a table of names.
+//! The records of classes: what each class declares, by the numbers of classes and bodies.
+//! `specs/Declaring.antt` says what a class declares, from where it stands (`declaration_in`).
+//! Stands between ns_gen_draft and ns_gen.
 #![tactic(auto)]
 
 pub mod counted;

@@ -1,5 +1,6 @@
-//! A host of plug-ins that it doesn't trust. Each is the text of one class, which the host compiles in memory and lets run within
-//! limits and with no facet; then it sends to what the run has answered.
+//! A host of plug-ins that it doesn't trust, as an example: it compiles their texts, runs each within limits, and sends to it.
+//! What a host may send is said in `crates/ns_machine/specs/Asking.antt`.
+//! Stands on machine and session, as a program of its own.
 #![tactic(auto)]
 
 ghost use Rattle.ns_machine_moves.specs.State.{world_of};

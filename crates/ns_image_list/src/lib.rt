@@ -1,4 +1,6 @@
-//! The listing of compiled code.
+//! Writes the listing of code.
+//! `specs/Listing.antt` says it line by line.
+//! Stands between code and run.
 #![tactic(auto)]
 
 pub mod instruction;

@@ -1,5 +1,7 @@
-//! Tests of images and of the verifier: an image of each version with its listing and what is refused of
-//! it, and small programs with the first fault of each.
+//! Tests of images and of the verifier, by tables.
+//! They try an image of each version with its listing, what is refused of it, and small programs with the first fault
+//! of each.
+//! Stands on image and verify.
 #![tactic(auto)]
 
 #[cfg(test)]

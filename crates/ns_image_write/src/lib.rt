@@ -1,4 +1,6 @@
-//! The bytes of an image from code.
+//! Writes the image of code.
+//! `crates/ns_image/specs/Bytes.antt` says which bytes these are (`bytes_of`).
+//! Stands between ns_image and run.
 #![tactic(auto)]
 
 pub mod write;

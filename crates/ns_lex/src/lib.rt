@@ -1,4 +1,6 @@
-//! Cuts a source into tokens.
+//! The tokens of a source, cut from its bytes.
+//! `specs/Lexes.antt` says which tokens cut a source, and where a source stops to be cut.
+//! Stands between tree and load.
 #![tactic(auto)]
 
 pub mod bytes;

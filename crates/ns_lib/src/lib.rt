@@ -1,4 +1,6 @@
-//! Sources that the program has of its own: the library that a program may ask for, and the sample.
+//! Sources that the program has of its own: the library Collections, and the sample of N.
+//! `specs/Collections.antt` says the library byte for byte, and `specs/Sample.antt` the sample line by line.
+//! Stands between base and load.
 #![tactic(auto)]
 
 pub mod collections;

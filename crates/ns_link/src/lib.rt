@@ -1,4 +1,7 @@
-//! The machine does what a source means: on the code of a program it comes to the end that the program's trees mean.
+//! The compiler, and the laws that its code is sound and that the machine does with it what the source means.
+//! `specs/Laws.antt` says that the machine on the code of a program comes to the end which the program means, at every
+//! limit.
+//! Stands on static, gen, verify, model and the moves of the machine; session and run call it.
 #![tactic(auto)]
 
 pub mod compile;

@@ -1,4 +1,7 @@
 //! Loads the files of a program: from names to trees and the places of their tokens.
+//! `specs/Loaded.antt` says what texts are loaded as: the units in their order, or the fault of the first text that is
+//! refused.
+//! Stands on lex, parse, lib and scope; run and session call it.
 #![tactic(auto)]
 
 pub mod fault;

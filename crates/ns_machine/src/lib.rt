@@ -1,4 +1,6 @@
-//! The machine, as callers see it: a run of verified code from its start on, whose state is one of the definitions.
+//! The machine as a host sees it: a run of verified code, from its start on.
+//! `specs/Machine.antt` says what a machine shows, and what holds of it at every moment.
+//! Stands between ns_machine_turns and session, run.
 #![tactic(auto)]
 
 pub mod asking;

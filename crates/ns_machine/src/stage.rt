@@ -4,7 +4,7 @@ ghost use Rattle.std.specs.Prelude.{◌≡◌};
 ghost use Rattle.ns_code.specs.declared.program.CodeProgram.{CodeProgram};
 ghost use Rattle.ns_machine_core.specs.Shown.{shown};
 ghost use Rattle.ns_machine.specs.Machine as spec;
-ghost use Rattle.ns_machine.specs.Turning as spec_turn;
+ghost use Rattle.ns_machine.specs.Turned as spec_turn;
 
 use ns_machine_core::state::{Core, Next};
 use ns_world::cell::CellLimit;

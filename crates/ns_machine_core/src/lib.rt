@@ -1,5 +1,6 @@
-//! The machine that runs code: its instructions, one function for each kind, over the world of a run, its frames and
-//! its values. The state that it shows is one of ns_machine_moves, and each instruction is the move of that state.
+//! The plain instructions of the machine, over a run's world, frames and values.
+//! `specs/Doing.antt` says what each does: the state that it shows is the one of ns_machine_moves.
+//! Stands on ns_act and ns_machine_frames; ns_machine_turns picks its functions.
 #![tactic(auto)]
 
 pub mod arriving;

@@ -1,9 +1,6 @@
-//! The frames, values and registers of the machine: where each frame keeps its locals and operands in one row of
-//! values, how a body is entered on the arguments that a caller pushed, how a value is delivered, and how frames are
-//! unwound down to a home.
-//!
-//! Nothing here looks into the world. What stands is the list of frames, each with its locals and its operands
-//! (specs/Standing.antt), and each call says what stands after it by what stood before.
+//! The frames and values of the machine in one row, with its registers.
+//! `specs/Standing.antt` says how frames stand there, each with its locals and its operands.
+//! Stands between ns_machine_moves and ns_machine_core.
 #![tactic(auto)]
 
 pub mod calls;

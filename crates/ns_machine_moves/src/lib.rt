@@ -1,5 +1,6 @@
-//! The machine that runs code, as definitions: the states of a run, what each instruction does, turns, and the
-//! invariant of the states that a run reaches. Laws of them are in `laws`.
+//! The machine as definitions: the states of a run, what each instruction does, turns, and which states a run reaches.
+//! `specs/Move.antt` says what one move makes of a state.
+//! Stands between actions and all else of the machine.
 #![tactic(auto)]
 
 pub mod falling;

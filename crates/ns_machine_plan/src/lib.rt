@@ -1,4 +1,6 @@
 //! Code prepared for running: made once from verified code, and read in constant time from then on.
+//! `specs/Plan.antt` says when a plan is that of a code, and what its steps are.
+//! Stands between verify and ns_machine_sends.
 #![tactic(auto)]
 
 mod index;

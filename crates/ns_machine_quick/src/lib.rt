@@ -1,4 +1,7 @@
-//! Sends by the quick way: registers alone come back, and whether the body that runs goes straight on.
+//! Sends by the quick way: those that are made most are done by registers alone, or not at all.
+//! `crates/ns_machine_core/specs/Tried.antt` says so: what such a send leads to is the move, or nothing has changed but
+//! kept lookups.
+//! Stands between ns_machine_sends and ns_machine_turns.
 #![tactic(auto)]
 
 pub mod booleans;

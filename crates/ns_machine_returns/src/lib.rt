@@ -1,6 +1,6 @@
-//! Where frames of the machine end: values that go to what stands below, the ends of bodies, returns to a home, superclass
-//! parts, and the actions of a method of the kernel, which ends by itself. Each is the move of the state that the machine
-//! shows, as in ns_machine_core.
+//! Where frames of the machine end: ends of bodies, returns to a home, superclass parts, and methods of the kernel.
+//! `specs/Ending.antt` says what the end of a body asks for, and what it leaves.
+//! Stands between ns_machine_core and ns_machine_turns.
 #![tactic(auto)]
 
 pub mod acting;

@@ -1,4 +1,6 @@
-//! The sends of running code, and what waits to be done: what they come to, and where control goes from there.
+//! The sends of running code, and what waits to be done.
+//! `specs/Sending.antt` says what a send asks for, and that control goes where it led.
+//! Stands between ns_machine_core, ns_machine_plan and ns_machine_quick.
 #![tactic(auto)]
 
 pub mod around;

@@ -1,4 +1,6 @@
-//! Tests of the machine's frames: that ordinary room is found, and what is in it.
+//! Tests of the machine's memory and of its plan.
+//! They try that ordinary room is found for frames and values, and what a small image is prepared as.
+//! Stands on image, verify and the machine's frames and plan.
 #![tactic(auto)]
 
 #[cfg(test)]

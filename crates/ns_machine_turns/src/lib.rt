@@ -1,5 +1,6 @@
-//! Turns of the machine that runs code: the next step of the body that runs, whether the next move charges, and so many
-//! moves as the steps of a turn allow.
+//! Turns of the machine: as many moves as so many steps allow, in one loop.
+//! `crates/ns_machine_moves/specs/Turn.antt` says what state a turn leaves (`Turns`).
+//! Stands between ns_machine_returns, ns_machine_quick and ns_machine.
 #![tactic(auto)]
 
 pub mod acting;

@@ -1,4 +1,6 @@
-//! Mirrors: looking at any value, its slots and its selectors.
+//! The kernel's rows of Mirrors and Mirror.
+//! `specs/Mirror.antt` says what each row comes to.
+//! Stands between classes, ns_kdata and actions.
 #![tactic(auto)]
 
 mod arrays;

@@ -1,5 +1,6 @@
-//! What a source means: the meaning of a program's run by its trees, from which everything that a run shows is told.
-//! It goes by big steps: a body comes to a value, a return, or the end of the run. Laws of it are in `laws`.
+//! What a source means: the run of a program by its trees, in big steps.
+//! `specs/Whole.antt` says the meaning of a run, over that of expressions in `specs/Eval.antt`.
+//! Stands between resolved, actions and link.
 #![tactic(auto)]
 
 pub mod laws;

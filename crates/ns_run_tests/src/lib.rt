@@ -1,5 +1,7 @@
-//! Whole commands of the program, tried by tables over files and streams in memory: what they write to both streams, and
-//! their exit statuses.
+//! Tests of whole commands, by tables, over files and streams in memory.
+//! They try what commands write to both streams, what they store, their statuses, and the system's streams over writers
+//! in memory.
+//! Stands on run and ns_system.
 #![tactic(auto)]
 
 #[cfg(test)]

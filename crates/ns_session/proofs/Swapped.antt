@@ -2,7 +2,7 @@
 use Rattle.std.proofs.Common.{◌≡◌, refl}
 use Rattle.ns_facets.specs.declared.board.Board.{Board}
 use Rattle.ns_machine_moves.specs.State.{State, Unbegun, Going, Pends, Ended, Stuck, swapped}
-use Rattle.ns_machine.specs.Turning.{turn_at}
+use Rattle.ns_machine.specs.Turned.{turn_at}
 
 -- what a turn answers is the same
 pub swapped_turn : (board : Board) (state : State) → turn_at (swapped board state) ≡ turn_at state

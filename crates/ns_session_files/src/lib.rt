@@ -1,4 +1,6 @@
-//! Several applications side by side: each is made of its sources, then all take turns, and what they have come to is told.
+//! Several applications from their files to what is told of them.
+//! `specs/Joint.antt` says what is told: how each has ended when all have, or the first refusal.
+//! Stands between load, static, ns_session and run.
 #![tactic(auto)]
 
 pub mod fault;

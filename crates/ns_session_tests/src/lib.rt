@@ -1,5 +1,7 @@
-//! Sessions, tried through their calls: what is refused, and that no schedule changes what an application without the board
+//! Tests of sessions through their calls.
+//! They try what is refused, and 500 random schedules, of which none changes what an application without the board
 //! does.
+//! Stands on session.
 #![tactic(auto)]
 
 #[cfg(test)]

@@ -1,4 +1,6 @@
-//! The faults of a program that its text alone shows.
+//! The check of a program: it has no static fault, or the least one is told.
+//! `specs/Check.antt` says which that is: the least of all faults of the whole tree.
+//! Stands between ns_static_rules and link, session and run.
 #![tactic(auto)]
 
 pub mod check;

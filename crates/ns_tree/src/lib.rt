@@ -1,4 +1,6 @@
-//! Tokens and trees of Newspeak sources.
+//! Tokens, trees, and the grammar by which tokens spell a tree.
+//! `specs/Tree.antt` says which tokens spell which tree (`Spells`), and what begins such a spelling.
+//! Stands between base and lex, parse, print and scope.
 #![tactic(auto)]
 
 pub mod deep;

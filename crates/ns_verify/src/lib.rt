@@ -1,4 +1,6 @@
-//! The verifier: which code can be run without ever missing what an instruction needs.
+//! The verifier: code is admitted where it is sound, and else its first fault is told.
+//! `specs/Verify.antt` says which code is sound, and `specs/Causes.antt` has a function for each cause.
+//! Stands between code and the machine, which takes verified code alone.
 #![tactic(auto)]
 
 mod around;

@@ -1,4 +1,6 @@
-//! The world of a run: values, the cells that they refer to, and the counters that are charged.
+//! The world of a run: cells, counters, limits and output.
+//! `specs/World.antt` says what each change makes of a world, and where a charge would pass its limit.
+//! Stands between code and classes, find, kernel and actions.
 #![tactic(auto)]
 
 pub mod cell;

@@ -1,6 +1,7 @@
-//! Tests of what programs run in: the cells of a world, lookup, the making of classes, and the kernel's
-//! rows, by tables that were made apart from the definitions. A lawful world is set up once, and each
-//! call that asks for one is made in it.
+//! Tests of what programs run in, by tables, in one lawful world.
+//! They try cells, lookup, the making of classes, and the kernel's rows, by what was worked out apart from the
+//! definitions.
+//! Stands on world, classes, find, kernel and actions.
 #![tactic(auto)]
 
 #[cfg(test)]

@@ -1,4 +1,6 @@
 //! The command `nspk`: the answer to the system's command line, over the real files and the standard streams.
+//! `crates/ns_run/specs/Meaning.antt` says what it answers.
+//! Stands on run and ns_system; nothing stands on it.
 #![tactic(auto)]
 
 mod answer;
