@@ -1,7 +1,6 @@
-//! A host of plug-ins that it doesn't trust, as a first program of an embedder: each is the text of one class, which it compiles in
-//! memory, lets run within limits and with no facet, and then asks by name.
-//! `crates/ns_machine/specs/Asking.antt` says what may be asked, and `crates/ns_machine/specs/Living.antt` what can be asked again.
-//! Stands on ns_machine and ns_session_files; nothing stands on it, and docs/HOSTING.md quotes it.
+//! A host of plug-ins that it doesn't trust, as an example: it compiles their texts, runs each within limits, and sends to it.
+//! What a host may send is said in `crates/ns_machine/specs/Asking.antt`.
+//! Stands on machine and session, as a program of its own.
 #![tactic(auto)]
 
 ghost use Rattle.ns_machine_moves.specs.State.{world_of};

@@ -15,7 +15,7 @@ use Rattle.ns_machine_moves.specs.Starts.{started, begun}
 use Rattle.ns_machine_moves.specs.Valid.{Valid}
 use Rattle.ns_machine_moves.specs.laws.Worlds.{valid_lawful}
 use Rattle.ns_machine_moves.specs.Standing.{MovesKeepValid}
-use Rattle.ns_machine_moves.specs.Beginning.{StartKeepsValid, HostKeepsValid, MayBegin}
+use Rattle.ns_machine_moves.specs.Beginning.{HostKeepsValid, MayBegin}
 use Rattle.ns_machine_moves.specs.Living.{KeepsLive, MovesKeepLive, TurnsKeepLive, RunsKeepLive, SendsKeepLive}
 
 -- what lives lasts
@@ -55,10 +55,10 @@ begun_world receiver sel arguments idle = either (is_idle idle) _ refl
 from_before : (code : CodeProgram) (old begins new : State) → world_of begins ≡ world_of old → KeepsLive code begins new → KeepsLive code old new
 from_before code old begins new same keeps value live = keeps value (subst (λ (world : World). IsLiveValue world.cells code value) (sym same) live)
 
-pub runs_live : (code : CodeProgram) (grants : Grants) → StartKeepsValid code grants → MovesKeepLive code grants → RunsKeepLive code grants
-runs_live code grants starts live count state valid =
+pub runs_live : (code : CodeProgram) (grants : Grants) → MovesKeepLive code grants → RunsKeepLive code grants
+runs_live code grants live count state valid =
     from_before code state (started code state) (moves code count (started code state)) (started_world code state)
-    (live count (started code state) (starts state valid))
+    (live count (started code state) valid)
 
 pub sends_live : (code : CodeProgram) (grants : Grants) → HostKeepsValid code grants → MovesKeepLive code grants → SendsKeepLive code grants
 sends_live code grants begins live receiver sel arguments count idle valid may =

@@ -26,7 +26,8 @@ TurnsKeepLive code grants = (steps : ℕ) (old new : State) → Valid code grant
 
 -- So it is from before a start on.
 abbrev pub RunsKeepLive : CodeProgram → Grants → Type 0
-RunsKeepLive code grants = (count : ℕ) (state : State) → Valid code grants state → KeepsLive code state (moves code count (started code state))
+RunsKeepLive code grants =
+    (count : ℕ) (state : State) → Valid code grants (started code state) → KeepsLive code state (moves code count (started code state))
 
 -- So it is from before a send of the host on.
 abbrev pub SendsKeepLive : CodeProgram → Grants → Type 0

@@ -20,7 +20,6 @@ pub fn begun_runs_keep_live()
     ensures runs { (code : CodeProgram) (grants : Grants) → RunsKeepLive code grants }
     ensures sends { (code : CodeProgram) (grants : Grants) → SendsKeepLive code grants }
 {
-    crate::valid_world::opening_sends_are_valid();
     crate::valid_world::sends_of_a_host_are_valid();
     moves_keep_live();
 }

@@ -2,8 +2,7 @@ use Rattle.ns_machine_moves.proofs.LivesOn.{runs_live, sends_live}
 use Rattle.ns_machine_moves.proofs.living.begun_runs_keep_live.Goals as goal
 
 pub returns-clause-runs : goal.returns-clause-runs
-returns-clause-runs c = λ code grants.
-    runs_live code grants (c.opening_sends_are_valid.ensures.first code grants) (c.moves_keep_live.ensures.moves code grants)
+returns-clause-runs c = λ code grants. runs_live code grants (c.moves_keep_live.ensures.moves code grants)
 
 pub returns-clause-sends : goal.returns-clause-sends
 returns-clause-sends c = λ code grants.

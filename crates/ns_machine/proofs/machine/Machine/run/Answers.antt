@@ -1,9 +1,15 @@
-use Rattle.std.proofs.Common.{sym, subst}
+use Rattle.std.proofs.Common.{◌≡◌, ◌∙◌, sym, subst}
 use Rattle.ns_code.specs.declared.program.CodeProgram.{CodeProgram}
+use Rattle.ns_machine_moves.specs.State.{State}
+use Rattle.ns_machine_moves.specs.Starts.{started}
+use Rattle.ns_machine_moves.specs.Valid.{Valid}
+use Rattle.ns_machine_moves.specs.Living.{KeepsLive}
 use Rattle.ns_machine_core.specs.Ready.{IsReady}
+use Rattle.ns_machine_core.specs.Shown.{shown}
 use Rattle.ns_machine_core.specs.declared.state.Next.TheVariants as next
 use Rattle.ns_machine_turns.specs.Turning.{RunsBy}
-use Rattle.ns_machine.specs.Machine.{IsMachine}
+use Rattle.ns_machine.specs.Machine.{MachineView, IsMachine, stage_shown}
+use Rattle.ns_machine.specs.Turning.{Ran}
 use Rattle.ns_machine.specs.declared.stage.Stage.{Stage}
 use Rattle.ns_machine.proofs.Standing.{machine_runs, machine_ready, machine_on}
 use Rattle.ns_machine.proofs.machine.Machine.run.Goals as goal
@@ -24,3 +30,19 @@ invariant_of-self c =
     → IsReady code m.grants c.run_out-ending.new.core next.Ended) c.code.ensures.code (c.run_out-ending.ensures.ready m.grants)
     (machine_ready m.code m.grants m.plan m.core m.own c.in-Begun.from is))
     c.run_out-ending.ensures.stays
+
+pub returns-clause-keeps_live : goal.returns-clause-keeps_live
+returns-clause-keeps_live c =
+    let m = c.self.inside in
+    let old = c.args.self.now in
+    let last = shown m.code c.run_out-ending.new.core next.Ended in
+    let shows = c.self.view_is ∙ c.start.ensures in
+    let valid : Valid old.code old.grants (started old.code old.state) =
+    subst (λ (view : MachineView). Valid view.code view.grants view.state) shows c.self.invariant.valid in
+    let moved : Ran m.code (shown m.code m.core c.in-Begun.from) c.run_out-ending.result last =
+    subst (λ (code : CodeProgram). Ran code (shown code m.core c.in-Begun.from) c.run_out-ending.result (shown code c.run_out-ending.new.core next.Ended))
+    c.code.ensures.code c.run_out-ending.ensures.ran in
+    let ran : Ran old.code (started old.code old.state) c.run_out-ending.result last =
+    subst (λ (view : MachineView). Ran view.code view.state c.run_out-ending.result last) shows
+    (subst (λ (s : Stage). Ran m.code (stage_shown m.code m.core s) c.run_out-ending.result last) (sym c.in-Begun.is) moved) in
+    subst (KeepsLive old.code old.state) ran.is (c.begun_runs_keep_live.ensures.runs old.code old.grants ran.count old.state valid)
