@@ -21,7 +21,7 @@ use Rattle.ns_machine_moves.specs.State.{Phase, State, Ended, progress_of, world
 use Rattle.ns_machine_moves.specs.Move.{moves}
 use Rattle.ns_machine_moves.specs.Starts.{unbegun, started}
 use Rattle.ns_link.specs.Fewer.{limits_to, to_steps, state_to}
-use Rattle.ns_link.specs.Laws.{EndsAs, begins, SameEnd, EndsOnTheWay, FewerStepsBegin, RunsAsMeant}
+use Rattle.ns_link.specs.Stated.{EndsAs, begins, SameEnd, EndsOnTheWay, FewerStepsBegin, RunsAsMeant}
 use Rattle.ns_link.proofs.OnTheWay.{MovesKnown, way}
 use Rattle.ns_link.proofs.FewerMoves.{SpentAfter, moves_follow, begins_to}
 

@@ -14,7 +14,7 @@ use Rattle.ns_machine_moves.specs.Onward.{MovesGoOnward}
 use Rattle.ns_machine_moves.specs.Standing.{MovesKeepValid}
 use Rattle.ns_machine_moves.specs.Valid.{Valid}
 use Rattle.ns_machine_moves.specs.laws.Still.{moves_on}
-use Rattle.ns_link.specs.Laws.{IsOnTheWay, HasEnded}
+use Rattle.ns_link.specs.Stated.{IsOnTheWay, HasEnded}
 
 either : (less ends : Bool) → (less || ends) ≡ true → ends ≡ false → less ≡ true
 either true ends e f = refl

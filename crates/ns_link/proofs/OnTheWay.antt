@@ -7,7 +7,7 @@ use Rattle.ns_machine_moves.specs.Move.{moves}
 use Rattle.ns_machine_moves.specs.Turn.{Turns}
 use Rattle.ns_machine_moves.specs.Stated.{MovesAdd, StaysStill}
 use Rattle.ns_machine_moves.specs.Onward.{MovesGoOnward}
-use Rattle.ns_link.specs.Laws.{EndsAs, IsOnTheWay}
+use Rattle.ns_link.specs.Stated.{EndsAs, IsOnTheWay}
 
 -- what is known of moves
 pub record MovesKnown (code : CodeProgram) : Type 0 where

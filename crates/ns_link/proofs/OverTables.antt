@@ -10,7 +10,7 @@ use Rattle.ns_model.specs.Whole.{ran}
 use Rattle.ns_model.specs.Laws.{ReturnsGoHome, RunsEnd}
 use Rattle.ns_model.specs.Tables.{SameTables, MeansTheSame}
 use Rattle.ns_code.specs.Heads.{head_of}
-use Rattle.ns_link.specs.Laws.{EndsAs, begins, RunsAsMeant, ReportedAsMeant}
+use Rattle.ns_link.specs.Stated.{EndsAs, begins, RunsAsMeant, ReportedAsMeant}
 use Rattle.ns_link.proofs.Started.{runs_over_code}
 
 -- a head has no instructions

@@ -10,7 +10,7 @@ use Rattle.ns_scope.specs.Whole.{AreWholeUnits}
 use Rattle.ns_scope.specs.Scopes.{initialiser_scope}
 use Rattle.ns_resolved.specs.Expressions.{Standing}
 use Rattle.ns_resolved.specs.Classes.{in_file, within, standing, declaration_of, initialiser_of, meant_of}
-use Rattle.ns_link.specs.Laws.{HasFirst, WholeHasFirst}
+use Rattle.ns_link.specs.Stated.{HasFirst, WholeHasFirst}
 
 -- where the expressions of the first initialiser stand
 abbrev in_first : List Place → Option p.Pattern → p.Class → Standing

@@ -22,7 +22,7 @@ use Rattle.ns_gen_code.specs.Code.{code_of}
 use Rattle.ns_machine_moves.specs.Steps as steps
 use Rattle.ns_machine_moves.specs.State.{Sending, Start, First, State, Pends}
 use Rattle.ns_machine_moves.specs.Starts.{unbegun, started}
-use Rattle.ns_link.specs.Laws.{EndsAs, HasFirst, begins}
+use Rattle.ns_link.specs.Stated.{EndsAs, HasFirst, begins}
 use Rattle.ns_link.proofs.Whole.{whole}
 use Rattle.ns_link.proofs.Opening.{opening_same}
 

@@ -18,7 +18,7 @@ use Rattle.ns_machine_moves.specs.Steps as steps
 use Rattle.ns_machine_moves.specs.State.{Sending, Phase, First, Second, State, Pends}
 use Rattle.ns_machine_moves.specs.Returns.{delivered}
 use Rattle.ns_machine_moves.specs.Arrivals.{arrived}
-use Rattle.ns_link.specs.Laws.{EndsAs}
+use Rattle.ns_link.specs.Stated.{EndsAs}
 use Rattle.ns_link.proofs.Lands.{Reaches, step, Lands, first}
 use Rattle.ns_link.proofs.RunOk.{run_ok}
 use Rattle.ns_link.proofs.Coded.{coded}

@@ -1,6 +1,6 @@
 pub mod Shown
 pub mod Fewer
-pub mod Laws
+pub mod Stated
 pub mod Differ
 pub mod Each
 pub mod Faultless

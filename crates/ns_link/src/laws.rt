@@ -3,7 +3,7 @@
 
 ghost use Rattle.ns_scope.specs.declared.program.Program.{Program};
 ghost use Rattle.ns_resolved.specs.Program.{Meant};
-ghost use Rattle.ns_link.specs.Laws.{RunsAsMeant, ReportedAsMeant, WholeHasFirst, SourceRunsAsMeant, TurnsAreOnTheWay, LongTurnsEnd, FewerStepsBegin};
+ghost use Rattle.ns_link.specs.Stated.{RunsAsMeant, ReportedAsMeant, WholeHasFirst, SourceRunsAsMeant, TurnsAreOnTheWay, LongTurnsEnd, FewerStepsBegin};
 
 /// The machine on the code of a program, started, comes to the end that the program means by its
 /// trees and its tables: with the same ending, world, board and count of activations. What is

@@ -1,5 +1,5 @@
 //! The compiler, and the laws that its code is sound and that the machine does with it what the source means.
-//! `specs/Laws.antt` says that the machine on the code of a program comes to the end which the program means, at every
+//! `specs/Stated.antt` says that the machine on the code of a program comes to the end which the program means, at every
 //! limit.
 //! Stands on static, gen, verify, model and the moves of the machine; session and run call it.
 #![tactic(auto)]

@@ -4,7 +4,7 @@ use Rattle.ns_base.specs.Limits.{InRange}
 use Rattle.ns_base.specs.declared.limits.Limits.{Limits}
 use Rattle.ns_code.specs.Fits.{Fits}
 use Rattle.ns_gen_code.specs.Code.{code_of}
-use Rattle.ns_link.specs.Laws.{HasFirst, WholeHasFirst, EndsAs, begins, MayRun, RunsAsMeant, ReportedAsMeant}
+use Rattle.ns_link.specs.Stated.{HasFirst, WholeHasFirst, EndsAs, begins, MayRun, RunsAsMeant, ReportedAsMeant}
 use Rattle.ns_resolved.specs.Classes.{meant}
 use Rattle.ns_resolved.specs.Program.{Meant}
 use Rattle.ns_resolved.specs.Tables.{tables}

@@ -6,7 +6,7 @@ use Rattle.ns_code.specs.declared.program.CodeProgram.{CodeProgram}
 use Rattle.ns_code.specs.Fits.{Fits}
 use Rattle.ns_machine_moves.specs.Falling.{run_left}
 use Rattle.ns_gen_code.specs.Code.{code_of}
-use Rattle.ns_link.specs.Laws.{MayRun}
+use Rattle.ns_link.specs.Stated.{MayRun}
 use Rattle.ns_resolved.specs.Program.{Meant}
 use Rattle.ns_machine_moves.specs.Move.{moves}
 use Rattle.ns_machine_moves.specs.State.{Phase, State, Ended}

@@ -14,7 +14,7 @@ use Rattle.ns_machine_moves.specs.Stated.{MovesAdd, StaysStill, TurnsAdd}
 use Rattle.ns_machine_moves.specs.Onward.{MovesGoOnward}
 use Rattle.ns_machine_moves.specs.Valid.{Valid}
 use Rattle.ns_machine_moves.specs.laws.Still.{moves_on}
-use Rattle.ns_link.specs.Laws.{IsOnTheWay, TurnsAreOnTheWay}
+use Rattle.ns_link.specs.Stated.{IsOnTheWay, TurnsAreOnTheWay}
 use Rattle.ns_session.specs.Member.{Application, start_of, taken, IsAlone}
 use Rattle.ns_session.specs.Laws.{ComesToRest, LeadsTo, SourceLeads}
 use Rattle.ns_session.proofs.Counting.{Known, used, counted, turned_alone, charges_going}

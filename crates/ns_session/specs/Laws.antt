@@ -8,7 +8,7 @@ use Rattle.ns_facets.specs.declared.board.Board.{Board}
 use Rattle.ns_machine_moves.specs.State.{State, ending_of, world_of}
 use Rattle.ns_machine_moves.specs.Move.{moves}
 use Rattle.ns_machine_moves.specs.Turn.{Turns, is_still}
-use Rattle.ns_link.specs.Laws.{HasFirst, IsOnTheWay}
+use Rattle.ns_link.specs.Stated.{HasFirst, IsOnTheWay}
 use Rattle.ns_session.specs.Member.{Application, MayStart, start_of, IsAlone, TurnOf}
 use Rattle.ns_session.specs.Reached.{IsReached, left_for}
 use Rattle.ns_session.specs.Session.{SessionView, Pair, Plays, added}

@@ -4,7 +4,7 @@ use Rattle.ns_base.specs.declared.limits.Limits.{Limits}
 use Rattle.ns_gen_code.specs.Code.{code_of}
 use Rattle.ns_run_code.specs.Machine.{told_at}
 use Rattle.ns_run_code.specs.Run.{ran_of}
-use Rattle.ns_link.specs.Laws.{IsOnTheWay, ReportedAsMeant}
+use Rattle.ns_link.specs.Stated.{IsOnTheWay, ReportedAsMeant}
 use Rattle.ns_resolved.specs.Tables.{tables}
 use Rattle.ns_model.specs.Whole.{RunEnd, meaning_of_run, ran}
 use Rattle.ns_machine_moves.specs.State.{State, Ended, Unbegun, Going, Pends, Stuck, ending_of}

@@ -6,7 +6,7 @@ use Rattle.ns_code.specs.Fits.{Fits}
 use Rattle.ns_code.specs.declared.program.CodeProgram.{CodeProgram}
 use Rattle.ns_facets.specs.declared.row.Grants.{Grants}
 use Rattle.ns_gen_code.specs.Code.{code_of}
-use Rattle.ns_link.specs.Laws.{HasFirst}
+use Rattle.ns_link.specs.Stated.{HasFirst}
 use Rattle.ns_load.specs.declared.fault.LoadCause.{LoadCause}
 use Rattle.ns_load.specs.declared.fault.LoadCause.TheVariants.{Missing, TooLong, ReadFault, Spelling}
 use Rattle.ns_load.specs.declared.fault.LoadFault.{LoadFault}

@@ -5,7 +5,7 @@ use Rattle.ns_resolved.specs.Tables.{tables}
 use Rattle.ns_gen_code.specs.Code.{code_of}
 use Rattle.ns_model.specs.Whole.{ran}
 use Rattle.ns_machine_moves.specs.Starts.{new_machine}
-use Rattle.ns_link.specs.Laws.{begins}
+use Rattle.ns_link.specs.Stated.{begins}
 use Rattle.ns_link.proofs.FewerSteps.{all_limits, started_limits}
 use Rattle.ns_link.proofs.LongTurns.{long_turn_ends, few_steps}
 use Rattle.ns_link.proofs.laws.long_turns_come_to_the_end.Goals as goal

@@ -1,7 +1,7 @@
 use Rattle.ns_resolved.specs.Tables.{tables}
 use Rattle.ns_gen_code.specs.Code.{code_of}
 use Rattle.ns_model.specs.Whole.{ran}
-use Rattle.ns_link.specs.Laws.{begins}
+use Rattle.ns_link.specs.Stated.{begins}
 use Rattle.ns_link.proofs.OnTheWay.{on_the_way}
 use Rattle.ns_link.proofs.laws.turns_are_on_the_way.Goals as goal
 
