@@ -1,6 +1,6 @@
 -- Names and their numbers; and what may be asked may be begun.
 use Rattle.std.proofs.Common.{◌≡◌, ℕ, zero, suc, ◌+◌, ◌-◌, ◌<◌, ◌≤◌, ◌⊎◌, inl, inr, List, [], ◌∷◌, length, refl, ap, sym, ◌∙◌, arith}
-use Rattle.std.proofs.Common.{Bool, true, false, cond, nat_lt, Option, Some, None, SomeIff, Contains}
+use Rattle.std.proofs.Common.{Bool, true, false, cond, nat_lt, Option, Some, None, SomeIff, IfSome, Contains, subst}
 use Rattle.std.proofs.lemmas.Bool.{lt-ltb}
 use Rattle.std.proofs.lemmas.List.{get_or_default}
 use Rattle.std.proofs.lemmas.Slice.Eq.{bytes_eq-Decides}
@@ -106,7 +106,11 @@ may_begin code state receiver name arguments may =
       few = may.selector.few;
     }
 
--- ---- what comes
+pub begins : (code : CodeProgram) (state : State) (receiver : Value) (name : List ℕ) (arguments : List Value) (o : Option Sel)
+    → SomeIff o (MayAsk code state receiver name arguments) (named code name) → IfSome o (λ sel. MayBegin code receiver sel arguments state)
+begins code state receiver name arguments None is = tt
+begins code state receiver name arguments (Some sel) is =
+    subst (λ (sel : Sel). MayBegin code receiver sel arguments state) (sym is.1) (may_begin code state receiver name arguments is.0)
 
 -- a test for one thing is a test for another that is as true
 pub some_for : {T : Type 0} (P Q : Type 0) (o : Option T) (v : T) → SomeIff o P v → (P → Q) → (Q → P) → SomeIff o Q v

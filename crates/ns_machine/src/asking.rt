@@ -4,6 +4,7 @@ ghost use Rattle.std.specs.Prelude.{◌≡◌, ◌↔◌, ◌≤◌, length, Con
 ghost use Rattle.ns_code.specs.Selector.{name_number};
 ghost use Rattle.ns_facets.specs.declared.row.Grants.{Grants};
 ghost use Rattle.ns_machine_alike.specs.Isolated.{ComesToTheSame};
+ghost use Rattle.ns_machine_moves.specs.Beginning.{MayBegin};
 ghost use Rattle.ns_machine_moves.specs.Living.{KeepsLive};
 ghost use Rattle.ns_machine_moves.specs.Starts.{begun};
 ghost use Rattle.ns_machine_moves.specs.State.{world_of};
@@ -49,7 +50,8 @@ impl Machine {
 
     /// The selector of a name, where it may be asked: with it, `begin` and `send` can be called.
     pub fn may_ask(&self, receiver: Value, name: &[u8], arguments: &[Value]) -> Option<Sel>
-        ensures { SomeIff result (MayAsk self.now.code self.now.state receiver name.now arguments.now) (named self.now.code name.now) }
+        ensures may { SomeIff result (MayAsk self.now.code self.now.state receiver name.now arguments.now) (named self.now.code name.now) }
+        ensures begins { IfSome result (λ sel. MayBegin self.now.code receiver sel arguments.now self.now.state) }
     {
         if !self.idle() {
             return None;

@@ -6,11 +6,11 @@ use Rattle.ns_machine_moves.specs.State.{is_idle, world_of}
 use Rattle.ns_machine.specs.Asking.{named, HasSelector, MayAsk}
 use Rattle.ns_machine.specs.Living.{is_live_value}
 use Rattle.ns_machine.proofs.LiveTest.{live_told, all_told}
-use Rattle.ns_machine.proofs.Asked.{some_for}
+use Rattle.ns_machine.proofs.Asked.{begins, some_for}
 use Rattle.ns_machine.proofs.machine.Machine.may_ask.Goals as goal
 
-pub returns-then-not-are_live : goal.returns-then-not-are_live
-returns-then-not-are_live c = λ may.
+pub returns-then-not-are_live-clause-may : goal.returns-then-not-are_live-clause-may
+returns-then-not-are_live-clause-may c = λ may.
     let m = c.args.self.now in
     let values = c.args.arguments.now in
     let told : c.are_live.result ≡ true =
@@ -21,8 +21,10 @@ returns-then-not-are_live c = λ may.
     let none = c.if-not-are_live.true in
     absurd (cc)
 
-pub returns : goal.returns
-returns c =
+asked : (c : goal.After-selector_for)
+    → SomeIff c.selector_for.result (MayAsk c.args.self.now.code c.args.self.now.state c.args.receiver c.args.name.now c.args.arguments.now)
+    (named c.args.self.now.code c.args.name.now)
+asked c =
     let m = c.args.self.now in
     let values = c.args.arguments.now in
     let idle : is_idle m.state ≡ true = cc (c.idle.ensures, c.if-not-idle.false) in
@@ -45,3 +47,10 @@ returns c =
       selector = has;
     })
     (λ may. may.selector)
+
+pub returns-clause-may : goal.returns-clause-may
+returns-clause-may c = asked c
+
+pub returns-clause-begins : goal.returns-clause-begins
+returns-clause-begins c =
+    begins c.args.self.now.code c.args.self.now.state c.args.receiver c.args.name.now c.args.arguments.now c.selector_for.result (asked c)
