@@ -27,7 +27,7 @@ asked : (c : goal.After-selector_for)
 asked c =
     let m = c.args.self.now in
     let values = c.args.arguments.now in
-    let idle : is_idle m.state ≡ true = cc (c.idle.ensures, c.if-not-idle.false) in
+    let idle : is_idle m.state ≡ true = cc (c.idle.ensures.idle, c.if-not-idle.false) in
     let receiver_told : is_live_value (world_of m.state).cells m.code c.args.receiver ≡ true =
     sym (c.is_live.ensures
     ∙ (ap (λ (world : World). is_live_value world.cells c.code.result.now c.args.receiver) c.world.ensures
