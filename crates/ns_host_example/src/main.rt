@@ -6,8 +6,6 @@
 ghost use Rattle.ns_machine_moves.specs.State.{world_of};
 ghost use Rattle.ns_machine_report.specs.Ending.{IsLiveEnding};
 
-#[cfg(test)]
-mod ask_tests;
 mod plugin;
 
 use ns_base::no_memory::NoMemory;
