@@ -1,13 +1,8 @@
-//! Tests of the machine's memory and of its plan, and of two machines side by side.
-//! They try that ordinary room is found for frames and values, what a small image is prepared as, and that a send comes to the
-//! same in two machines of which one has made and printed other things.
-//! Stands on image, verify, the machine and its frames and plan, and on what makes the code of a source.
+//! Tests of the machine's memory and of its plan.
+//! They try that ordinary room is found for frames and values, and what a small image is prepared as.
+//! Stands on image, verify and the machine's frames and plan.
 #![tactic(auto)]
 
 #[cfg(test)]
-mod isolation_tests;
-#[cfg(test)]
 mod plan_tests;
-#[cfg(test)]
-mod sources;
 mod stack_tests;
