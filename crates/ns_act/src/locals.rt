@@ -1,8 +1,6 @@
 //! The locals of running code, beside it or in environments.
 
 ghost use Rattle.std.specs.Prelude.{◌≡◌, IsTrue};
-ghost use Rattle.std.specs.List.{slice_index_or};
-ghost use Rattle.ns_world.specs.declared.value.Value.TheVariants.{Nil};
 ghost use Rattle.ns_world.specs.Heap.{find_cell, shape_at};
 ghost use Rattle.ns_world.specs.Lawful.{is_environment};
 ghost use Rattle.ns_actions.specs.declared.site.Site.{Site};
@@ -65,37 +63,6 @@ fn environment_at(world: &World, code: &CodeProgram, running: Running, hops: u8)
         return cell_number(environment_out(world, running.env, hops));
     }
     cell_number(environment_out(world, running.env, hops.saturating_sub(1)))
-}
-
-/// The local of that place, of the body so many out, of running code that has these locals beside
-/// it.
-#[inline(always)]
-pub fn local_at(
-    world: &World,
-    code: &CodeProgram,
-    running: Running,
-    locals: &[Value],
-    hops: u8,
-    place: u8,
-) -> Value
-    requires { HasLocal world.now.world.cells code.now (code_of running) hops place }
-    ensures { (site : Site) → result ≡ spec.local_at world.now.world.cells code.now (activation_at site running) locals.now hops place }
-{
-    if is_beside(code, running, hops) {
-        return local_beside(locals, place);
-    }
-    world.read(environment_at(world, code, running, hops), u32::from(place))
-}
-
-/// A local beside running code, nil where there are fewer.
-#[inline(always)]
-fn local_beside(locals: &[Value], place: u8) -> Value
-    ensures { result ≡ slice_index_or locals.now place Nil }
-{
-    match locals.get(usize::from(place)) {
-        Some(value) => *value,
-        None => Value::Nil,
-    }
 }
 
 /// Stores a local that doesn't stand beside running code. One that does is its caller's to store,

@@ -25,7 +25,6 @@ use crate::running::Running;
 use ns_actions::control::{Exit, Given, Reached};
 use ns_base::selector::Sel;
 use ns_code::program::CodeProgram;
-use ns_mirror::slots::{store, word_of_object};
 use ns_world::ending::{Fault, Kind};
 use ns_world::lawful::charging_keeps_lawful;
 use ns_world::value::Value;
@@ -195,7 +194,7 @@ pub fn set(world: &mut World, receiver: Value, word: u32, values: &[Value]) -> R
     ensures rest { SameRest world.old world.new }
     ensures plain { IsPlain result }
 {
-    store(world, receiver, word, first_of(values));
+    world.store(receiver, word, first_of(values));
     Reached::Gives(receiver)
 }
 
@@ -218,7 +217,7 @@ pub fn get(world: &mut World, receiver: Value, word: u32) -> Reached
     ensures world { world.new ≡ world.old }
     ensures plain { IsPlain result }
 {
-    Reached::Gives(word_of_object(world, receiver, word))
+    Reached::Gives(world.word_of_object(receiver, word))
 }
 
 /// A nested class of an object; no other value has one.
@@ -308,7 +307,7 @@ pub fn set_with_message(
 {
     match make_message(world, sel, values) {
         Ok(at) => {
-            store(world, receiver, word, Value::Ref(at));
+            world.store(receiver, word, Value::Ref(at));
             Reached::Gives(receiver)
         }
         Err(fault) => Reached::Fails(fault),

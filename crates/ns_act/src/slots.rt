@@ -14,7 +14,6 @@ use crate::running::Running;
 use ns_actions::finding::entries_are_inside;
 use ns_classes::layout::word;
 use ns_code::program::CodeProgram;
-use ns_mirror::slots::store;
 use ns_world::value::Value;
 use ns_world::world::World;
 
@@ -30,5 +29,5 @@ pub fn fill_slot(world: &mut World, code: &CodeProgram, running: Running, slot: 
 {
     entries_are_inside();
     let at = word(world, code, running.holder, u32::from(slot));
-    store(world, running.me, at, value);
+    world.store(running.me, at, value);
 }

@@ -25,7 +25,8 @@ use Rattle.ns_actions.specs.Classes.{super_part, body_ended}
 use Rattle.ns_actions.specs.Blocks.{evaluated, method_next}
 use Rattle.ns_actions.specs.Sends.{to_value, to_self, ToPrivate, ToSuper, sent}
 use Rattle.ns_actions.specs.Report.{report_line}
-use Rattle.ns_actions.specs.Worked.{sel, class_p, class_m, class_inner, small_world, small_code, small_cells, small_progress, small_site, in_m}
+use Rattle.ns_code.specs.Sample.{sel}
+use Rattle.ns_actions.specs.Worked.{class_p, class_m, class_inner, small_world, small_code, small_cells, small_progress, small_site, in_m}
 
 -- a run of these cells in which so many steps, frames and method activations were charged
 abbrev at : Heap → ℕ → ℕ → ℕ → Progress

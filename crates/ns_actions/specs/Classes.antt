@@ -14,12 +14,11 @@ use Rattle.ns_world.specs.declared.ending.Kind.TheVariants.{InitMismatch, NotACl
 use Rattle.ns_world.specs.declared.ending.LimitKind.TheVariants.{Cells, Depth}
 use Rattle.ns_world.specs.Cell.{Cell, ObjectCell}
 use Rattle.ns_world.specs.Heap.{Heap, heap_size, find_cell, superclass_in}
-use Rattle.ns_world.specs.World.{World, made, entered, written}
+use Rattle.ns_world.specs.World.{World, made, entered, written, stored}
 use Rattle.ns_world.specs.Layout.{declaration_of, layout_of, entry_word}
 use Rattle.ns_classes.specs.declared.apply.MakeFault.{MakeFault}
 use Rattle.ns_classes.specs.Apply.{class_fault, class_cell}
 use Rattle.ns_classes.specs.Nested.{kept_class, nested_entry}
-use Rattle.ns_kdata.specs.Rows.{stored}
 use Rattle.ns_actions.specs.declared.site.Site.{Site}
 use Rattle.ns_actions.specs.Site.{error, fault_ending, make_fault}
 use Rattle.ns_actions.specs.Control.{Progress, in_world, Activation, Exit, FromMethod, FromBody, FromClause, After, Gives, Halts, Control, Now, Enter}

@@ -12,8 +12,8 @@ use Rattle.ns_world.specs.declared.value.Value.TheVariants.{Nil, Ref}
 use Rattle.ns_world.specs.declared.ending.Kind.TheVariants as kind
 use Rattle.ns_world.specs.declared.ending.LimitKind.TheVariants.{Steps, Depth, Cells}
 use Rattle.ns_world.specs.Cell.{ArrayCell, MessageCell}
-use Rattle.ns_world.specs.Heap.{Heap, heap_size}
-use Rattle.ns_world.specs.World.{made, stepped, entered}
+use Rattle.ns_world.specs.Heap.{Heap, heap_size, word_of_object}
+use Rattle.ns_world.specs.World.{made, stepped, entered, stored}
 use Rattle.ns_world.specs.Starts.{start_of, class_name_of}
 use Rattle.ns_find.specs.declared.found.Found.{Found}
 use Rattle.ns_find.specs.declared.found.Found.TheVariants as found
@@ -21,8 +21,6 @@ use Rattle.ns_find.specs.declared.found.Sending.{Sending}
 use Rattle.ns_find.specs.declared.found.Sending.TheVariants.{Plain, Inner}
 use Rattle.ns_find.specs.Find.{found_from, found_private, super_start}
 use Rattle.ns_kdata.specs.Arguments.{items_of}
-use Rattle.ns_kdata.specs.Rows.{stored}
-use Rattle.ns_mirror.specs.Slots.{word_of_object}
 use Rattle.ns_classes.specs.Nested.{kept_class}
 use Rattle.ns_actions.specs.declared.site.Site.{Site}
 use Rattle.ns_actions.specs.Control.{Progress, in_world, Activation, FromMethod, Control, Enter, gives, halts, fails, charged}

@@ -1,12 +1,9 @@
 -- A small program with a proxy, a module and a mixin, and a world of it, on which the actions are tried.
-use Rattle.std.specs.Prelude.{ℕ, List, [], ◌∷◌, true, false, Option, Some, None, codes}
-use Rattle.ns_base.specs.declared.selector.Sel.{Sel}
+use Rattle.std.specs.Prelude.{ℕ, List, [], ◌∷◌, true, Some, None, codes}
 use Rattle.ns_code.specs.declared.program.CodeProgram.{CodeProgram}
 use Rattle.ns_code.specs.declared.class.ClassCode.{ClassCode}
-use Rattle.ns_code.specs.declared.class.SlotCode.{SlotCode}
-use Rattle.ns_code.specs.declared.class.NestedCode.{NestedCode}
-use Rattle.ns_code.specs.declared.class.MethodCode.{MethodCode}
 use Rattle.ns_code.specs.declared.body.BodyCode.{BodyCode}
+use Rattle.ns_code.specs.Sample.{sel, method_of, class_of, body_of}
 use Rattle.ns_world.specs.declared.value.Value.TheVariants.{Nil, Kernel, Ref}
 use Rattle.ns_world.specs.declared.value.KClass.TheVariants.{Object}
 use Rattle.ns_world.specs.declared.kernel.ClassName.TheVariants.{Declared}
@@ -16,29 +13,6 @@ use Rattle.ns_world.specs.World.{World}
 use Rattle.ns_actions.specs.Control.{Progress, Activation}
 use Rattle.ns_actions.specs.declared.site.Site.{Site}
 use Rattle.ns_actions.specs.Start.{new_board}
-
-abbrev pub sel : ℕ → Sel
-sel number = record { 0 = number }
-
-abbrev pub method_of : ℕ → ℕ → ℕ → MethodCode
-method_of number access body = record { sel = sel number; access = access; body = body }
-
--- a class whose factory and whose superclass message are `new`
-abbrev pub class_of : ℕ → Option ℕ → ℕ → List SlotCode → List NestedCode → List MethodCode → List MethodCode → ClassCode
-class_of name outer init slots nested methods side_methods =
-    record {
-      name = sel name;
-      outer = outer;
-      factory = sel 1;
-      params = 0;
-      clause = None;
-      init = init;
-      super_sel = sel 1;
-      slots = slots;
-      nested = nested;
-      methods = methods;
-      side_methods = side_methods;
-    }
 
 -- the names by their numbers: 0 P, 1 new, 2 doesNotUnderstand:, 3 go:, 4 M, 5 v, 6 v:, 7 Inner, 8 base, 9 at:put:,
 -- 10 <:, 11 value, 12 to:do:, 13 secret, 14 hid
@@ -62,20 +36,7 @@ class_inner = record (class_of 7 (Some 1) 6 [] [] [] []) { clause = Some 5 }
 
 -- a body of a kind and a class, with so many parameters and as many locals
 abbrev pub small_body : ℕ → ℕ → ℕ → BodyCode
-small_body kind class params =
-    record {
-      kind = kind;
-      side = 0;
-      class = class;
-      parent = None;
-      params = params;
-      locals = params;
-      environment = false;
-      height = 0;
-      instrs = [];
-      places = [];
-      local_names = [];
-    }
+small_body kind class params = body_of kind 0 class params
 
 -- initialisers are of kind 2, clauses of kind 3 and blocks of kind 1; the last method's locals stand in an environment
 abbrev pub small_bodies : List BodyCode

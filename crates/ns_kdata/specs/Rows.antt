@@ -15,7 +15,7 @@ use Rattle.ns_world.specs.declared.cell.NewCell.{NewCell}
 use Rattle.ns_world.specs.declared.cell.NewCell.TheVariants as new
 use Rattle.ns_world.specs.Cell.{ObjectCell, ArrayCell, TextCell}
 use Rattle.ns_world.specs.Heap.{Heap, no_class}
-use Rattle.ns_world.specs.World.{World, written}
+use Rattle.ns_world.specs.World.{World, stored}
 use Rattle.ns_kdata.specs.Outcome.{Outcome, Answers, Fails, making, wrong_kind, out_of_range}
 use Rattle.ns_kdata.specs.Arguments.{shape_of_value, items_of, is_message, symbol_text, number_of, place_in}
 use Rattle.ns_world.specs.Booleans.{truth}
@@ -128,11 +128,6 @@ item_at_place items (Err fault) = Err fault
 -- `at:` of an Array
 abbrev pub array_at : Heap → Value → Value → Result Value Fault
 array_at heap array place = item_at_place (items_of heap array) (place_in place (length (items_of heap array)))
-
--- the world with an element stored
-abbrev pub stored : World → Value → ℕ → Value → World
-stored world (Ref at) place value = written world at place value
-stored world array place value = world
 
 -- the value, stored at a place, or the fault of the place
 abbrev pub put_at_place : World → Value → Result ℕ Fault → Value → Outcome

@@ -3,6 +3,7 @@
 ghost use Rattle.std.specs.Prelude.{◌≡◌, ◌<◌, length, IfSome, Ok};
 ghost use Rattle.ns_kdata.specs.Arguments.{IsThere, items_of, place_in};
 ghost use Rattle.ns_kdata.specs.Outcome.{Gives};
+ghost use Rattle.ns_world.specs.World.{stored};
 ghost use Rattle.ns_kdata.specs.Rows as spec;
 
 use crate::arguments::{array_item, array_size as items_in, place_in};
@@ -62,10 +63,7 @@ pub fn place_at(world: &World, array: Value, place: Value) -> Option<u32>
 #[tactic(auto, using(crate::specs::laws::Items::items_are_words))]
 pub fn store(world: &mut World, array: Value, place: u32, value: Value)
     requires { place < length (items_of world.old.world.cells array) }
-    ensures { world.new ≡ record world.old { world = spec.stored world.old.world array place value } }
+    ensures { world.new ≡ record world.old { world = stored world.old.world array place value } }
 {
-    match array {
-        Value::Ref(at) => world.write(at, place, value),
-        _ => {}
-    }
+    world.store(array, place, value);
 }

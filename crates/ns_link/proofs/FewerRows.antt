@@ -19,7 +19,7 @@ use Rattle.ns_world.specs.declared.ending.LimitKind.TheVariants.{Cells, Depth}
 use Rattle.ns_world.specs.Cell.{Cell, ArrayCell, TextCell, MirrorCell, ObjectCell, cell_size}
 use Rattle.ns_world.specs.Heap.{heap_size, no_class, chain_of, cell_number}
 use Rattle.ns_world.specs.Starts.{class_name_of}
-use Rattle.ns_world.specs.World.{World, made, entered, printed}
+use Rattle.ns_world.specs.World.{World, made, entered, printed, stored}
 use Rattle.ns_classes.specs.declared.apply.MakeFault.{MakeFault}
 use Rattle.ns_classes.specs.Apply.{class_fault, class_cell}
 use Rattle.ns_kint.specs.Integer.{integer}
@@ -30,7 +30,7 @@ use Rattle.ns_kdata.specs.Outcome.{Outcome, Answers, Fails, made_as, making, unc
 use Rattle.ns_kdata.specs.Arguments.{argument, number_of, symbol_text, shape_of_value, is_text, bytes_of, is_array, items_of, place_in, part_in}
 use Rattle.ns_kdata.specs.Texts.{bytes_in, copied, text_at, text_less}
 use Rattle.ns_base.specs.Quoted.{quoted}
-use Rattle.ns_kdata.specs.Rows.{conjunction, disjunction, boolean_text, symbol_less, array_at, stored, put_at_place, new_array, array_of_size}
+use Rattle.ns_kdata.specs.Rows.{conjunction, disjunction, boolean_text, symbol_less, array_at, put_at_place, new_array, array_of_size}
 use Rattle.ns_facets.specs.declared.row.FacetRow.{FacetRow}
 use Rattle.ns_facets.specs.declared.row.FacetRow.TheVariants as facet
 use Rattle.ns_facets.specs.Board.{board_at, board_put}

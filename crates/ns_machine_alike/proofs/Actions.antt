@@ -18,7 +18,7 @@ use Rattle.ns_world.specs.declared.cell.NewCell.TheVariants as new
 use Rattle.ns_world.specs.Cell.{Cell, ObjectCell, EnvironmentCell}
 use Rattle.ns_world.specs.Heap.{Heap, heap_size, find_cell, superclass_in, word_at, is_class, chain_of}
 use Rattle.ns_world.specs.Layout.{declaration_of, layout_of, entry_word}
-use Rattle.ns_world.specs.World.{made, entered, written}
+use Rattle.ns_world.specs.World.{made, entered, written, stored}
 use Rattle.ns_classes.specs.declared.apply.MakeFault.{MakeFault}
 use Rattle.ns_classes.specs.declared.apply.MakeFault.TheVariants.{NotAClass, ChainLimit}
 use Rattle.ns_classes.specs.Apply.{class_fault, class_cell, chain_fault}
@@ -26,7 +26,6 @@ use Rattle.ns_classes.specs.Nested.{kept_in, kept_class, nested_entry}
 use Rattle.ns_actions.specs.Suiting.{is_reference}
 use Rattle.ns_actions.specs.Control.{Progress, in_world, Activation, Exit, FromMethod, FromBody, FromClause, After, Gives, Halts, Enter, Skip, Stop, EnterPart, halts, charged, frame_left}
 use Rattle.ns_actions.specs.Site.{make_fault, error, fault_ending}
-use Rattle.ns_kdata.specs.Rows.{stored}
 use Rattle.ns_actions.specs.declared.site.Site.{Site}
 use Rattle.ns_actions.specs.Bodies.{no_home, first_locals, opened, has_environment, locals_of, parameters_of, initialiser_of, clause_of}
 use Rattle.ns_actions.specs.Classes.{class_made, mixed, keeping, newly_kept, kept_or, class_over, head, nested, instance, super_selector, factory_selector, declared_part, object_part, part_of, super_part, slot_filled, body_ended}

@@ -14,12 +14,12 @@ use Rattle.ns_world.specs.declared.cell.NewCell.{NewCell}
 use Rattle.ns_world.specs.declared.cell.NewCell.TheVariants as new
 use Rattle.ns_world.specs.declared.cell.FacetKind.TheVariants as kinds
 use Rattle.ns_world.specs.Cell.{ArrayCell, FacetCell, MirrorCell}
-use Rattle.ns_world.specs.Heap.{Heap, find_cell, chain_of, shape_at, no_class, cell_number}
+use Rattle.ns_world.specs.Heap.{Heap, find_cell, chain_of, shape_at, no_class, cell_number, word_of_object}
 use Rattle.ns_world.specs.Starts.{class_name_of}
 use Rattle.ns_world.specs.Layout.{declaration_of}
 use Rattle.ns_kdata.specs.Outcome.{Outcome, Answers, Fails, making, unchanged, wrong_kind}
 use Rattle.ns_kdata.specs.Arguments.{argument, items_of, shape_of_value, is_array, is_array_shape}
-use Rattle.ns_kdata.specs.Rows.{stored}
+use Rattle.ns_world.specs.World.{stored}
 use Rattle.ns_mirror.specs.declared.row.Mirrored.{Mirrored}
 use Rattle.ns_mirror.specs.declared.row.Mirrored.TheVariants.{Answer, Perform}
 use Rattle.ns_mirror.specs.declared.row.MirrorRow.{MirrorRow}
@@ -29,7 +29,6 @@ use Rattle.ns_mirror.specs.declared.slots.SlotPlace.{SlotPlace}
 use Rattle.ns_mirror.specs.Mirror.{Reflected, Reflects, Refuses, reflected, performed, perform, row_outcome, mirror}
 use Rattle.ns_mirror.specs.Looking as looking
 use Rattle.ns_mirror.specs.Slots as slots
-use Rattle.ns_mirror.specs.Slots.{word_of_object}
 use Rattle.ns_mirror.specs.Selectors as selectors
 use Rattle.ns_mirror.specs.Naming as naming
 use Rattle.ns_actions.specs.declared.site.Site.{Site}

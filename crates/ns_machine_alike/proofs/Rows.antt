@@ -15,7 +15,7 @@ use Rattle.ns_world.specs.declared.cell.NewCell.{NewCell}
 use Rattle.ns_world.specs.declared.cell.NewCell.TheVariants as new
 use Rattle.ns_world.specs.Cell.{Cell, ObjectCell, ArrayCell, TextCell}
 use Rattle.ns_world.specs.Heap.{Heap, heap_size, no_class}
-use Rattle.ns_world.specs.World.{World, made}
+use Rattle.ns_world.specs.World.{World, made, stored}
 use Rattle.ns_world.specs.Booleans.{truth}
 use Rattle.ns_kdata.specs.Outcome.{Outcome, Answers, Fails, making, made_as, unchanged, wrong_kind, out_of_range}
 use Rattle.ns_kdata.specs.declared.arguments.Part.{Part}
@@ -25,7 +25,6 @@ use Rattle.ns_kdata.specs.Texts as texts
 use Rattle.ns_kdata.specs.Datum.{row_outcome, datum}
 use Rattle.ns_kdata.specs.declared.row.DataRow.{DataRow}
 use Rattle.ns_kdata.specs.declared.row.DataRow.TheVariants as row
-use Rattle.ns_kdata.specs.Rows.{stored}
 use Rattle.ns_actions.specs.declared.site.Site.{Site}
 use Rattle.ns_actions.specs.Suiting.{is_reference}
 use Rattle.ns_actions.specs.Control.{Progress, in_world}

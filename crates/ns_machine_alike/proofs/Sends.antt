@@ -11,13 +11,11 @@ use Rattle.ns_world.specs.declared.value.Value.TheVariants.{Nil, True, False, In
 use Rattle.ns_world.specs.declared.ending.Kind.TheVariants as kind
 use Rattle.ns_world.specs.declared.ending.LimitKind.TheVariants.{Cells}
 use Rattle.ns_world.specs.Cell.{ArrayCell, MessageCell}
-use Rattle.ns_world.specs.Heap.{Heap, heap_size}
-use Rattle.ns_world.specs.World.{made}
+use Rattle.ns_world.specs.Heap.{Heap, heap_size, word_of_object}
+use Rattle.ns_world.specs.World.{made, stored}
 use Rattle.ns_world.specs.Starts.{start_of}
 use Rattle.ns_kdata.specs.Arguments.{argument, shape_of_value}
-use Rattle.ns_kdata.specs.Rows.{stored}
 use Rattle.ns_facets.specs.declared.row.FacetRow.TheVariants as facet
-use Rattle.ns_mirror.specs.Slots.{word_of_object}
 use Rattle.ns_find.specs.declared.found.Found.{Found}
 use Rattle.ns_find.specs.declared.found.Found.TheVariants as found
 use Rattle.ns_find.specs.declared.found.Sending.{Sending}

@@ -15,7 +15,7 @@ use Rattle.ns_world.specs.declared.kernel.ClassName.TheVariants.{Kernel as Kerne
 use Rattle.ns_world.specs.declared.kernel.KernelRow.TheVariants as row
 use Rattle.ns_code.specs.declared.own.Own.TheVariants.{DoesNotUnderstand}
 use Rattle.ns_facets.specs.declared.row.Grants.{Grants}
-use Rattle.ns_actions.specs.Worked.{sel, method_of, class_of}
+use Rattle.ns_code.specs.Sample.{sel, method_of, class_of}
 use Rattle.ns_actions.specs.declared.site.Site.{Site}
 use Rattle.ns_actions.specs.Site.{error}
 use Rattle.ns_actions.specs.Control.{FromMethod, FromBody}

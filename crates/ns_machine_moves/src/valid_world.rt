@@ -3,17 +3,10 @@
 
 ghost use Rattle.ns_code.specs.declared.program.CodeProgram.{CodeProgram};
 ghost use Rattle.ns_facets.specs.declared.row.Grants.{Grants};
-ghost use Rattle.ns_machine_moves.specs.WorldStays.{ActionsKeepWorld, SwapsKeepValid};
+ghost use Rattle.ns_machine_moves.specs.WorldStays.{SwapsKeepValid};
 ghost use Rattle.ns_machine_moves.specs.Beginning.{NewIsValid, StartKeepsValid, SecondIsValid, HostKeepsValid};
 
 use ns_verify::laws::sound_code_is_in_order;
-
-/// In a world of a run of sound code, an action that asks for no more than is there leaves such a world: a lawful
-/// one that begins with the facets and the top-level classes and has no other facet, in which each block has the
-/// home that its body asks for, and no more methods have begun than steps were charged.
-pub fn actions_keep_the_world()
-    ensures { (code : CodeProgram) (grants : Grants) → ActionsKeepWorld code grants }
-{}
 
 /// A new machine of sound code that fits its fields is in a valid state, with limits in range: its start has made
 /// all of its cells, or it has ended with those that fit.

@@ -4,15 +4,13 @@ use Rattle.ns_code.specs.declared.program.CodeProgram.{CodeProgram}
 use Rattle.ns_world.specs.declared.value.Value.{Value}
 use Rattle.ns_world.specs.declared.value.Value.TheVariants as value
 use Rattle.ns_world.specs.declared.value.Value.TheVariants.{Ref}
-use Rattle.ns_world.specs.Heap.{Heap, words_at, open_words_at}
+use Rattle.ns_world.specs.Heap.{Heap, words_at, open_words_at, word_of_object}
 use Rattle.ns_world.specs.Lawful.{IsLawful, HasHolder}
-use Rattle.ns_world.specs.World.{World, WorldView, stepped}
+use Rattle.ns_world.specs.World.{World, WorldView, stepped, stored}
 use Rattle.ns_find.specs.declared.found.Found.{Found}
 use Rattle.ns_find.specs.declared.found.Found.TheVariants.{Getter, Setter}
 use Rattle.ns_find.specs.Belonging.{HasSlot}
 use Rattle.ns_kdata.specs.Arguments.{argument}
-use Rattle.ns_kdata.specs.Rows.{stored}
-use Rattle.ns_mirror.specs.Slots.{word_of_object}
 use Rattle.ns_actions.specs.Control.{Activation, gives, in_world}
 use Rattle.ns_actions.specs.Sends.{Target, answered_by, first_of, found_at, receiver_of}
 use Rattle.ns_actions.specs.Suits.{Suits}

@@ -14,7 +14,8 @@ use Rattle.ns_kdata.specs.Arguments.{argument, number_of, IsThere}
 use Rattle.ns_kdata.specs.Datum.{datum, row_outcome}
 use Rattle.ns_kdata.specs.Giving.{GivesAtOnce}
 use Rattle.ns_kdata.specs.Outcome.{Outcome, Answers}
-use Rattle.ns_kdata.specs.Rows.{put_at_place, stored}
+use Rattle.ns_kdata.specs.Rows.{put_at_place}
+use Rattle.ns_world.specs.World.{stored}
 use Rattle.ns_kint.specs.declared.row.IntRow.{IntRow}
 use Rattle.ns_kint.specs.Integer.{integer}
 use Rattle.ns_actions.specs.declared.row.Row.{Row}

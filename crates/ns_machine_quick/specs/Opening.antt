@@ -4,15 +4,13 @@ use Rattle.ns_base.specs.declared.selector.Sel.{Sel}
 use Rattle.ns_code.specs.declared.body.BodyCode.{BodyCode}
 use Rattle.ns_code.specs.declared.program.CodeProgram.{CodeProgram}
 use Rattle.ns_world.specs.declared.value.Value.{Value}
-use Rattle.ns_world.specs.Heap.{heap_size}
+use Rattle.ns_world.specs.Heap.{heap_size, word_of_object}
 use Rattle.ns_world.specs.Starts.{start_of}
-use Rattle.ns_world.specs.World.{World}
+use Rattle.ns_world.specs.World.{World, stored}
 use Rattle.ns_find.specs.declared.found.Found.{Found}
 use Rattle.ns_find.specs.declared.found.Found.TheVariants.{Method, Getter, Setter, Kernel}
 use Rattle.ns_find.specs.declared.found.Sending.{Sending}
 use Rattle.ns_find.specs.Find.{found_from}
-use Rattle.ns_kdata.specs.Rows.{stored}
-use Rattle.ns_mirror.specs.Slots.{word_of_object}
 use Rattle.ns_actions.specs.Bodies.{locals_of, parameters_of}
 use Rattle.ns_actions.specs.Control.{Control, gives, in_world}
 use Rattle.ns_actions.specs.Sends.{Listed, ToPrivate, found_at, first_of, method_entered}

@@ -17,7 +17,6 @@ use ns_machine_core::giving::give;
 use ns_machine_core::state::Core;
 use ns_machine_frames::registers::Registers;
 use ns_machine_sends::sent::Sent;
-use ns_mirror::slots::{store, word_of_object};
 use ns_world::lawful::charging_keeps_lawful;
 use ns_world::value::Value;
 
@@ -63,7 +62,7 @@ pub fn get(
 {
     entries_are_inside();
     let _holder = holder;
-    let value = word_of_object(&core.run.world, receiver, word);
+    let value = core.run.world.word_of_object(receiver, word);
     let below = Registers {
         top: sent.floor,
         ..at
@@ -114,7 +113,7 @@ pub fn set(
     entries_are_inside();
     let _holder = holder;
     let value = argument(core.stack.from(at, sent.first), 0);
-    store(&mut core.run.world, receiver, word, value);
+    core.run.world.store(receiver, word, value);
     let below = Registers {
         top: sent.floor,
         ..at

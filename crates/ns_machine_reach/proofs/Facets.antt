@@ -24,7 +24,7 @@ use Rattle.ns_world.specs.Seek.{first_such, is_facet, is_top}
 use Rattle.ns_world.specs.Starts.{class_name_of}
 use Rattle.ns_kdata.specs.Outcome.{Outcome, Answers, Fails, making, unchanged, wrong_kind}
 use Rattle.ns_kdata.specs.Arguments.{items_of, shape_of_value, is_text, is_array, bytes_of, place_in}
-use Rattle.ns_kdata.specs.Rows.{stored}
+use Rattle.ns_world.specs.World.{stored}
 use Rattle.ns_world.specs.Layout.{declaration_of}
 use Rattle.ns_facets.specs.declared.row.FacetRow.{FacetRow}
 use Rattle.ns_facets.specs.declared.row.FacetRow.TheVariants as facet

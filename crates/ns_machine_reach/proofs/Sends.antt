@@ -12,13 +12,13 @@ use Rattle.ns_world.specs.declared.ending.Fault.{Fault}
 use Rattle.ns_world.specs.declared.ending.LimitKind.TheVariants.{Cells}
 use Rattle.ns_world.specs.Cell.{ArrayCell, MessageCell}
 use Rattle.ns_world.specs.Heap.{Heap, heap_size, cell_number}
-use Rattle.ns_world.specs.World.{made}
+use Rattle.ns_world.specs.World.{made, stored}
 use Rattle.ns_world.specs.Starts.{start_of}
 use Rattle.ns_kint.specs.Integer.{integer, is_integer_or_boolean}
 use Rattle.ns_kint.specs.declared.row.IntRow.{IntRow}
 use Rattle.ns_kdata.specs.Arguments.{argument, number_of, shape_of_value}
 use Rattle.ns_kdata.specs.Outcome.{Outcome, Answers, Fails}
-use Rattle.ns_kdata.specs.Rows.{stored, message_selector}
+use Rattle.ns_kdata.specs.Rows.{message_selector}
 use Rattle.ns_kdata.specs.Datum.{datum}
 use Rattle.ns_kdata.specs.declared.row.DataRow.{DataRow}
 use Rattle.ns_kdata.specs.declared.row.DataRow.TheVariants as about

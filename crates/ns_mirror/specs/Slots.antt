@@ -6,16 +6,15 @@ use Rattle.ns_code.specs.declared.program.CodeProgram.{CodeProgram}
 use Rattle.ns_code.specs.declared.class.ClassCode.{ClassCode}
 use Rattle.ns_code.specs.declared.class.SlotCode.{SlotCode}
 use Rattle.ns_world.specs.declared.value.Value.{Value}
-use Rattle.ns_world.specs.declared.value.Value.TheVariants.{Nil, Sym, Ref}
+use Rattle.ns_world.specs.declared.value.Value.TheVariants.{Sym}
 use Rattle.ns_world.specs.declared.ending.Fault.{Fault}
 use Rattle.ns_world.specs.declared.ending.Fault.TheVariants.{Kind}
 use Rattle.ns_world.specs.declared.ending.Kind.TheVariants as kind
 use Rattle.ns_world.specs.Cell.{ArrayCell}
-use Rattle.ns_world.specs.Heap.{Heap, chain_of, word_at}
+use Rattle.ns_world.specs.Heap.{Heap, chain_of, word_of_object}
 use Rattle.ns_world.specs.Layout.{declaration_of, entry_word}
-use Rattle.ns_world.specs.World.{World}
+use Rattle.ns_world.specs.World.{World, stored}
 use Rattle.ns_kdata.specs.Outcome.{Outcome, Answers, Fails, making, wrong_kind, out_of_range}
-use Rattle.ns_kdata.specs.Rows.{stored}
 use Rattle.ns_mirror.specs.declared.slots.Entry.{Entry}
 use Rattle.ns_mirror.specs.declared.slots.SlotPlace.{SlotPlace}
 use Rattle.ns_mirror.specs.Looking.{object_class}
@@ -66,11 +65,6 @@ slot_along heap code (holder ∷ holders) sel = slot_or (slot_in heap code holde
 -- the slot of a name of a value; kernel values and classes have none
 abbrev pub slot_of : Heap → CodeProgram → Value → Sel → Option SlotPlace
 slot_of heap code value sel = slot_along heap code (chain_of heap (object_class heap value)) sel
-
--- a word of an object
-abbrev pub word_of_object : Heap → Value → ℕ → Value
-word_of_object heap (Ref at) word = word_at heap at word
-word_of_object heap value word = Nil
 
 -- what a slot holds; OutOfRange where there is none
 abbrev pub read_slot : Heap → Value → Option SlotPlace → Result Value Fault

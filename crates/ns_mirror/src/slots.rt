@@ -7,7 +7,7 @@ ghost use Rattle.ns_world.specs.Lawful.{IsLawful};
 ghost use Rattle.ns_code.specs.Fits.{Fits};
 ghost use Rattle.ns_kdata.specs.Arguments.{IsThere};
 ghost use Rattle.ns_kdata.specs.Outcome.{Gives};
-ghost use Rattle.ns_kdata.specs.Rows.{stored};
+ghost use Rattle.ns_world.specs.World.{stored};
 ghost use Rattle.ns_mirror.specs.Arrays.{listed};
 ghost use Rattle.ns_mirror.specs.Slots as spec;
 
@@ -54,20 +54,8 @@ fn read_slot(world: &World, code: &CodeProgram, object: Value, sel: Sel) -> Resu
     ensures { result ≡ spec.read_slot world.now.world.cells object (spec.slot_of world.now.world.cells code.now object sel) }
 {
     match slot_of(world, code, object, sel) {
-        Some(place) => Ok(word_of_object(world, object, place.word)),
+        Some(place) => Ok(world.word_of_object(object, place.word)),
         None => Err(out_of_range()),
-    }
-}
-
-/// A word of an object, nil of any other value.
-#[inline]
-pub fn word_of_object(world: &World, object: Value, word: u32) -> Value
-    requires { (at : ℕ) → object ≡ value_is.Ref at → word < length (words_at world.now.world.cells at) }
-    ensures { result ≡ spec.word_of_object world.now.world.cells object word }
-{
-    match object {
-        Value::Ref(at) => world.read(at, word),
-        _ => Value::Nil,
     }
 }
 
@@ -106,20 +94,8 @@ fn write_slot(
     if !place.mutable {
         return Err(Fault::Kind(Kind::FixedSlot));
     }
-    store(world, object, place.word, value);
+    world.store(object, place.word, value);
     Ok(value)
-}
-
-/// Stores a word of an object; of any other value nothing.
-#[inline]
-pub fn store(world: &mut World, object: Value, word: u32, value: Value)
-    requires { (at : ℕ) → object ≡ value_is.Ref at → word < length (open_words_at world.old.world.cells at) }
-    ensures { world.new ≡ record world.old { world = stored world.old.world object word value } }
-{
-    match object {
-        Value::Ref(at) => world.write(at, word, value),
-        _ => {}
-    }
 }
 
 /// The slot of a name of an object, with its word inside of it.

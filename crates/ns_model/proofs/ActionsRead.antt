@@ -24,7 +24,7 @@ use Rattle.ns_world.specs.Cell.{Cell, ObjectCell, ClassCell, BlockCell, Environm
 use Rattle.ns_world.specs.Heap.{Heap, heap_size, find_cell, superclass_in, word_at, cell_number}
 use Rattle.ns_world.specs.Layout.{declaration_of, layout_of}
 use Rattle.ns_world.specs.Starts.{start_of, class_name_of}
-use Rattle.ns_world.specs.World.{World, made, stepped, entered, left, written}
+use Rattle.ns_world.specs.World.{World, made, stepped, entered, left, written, stored}
 use Rattle.ns_classes.specs.declared.apply.MakeFault.{MakeFault}
 use Rattle.ns_classes.specs.Apply.{class_fault, class_cell}
 use Rattle.ns_classes.specs.Nested.{kept_class, nested_entry}
@@ -33,7 +33,6 @@ use Rattle.ns_find.specs.declared.found.Found.TheVariants as found
 use Rattle.ns_find.specs.declared.found.Sending.TheVariants.{Plain, Inner}
 use Rattle.ns_find.specs.Find.{side_of, found_from, found_private, super_start}
 use Rattle.ns_kdata.specs.Arguments.{shape_of_value, items_of}
-use Rattle.ns_kdata.specs.Rows.{stored}
 use Rattle.ns_mirror.specs.Naming.{class_text}
 use Rattle.ns_actions.specs.declared.site.Site.{Site}
 use Rattle.ns_actions.specs.Site.{error}

@@ -83,6 +83,11 @@ words_at heap number = option_map_or cell_words (find_cell heap number) []
 abbrev pub word_at : Heap → ℕ → ℕ → Value
 word_at heap number word = slice_index_or (words_at heap number) word Nil
 
+-- a word of what a reference names, nil for any other value
+abbrev pub word_of_object : Heap → Value → ℕ → Value
+word_of_object heap (Ref at) word = word_at heap at word
+word_of_object heap other word = Nil
+
 -- the words of the cell of that number that may be written
 abbrev pub open_words_at : Heap → ℕ → List Value
 open_words_at heap number = option_map_or open_words (find_cell heap number) []

@@ -3,6 +3,7 @@ use Rattle.std.specs.Prelude.{◌≡◌, ℕ, ◌+◌, ◌-◌, ◌≤◌, List,
 use Rattle.ns_base.specs.declared.limits.Limits.{Limits}
 use Rattle.ns_base.specs.Limits.{InRange}
 use Rattle.ns_world.specs.declared.value.Value.{Value}
+use Rattle.ns_world.specs.declared.value.Value.TheVariants.{Ref}
 use Rattle.ns_world.specs.declared.cell.CellLimit.{CellLimit}
 use Rattle.ns_world.specs.declared.ending.Counters.{Counters}
 use Rattle.ns_world.specs.declared.ending.LimitKind.{LimitKind}
@@ -64,6 +65,11 @@ printed world bytes =
 -- the world with a word of a cell written
 abbrev pub written : World → ℕ → ℕ → Value → World
 written world at word value = record world { cells = write_word world.cells at word value }
+
+-- the world with a word of what a reference names written, as it was for any other value
+abbrev pub stored : World → Value → ℕ → Value → World
+stored world (Ref at) word value = written world at word value
+stored world other word value = world
 
 -- the world with a byte of a text written
 abbrev pub byte_written : World → ℕ → ℕ → ℕ → World

@@ -1,16 +1,17 @@
 //! The world of a run: its cells, its output, and the charges.
 
-ghost use Rattle.std.specs.Prelude.{◌≡◌, ◌+◌, ◌-◌, ◌*◌, ◌<◌, ◌≤◌, [], ◌∷◌, ◌++◌, length, true, false, Some, slice_get, IsTrue, IsSome, OnOk, OnErr};
+ghost use Rattle.std.specs.Prelude.{◌≡◌, ℕ, ◌+◌, ◌-◌, ◌*◌, ◌<◌, ◌≤◌, [], ◌∷◌, ◌++◌, length, true, false, Some, slice_get, IsTrue, IsSome, OnOk, OnErr};
 ghost use Rattle.ns_base.specs.Limits.{InRange};
 ghost use Rattle.ns_world.specs.declared.ending.LimitKind.TheVariants.{Steps, Depth, Out};
+ghost use Rattle.ns_world.specs.declared.value.Value.TheVariants as value_is;
 ghost use Rattle.ns_world.specs.Cell.{fresh, filled_environment, ArrayCell, TextCell};
-ghost use Rattle.ns_world.specs.Heap.{has_superclass, words_at, word_at, open_words_at, bytes_at, byte_at, row_at, find_cell, shape_at, next_number, is_class, is_chain_start, chain_of, superclass_of};
+ghost use Rattle.ns_world.specs.Heap.{has_superclass, words_at, word_at, word_of_object, open_words_at, bytes_at, byte_at, row_at, find_cell, shape_at, next_number, is_class, is_chain_start, chain_of, superclass_of};
 ghost use Rattle.ns_world.specs.Seek.{first_such, is_facet, is_top};
 ghost use Rattle.ns_world.specs.Head.{head_at};
 ghost use Rattle.ns_world.specs.Starts.{has_class, class_name_at, is_receiver, start_of};
 ghost use Rattle.ns_world.specs.declared.kernel.Start.TheVariants.{Instance};
 ghost use Rattle.ns_world.specs.Layout.{declaration_of, base_of};
-ghost use Rattle.ns_world.specs.World.{SameRoom, MakesCell, Charges, empty_world, counters_of, stepped, entered, left, printed, written, byte_written};
+ghost use Rattle.ns_world.specs.World.{SameRoom, MakesCell, Charges, empty_world, counters_of, stepped, entered, left, printed, written, stored, byte_written};
 
 use crate::cell::{CellLimit, FacetKind, NewCell};
 use crate::ending::{Counters, LimitKind};
@@ -167,6 +168,18 @@ impl World {
         self.heap.read(at, word)
     }
 
+    /// A value behind the head of the cell that a reference names; nil for any other value.
+    #[inline]
+    pub fn word_of_object(&self, object: Value, word: u32) -> Value
+        requires { (at : ℕ) → object ≡ value_is.Ref at → word < length (words_at self.now.world.cells at) }
+        ensures { result ≡ word_of_object self.now.world.cells object word }
+    {
+        match object {
+            Value::Ref(at) => self.read(at, word),
+            _ => Value::Nil,
+        }
+    }
+
     /// Writes a value of an object, an environment or an array.
     #[inline(always)]
     pub fn write(&mut self, at: u32, word: u32, value: Value)
@@ -174,6 +187,18 @@ impl World {
         ensures { self.new ≡ record self.old { world = written self.old.world at word value } }
     {
         self.heap.write(at, word, value);
+    }
+
+    /// Writes a value of what a reference names; of any other value nothing.
+    #[inline(always)]
+    pub fn store(&mut self, object: Value, word: u32, value: Value)
+        requires { (at : ℕ) → object ≡ value_is.Ref at → word < length (open_words_at self.old.world.cells at) }
+        ensures { self.new ≡ record self.old { world = stored self.old.world object word value } }
+    {
+        match object {
+            Value::Ref(at) => self.write(at, word, value),
+            _ => {}
+        }
     }
 
     /// A byte of a text.
@@ -438,15 +463,5 @@ impl World {
         self.output.clear();
         self.steps = 0;
         self.depth = 0;
-    }
-
-    /// Sets the counters of steps and frames.
-    pub fn resume(&mut self, steps: u64, depth: u64)
-        requires steps { steps ≤ self.old.world.limits.steps }
-        requires depth { depth ≤ self.old.world.limits.depth }
-        ensures { self.new ≡ record self.old { world = record self.old.world { steps = steps; depth = depth } } }
-    {
-        self.steps = steps;
-        self.depth = depth;
     }
 }

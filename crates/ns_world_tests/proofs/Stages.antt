@@ -19,7 +19,8 @@ use Rattle.ns_world.specs.Keeping.{IsEnclosed, MayBeMade}
 use Rattle.ns_world.specs.laws.Making.{making_keeps}
 use Rattle.ns_world.specs.laws.Charging.{empty_is_lawful}
 use Rattle.ns_classes.specs.laws.Lawfully.{slot_filled}
-use Rattle.ns_world_tests.specs.Program.{sel, body_of, program_code, program_classes, program_bodies, class_base, class_part, class_sub, class_other}
+use Rattle.ns_code.specs.Sample.{sel}
+use Rattle.ns_world_tests.specs.Program.{body_of, program_code, program_classes, program_bodies, class_base, class_part, class_sub, class_other}
 use Rattle.ns_world_tests.specs.Cells.{tried_limits, tried_with, facet_cells, class_cells, empty_objects, filled_objects, part_cells, tried_cells}
 use Rattle.ns_world_tests.proofs.Fitting.{program_fits}
 

@@ -8,7 +8,7 @@ use Rattle.ns_world.specs.declared.cell.FacetKind.TheVariants as facet
 use Rattle.ns_world.specs.Cell.{Cell, ObjectCell, ClassCell, BlockCell, ArrayCell, FacetCell, MessageCell}
 use Rattle.ns_world.specs.Heap.{Heap, no_class}
 use Rattle.ns_world.specs.World.{World}
-use Rattle.ns_world_tests.specs.Program.{sel}
+use Rattle.ns_code.specs.Sample.{sel}
 
 abbrev pub tried_limits : Limits
 tried_limits = record { steps = 10; cells = 200; depth = 10; out = 12 }

@@ -1,58 +1,14 @@
 -- A small program, on which lookups and the rows of the kernel are tried.
-use Rattle.std.specs.Prelude.{ℕ, List, [], ◌∷◌, ◌++◌, true, false, Option, Some, None, codes}
-use Rattle.ns_base.specs.declared.selector.Sel.{Sel}
+use Rattle.std.specs.Prelude.{ℕ, List, [], ◌∷◌, ◌++◌, Some, None, codes}
 use Rattle.ns_code.specs.declared.program.CodeProgram.{CodeProgram}
 use Rattle.ns_code.specs.declared.class.ClassCode.{ClassCode}
-use Rattle.ns_code.specs.declared.class.SlotCode.{SlotCode}
-use Rattle.ns_code.specs.declared.class.NestedCode.{NestedCode}
-use Rattle.ns_code.specs.declared.class.MethodCode.{MethodCode}
 use Rattle.ns_code.specs.declared.body.BodyCode.{BodyCode}
+use Rattle.ns_code.specs.Sample.{slot_of, mutable_slot_of, method_of, class_of}
+use Rattle.ns_code.specs.Sample as sample
 
-abbrev pub sel : ℕ → Sel
-sel number = record { 0 = number }
-
-abbrev pub slot_of : ℕ → ℕ → SlotCode
-slot_of name access = record { name = sel name; access = access; mutable = false }
-
-abbrev pub mutable_slot_of : ℕ → ℕ → SlotCode
-mutable_slot_of name access = record { name = sel name; access = access; mutable = true }
-
-abbrev pub method_of : ℕ → ℕ → ℕ → MethodCode
-method_of number access body = record { sel = sel number; access = access; body = body }
-
--- a class whose factory and whose superclass message are `new`
-abbrev pub class_of : ℕ → Option ℕ → ℕ → List SlotCode → List NestedCode → List MethodCode → List MethodCode → ClassCode
-class_of name outer init slots nested methods side_methods =
-    record {
-      name = sel name;
-      outer = outer;
-      factory = sel 1;
-      params = 0;
-      clause = None;
-      init = init;
-      super_sel = sel 1;
-      slots = slots;
-      nested = nested;
-      methods = methods;
-      side_methods = side_methods;
-    }
-
--- a body without instructions
+-- a body without parameters and instructions
 abbrev pub body_of : ℕ → ℕ → ℕ → BodyCode
-body_of kind side class =
-    record {
-      kind = kind;
-      side = side;
-      class = class;
-      parent = None;
-      params = 0;
-      locals = 0;
-      environment = false;
-      height = 0;
-      instrs = [];
-      places = [];
-      local_names = [];
-    }
+body_of kind side class = sample.body_of kind side class 0
 
 -- Base has the slots `x =` and `y ::=`, the nested class Part, the public methods `bar` and `foo`, the
 -- protected `hid` and the private `sec` between them, and on its class side the public `make` and the

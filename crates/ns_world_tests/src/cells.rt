@@ -5,7 +5,7 @@ ghost use Rattle.std.specs.Prelude.{◌≡◌, ◌∷◌, ◌≤◌, [], true, d
 ghost use Rattle.ns_world.specs.Cell.{fresh};
 ghost use Rattle.ns_world.specs.Heap.{has_superclass};
 ghost use Rattle.ns_world_tests.specs.Cells as spec;
-ghost use Rattle.ns_world_tests.specs.Program.{sel};
+ghost use Rattle.ns_code.specs.Sample.{sel};
 
 use ns_base::limits::Limits;
 use ns_base::selector::Sel;

@@ -9,9 +9,8 @@ use Rattle.ns_world.specs.declared.value.Value.TheVariants.{Nil, True, False, In
 use Rattle.ns_world.specs.declared.cell.NewCell.{NewCell}
 use Rattle.ns_world.specs.Cell.{Cell, shape_of, with_word}
 use Rattle.ns_world.specs.Heap.{Heap, heap_size, find_cell, set_cell, write_word}
-use Rattle.ns_world.specs.World.{World, made, printed}
+use Rattle.ns_world.specs.World.{World, made, printed, stored}
 use Rattle.ns_world.specs.laws.Twins.{word_shape}
-use Rattle.ns_kdata.specs.Rows.{stored}
 use Rattle.ns_actions.specs.Adding.{Adds}
 use Rattle.ns_world.specs.laws.Making.{made_cells}
 

@@ -17,7 +17,7 @@ use Rattle.ns_world.specs.Cell.{Cell, ObjectCell, ClassCell, BlockCell, Environm
 use Rattle.ns_world.specs.Heap.{Heap, heap_size, find_cell, superclass_in, is_class, is_superclass, chain_of}
 use Rattle.ns_world.specs.Seek.{first_such, earlier_or, is_nil, is_top, may_be_first}
 use Rattle.ns_world.specs.Later.{MayCome}
-use Rattle.ns_world.specs.World.{entered, left}
+use Rattle.ns_world.specs.World.{entered, left, stored}
 use Rattle.ns_world.specs.Layout.{declaration_of, layout_of, entries_above, entry_word}
 use Rattle.ns_classes.specs.declared.apply.MakeFault.{MakeFault}
 use Rattle.ns_classes.specs.declared.apply.MakeFault.TheVariants.{NotAClass}
@@ -25,7 +25,6 @@ use Rattle.ns_classes.specs.Apply.{class_fault, class_cell, chain_fault}
 use Rattle.ns_kdata.specs.Arguments.{shape_of_value}
 use Rattle.ns_classes.specs.Nested.{kept_class, nested_entry}
 use Rattle.ns_kdata.specs.Leading.{is_common}
-use Rattle.ns_kdata.specs.Rows.{stored}
 use Rattle.ns_actions.specs.declared.site.Site.{Site}
 use Rattle.ns_actions.specs.Site.{error}
 use Rattle.ns_actions.specs.Control.{Progress, in_world, Activation, Exit, FromMethod, FromBody, FromClause, After, Gives, Enter, Stop, Skip, EnterPart, halts, charged}

@@ -9,8 +9,7 @@ use Rattle.ns_world.specs.declared.ending.Ending.TheVariants.{Limit}
 use Rattle.ns_world.specs.declared.ending.LimitKind.TheVariants.{Cells}
 use Rattle.ns_world.specs.Cell.{Cell, EnvironmentCell, cell_size}
 use Rattle.ns_world.specs.Heap.{heap_size}
-use Rattle.ns_world.specs.World.{World, made, stepped, entered, left, printed}
-use Rattle.ns_kdata.specs.Rows.{stored}
+use Rattle.ns_world.specs.World.{World, made, stepped, entered, left, printed, stored}
 use Rattle.ns_kdata.specs.laws.Leading.{Allows, Writes}
 use Rattle.ns_actions.specs.Control.{Progress, in_world, Activation, charged}
 use Rattle.ns_actions.specs.Bodies.{has_environment, first_locals, opened}

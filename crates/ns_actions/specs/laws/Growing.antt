@@ -5,13 +5,12 @@ use Rattle.ns_world.specs.declared.value.Value.{Value}
 use Rattle.ns_world.specs.declared.value.Value.TheVariants.{Nil, True, False, Int, Sym, Kernel, Ref}
 use Rattle.ns_world.specs.Cell.{Cell, cell_size, shape_of}
 use Rattle.ns_world.specs.Heap.{Heap, heap_size, find_cell}
-use Rattle.ns_world.specs.World.{World, made, stepped, entered, left, printed, written}
+use Rattle.ns_world.specs.World.{World, made, stepped, entered, left, printed, written, stored}
 use Rattle.ns_world.specs.Later.{IsLater, MayCome}
 use Rattle.ns_world.specs.laws.Leading.{later_same, later_on, later_made, later_stepped, later_entered, later_left, later_printed, later_written}
 use Rattle.ns_world.specs.laws.Changing.{writing_leaves}
 use Rattle.ns_world.specs.laws.Chains.{found_below, found_in_more}
 use Rattle.ns_kdata.specs.Leading.{is_common}
-use Rattle.ns_kdata.specs.Rows.{stored}
 use Rattle.ns_kdata.specs.laws.Leading.{Allows, Writes, writes_later}
 use Rattle.ns_actions.specs.Onward.{Grown}
 use Rattle.ns_actions.specs.Adding.{Adds}

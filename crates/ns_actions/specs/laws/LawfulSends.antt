@@ -12,8 +12,8 @@ use Rattle.ns_world.specs.declared.value.Value.{Value}
 use Rattle.ns_world.specs.declared.value.Value.TheVariants as value
 use Rattle.ns_world.specs.declared.ending.LimitKind.TheVariants.{Steps, Cells}
 use Rattle.ns_world.specs.Cell.{ArrayCell, MessageCell}
-use Rattle.ns_world.specs.Heap.{Heap, heap_size, find_cell, is_class, superclass_of}
-use Rattle.ns_world.specs.World.{World, made, stepped, written}
+use Rattle.ns_world.specs.Heap.{Heap, heap_size, find_cell, is_class, superclass_of, word_of_object}
+use Rattle.ns_world.specs.World.{World, made, stepped, written, stored}
 use Rattle.ns_world.specs.Starts.{start_of}
 use Rattle.ns_world.specs.Layout.{declaration_of, entry_word}
 use Rattle.ns_world.specs.Lawful.{IsLawful, IsLiveValue, HasHolder}
@@ -26,10 +26,8 @@ use Rattle.ns_find.specs.Find.{found_from, found_private, super_start}
 use Rattle.ns_find.specs.Belonging.{HasSlot, HasNested}
 use Rattle.ns_classes.specs.laws.Lawfully.{slot_filled}
 use Rattle.ns_kdata.specs.Arguments.{items_of}
-use Rattle.ns_kdata.specs.Rows.{stored}
 use Rattle.ns_kdata.specs.laws.Filled.{filled_keeps}
 use Rattle.ns_kdata.specs.laws.LivingItems.{written_live}
-use Rattle.ns_mirror.specs.Slots.{word_of_object}
 use Rattle.ns_actions.specs.declared.site.Site.{Site}
 use Rattle.ns_actions.specs.Control.{Progress, in_world, Activation, FromMethod, Control, Enter, halts, charged}
 use Rattle.ns_actions.specs.Bodies.{enclosing, side_of_body, side_at}

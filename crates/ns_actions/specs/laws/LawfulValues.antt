@@ -8,7 +8,7 @@ use Rattle.ns_world.specs.declared.value.Value.TheVariants.{Nil, True, False, In
 use Rattle.ns_world.specs.declared.ending.LimitKind.TheVariants.{Cells}
 use Rattle.ns_world.specs.Cell.{Cell, ObjectCell, ClassCell, BlockCell, EnvironmentCell, ArrayCell, TextCell, FacetCell, MirrorCell, MessageCell, shape_of}
 use Rattle.ns_world.specs.Heap.{heap_size, find_cell, has_superclass}
-use Rattle.ns_world.specs.World.{made, written}
+use Rattle.ns_world.specs.World.{made, written, stored}
 use Rattle.ns_world.specs.Starts.{is_receiver_cell}
 use Rattle.ns_world.specs.Layout.{declaration_of, entry_word}
 use Rattle.ns_world.specs.Lawful.{IsLawful, IsLiveValue, HasHolder, BlockIsLawful, is_environment, class_of_object}
@@ -16,7 +16,6 @@ use Rattle.ns_world.specs.Keeping.{MayBeMade}
 use Rattle.ns_world.specs.laws.Writing.{writing_keeps}
 use Rattle.ns_classes.specs.laws.Lawfully as classes
 use Rattle.ns_kdata.specs.Lawful.{MayHold}
-use Rattle.ns_kdata.specs.Rows.{stored}
 use Rattle.ns_kdata.specs.laws.Filled.{filled_keeps}
 use Rattle.ns_actions.specs.Control.{Progress, in_world, Activation, Gives, Halts}
 use Rattle.ns_actions.specs.Bodies.{is_beside, environment_at, local_stored}

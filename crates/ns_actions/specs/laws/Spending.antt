@@ -18,7 +18,7 @@ use Rattle.ns_world.specs.declared.cell.NewCell.{NewCell}
 use Rattle.ns_world.specs.declared.cell.NewCell.TheVariants as new
 use Rattle.ns_world.specs.Cell.{Cell, ObjectCell, BlockCell, ArrayCell, TextCell, MessageCell}
 use Rattle.ns_world.specs.Heap.{heap_size, find_cell, superclass_in, cell_number}
-use Rattle.ns_world.specs.World.{World, made, stepped, entered, left, written}
+use Rattle.ns_world.specs.World.{World, made, stepped, entered, left, written, stored}
 use Rattle.ns_world.specs.Layout.{declaration_of, layout_of, entry_word}
 use Rattle.ns_world.specs.Starts.{start_of}
 use Rattle.ns_classes.specs.declared.apply.MakeFault.{MakeFault}
@@ -33,7 +33,7 @@ use Rattle.ns_kdata.specs.declared.row.DataRow.{DataRow}
 use Rattle.ns_kdata.specs.declared.row.DataRow.TheVariants as values
 use Rattle.ns_kdata.specs.Outcome.{Outcome, Answers, Fails}
 use Rattle.ns_kdata.specs.Arguments.{argument, number_of, items_of, is_array, shape_of_value}
-use Rattle.ns_kdata.specs.Rows.{stored, message_selector}
+use Rattle.ns_kdata.specs.Rows.{message_selector}
 use Rattle.ns_kdata.specs.Datum.{datum}
 use Rattle.ns_kdata.specs.Leading.{LeadsTo}
 use Rattle.ns_kdata.specs.laws.Leading.{data_leads}

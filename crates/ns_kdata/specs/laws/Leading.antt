@@ -7,7 +7,7 @@ use Rattle.ns_world.specs.declared.value.Value.TheVariants as value
 use Rattle.ns_world.specs.declared.ending.Fault.{Fault}
 use Rattle.ns_world.specs.Cell.{Cell, shape_of, ObjectCell, ArrayCell, TextCell}
 use Rattle.ns_world.specs.Heap.{heap_size, has_superclass, no_class}
-use Rattle.ns_world.specs.World.{World, made, printed}
+use Rattle.ns_world.specs.World.{World, made, printed, stored}
 use Rattle.ns_kdata.specs.declared.row.DataRow.{DataRow}
 use Rattle.ns_kdata.specs.declared.row.DataRow.TheVariants as row
 use Rattle.ns_kdata.specs.declared.arguments.Part.{Part}
@@ -15,7 +15,7 @@ use Rattle.ns_kdata.specs.Outcome.{Fails, made_as, making, unchanged, wrong_kind
 use Rattle.ns_kdata.specs.Arguments.{is_text, bytes_of, items_of, place_in, part_in, symbol_text, number_of}
 use Rattle.ns_kdata.specs.Texts.{copied, bytes_in, byte_at_place, text_less}
 use Rattle.ns_base.specs.Quoted.{quoted}
-use Rattle.ns_kdata.specs.Rows.{stored, put_at_place, new_array, conjunction, disjunction, item_at_place, symbol_less, boolean_text}
+use Rattle.ns_kdata.specs.Rows.{put_at_place, new_array, conjunction, disjunction, item_at_place, symbol_less, boolean_text}
 use Rattle.ns_kdata.specs.Datum.{row_outcome}
 use Rattle.ns_world.specs.Seek.{may_be_first}
 use Rattle.ns_world.specs.Later.{MayCome, IsLater}

@@ -9,12 +9,12 @@ use Rattle.ns_world.specs.declared.value.Value.TheVariants.{Nil, True, False, In
 use Rattle.ns_world.specs.declared.ending.Fault.{Fault}
 use Rattle.ns_world.specs.Cell.{Cell, with_word, ObjectCell, ClassCell, BlockCell, EnvironmentCell, ArrayCell, TextCell, FacetCell, MirrorCell, MessageCell}
 use Rattle.ns_world.specs.Heap.{Heap, find_cell, set_cell, write_word}
-use Rattle.ns_world.specs.World.{World}
+use Rattle.ns_world.specs.World.{World, stored}
 use Rattle.ns_world.specs.Starts.{is_receiver_cell}
 use Rattle.ns_world.specs.Lawful.{IsLawful, IsLiveValue}
 use Rattle.ns_world.specs.laws.Changing.{writing_leaves, word_plainly}
 use Rattle.ns_kdata.specs.Arguments.{items_of, array_items}
-use Rattle.ns_kdata.specs.Rows.{item_at_place, stored, put_at_place}
+use Rattle.ns_kdata.specs.Rows.{item_at_place, put_at_place}
 use Rattle.ns_kdata.specs.Living.{AnswersLive}
 use Rattle.ns_world.specs.laws.Changing.{set_here}
 

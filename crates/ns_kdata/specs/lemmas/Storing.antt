@@ -8,12 +8,12 @@ use Rattle.ns_world.specs.declared.value.Value.TheVariants.{Nil, True, False, In
 use Rattle.ns_world.specs.declared.ending.Fault.{Fault}
 use Rattle.ns_world.specs.Cell.{Cell, ObjectCell, ClassCell, BlockCell, EnvironmentCell, ArrayCell, TextCell, FacetCell, MirrorCell, MessageCell}
 use Rattle.ns_world.specs.Heap.{find_cell}
-use Rattle.ns_world.specs.World.{World}
+use Rattle.ns_world.specs.World.{World, stored}
 use Rattle.ns_world.specs.Lawful.{IsLiveValue, IsLawful, class_of_object}
 use Rattle.ns_world.specs.laws.Writing.{writing_keeps}
 use Rattle.ns_kdata.specs.Outcome.{out_of_range}
 use Rattle.ns_kdata.specs.Arguments.{items_of, array_items, place_of_number, place_in}
-use Rattle.ns_kdata.specs.Rows.{stored, put_at_place, array_put}
+use Rattle.ns_kdata.specs.Rows.{put_at_place, array_put}
 use Rattle.ns_kdata.specs.Lawful.{LeavesLawful}
 
 -- a number that is neither below 1 nor past a size, less 1, is below it

@@ -11,8 +11,7 @@ use Rattle.ns_world.specs.declared.ending.LimitKind.TheVariants.{Cells}
 use Rattle.ns_world.specs.Cell.{Cell, BlockCell, cell_size}
 use Rattle.ns_world.specs.Heap.{heap_size}
 use Rattle.ns_world.specs.Layout.{entry_word}
-use Rattle.ns_world.specs.World.{World, written}
-use Rattle.ns_kdata.specs.Rows.{stored}
+use Rattle.ns_world.specs.World.{World, written, stored}
 use Rattle.ns_actions.specs.Control.{Progress, Activation, Gives, Halts, charged, in_world}
 use Rattle.ns_actions.specs.Blocks.{new_cell}
 use Rattle.ns_actions.specs.Bodies.{enclosing, environment_at, is_beside, local_at, locals_with, local_stored, world_with_local}

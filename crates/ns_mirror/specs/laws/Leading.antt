@@ -10,10 +10,9 @@ use Rattle.ns_world.specs.declared.ending.Kind.TheVariants as kind
 use Rattle.ns_world.specs.Cell.{ArrayCell, TextCell, MirrorCell}
 use Rattle.ns_world.specs.Heap.{chain_of, cell_number}
 use Rattle.ns_world.specs.Starts.{class_name_of}
-use Rattle.ns_world.specs.World.{World}
+use Rattle.ns_world.specs.World.{World, stored}
 use Rattle.ns_kdata.specs.Outcome.{Outcome, Answers, Fails, making, unchanged, wrong_kind}
 use Rattle.ns_kdata.specs.Arguments.{is_array, shape_of_value, items_of}
-use Rattle.ns_kdata.specs.Rows.{stored}
 use Rattle.ns_mirror.specs.declared.row.MirrorRow.{MirrorRow}
 use Rattle.ns_mirror.specs.declared.row.MirrorRow.TheVariants as row
 use Rattle.ns_mirror.specs.declared.row.Mirrored.TheVariants.{Perform}

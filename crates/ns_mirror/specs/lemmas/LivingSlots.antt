@@ -9,15 +9,14 @@ use Rattle.ns_world.specs.declared.value.Value.TheVariants.{Nil, True, False, In
 use Rattle.ns_world.specs.declared.ending.Fault.TheVariants.{Kind}
 use Rattle.ns_world.specs.declared.ending.Kind.TheVariants as kind
 use Rattle.ns_world.specs.Cell.{Cell, cell_words, ObjectCell, ClassCell, BlockCell, EnvironmentCell, ArrayCell, TextCell, FacetCell, MirrorCell, MessageCell}
-use Rattle.ns_world.specs.Heap.{find_cell, chain_of}
-use Rattle.ns_world.specs.World.{World}
+use Rattle.ns_world.specs.Heap.{find_cell, chain_of, word_of_object}
+use Rattle.ns_world.specs.World.{World, stored}
 use Rattle.ns_world.specs.Lawful.{IsLawful, IsLiveValue}
 use Rattle.ns_kdata.specs.Outcome.{Answers, Fails}
-use Rattle.ns_kdata.specs.Rows.{stored}
 use Rattle.ns_kdata.specs.Living.{AnswersLive}
 use Rattle.ns_kdata.specs.laws.LivingItems.{get_live, stored_live}
 use Rattle.ns_mirror.specs.declared.slots.SlotPlace.{SlotPlace}
-use Rattle.ns_mirror.specs.Slots.{slot, slot_of, slot_along, slot_put, read_slot, write_slot, word_of_object}
+use Rattle.ns_mirror.specs.Slots.{slot, slot_of, slot_along, slot_put, read_slot, write_slot}
 use Rattle.ns_mirror.specs.lemmas.Found.{class_of, no_slot}
 
 slot_cell_live : (world : World) (code : CodeProgram) (at : ℕ) (sel : Sel) (place : SlotPlace) → IsLawful world code → (o : Option Cell) → find_cell world.cells at ≡ o → slot_along world.cells code (chain_of world.cells (class_of o)) sel ≡ Some place → IsLiveValue world.cells code (get_or (option_map_or cell_words o []) place.word Nil)

@@ -10,12 +10,11 @@ use Rattle.ns_world.specs.declared.ending.Fault.TheVariants.{Kind}
 use Rattle.ns_world.specs.declared.ending.Kind.TheVariants as kind
 use Rattle.ns_world.specs.Cell.{Cell, ObjectCell, ClassCell, BlockCell, EnvironmentCell, ArrayCell, TextCell, FacetCell, MirrorCell, MessageCell}
 use Rattle.ns_world.specs.Heap.{Heap, find_cell, chain_of}
-use Rattle.ns_world.specs.World.{World, written}
+use Rattle.ns_world.specs.World.{World, written, stored}
 use Rattle.ns_world.specs.Layout.{declaration_of, entry_word}
 use Rattle.ns_world.specs.Lawful.{IsLawful, IsLiveValue, class_of_object}
 use Rattle.ns_classes.specs.laws.Lawfully.{slot_filled}
 use Rattle.ns_kdata.specs.Outcome.{Answers, Fails}
-use Rattle.ns_kdata.specs.Rows.{stored}
 use Rattle.ns_kdata.specs.Lawful.{LeavesLawful}
 use Rattle.ns_mirror.specs.declared.slots.Entry.{Entry}
 use Rattle.ns_mirror.specs.declared.slots.SlotPlace.{SlotPlace}

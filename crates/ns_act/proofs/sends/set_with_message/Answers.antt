@@ -1,7 +1,6 @@
 use Rattle.std.proofs.Common.{List, ap, sym, ◌∙◌}
 use Rattle.ns_world.specs.declared.value.Value.{Value}
-use Rattle.ns_world.specs.World.{WorldView}
-use Rattle.ns_kdata.specs.Rows.{stored}
+use Rattle.ns_world.specs.World.{WorldView, stored}
 use Rattle.ns_actions.specs.Control.{Progress, Control, After, in_world, gives}
 use Rattle.ns_actions.specs.Sends.{first_of}
 use Rattle.ns_act.specs.Wrapping.{with_message}
