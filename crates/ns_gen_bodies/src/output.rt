@@ -18,6 +18,7 @@ use crate::steps::{put_block_body, put_method_body};
 use ns_base::no_memory::NoMemory;
 use ns_base::text::Text;
 use ns_code::body::BodyCode;
+use ns_code::kinds::{BLOCK, CLAUSE, INITIALISER, METHOD};
 use ns_gen_code::size::SizeKind;
 use ns_gen_draft::here::Here;
 use ns_gen_draft::name_table::NameTable;
@@ -25,14 +26,6 @@ use ns_gen_draft::writer::Writer;
 use ns_tree::tree::{Block, Class, Method, Named, Pattern, SuperClause};
 use std::alloc::Global;
 use std::marker::Model;
-
-const METHOD: u8 = 0;
-
-const BLOCK: u8 = 1;
-
-const INITIALISER: u8 = 2;
-
-const CLAUSE: u8 = 3;
 
 /// The tables of names and literal texts, the bodies that fit, and what of one is too large.
 #[derive(Drop)]

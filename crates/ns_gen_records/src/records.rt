@@ -9,6 +9,7 @@ use ns_base::no_memory::NoMemory;
 use ns_base::selector::Sel;
 use ns_base::text::Text;
 use ns_code::class::{ClassCode, MethodCode, NestedCode, SlotCode};
+use ns_code::kinds::{PRIVATE, PROTECTED, PUBLIC};
 use ns_gen_draft::name_table::NameTable;
 use ns_tree::tree::Access;
 use std::alloc::Global;
@@ -126,8 +127,8 @@ fn access_number(access: Access) -> u8
     ensures { result ≡ access_number access }
 {
     match access {
-        Access::Public => 0,
-        Access::Protected => 1,
-        Access::Private => 2,
+        Access::Public => PUBLIC,
+        Access::Protected => PROTECTED,
+        Access::Private => PRIVATE,
     }
 }
