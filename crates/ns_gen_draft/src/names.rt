@@ -1,7 +1,7 @@
 //! The table of names while code is written. It has no limit of its own, so that a program with too
 //! many names is told as such whatever else is wrong with its size.
 
-ghost use Rattle.std.specs.Prelude.{◌≡◌, [], length, false, position, option_map, IfOk, OnOk, OnErr};
+ghost use Rattle.std.specs.Prelude.{◌≡◌, [], length, true, false, position, option_map, IfOk, OnOk, OnErr};
 ghost use Rattle.std.specs.Option.{is_some};
 ghost use Rattle.std.specs.Str.{bytes_eq};
 ghost use Rattle.ns_base.specs.Names.{NoRepeats, has, put_in, place_of};
@@ -17,12 +17,12 @@ use std::marker::Model;
 
 /// Texts without repeats, in the order of first use. A clause sees the list alone.
 #[derive(Drop)]
-pub struct NameTable {
+pub struct Names {
     alloc: Global,
     texts: TextSet,
 }
 
-impl Model for NameTable {
+impl Model for Names {
     ghost use Rattle.std.specs.Prelude.{List, ℕ};
     ghost use Rattle.ns_base.specs.Names.{NoRepeats};
 
@@ -33,12 +33,12 @@ impl Model for NameTable {
     ghost invariant = { λ table. NoRepeats table.texts };
 }
 
-impl NameTable {
+impl Names {
     /// A table without names, and the key for those to come.
-    pub fn new(alloc: Global, key: Key) -> NameTable
+    pub fn new(alloc: Global, key: Key) -> Names
         ensures { result ≡ [] }
     {
-        NameTable {
+        Names {
             alloc,
             texts: TextSet::new(alloc, key),
         }
@@ -87,14 +87,15 @@ impl NameTable {
         }
     }
 
-    /// The number of a text of the table. One that isn't there is taken for want of memory.
+    /// The number of a text of the table.
     #[tactic(auto, using(crate::proofs::Tables::placed))]
-    pub fn number(&self, text: &[u8]) -> Result<Sel, NoMemory>
-        ensures { IfOk result (λ sel. sel.0 ≡ place_of self.now text.now) }
+    pub fn number(&self, text: &[u8]) -> Sel
+        requires { has self.now text.now ≡ true }
+        ensures { result.0 ≡ place_of self.now text.now }
     {
         match self.find(text) {
-            Some(number) => Ok(number),
-            None => Err(NoMemory),
+            Some(number) => number,
+            None => unreachable!(),
         }
     }
 

@@ -21,6 +21,7 @@ use ns_base::no_memory::NoMemory;
 use ns_code::instruction::Instr;
 use ns_gen_draft::here::Here;
 use ns_gen_draft::keys::{count, joined, keys_count};
+use ns_gen_draft::never::cannot_come;
 use ns_gen_draft::writer::Writer;
 use ns_tree::parts::first_key;
 use ns_tree::tree::{BinExpr, Expr, KeyExpr, Message, Named, Primary, UnExpr};
@@ -316,7 +317,7 @@ fn put_first_name(
     ensures next { OnOk result (next.new ≡ next.old + length (un_blocks here.now.scope.now (un_of un.now))) }
 {
     match un.names.as_slice() {
-        [] => Err(NoMemory),
+        [] => Err(cannot_come()),
         [front @ .., last] => {
             let first = put_primary(writer, here, next, un.at, &un.primary)?;
             let receiver = put_names(writer, here, first, front)?;
@@ -366,7 +367,7 @@ fn put_first(
     ensures next { OnOk result (next.new ≡ next.old + length (key_expr_blocks here.now.scope.now (key_expr_of expr.now))) }
 {
     let Some(bin) = &expr.receiver else {
-        return Err(NoMemory);
+        return Err(cannot_come());
     };
     match expr.keys.as_slice() {
         [] => put_first_oper(writer, here, next, bin),
@@ -380,8 +381,8 @@ fn put_first(
 }
 
 /// An expression with a cascade, before its names are set: messages to the receiver of the last one
-/// before them. One to no message, to `super` or to an enclosing object, which no program without
-/// faults has, is taken for want of memory.
+/// before them. In a program without faults there is one, and that goes to neither `super` nor an
+/// enclosing object.
 #[cycle(expressions)]
 fn put_cascade(
     writer: &mut Writer,
@@ -393,11 +394,11 @@ fn put_cascade(
     ensures next { OnOk result (next.new ≡ next.old + length (expr_blocks here.now.scope.now (expr_of expr.now))) }
 {
     if expr.more.is_empty() {
-        return Err(NoMemory);
+        return Err(cannot_come());
     }
     let receiver = put_first(writer, here, next, &expr.first)?;
     if !is_repeated(&receiver) {
-        return Err(NoMemory);
+        return Err(cannot_come());
     }
     put_rest(writer, here, next, &receiver, &expr.more)?;
     Ok(())
