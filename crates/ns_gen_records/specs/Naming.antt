@@ -10,7 +10,7 @@ abbrev pub with_names : List (List ℕ) → Written → Written
 with_names names before = record before { names = put_all before.names names }
 
 -- A table has the names of a class's record.
-pub record HasNames (table : List (List ℕ)) (class : m.Declaration) : Type 0 where
+pub record HasRecordNames (table : List (List ℕ)) (class : m.Declaration) : Type 0 where
   pub name : has table class.name ≡ true
   pub factory : has table class.factory ≡ true
   pub super_selector : has table class.super_selector ≡ true

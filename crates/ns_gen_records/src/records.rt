@@ -3,7 +3,7 @@
 ghost use Rattle.std.specs.Prelude.{◌≡◌, true, All, map, IfOk};
 ghost use Rattle.ns_base.specs.Names.{has};
 ghost use Rattle.ns_resolved.specs.Tables.{access_number, class_code, slot_code, nested_code, method_code, sel_of};
-ghost use Rattle.ns_gen_records.specs.Naming.{HasNames};
+ghost use Rattle.ns_gen_records.specs.Naming.{HasRecordNames};
 
 use crate::declaration::{Declaration, MethodOf, NestedOf, SlotOf};
 use ns_base::items::Items;
@@ -22,7 +22,7 @@ pub fn class_codes(
     names: &Names,
     classes: &[Declaration],
 ) -> Result<Vec<ClassCode>, NoMemory>
-    requires { All (HasNames names.now) classes.now }
+    requires { All (HasRecordNames names.now) classes.now }
     ensures { IfOk result (λ codes. codes.items ≡ map (class_code names.now) classes.now) }
 {
     let mut codes = Vec::new(alloc);
@@ -34,7 +34,7 @@ pub fn class_codes(
 
 /// The record of a class.
 fn class_code(alloc: Global, names: &Names, class: &Declaration) -> Result<ClassCode, NoMemory>
-    requires { HasNames names.now class.now }
+    requires { HasRecordNames names.now class.now }
     ensures { IfOk result (λ code. code ≡ class_code names.now class.now) }
 {
     let slots = slot_codes(alloc, names, class.slots.as_slice())?;
