@@ -1,14 +1,11 @@
--- Tables of names: lists of at most 65,536 texts without repeats, in the order of first use.
-use Rattle.std.specs.Prelude.{◌≡◌, ◌≤◌, ℕ, Bool, List, ◌++◌, ◌∷◌, [], length, false, if◌then◌else◌}
+-- Tables of names: lists of texts without repeats, in the order of first use.
+use Rattle.std.specs.Prelude.{ℕ, Bool, List, ◌++◌, ◌∷◌, [], if◌then◌else◌}
 use Rattle.std.specs.List.{list_any, position_or_len, IsDistinct}
 use Rattle.std.specs.Str.{bytes_eq}
 
 -- no text stands in the list twice
 abbrev pub NoRepeats : List (List ℕ) → Type 0
 NoRepeats names = IsDistinct bytes_eq names
-
-abbrev pub IsTable : List (List ℕ) → Type 0
-IsTable names = NoRepeats names × (length names ≤ 65536)
 
 -- whether the text stands in the list
 abbrev pub has : List (List ℕ) → List ℕ → Bool
@@ -21,7 +18,3 @@ put_in names text = if has names text then names else names ++ text ∷ []
 -- where the text stands in the list, or would stand once it is put in
 abbrev pub place_of : List (List ℕ) → List ℕ → ℕ
 place_of names text = position_or_len (bytes_eq text) names
-
--- The text is new, and there is no number left for it.
-abbrev pub IsFull : List (List ℕ) → List ℕ → Type 0
-IsFull names text = (has names text ≡ false) × (65536 ≤ length names)

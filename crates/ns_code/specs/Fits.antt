@@ -16,6 +16,7 @@ use Rattle.ns_code.specs.declared.instruction.Instr.{Instr}
 use Rattle.ns_code.specs.declared.instruction.Instr.TheVariants.{PushInt, PushSym, PushText, PushOuter, PushLocal, StoreLocal, PushBlock}
 use Rattle.ns_code.specs.declared.instruction.Instr.TheVariants.{MakeArray, Pick, Send, SendInner, SendPrivate, SendSuper, InitSuper, StoreSlot}
 use Rattle.ns_code.specs.declared.instruction.Instr.TheVariants.{Jump, JumpFalse, JumpTrue}
+use Rattle.ns_code.specs.Instructions.{carries_place}
 
 -- a number of one, two or four bytes
 abbrev pub IsByte : ℕ → Type 0
@@ -104,19 +105,10 @@ InstrFits (JumpFalse target) = IsWord target
 InstrFits (JumpTrue target) = IsWord target
 InstrFits _ = Unit {0}
 
--- the instructions that carry a place: the sends and the start of a superclass part
-abbrev pub HasPlace : Instr → Type 0
-HasPlace (Send sel argc) = Unit {0}
-HasPlace (SendInner sel argc) = Unit {0}
-HasPlace (SendPrivate level sel argc) = Unit {0}
-HasPlace (SendSuper sel argc) = Unit {0}
-HasPlace (InitSuper argc) = Unit {0}
-HasPlace _ = ⊥
-
 -- One place belongs to an instruction that carries one, in a file that is there.
 pub record PlaceFits (code : CodeProgram) (body : BodyCode) (place : ℕ × Place) : Type 0 where
   pub instr : place.0 < length body.instrs
-  pub carries : (d : Instr) → HasPlace (slice_index_or body.instrs place.0 d)
+  pub carries : (d : Instr) → IsTrue (carries_place (slice_index_or body.instrs place.0 d))
   pub file : place.1.file < length code.files
   pub line : (1 ≤ place.1.line) × IsWord place.1.line
   pub col : (1 ≤ place.1.col) × IsWord place.1.col

@@ -7,6 +7,7 @@ pub mod body;
 pub mod class;
 pub mod instruction;
 pub mod instructions;
+pub mod kinds;
 pub mod local_names;
 pub mod own;
 pub mod program;

@@ -5,6 +5,9 @@ use crate::class::ClassCode;
 use ns_base::items::Items;
 use ns_base::text::Text;
 
+/// How many names code has at most.
+pub const MOST_NAMES: usize = 65_536;
+
 /// A program: the names of its files, its names and literal texts, its class declarations and
 /// its bodies. Each is known by its number in its list.
 #[derive(Drop)]

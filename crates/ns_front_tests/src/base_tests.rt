@@ -1,13 +1,10 @@
-//! Files, streams and names in memory, with ample memory, and what is fixed once: the limits of a command that names
+//! Files and streams in memory, with ample memory, and what is fixed once: the limits of a command that names
 //! none, and the size of the library.
 
-use ns_base::key::Key;
 use ns_base::limits::Limits;
 use ns_base::mem_shelf::MemShelf;
 use ns_base::mem_sink::MemSink;
-use ns_base::names::{Names, NamesFault};
 use ns_base::no_memory::NoMemory;
-use ns_base::selector::Sel;
 use ns_base::shelf::{Shelf, ShelfFault};
 use ns_base::sink::Sink;
 use ns_base::sure_shelf::SureShelf;
@@ -75,22 +72,6 @@ fn sink_takes_what_has_room(alloc: Global) -> Result<bool, NoMemory> {
             && sink.bytes.as_slice() == b"abcdeghijk".as_slice()
             && sink.faults == 2,
     )
-}
-
-#[test]
-fn there_are_names_up_to_65536(rt: HostRuntime) {
-    assert!(rt; fills_with_names(rt.alloc()));
-}
-
-fn fills_with_names(alloc: Global) -> bool {
-    let mut names = Names::new(alloc, Key::of(b"names"));
-    for number in 0..65_536u32 {
-        if names.intern(&number.to_le_bytes()) != Ok(Sel(number)) {
-            return false;
-        }
-    }
-    names.intern(b"new") == Err(NamesFault::Full)
-        && names.intern(&65_535u32.to_le_bytes()) == Ok(Sel(65_535))
 }
 
 #[test]

@@ -1,12 +1,12 @@
 //! The bodies of declarations, each with the blocks in it, in the order of their numbers.
 
-ghost use Rattle.std.specs.Prelude.{◌≡◌, ◌+◌, true, false, Some, length, OnOk, option_map};
+ghost use Rattle.std.specs.Prelude.{◌≡◌, ◌+◌, false, Some, length, OnOk, option_map};
 ghost use Rattle.ns_tree.specs.PlainOf.{bars_of, statements_of, clause_of, method_of, class_of, class_side_of, side_of, members_of, member_of, what_of};
 ghost use Rattle.ns_scope.specs.Scopes.{is_outside};
 ghost use Rattle.ns_scope.specs.Bodies as b;
 ghost use Rattle.ns_resolved.specs.Classes.{super_bodies, clause_bodies, method_bodies, what_methods, members_methods, side_methods, class_side_methods, own_bodies};
 ghost use Rattle.ns_resolved.specs.Classes.{class_bodies, nested_bodies, members_bodies, member_bodies, what_bodies, class_count, side_count, members_count, member_count, what_count};
-ghost use Rattle.ns_gen_draft.specs.Standing.{around_of, standing};
+ghost use Rattle.ns_gen_draft.specs.Standing.{around_of, standing, StandsAround};
 ghost use Rattle.ns_gen_bodies.specs.Coding.{with_bodies};
 ghost use Rattle.ns_gen.specs.Walking.{routine_inside, start_inside, start_bodies, inside_class};
 
@@ -28,6 +28,7 @@ pub fn put_class(
     next: &mut u32,
     class: &Class,
 ) -> Result<(), NoMemory>
+    requires around { StandsAround around.now }
     ensures put { OnOk result (output.new ≡ with_bodies (class_bodies (around_of around.now) number.old next.old (class_of class.now)) output.old) }
     ensures number { OnOk result (number.new ≡ number.old + class_count (class_of class.now)) }
     ensures next { OnOk result (next.new ≡ next.old + length (b.class_bodies around.now.classes.now (class_of class.now))) }
@@ -53,6 +54,7 @@ fn put_inside(
     next: &mut u32,
     class: &Class,
 ) -> Result<(), NoMemory>
+    requires around { StandsAround around.now }
     ensures put { OnOk result (output.new ≡ with_bodies (inside_class (around_of around.now) number.old next.old (class_of class.now)) output.old) }
     ensures number { OnOk result (number.new ≡ number.old + class_count (class_of class.now)) }
     ensures next { OnOk result (next.new ≡ next.old + length (b.class_inside around.now.classes.now (class_of class.now))) }
@@ -72,6 +74,7 @@ fn put_nested(
     next: &mut u32,
     side: &Side,
 ) -> Result<(), NoMemory>
+    requires around { StandsAround around.now }
     ensures put { OnOk result (output.new ≡ with_bodies (nested_bodies (around_of around.now) number.old next.old (side_of side.now)) output.old) }
     ensures number { OnOk result (number.new ≡ number.old + side_count (side_of side.now)) }
     ensures next { OnOk result (next.new ≡ next.old + length (b.nested_bodies around.now.classes.now (side_of side.now))) }
@@ -88,6 +91,7 @@ fn put_members(
     next: &mut u32,
     members: &[Member],
 ) -> Result<(), NoMemory>
+    requires around { StandsAround around.now }
     ensures put { OnOk result (output.new ≡ with_bodies (members_bodies (around_of around.now) number.old next.old (members_of members.now)) output.old) }
     ensures number { OnOk result (number.new ≡ number.old + members_count (members_of members.now)) }
     ensures next { OnOk result (next.new ≡ next.old + length (b.members_bodies around.now.classes.now (members_of members.now))) }
@@ -106,6 +110,7 @@ fn put_member(
     next: &mut u32,
     member: &Member,
 ) -> Result<(), NoMemory>
+    requires around { StandsAround around.now }
     ensures put { OnOk result (output.new ≡ with_bodies (member_bodies (around_of around.now) number.old next.old (member_of member.now)) output.old) }
     ensures number { OnOk result (number.new ≡ number.old + member_count (member_of member.now)) }
     ensures next { OnOk result (next.new ≡ next.old + length (b.member_nested around.now.classes.now (member_of member.now))) }
@@ -121,6 +126,7 @@ fn put_what(
     next: &mut u32,
     what: &What,
 ) -> Result<(), NoMemory>
+    requires around { StandsAround around.now }
     ensures put { OnOk result (output.new ≡ with_bodies (what_bodies (around_of around.now) number.old next.old (what_of what.now)) output.old) }
     ensures number { OnOk result (number.new ≡ number.old + what_count (what_of what.now)) }
     ensures next { OnOk result (next.new ≡ next.old + length (b.what_bodies around.now.classes.now (what_of what.now))) }
@@ -162,6 +168,7 @@ fn put_clause(
     next: &mut u32,
     clause: &Option<SuperClause>,
 ) -> Result<(), NoMemory>
+    requires around { StandsAround around.now }
     ensures put { OnOk result (output.new ≡ with_bodies (clause_bodies (around_of around.now) next.old (option_map clause_of clause.now)) output.old) }
     ensures next { OnOk result (next.new ≡ next.old + length (b.clause_bodies around.now.classes.now (option_map clause_of clause.now))) }
 {
@@ -178,14 +185,12 @@ fn put_head(
     next: &mut u32,
     clause: &SuperClause,
 ) -> Result<(), NoMemory>
+    requires around { StandsAround around.now }
     ensures put { OnOk result (output.new ≡ with_bodies (clause_bodies (around_of around.now) next.old (Some (clause_of clause.now))) output.old) }
     ensures next { OnOk result (next.new ≡ next.old + length (b.clause_bodies around.now.classes.now (Some (clause_of clause.now)))) }
 {
     match around.outer {
-        None => {
-            expect_outside(around)?;
-            Ok(())
-        }
+        None => Ok(()),
         Some(outer) => put_head_in(output, around, outer, next, clause),
     }
 }
@@ -198,11 +203,11 @@ fn put_head_in(
     next: &mut u32,
     clause: &SuperClause,
 ) -> Result<(), NoMemory>
-    requires { around.now.outer ≡ Some outer }
+    requires outer { around.now.outer ≡ Some outer }
+    requires inside { is_outside around.now.classes.now ≡ false }
     ensures put { OnOk result (output.new ≡ with_bodies (clause_bodies (around_of around.now) next.old (Some (clause_of clause.now))) output.old) }
     ensures next { OnOk result (next.new ≡ next.old + length (b.clause_bodies around.now.classes.now (Some (clause_of clause.now)))) }
 {
-    expect_inside(around)?;
     let scope = Scope::clause(output.alloc(), around.classes)?;
     let here = Here {
         scope: &scope,
@@ -213,29 +218,6 @@ fn put_head_in(
     output.clause(&here, clause)?;
     advance(next)?;
     Ok(())
-}
-
-/// That a declaration without a number stands around, which never happens, is taken for want of
-/// memory.
-fn expect_outside(around: &Around<'_>) -> Result<(), NoMemory>
-    ensures { OnOk result (is_outside around.now.classes.now ≡ true) }
-{
-    if around.is_outside() {
-        Ok(())
-    } else {
-        Err(NoMemory)
-    }
-}
-
-/// So is a number without a declaration.
-fn expect_inside(around: &Around<'_>) -> Result<(), NoMemory>
-    ensures { OnOk result (is_outside around.now.classes.now ≡ false) }
-{
-    if around.is_outside() {
-        Err(NoMemory)
-    } else {
-        Ok(())
-    }
 }
 
 /// The initialiser of a class, and the blocks in it.

@@ -1,10 +1,11 @@
 //! The generator: a whole program to its code.
 
-ghost use Rattle.std.specs.Prelude.{◌≡◌, length, Some, None, IfOk, OnOk, IsErrOf};
+ghost use Rattle.std.specs.Prelude.{◌≡◌, All, length, Some, None, IfOk, OnOk, IsErrOf};
 ghost use Rattle.ns_gen_code.specs.declared.size.SizeKind.{SizeKind};
 ghost use Rattle.ns_resolved.specs.Classes.{meant};
 ghost use Rattle.ns_gen_code.specs.Code.{code_of};
 ghost use Rattle.ns_gen_code.specs.Sizes.{size_fault};
+ghost use Rattle.ns_gen_records.specs.Naming.{HasRecordNames};
 ghost use Rattle.ns_gen.specs.Whole.{named, coded_program, first_fault};
 ghost use Rattle.ns_gen.specs.declared.fault.GenFault.TheVariants.{TooLarge};
 
@@ -16,7 +17,7 @@ use ns_base::no_memory::NoMemory;
 use ns_code::program::CodeProgram;
 use ns_gen_bodies::output::Output;
 use ns_gen_code::size::SizeKind;
-use ns_gen_draft::name_table::copies;
+use ns_gen_draft::names::copies;
 use ns_gen_draft::writer::Writer;
 use ns_gen_records::declaration::Declaration;
 use ns_gen_records::declared::declared;
@@ -29,8 +30,7 @@ use std::alloc::Global;
 const MOST: usize = 65536;
 
 /// The code of a program in which every name has its meaning, or the first size that passes its
-/// limit. A unit without places, which no loaded program has, is taken for want of memory, and so are
-/// numbers that a program without faults doesn't have.
+/// limit.
 pub fn generate(alloc: Global, program: &Program) -> Result<CodeProgram, GenFault>
     ensures code { IfOk result (λ code. code ≡ code_of (meant program.now)) }
     ensures fits { OnOk result (size_fault (code_of (meant program.now)) ≡ None) }
@@ -81,6 +81,7 @@ fn code_of(
     output: Output,
     classes: &[Declaration],
 ) -> Result<CodeProgram, NoMemory>
+    requires { All (HasRecordNames output.names) classes.now }
     ensures { IfOk result (λ code. code ≡ coded_program program.now.files classes.now output) }
 {
     let (names, texts, bodies) = output.into_parts();

@@ -16,8 +16,8 @@ use ns_gen_records::declared::places_of;
 use ns_scope::chain::Chain;
 use ns_tree::tree::Unit;
 
-/// The bodies of units, each with the places of its tokens. Tells how many they are. A unit without
-/// places, which no program has, is taken for want of memory.
+/// The bodies of units, each with the places of its tokens, as far as there are places. Tells how
+/// many they are.
 pub fn put_units(
     output: &mut Output,
     units: &[Unit],
@@ -30,7 +30,9 @@ pub fn put_units(
     let mut next: u32 = 0;
     let mut at: usize = 0;
     for unit in units {
-        let places = places_of(marks, at)?;
+        let Some(places) = places_of(marks, at) else {
+            return Ok(next);
+        };
         put_unit(output, &mut number, &mut next, unit, places)?;
         at += 1;
     }

@@ -14,9 +14,11 @@ use Rattle.ns_resolved.specs.Tables.{node_names, nodes_names, node_texts, nodes_
 use Rattle.ns_gen_code.specs.Code.{Line, does, sends, plain, starts, how_many, nodes_lines, slots_lines, expressions_lines}
 use Rattle.ns_gen_draft.specs.Drafts.{Written, with_line, with_name}
 use Rattle.ns_gen_exprs.specs.Sending.{with_lines, with_node, with_nodes, with_message}
-use Rattle.ns_gen_bodies.specs.Stepping.{with_ended, with_body}
+use Rattle.ns_gen_bodies.specs.Valuing.{with_ended, with_values}
+use Rattle.ns_gen_bodies.specs.declared.values.Stores.TheVariants.{Slots}
+use Rattle.ns_gen_bodies.specs.Stepping.{with_body}
 use Rattle.ns_gen_exprs.specs.declared.receiver.Receiver.TheVariants as v
-use Rattle.ns_gen_bodies.specs.Starting.{with_start, with_slots, with_expressions, expressions_of, start_of}
+use Rattle.ns_gen_bodies.specs.Starting.{with_start, with_expressions, expressions_of, start_of}
 use Rattle.ns_gen_draft.specs.laws.Writing.{written_is, put_more}
 use Rattle.ns_gen_exprs.specs.laws.Composing.{behind_node, behind_nodes, binary_put, message_is}
 use Rattle.ns_gen_bodies.proofs.Stepping.{with_all, all_same, node_put}
@@ -33,7 +35,7 @@ nodes_put nodes line names texts rest before =
     ∙ behind_nodes nodes k before.lines (line ∷ after))
 
 slots_put : (values : List m.First) (names texts : List (List ℕ)) (rest : ℕ → List Line) (before : Written) →
-    with_all names texts rest (with_slots values before)
+    with_all names texts rest (with_values Slots values before)
     ≡ with_all (flat_map (λ first. node_names (value_of first)) values ++ names) (flat_map (λ first. node_texts (value_of first)) values ++ texts)
     (λ k. slots_lines k values rest) before
 slots_put [] names texts rest before = refl
@@ -55,20 +57,20 @@ expressions_put (node ∷ nodes) before =
     ∙ node_put node (does i.Pop ∷ []) (flat_map node_names nodes) (flat_map node_texts nodes) (expressions_lines nodes) before
 
 pub start_whole : (start : m.Initialiser) (before : Written) →
-    with_expressions start.expressions (with_slots start.slots (with_start start.place start.arguments before)) ≡ with_body (m.as_initialiser start) before
+    with_expressions start.expressions (with_values Slots start.slots (with_start start.place start.arguments before)) ≡ with_body (m.as_initialiser start) before
 start_whole start before =
     let names = flat_map node_names start.expressions in
     let texts = flat_map node_texts start.expressions in
     let begun = with_start start.place start.arguments before in
     let behind : ℕ → List Line = λ k. slots_lines k start.slots (expressions_lines start.expressions) in
-    expressions_put start.expressions (with_slots start.slots begun)
+    expressions_put start.expressions (with_values Slots start.slots begun)
     ∙ slots_put start.slots names texts (expressions_lines start.expressions) begun
     ∙ nodes_put start.arguments (starts start.place (how_many start.arguments)) (flat_map (λ first. node_names (value_of first)) start.slots ++ names)
     (flat_map (λ first. node_texts (value_of first)) start.slots ++ texts) behind before
 
 pub start_done : (here : e.Standing) (next n1 n2 : ℕ) (name : Named) (clause : Option p.SuperClause) (bars : p.Bars) (body : p.Statements) (w0 w1 w2 w3 : Written) →
     w1 ≡ with_start (e.place_at here.marks name.at) (super_arguments here next clause) w0 → n1 ≡ next + length (b.super_blocks here.scope clause) →
-    w2 ≡ with_slots (bars_values here n1 0 bars) w1 → n2 ≡ n1 + length (b.bars_blocks here.scope bars) →
+    w2 ≡ with_values Slots (bars_values here n1 0 bars) w1 → n2 ≡ n1 + length (b.bars_blocks here.scope bars) →
     w3 ≡ with_expressions (expressions_of here n2 body) w2 → w3 ≡ with_body (m.as_initialiser (start_of here next name clause bars body)) w0
 start_done here next n1 n2 name clause bars body w0 w1 w2 w3 one e1 two e2 three =
     let start = start_of here next name clause bars body in
@@ -76,7 +78,7 @@ start_done here next n1 n2 name clause bars body w0 w1 w2 w3 one e1 two e2 three
     let at_end : n2 ≡ at + length (b.bars_blocks here.scope bars) = omega (e1, e2, arith) in
     three
     ∙ ap (λ n. with_expressions (expressions_of here n body) w2) at_end
-    ∙ ap (with_expressions start.expressions) (two ∙ ap (λ n. with_slots (bars_values here n 0 bars) w1) e1 ∙ ap (with_slots start.slots) one)
+    ∙ ap (with_expressions start.expressions) (two ∙ ap (λ n. with_values Slots (bars_values here n 0 bars) w1) e1 ∙ ap (with_values Slots start.slots) one)
     ∙ start_whole start w0
 
 -- ---- clauses

@@ -16,7 +16,9 @@ use Rattle.ns_resolved.specs.Tables.{put_all, node_names, node_texts, value_of, 
 use Rattle.ns_gen_code.specs.Code.{Line, does, node_lines, locals_lines, method_lines, block_lines}
 use Rattle.ns_gen_draft.specs.Drafts.{Written, with_line}
 use Rattle.ns_gen_exprs.specs.Sending.{with_lines, with_node}
-use Rattle.ns_gen_bodies.specs.Stepping.{with_ended, with_local, with_locals, with_method, is_none, with_block_step, with_block, with_block_steps, with_body, routine_does}
+use Rattle.ns_gen_bodies.specs.Valuing.{with_ended, with_local, with_values}
+use Rattle.ns_gen_bodies.specs.declared.values.Stores.TheVariants.{Locals}
+use Rattle.ns_gen_bodies.specs.Stepping.{with_method, is_none, with_block_step, with_block, with_block_steps, with_body, routine_does}
 use Rattle.ns_gen_draft.specs.laws.Writing.{written_is, put_more}
 use Rattle.ns_gen_exprs.specs.laws.Composing.{behind_node}
 
@@ -51,7 +53,7 @@ two_lines first second before = written_is _ _ _ _ _ _ refl refl (append_assoc b
 -- ---- values
 
 locals_put : (values : List m.First) (names texts : List (List ℕ)) (rest : ℕ → List Line) (before : Written) →
-    with_all names texts rest (with_locals values before)
+    with_all names texts rest (with_values Locals values before)
     ≡ with_all (flat_map (λ first. node_names (value_of first)) values ++ names) (flat_map (λ first. node_texts (value_of first)) values ++ texts)
     (λ k. locals_lines k values rest) before
 locals_put [] names texts rest before = refl
@@ -89,9 +91,9 @@ method_put (m.return node ∷ (step ∷ steps)) before =
     (method_lines (step ∷ steps)) before
 
 pub method_whole : (values : List m.First) (steps : List m.Step) (before : Written) →
-    with_method steps false (with_locals values before) ≡ with_body (m.as_method values steps) before
+    with_method steps false (with_values Locals values before) ≡ with_body (m.as_method values steps) before
 method_whole values steps before =
-    method_put steps (with_locals values before)
+    method_put steps (with_values Locals values before)
     ∙ locals_put values (flat_map (λ step. node_names (step_node step)) steps) (flat_map (λ step. node_texts (step_node step)) steps) (method_lines steps) before
 
 -- ---- blocks
@@ -118,9 +120,9 @@ block_put [] before =
 block_put (step ∷ steps) before = steps_put step steps before
 
 pub block_whole : (values : List m.First) (steps : List m.Step) (before : Written) →
-    with_block steps (with_locals values before) ≡ with_body (m.as_block values steps) before
+    with_block steps (with_values Locals values before) ≡ with_body (m.as_block values steps) before
 block_whole values steps before =
-    block_put steps (with_locals values before)
+    block_put steps (with_values Locals values before)
     ∙ locals_put values (flat_map (λ step. node_names (step_node step)) steps) (flat_map (λ step. node_texts (step_node step)) steps) (block_lines steps) before
 
 -- ---- the loop over a block's steps
@@ -175,7 +177,7 @@ steps_number here next next' k last list statement within is before number =
 -- ---- bodies of methods and blocks
 
 pub method_done : (here : e.Standing) (next next' params : ℕ) (bars : p.Bars) (list : p.StatementList) (stop : Bool) (w0 w1 w2 : Written) →
-    w1 ≡ with_locals (bars_values here next params bars) w0 → next' ≡ next + length (b.bars_blocks here.scope bars) →
+    w1 ≡ with_values Locals (bars_values here next params bars) w0 → next' ≡ next + length (b.bars_blocks here.scope bars) →
     w2 ≡ with_method (list_steps here next' list) false w1 →
     w2 ≡ with_body (routine_does m.as_method here next params bars (p.statements_with list stop)) w0
 method_done here next next' params bars list stop w0 w1 w2 one number two =
@@ -184,7 +186,7 @@ method_done here next next' params bars list stop w0 w1 w2 one number two =
     ∙ method_whole (bars_values here next params bars) steps w0
 
 pub block_done : (here : e.Standing) (next next' params : ℕ) (bars : p.Bars) (list : p.StatementList) (stop : Bool) (w0 w1 w2 : Written) →
-    w1 ≡ with_locals (bars_values here next params bars) w0 → next' ≡ next + length (b.bars_blocks here.scope bars) →
+    w1 ≡ with_values Locals (bars_values here next params bars) w0 → next' ≡ next + length (b.bars_blocks here.scope bars) →
     w2 ≡ with_block (list_steps here next' list) w1 →
     w2 ≡ with_body (routine_does m.as_block here next params bars (p.statements_with list stop)) w0
 block_done here next next' params bars list stop w0 w1 w2 one number two =

@@ -1,3 +1,4 @@
+pub mod Valuing
 pub mod Stepping
 pub mod Starting
 pub mod Finishing

@@ -13,16 +13,11 @@ use Rattle.ns_resolved.specs.Tables.{step_node}
 use Rattle.ns_gen_code.specs.Code.{does, starts, how_many}
 use Rattle.ns_gen_draft.specs.Drafts.{Written, with_line}
 use Rattle.ns_gen_exprs.specs.Sending.{with_nodes}
-use Rattle.ns_gen_bodies.specs.Stepping.{with_ended}
+use Rattle.ns_gen_bodies.specs.Valuing.{with_ended}
 
 -- with the arguments of the message that initialises the superclass part, and its start
 abbrev pub with_start : Place → m.Nodes → Written → Written
 with_start place arguments before = with_line (with_nodes arguments before) (starts place (how_many arguments))
-
--- with values that slots get
-abbrev pub with_slots : List m.First → Written → Written
-with_slots [] before = before
-with_slots (first ∷ others) before = with_slots others (with_ended first.value (i.StoreSlot first.index) before)
 
 -- with the expressions of an initialiser, which ends with self
 abbrev pub with_expressions : List m.Node → Written → Written

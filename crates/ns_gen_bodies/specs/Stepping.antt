@@ -1,4 +1,4 @@
--- What is written of a body: the values that locals get, and steps.
+-- What is written of a body: its steps, and the whole.
 use Rattle.std.specs.Prelude.{ℕ, ◌+◌, Bool, true, false, List, [], ◌∷◌, ◌++◌, length}
 use Rattle.ns_code.specs.declared.instruction.Instr.{Instr}
 use Rattle.ns_code.specs.declared.instruction.Instr.TheVariants as i
@@ -10,21 +10,7 @@ use Rattle.ns_resolved.specs.Statements.{bars_values, statements_steps}
 use Rattle.ns_resolved.specs.Tables.{put_all, node_names, nodes_names, node_texts, nodes_texts, step_node, gathered}
 use Rattle.ns_gen_code.specs.Code.{does, body_lines}
 use Rattle.ns_gen_draft.specs.Drafts.{Written, with_line}
-use Rattle.ns_gen_exprs.specs.Sending.{with_node}
-
--- with an expression, and an instruction behind it
-abbrev pub with_ended : m.Node → Instr → Written → Written
-with_ended node end before = with_line (with_node node before) (does end)
-
--- ---- values
-
--- with a value that a local gets
-abbrev pub with_local : ℕ → m.Node → Written → Written
-with_local index value before = with_line (with_ended value (i.StoreLocal 0 index) before) (does i.Pop)
-
-abbrev pub with_locals : List m.First → Written → Written
-with_locals [] before = before
-with_locals (first ∷ others) before = with_locals others (with_local first.index first.value before)
+use Rattle.ns_gen_bodies.specs.Valuing.{with_ended}
 
 -- ---- methods
 

@@ -12,6 +12,7 @@ use ns_base::no_memory::NoMemory;
 use ns_base::text::Text;
 use ns_code::body::BodyCode;
 use ns_code::instructions::Instructions;
+use ns_code::kinds::{CLASS, INSTANCES};
 use ns_code::local_names::LocalNames;
 use ns_gen_draft::here::Here;
 use ns_gen_draft::keys::count;
@@ -78,7 +79,7 @@ fn side_number(side: CodeSide) -> u8
     ensures { result ≡ side_number side }
 {
     match side {
-        CodeSide::Instance => 0,
-        CodeSide::Class => 1,
+        CodeSide::Instance => INSTANCES,
+        CodeSide::Class => CLASS,
     }
 }

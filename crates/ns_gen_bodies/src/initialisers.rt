@@ -1,27 +1,29 @@
 //! What initialisers do: the start of the superclass part, the values of slots, and expressions.
 
 ghost use Rattle.std.specs.Prelude.{◌≡◌, ◌+◌, length, map, option_map, IfOk, OnOk};
-ghost use Rattle.ns_tree.specs.PlainOf.{expr_of, message_of, clause_of, slots_of, init_of, bars_of, statement_of, statement_list_of, statements_of};
-ghost use Rattle.ns_scope.specs.Bodies.{expr_blocks, message_blocks, super_blocks, init_blocks, slots_blocks, bars_blocks, statement_blocks, list_blocks, statements_blocks};
+ghost use Rattle.ns_tree.specs.PlainOf.{message_of, clause_of, bars_of, statement_of, statement_list_of, statements_of};
+ghost use Rattle.ns_scope.specs.Bodies.{message_blocks, super_blocks, bars_blocks, statement_blocks, list_blocks, statements_blocks};
 ghost use Rattle.ns_code.specs.declared.instruction.Instr.TheVariants.{Pop};
 ghost use Rattle.ns_resolved.specs.Program.{as_initialiser};
-ghost use Rattle.ns_resolved.specs.Expressions.{place_at, expr_node, message_said};
-ghost use Rattle.ns_resolved.specs.Statements.{first_values, slots_values, bars_values, step_of, list_steps};
+ghost use Rattle.ns_resolved.specs.Expressions.{place_at, message_said};
+ghost use Rattle.ns_resolved.specs.Statements.{step_of, list_steps};
 ghost use Rattle.ns_resolved.specs.Classes.{super_arguments};
 ghost use Rattle.ns_resolved.specs.Tables.{step_node};
 ghost use Rattle.ns_gen_code.specs.Code.{how_many};
 ghost use Rattle.ns_gen_draft.specs.Standing.{standing};
 ghost use Rattle.ns_gen_exprs.specs.Sending.{with_nodes};
-ghost use Rattle.ns_gen_bodies.specs.Stepping.{with_ended, with_body};
-ghost use Rattle.ns_gen_bodies.specs.Starting.{with_start, with_slots, with_expressions, expressions_of, start_of};
+ghost use Rattle.ns_gen_bodies.specs.Stepping.{with_body};
+ghost use Rattle.ns_gen_bodies.specs.Valuing.{with_ended};
+ghost use Rattle.ns_gen_bodies.specs.Starting.{with_start, with_expressions, expressions_of, start_of};
 
+use crate::values::{Stores, put_bars, put_ended};
 use ns_base::no_memory::NoMemory;
 use ns_code::instruction::Instr;
 use ns_gen_draft::here::Here;
 use ns_gen_draft::keys::keys_count;
 use ns_gen_draft::writer::Writer;
-use ns_gen_exprs::expressions::{put_expr, put_keys, put_un_value};
-use ns_tree::tree::{Expr, Message, Named, Slot, SlotInit, Statement, Statements, SuperClause};
+use ns_gen_exprs::expressions::{put_keys, put_un_value};
+use ns_tree::tree::{Message, Named, Slot, Statement, Statements, SuperClause};
 
 /// All that the initialiser of a class of this name does.
 pub fn put_initialiser(
@@ -40,7 +42,7 @@ pub fn put_initialiser(
         + length (bars_blocks here.now.scope.now (bars_of slots.now)) + length (statements_blocks here.now.scope.now (statements_of body.now))) }
 {
     put_start(writer, here, next, name, clause)?;
-    put_slots(writer, here, next, slots)?;
+    put_bars(writer, here, next, Stores::Slots, 0, slots)?;
     put_expressions(writer, here, next, body)?;
     Ok(())
 }
@@ -107,79 +109,6 @@ fn put_arguments(
             Ok(count)
         }
     }
-}
-
-/// The values that slots get, if there are any.
-fn put_slots(
-    writer: &mut Writer,
-    here: &Here<'_>,
-    next: &mut u32,
-    slots: &Option<Vec<Slot>>,
-) -> Result<(), NoMemory>
-    ensures put { OnOk result (writer.new ≡ with_slots (bars_values (standing here.now) next.old 0 (bars_of slots.now)) writer.old) }
-    ensures next { OnOk result (next.new ≡ next.old + length (bars_blocks here.now.scope.now (bars_of slots.now))) }
-{
-    match slots {
-        None => Ok(()),
-        Some(slots) => {
-            put_values(writer, here, next, slots)?;
-            Ok(())
-        }
-    }
-}
-
-fn put_values(
-    writer: &mut Writer,
-    here: &Here<'_>,
-    next: &mut u32,
-    slots: &[Slot],
-) -> Result<(), NoMemory>
-    ensures put { OnOk result (writer.new ≡ with_slots (slots_values (standing here.now) next.old 0 (slots_of slots.now)) writer.old) }
-    ensures next { OnOk result (next.new ≡ next.old + length (slots_blocks here.now.scope.now (slots_of slots.now))) }
-{
-    let mut index: u16 = 0;
-    for slot in slots {
-        put_init(writer, here, next, index, &slot.init)?;
-        let Some(behind) = index.checked_add(1) else {
-            return Err(NoMemory);
-        };
-        index = behind;
-    }
-    Ok(())
-}
-
-/// The value that a slot gets, if it gets one.
-fn put_init(
-    writer: &mut Writer,
-    here: &Here<'_>,
-    next: &mut u32,
-    index: u16,
-    init: &SlotInit,
-) -> Result<(), NoMemory>
-    ensures put { OnOk result (writer.new ≡ with_slots (first_values (standing here.now) next.old index (init_of init.now)) writer.old) }
-    ensures next { OnOk result (next.new ≡ next.old + length (init_blocks here.now.scope.now (init_of init.now))) }
-{
-    match init {
-        SlotInit::Bare { .. } => Ok(()),
-        SlotInit::Fixed(value) => put_ended(writer, here, next, value, Instr::StoreSlot(index)),
-        SlotInit::Mutable(value) => put_ended(writer, here, next, value, Instr::StoreSlot(index)),
-    }
-}
-
-/// An expression, and an instruction behind it.
-fn put_ended(
-    writer: &mut Writer,
-    here: &Here<'_>,
-    next: &mut u32,
-    value: &Expr,
-    end: Instr,
-) -> Result<(), NoMemory>
-    ensures put { OnOk result (writer.new ≡ with_ended (expr_node (standing here.now) next.old (expr_of value.now)) end writer.old) }
-    ensures next { OnOk result (next.new ≡ next.old + length (expr_blocks here.now.scope.now (expr_of value.now))) }
-{
-    put_expr(writer, here, next, value)?;
-    writer.does(end)?;
-    Ok(())
 }
 
 /// The expressions, and self at the end.

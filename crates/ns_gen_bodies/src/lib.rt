@@ -9,3 +9,4 @@ pub mod head;
 pub mod initialisers;
 pub mod output;
 pub mod steps;
+pub mod values;

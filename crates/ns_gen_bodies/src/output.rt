@@ -18,21 +18,15 @@ use crate::steps::{put_block_body, put_method_body};
 use ns_base::no_memory::NoMemory;
 use ns_base::text::Text;
 use ns_code::body::BodyCode;
+use ns_code::kinds::{BLOCK, CLAUSE, INITIALISER, METHOD};
 use ns_gen_code::size::SizeKind;
 use ns_gen_draft::here::Here;
-use ns_gen_draft::name_table::NameTable;
+use ns_gen_draft::names::Names;
+use ns_gen_draft::never::cannot_come;
 use ns_gen_draft::writer::Writer;
 use ns_tree::tree::{Block, Class, Method, Named, Pattern, SuperClause};
 use std::alloc::Global;
 use std::marker::Model;
-
-const METHOD: u8 = 0;
-
-const BLOCK: u8 = 1;
-
-const INITIALISER: u8 = 2;
-
-const CLAUSE: u8 = 3;
 
 /// The tables of names and literal texts, the bodies that fit, and what of one is too large.
 #[derive(Drop)]
@@ -188,7 +182,7 @@ impl Output {
     }
 
     /// The tables of names and literal texts, and the bodies.
-    pub fn into_parts(self) -> (NameTable, Vec<Text>, Vec<BodyCode>)
+    pub fn into_parts(self) -> (Names, Vec<Text>, Vec<BodyCode>)
         ensures names { result.0 ≡ self.names }
         ensures texts { result.1.items ≡ self.texts }
         ensures bodies { result.2.items ≡ self.bodies }
@@ -204,7 +198,7 @@ fn count(params: &[Named]) -> Result<u32, NoMemory>
 {
     match u32::try_from(params.len()) {
         Ok(count) => Ok(count),
-        Err(_) => Err(NoMemory),
+        Err(_) => Err(cannot_come()),
     }
 }
 
@@ -214,7 +208,7 @@ fn behind(number: u32) -> Result<u32, NoMemory>
 {
     match number.checked_add(1) {
         Some(behind) => Ok(behind),
-        None => Err(NoMemory),
+        None => Err(cannot_come()),
     }
 }
 

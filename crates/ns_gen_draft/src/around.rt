@@ -3,6 +3,7 @@
 ghost use Rattle.std.specs.Prelude.{◌≡◌, ◌+◌, OnOk};
 ghost use Rattle.ns_scope.specs.Scopes.{is_outside};
 
+use crate::never::cannot_come;
 use ns_base::no_memory::NoMemory;
 use ns_base::place::Place;
 use ns_scope::chain::Chain;
@@ -31,7 +32,7 @@ pub fn advance(number: &mut u32) -> Result<(), NoMemory>
     ensures { OnOk result (number.new ≡ number.old + 1) }
 {
     let Some(behind) = number.checked_add(1) else {
-        return Err(NoMemory);
+        return Err(cannot_come());
     };
     *number = behind;
     Ok(())

@@ -1,5 +1,4 @@
-//! How many blocks stand in parts of a tree. A count that 32 bits don't hold, which no program has
-//! whose scopes were found, is taken for want of memory.
+//! How many blocks stand in parts of a tree.
 
 ghost use Rattle.std.specs.Prelude.{◌≡◌, ◌+◌, OnOk};
 ghost use Rattle.ns_tree.specs.PlainOf.{expr_of, cascade_of, message_of, key_expr_of, keys_of, bin_of, opers_of, un_of, primary_of};
@@ -7,6 +6,7 @@ ghost use Rattle.ns_tree.specs.PlainOf.{exprs_of, block_of, slots_of, slot_of, s
 ghost use Rattle.ns_gen_draft.specs.Counting.{expr_count, cascade_count, message_count, key_expr_count, keys_count, bin_count, opers_count, un_count, primary_count};
 ghost use Rattle.ns_gen_draft.specs.Counting.{items_count, block_count, slots_count, slot_count, statements_count, list_count};
 
+use crate::never::cannot_come;
 use ns_base::no_memory::NoMemory;
 use ns_tree::tree::{
     BinExpr, Block, Expr, KeyExpr, Message, Named, Primary, Slot, SlotInit, Statement, Statements,
@@ -19,7 +19,7 @@ pub fn count_block(count: &mut u32, block: &Block) -> Result<(), NoMemory>
     ensures { OnOk result (count.new ≡ count.old + block_count (block_of block.now)) }
 {
     let Some(more) = count.checked_add(1) else {
-        return Err(NoMemory);
+        return Err(cannot_come());
     };
     *count = more;
     count_inside(count, block)

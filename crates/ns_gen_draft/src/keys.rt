@@ -5,30 +5,29 @@ ghost use Rattle.ns_tree.specs.PlainOf.{keys_of};
 ghost use Rattle.ns_resolved.specs.Expressions.{joined};
 ghost use Rattle.ns_gen_draft.specs.Keys.{keys_count};
 
+use crate::never::cannot_come;
 use ns_base::no_memory::NoMemory;
 use ns_base::text::Text;
 use ns_tree::tree::{BinExpr, Named};
 use std::alloc::Global;
 
-/// A number that a byte holds. A larger one, which no program without faults has, is taken for want
-/// of memory.
+/// A number that a byte holds.
 pub fn byte(number: u32) -> Result<u8, NoMemory>
     ensures { IfOk result (λ byte. byte ≡ number) }
 {
     match u8::try_from(number) {
         Ok(byte) => Ok(byte),
-        Err(_) => Err(NoMemory),
+        Err(_) => Err(cannot_come()),
     }
 }
 
-/// A count as a byte. More than 255, which no program without faults has, is taken for want of
-/// memory.
+/// A count that a byte holds.
 pub fn count(len: usize) -> Result<u8, NoMemory>
     ensures { IfOk result (λ count. count ≡ len) }
 {
     match u32::try_from(len) {
         Ok(len) => byte(len),
-        Err(_) => Err(NoMemory),
+        Err(_) => Err(cannot_come()),
     }
 }
 

@@ -8,5 +8,6 @@ pub mod counting;
 pub mod draft;
 pub mod here;
 pub mod keys;
-pub mod name_table;
+pub mod names;
+pub mod never;
 pub mod writer;

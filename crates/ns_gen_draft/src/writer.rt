@@ -1,11 +1,12 @@
 //! The writer of a program's names, its literal texts, and the lines of one body after the other.
 
-ghost use Rattle.std.specs.Prelude.{◌≡◌, ◌++◌, [], OnOk, IfOk, length, map};
+ghost use Rattle.std.specs.Prelude.{◌≡◌, ◌<◌, ◌^◌, ◌++◌, [], OnOk, IfOk, length, map};
 ghost use Rattle.ns_gen_code.specs.Code.{does, symbol, sends, starts, instr_of, places_from};
 ghost use Rattle.ns_gen_draft.specs.Drafts.{with_line, with_name, with_text, without_lines, way_of, line_of, IsBelow, IsNumberOf, instruction, draft_places};
 
 use crate::draft::{Draft, SendWay};
-use crate::name_table::NameTable;
+use crate::names::Names;
+use crate::never::cannot_come;
 use ns_base::key::Key;
 use ns_base::no_memory::NoMemory;
 use ns_base::place::Place;
@@ -20,7 +21,7 @@ use std::marker::Model;
 #[derive(Drop)]
 pub struct Writer {
     alloc: Global,
-    names: NameTable,
+    names: Names,
     texts: Vec<Text>,
     drafts: Vec<Draft>,
 }
@@ -45,7 +46,7 @@ impl Writer {
     {
         Writer {
             alloc,
-            names: NameTable::new(alloc, key),
+            names: Names::new(alloc, key),
             texts: Vec::new(alloc),
             drafts: Vec::new(alloc),
         }
@@ -104,7 +105,7 @@ impl Writer {
         ensures put { OnOk result (self.new ≡ with_text self.old bytes.now) }
     {
         let Ok(number) = u32::try_from(self.texts.len()) else {
-            return Err(NoMemory);
+            return Err(cannot_come());
         };
         let text = Text::of(self.alloc, bytes)?;
         self.texts.push(text)?;
@@ -121,7 +122,7 @@ impl Writer {
     }
 
     /// The tables of names and literal texts.
-    pub fn into_tables(self) -> (NameTable, Vec<Text>)
+    pub fn into_tables(self) -> (Names, Vec<Text>)
         ensures names { result.0 ≡ self.names }
         ensures texts { result.1.items ≡ self.texts }
     {
@@ -150,8 +151,10 @@ impl Writer {
         instructions(self.alloc, &self.drafts)
     }
 
-    /// The places of sends and superclass parts, by the numbers of their instructions.
+    /// The places of sends and superclass parts, by the numbers of their instructions, of which there
+    /// are few.
     pub fn places(&self) -> Result<Vec<(u32, Place)>, NoMemory>
+        requires few { length self.now.lines < 2 ^ 32 }
         ensures { IfOk result (λ places. places.items ≡ places_from 0 self.now.lines) }
     {
         places(self.alloc, &self.drafts)
@@ -197,6 +200,7 @@ fn put_instructions(instrs: &mut Vec<Instr>, drafts: &[Draft]) -> Result<(), NoM
 }
 
 fn places(alloc: Global, drafts: &[Draft]) -> Result<Vec<(u32, Place)>, NoMemory>
+    requires few { length drafts.now < 2 ^ 32 }
     ensures { IfOk result (λ places. places.items ≡ draft_places 0 drafts.now) }
 {
     let mut places = Vec::new(alloc);
@@ -205,6 +209,7 @@ fn places(alloc: Global, drafts: &[Draft]) -> Result<Vec<(u32, Place)>, NoMemory
 }
 
 fn put_places(places: &mut Vec<(u32, Place)>, drafts: &[Draft]) -> Result<(), NoMemory>
+    requires few { length drafts.now < 2 ^ 32 }
     ensures { OnOk result (places.new.items ≡ places.old.items ++ draft_places 0 drafts.now) }
 {
     let mut number: u32 = 0;
@@ -212,10 +217,7 @@ fn put_places(places: &mut Vec<(u32, Place)>, drafts: &[Draft]) -> Result<(), No
         if let Some(place) = draft.place() {
             places.push((number, place))?;
         }
-        let Some(next) = number.checked_add(1) else {
-            return Err(NoMemory);
-        };
-        number = next;
+        number += 1;
     }
     Ok(())
 }

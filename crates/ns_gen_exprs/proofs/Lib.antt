@@ -1,6 +1,6 @@
 pub mod Saying
 pub mod Setting
 pub mod Walking
-pub mod Cascades
+pub mod Cascaded
 pub mod Firsts
 pub mod Alone

@@ -1,21 +1,19 @@
 //! Expressions: receivers, messages to them, and their arguments.
 
-ghost use Rattle.std.specs.Prelude.{◌≡◌, ◌+◌, true, length, IfOk, OnOk};
-ghost use Rattle.ns_tree.specs.PlainOf.{expr_of, key_expr_of, keys_of, bin_of, opers_of, un_of, primary_of, exprs_of, cascade_of, message_of};
-ghost use Rattle.ns_scope.specs.Bodies.{expr_blocks, key_expr_blocks, keys_blocks, bin_blocks, opers_blocks, un_blocks, primary_blocks, items_blocks, cascade_blocks, message_blocks};
+ghost use Rattle.std.specs.Prelude.{◌≡◌, ◌+◌, length, IfOk, OnOk};
+ghost use Rattle.ns_tree.specs.PlainOf.{expr_of, key_expr_of, keys_of, bin_of, opers_of, un_of, primary_of, exprs_of};
+ghost use Rattle.ns_scope.specs.Bodies.{expr_blocks, key_expr_blocks, keys_blocks, bin_blocks, opers_blocks, un_blocks, primary_blocks, items_blocks};
 ghost use Rattle.ns_resolved.specs.Program as m;
 ghost use Rattle.ns_resolved.specs.Expressions.{as_receiver, as_value, name_sent, one, un_node, un_said, bin_said};
-ghost use Rattle.ns_resolved.specs.Expressions.{key_expr_said, keys_nodes, keys_sent, items_nodes, primary_receiver, implicit_send, expr_node, message_said};
+ghost use Rattle.ns_resolved.specs.Expressions.{key_expr_said, keys_nodes, keys_sent, items_nodes, primary_receiver, implicit_send, expr_node};
 ghost use Rattle.ns_gen_draft.specs.Standing.{standing};
-ghost use Rattle.ns_gen_exprs.specs.Cascading.{unset_node, with_rest, with_first, said_kept, is_said};
-ghost use Rattle.ns_gen_exprs.specs.Sending.{with_node, with_nodes, with_receiver, with_message, with_one_message, with_opers, with_keywords, with_value, opers_left, keys_left, kept};
+ghost use Rattle.ns_gen_exprs.specs.Cascading.{unset_node};
+ghost use Rattle.ns_gen_exprs.specs.Sending.{with_node, with_nodes, with_receiver, with_message, with_opers, with_keywords, with_value, opers_left, keys_left, kept};
 
+use crate::cascades::put_cascade;
 use crate::primaries::{put_alone, put_block};
 use crate::reach::reach_of;
-use crate::receiver::{
-    Receiver, begin, begin_object, is_repeated, put_copies, put_copy, put_name, put_names,
-    put_value,
-};
+use crate::receiver::{Receiver, begin, begin_object, put_names, put_value};
 use crate::sets::put_sets;
 use ns_base::no_memory::NoMemory;
 use ns_code::instruction::Instr;
@@ -23,12 +21,12 @@ use ns_gen_draft::here::Here;
 use ns_gen_draft::keys::{count, joined, keys_count};
 use ns_gen_draft::writer::Writer;
 use ns_tree::parts::first_key;
-use ns_tree::tree::{BinExpr, Expr, KeyExpr, Message, Named, Primary, UnExpr};
+use ns_tree::tree::{BinExpr, Expr, KeyExpr, Named, Primary, UnExpr};
 
 /// A primary with its unary messages, as a receiver.
 #[cycle(expressions)]
 #[tactic(auto, using(crate::proofs::Saying::names_are, crate::proofs::Saying::names_left))]
-fn put_un(
+pub fn put_un(
     writer: &mut Writer,
     here: &Here<'_>,
     next: &mut u32,
@@ -60,7 +58,7 @@ pub fn put_un_value(
 
 /// A binary message.
 #[cycle(expressions)]
-fn put_oper(
+pub fn put_oper(
     writer: &mut Writer,
     here: &Here<'_>,
     next: &mut u32,
@@ -81,7 +79,7 @@ fn put_oper(
 
 /// Binary messages in turn. What the next message is sent to is their value, if there is one.
 #[cycle(expressions)]
-fn put_opers(
+pub fn put_opers(
     writer: &mut Writer,
     here: &Here<'_>,
     next: &mut u32,
@@ -102,7 +100,7 @@ fn put_opers(
 
 /// A receiver with its binary messages, as a receiver.
 #[cycle(expressions)]
-fn put_bin(
+pub fn put_bin(
     writer: &mut Writer,
     here: &Here<'_>,
     next: &mut u32,
@@ -153,7 +151,7 @@ pub fn put_keys(
 
 /// A keyword message to what is reached already, where there are keys.
 #[cycle(expressions)]
-fn put_keywords(
+pub fn put_keywords(
     writer: &mut Writer,
     here: &Here<'_>,
     next: &mut u32,
@@ -260,149 +258,6 @@ fn put_key_value(
     }
 }
 
-/// A message of a cascade.
-#[cycle(expressions)]
-fn put_message(
-    writer: &mut Writer,
-    here: &Here<'_>,
-    next: &mut u32,
-    receiver: &Receiver,
-    message: &Message,
-) -> Result<(), NoMemory>
-    ensures put { OnOk result (writer.new ≡ with_one_message here.now.scope.now receiver.now
-        (message_said (standing here.now) next.old (message_of message.now)) writer.old) }
-    ensures next { OnOk result (next.new ≡ next.old + length (message_blocks here.now.scope.now (message_of message.now))) }
-{
-    match message {
-        Message::Unary(name) => put_name(writer, here, receiver, name),
-        Message::Binary(name, argument) => put_oper(writer, here, next, receiver, name, argument),
-        Message::Keys(keys) => put_keywords(writer, here, next, receiver, keys),
-    }
-}
-
-/// The messages behind the first, each behind the dropped value of the one before.
-#[cycle(expressions)]
-fn put_rest(
-    writer: &mut Writer,
-    here: &Here<'_>,
-    next: &mut u32,
-    receiver: &Receiver,
-    messages: &[(u32, Message)],
-) -> Result<(), NoMemory>
-    ensures put { OnOk result (writer.new ≡ with_rest (standing here.now) next.old receiver.now (cascade_of messages.now) writer.old) }
-    ensures next { OnOk result (next.new ≡ next.old + length (cascade_blocks here.now.scope.now (cascade_of messages.now))) }
-{
-    let mut left = messages.len();
-    for message in messages {
-        left -= 1;
-        writer.does(Instr::Pop)?;
-        put_copies(writer, receiver, left)?;
-        put_message(writer, here, next, receiver, &message.1)?;
-    }
-    Ok(())
-}
-
-/// The last of unary messages to a copy of its receiver, which is what is left.
-#[cycle(expressions)]
-fn put_first_name(
-    writer: &mut Writer,
-    here: &Here<'_>,
-    next: &mut u32,
-    un: &UnExpr,
-) -> Result<Receiver, NoMemory>
-    ensures put { OnOk result (writer.new ≡ with_first (standing here.now) (un_said (standing here.now) next.old (un_of un.now)) writer.old) }
-    ensures kept { IfOk result (λ receiver. receiver ≡ said_kept (un_said (standing here.now) next.old (un_of un.now))) }
-    ensures said { OnOk result (is_said (un_said (standing here.now) next.old (un_of un.now)) ≡ true) }
-    ensures next { OnOk result (next.new ≡ next.old + length (un_blocks here.now.scope.now (un_of un.now))) }
-{
-    match un.names.as_slice() {
-        [] => Err(NoMemory),
-        [front @ .., last] => {
-            let first = put_primary(writer, here, next, un.at, &un.primary)?;
-            let receiver = put_names(writer, here, first, front)?;
-            put_copy(writer, &receiver)?;
-            put_name(writer, here, &receiver, last)?;
-            Ok(receiver)
-        }
-    }
-}
-
-/// The last message before keys, to a copy of its receiver, which is what is left.
-#[cycle(expressions)]
-fn put_first_oper(
-    writer: &mut Writer,
-    here: &Here<'_>,
-    next: &mut u32,
-    bin: &BinExpr,
-) -> Result<Receiver, NoMemory>
-    ensures put { OnOk result (writer.new ≡ with_first (standing here.now) (bin_said (standing here.now) next.old (bin_of bin.now)) writer.old) }
-    ensures kept { IfOk result (λ receiver. receiver ≡ said_kept (bin_said (standing here.now) next.old (bin_of bin.now))) }
-    ensures said { OnOk result (is_said (bin_said (standing here.now) next.old (bin_of bin.now)) ≡ true) }
-    ensures next { OnOk result (next.new ≡ next.old + length (bin_blocks here.now.scope.now (bin_of bin.now))) }
-{
-    match bin.more.as_slice() {
-        [] => put_first_name(writer, here, next, &bin.first),
-        [front @ .., last] => {
-            let first = put_un(writer, here, next, &bin.first)?;
-            let receiver = put_opers(writer, here, next, first, front)?;
-            put_copy(writer, &receiver)?;
-            put_oper(writer, here, next, &receiver, &last.0, &last.1)?;
-            Ok(receiver)
-        }
-    }
-}
-
-/// The message before a cascade, to a copy of its receiver, which is what is left.
-#[cycle(expressions)]
-fn put_first(
-    writer: &mut Writer,
-    here: &Here<'_>,
-    next: &mut u32,
-    expr: &KeyExpr,
-) -> Result<Receiver, NoMemory>
-    ensures put { OnOk result (writer.new ≡ with_first (standing here.now) (key_expr_said (standing here.now) next.old (key_expr_of expr.now)) writer.old) }
-    ensures kept { IfOk result (λ receiver. receiver ≡ said_kept (key_expr_said (standing here.now) next.old (key_expr_of expr.now))) }
-    ensures said { OnOk result (is_said (key_expr_said (standing here.now) next.old (key_expr_of expr.now)) ≡ true) }
-    ensures next { OnOk result (next.new ≡ next.old + length (key_expr_blocks here.now.scope.now (key_expr_of expr.now))) }
-{
-    let Some(bin) = &expr.receiver else {
-        return Err(NoMemory);
-    };
-    match expr.keys.as_slice() {
-        [] => put_first_oper(writer, here, next, bin),
-        [_, ..] => {
-            let receiver = put_bin(writer, here, next, bin)?;
-            put_copy(writer, &receiver)?;
-            put_keywords(writer, here, next, &receiver, &expr.keys)?;
-            Ok(receiver)
-        }
-    }
-}
-
-/// An expression with a cascade, before its names are set: messages to the receiver of the last one
-/// before them. One to no message, to `super` or to an enclosing object, which no program without
-/// faults has, is taken for want of memory.
-#[cycle(expressions)]
-fn put_cascade(
-    writer: &mut Writer,
-    here: &Here<'_>,
-    next: &mut u32,
-    expr: &Expr,
-) -> Result<(), NoMemory>
-    ensures put { OnOk result (writer.new ≡ with_node (unset_node (standing here.now) next.old (expr_of expr.now)) writer.old) }
-    ensures next { OnOk result (next.new ≡ next.old + length (expr_blocks here.now.scope.now (expr_of expr.now))) }
-{
-    if expr.more.is_empty() {
-        return Err(NoMemory);
-    }
-    let receiver = put_first(writer, here, next, &expr.first)?;
-    if !is_repeated(&receiver) {
-        return Err(NoMemory);
-    }
-    put_rest(writer, here, next, &receiver, &expr.more)?;
-    Ok(())
-}
-
 /// An expression before its names are set.
 #[cycle(expressions)]
 fn put_unset(
@@ -475,7 +330,7 @@ fn put_tuple(
 
 /// A primary as a receiver.
 #[cycle(expressions)]
-fn put_primary(
+pub fn put_primary(
     writer: &mut Writer,
     here: &Here<'_>,
     next: &mut u32,

@@ -3,6 +3,7 @@
 //! Stands between ns_gen_draft and ns_gen_bodies.
 #![tactic(auto)]
 
+pub mod cascades;
 pub mod expressions;
 pub mod literals;
 pub mod primaries;

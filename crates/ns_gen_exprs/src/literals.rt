@@ -14,11 +14,11 @@ use ns_base::text::Text;
 use ns_code::instruction::Instr;
 use ns_gen_draft::here::Here;
 use ns_gen_draft::keys::byte;
+use ns_gen_draft::never::cannot_come;
 use ns_gen_draft::writer::Writer;
 use ns_scope::resolve::Target;
 
-/// The Integer of a number as it is written. One that 64 bits don't hold, which no program without
-/// faults has, is taken for want of memory.
+/// The Integer of a number as it is written.
 fn integer(minus: bool, size: u64) -> Result<i64, NoMemory>
     ensures { IfOk result (λ number. number ≡ integer_of minus size) }
 {
@@ -35,7 +35,7 @@ fn lowest(minus: bool, size: u64) -> Result<i64, NoMemory>
     if minus && size == 9223372036854775808 {
         Ok(i64::MIN)
     } else {
-        Err(NoMemory)
+        Err(cannot_come())
     }
 }
 

@@ -133,7 +133,7 @@ pub fn put_copy(writer: &mut Writer, receiver: &Receiver) -> Result<(), NoMemory
 }
 
 /// The same, where so many messages are left.
-#[tactic(auto, using(crate::proofs::Cascades::copies_some))]
+#[tactic(auto, using(crate::proofs::Cascaded::copies_some))]
 pub fn put_copies(writer: &mut Writer, receiver: &Receiver, left: usize) -> Result<(), NoMemory>
     ensures { OnOk result (writer.new ≡ with_copies left receiver.now writer.old) }
 {

@@ -1,7 +1,9 @@
 //! The records of classes, in the table of names that is there in the end.
 
-ghost use Rattle.std.specs.Prelude.{◌≡◌, map, IfOk};
+ghost use Rattle.std.specs.Prelude.{◌≡◌, true, All, map, IfOk};
+ghost use Rattle.ns_base.specs.Names.{has};
 ghost use Rattle.ns_resolved.specs.Tables.{access_number, class_code, slot_code, nested_code, method_code, sel_of};
+ghost use Rattle.ns_gen_records.specs.Naming.{HasRecordNames};
 
 use crate::declaration::{Declaration, MethodOf, NestedOf, SlotOf};
 use ns_base::items::Items;
@@ -9,16 +11,18 @@ use ns_base::no_memory::NoMemory;
 use ns_base::selector::Sel;
 use ns_base::text::Text;
 use ns_code::class::{ClassCode, MethodCode, NestedCode, SlotCode};
-use ns_gen_draft::name_table::NameTable;
+use ns_code::kinds::{PRIVATE, PROTECTED, PUBLIC};
+use ns_gen_draft::names::Names;
 use ns_tree::tree::Access;
 use std::alloc::Global;
 
 /// The records of classes.
 pub fn class_codes(
     alloc: Global,
-    names: &NameTable,
+    names: &Names,
     classes: &[Declaration],
 ) -> Result<Vec<ClassCode>, NoMemory>
+    requires { All (HasRecordNames names.now) classes.now }
     ensures { IfOk result (λ codes. codes.items ≡ map (class_code names.now) classes.now) }
 {
     let mut codes = Vec::new(alloc);
@@ -29,7 +33,8 @@ pub fn class_codes(
 }
 
 /// The record of a class.
-fn class_code(alloc: Global, names: &NameTable, class: &Declaration) -> Result<ClassCode, NoMemory>
+fn class_code(alloc: Global, names: &Names, class: &Declaration) -> Result<ClassCode, NoMemory>
+    requires { HasRecordNames names.now class.now }
     ensures { IfOk result (λ code. code ≡ class_code names.now class.now) }
 {
     let slots = slot_codes(alloc, names, class.slots.as_slice())?;
@@ -37,13 +42,13 @@ fn class_code(alloc: Global, names: &NameTable, class: &Declaration) -> Result<C
     let methods = method_codes(alloc, names, class.methods.as_slice())?;
     let side_methods = method_codes(alloc, names, class.side_methods.as_slice())?;
     Ok(ClassCode {
-        name: number(names, &class.name)?,
+        name: number(names, &class.name),
         outer: class.outer,
-        factory: number(names, &class.factory)?,
+        factory: number(names, &class.factory),
         params: class.params,
         clause: class.clause,
         init: class.initialiser,
-        super_sel: number(names, &class.super_selector)?,
+        super_sel: number(names, &class.super_selector),
         slots: Items::from_vec(slots),
         nested: Items::from_vec(nested),
         methods: Items::from_vec(methods),
@@ -52,31 +57,33 @@ fn class_code(alloc: Global, names: &NameTable, class: &Declaration) -> Result<C
 }
 
 /// The number of a name.
-fn number(names: &NameTable, name: &Text) -> Result<Sel, NoMemory>
-    ensures { IfOk result (λ sel. sel ≡ sel_of names.now name.now) }
+fn number(names: &Names, name: &Text) -> Sel
+    requires { has names.now name.now ≡ true }
+    ensures { result ≡ sel_of names.now name.now }
 {
-    let sel = names.number(name.bytes())?;
-    Ok(sel)
+    names.number(name.bytes())
 }
 
-fn slot_codes(alloc: Global, names: &NameTable, slots: &[SlotOf]) -> Result<Vec<SlotCode>, NoMemory>
+fn slot_codes(alloc: Global, names: &Names, slots: &[SlotOf]) -> Result<Vec<SlotCode>, NoMemory>
+    requires { All (λ slot. has names.now slot.name ≡ true) slots.now }
     ensures { IfOk result (λ codes. codes.items ≡ map (slot_code names.now) slots.now) }
 {
     let mut codes = Vec::new(alloc);
     for slot in slots {
-        codes.push(slot_code(names, slot)?)?;
+        codes.push(slot_code(names, slot))?;
     }
     Ok(codes)
 }
 
-fn slot_code(names: &NameTable, slot: &SlotOf) -> Result<SlotCode, NoMemory>
-    ensures { IfOk result (λ code. code ≡ slot_code names.now slot.now) }
+fn slot_code(names: &Names, slot: &SlotOf) -> SlotCode
+    requires { has names.now slot.now.name ≡ true }
+    ensures { result ≡ slot_code names.now slot.now }
 {
-    Ok(SlotCode {
-        name: number(names, &slot.name)?,
+    SlotCode {
+        name: number(names, &slot.name),
         access: access_number(slot.access),
         mutable: slot.mutable,
-    })
+    }
 }
 
 fn nested_codes(alloc: Global, nested: &[NestedOf]) -> Result<Vec<NestedCode>, NoMemory>
@@ -100,34 +107,36 @@ fn nested_code(class: &NestedOf) -> NestedCode
 
 fn method_codes(
     alloc: Global,
-    names: &NameTable,
+    names: &Names,
     methods: &[MethodOf],
 ) -> Result<Vec<MethodCode>, NoMemory>
+    requires { All (λ method. has names.now method.selector ≡ true) methods.now }
     ensures { IfOk result (λ codes. codes.items ≡ map (method_code names.now) methods.now) }
 {
     let mut codes = Vec::new(alloc);
     for method in methods {
-        codes.push(method_code(names, method)?)?;
+        codes.push(method_code(names, method))?;
     }
     Ok(codes)
 }
 
-fn method_code(names: &NameTable, method: &MethodOf) -> Result<MethodCode, NoMemory>
-    ensures { IfOk result (λ code. code ≡ method_code names.now method.now) }
+fn method_code(names: &Names, method: &MethodOf) -> MethodCode
+    requires { has names.now method.now.selector ≡ true }
+    ensures { result ≡ method_code names.now method.now }
 {
-    Ok(MethodCode {
-        sel: number(names, &method.selector)?,
+    MethodCode {
+        sel: number(names, &method.selector),
         access: access_number(method.access),
         body: method.body,
-    })
+    }
 }
 
 fn access_number(access: Access) -> u8
     ensures { result ≡ access_number access }
 {
     match access {
-        Access::Public => 0,
-        Access::Protected => 1,
-        Access::Private => 2,
+        Access::Public => PUBLIC,
+        Access::Protected => PROTECTED,
+        Access::Private => PRIVATE,
     }
 }

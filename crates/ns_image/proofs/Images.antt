@@ -14,7 +14,7 @@ use Rattle.ns_image.specs.Bytes.{bytes_of, old_bytes_of, bare, mark}
 use Rattle.ns_image.specs.Bytes as b
 use Rattle.ns_image.specs.Read.{Outcome, got, truncated, bad, half}
 use Rattle.ns_image.specs.Reading.{read_image, versioned, answer, ended, program, old_program}
-use Rattle.ns_image.specs.Reads.{Answers}
+use Rattle.ns_image.specs.Reads.{ReadingAnswers}
 use Rattle.ns_image.proofs.Format.{IsBytes, IsBytes-drop}
 use Rattle.ns_image.proofs.Fields.{half_format}
 use Rattle.ns_image.proofs.Programs.{program_format, old_program_format, old_fits, old_parts}
@@ -109,7 +109,7 @@ pub read_was_written : (bytes : List ℕ) (code : CodeProgram) → All IsByte by
 read_was_written bytes code all e = read_bytes bytes code (all_bytes bytes all) e
 
 -- What is answered is code that fits.
-pub answer_fits : (bytes : List ℕ) (result : Result CodeProgram ImageFault) → IsBytes bytes → Answers (read_image bytes) result → IfOk result Fits
+pub answer_fits : (bytes : List ℕ) (result : Result CodeProgram ImageFault) → IsBytes bytes → ReadingAnswers (read_image bytes) result → IfOk result Fits
 answer_fits bytes (Ok code) fits e = (read_bytes bytes code fits e).0
 answer_fits bytes (Err fault) fits e = tt
 

@@ -1,6 +1,6 @@
 -- The format of places.
-use Rattle.std.proofs.Common.{◌≡◌, ℕ, suc, ◌+◌, ◌<◌, ◌≤◌, true, false, List, [], ◌∷◌, length, get_or, All, Option, Some, None, refl, sym, ap, subst, ◌∙◌, arith}
-use Rattle.std.specs.Prelude.{slice_get, nat_lt, nat_le, ◌&&◌}
+use Rattle.std.proofs.Common.{◌≡◌, ℕ, suc, ◌+◌, ◌<◌, ◌≤◌, true, false, List, [], ◌∷◌, length, get_or, All, Option, Some, None, refl, sym, ap, ◌∙◌, arith}
+use Rattle.std.specs.Prelude.{slice_get, nat_lt, nat_le, ◌&&◌, IsTrue}
 use Rattle.std.specs.Option.{option_map_or}
 use Rattle.std.specs.List.{AllPairs, slice_index_or}
 use Rattle.std.proofs.lemmas.Bool.{ltb-true, lt-ltb, leb-true, le-leb}
@@ -10,7 +10,7 @@ use Rattle.std.proofs.lemmas.Option.{slice_get-get_or, slice_get_within}
 use Rattle.ns_base.specs.declared.place.Place.{Place}
 use Rattle.ns_code.specs.declared.instruction.Instr.{Instr}
 use Rattle.ns_code.specs.declared.instruction.Instr.TheVariants as i
-use Rattle.ns_code.specs.Fits.{IsWord, HasPlace}
+use Rattle.ns_code.specs.Fits.{IsWord}
 use Rattle.ns_code.specs.Instructions.{carries_place}
 use Rattle.ns_image.specs.Bytes as b
 use Rattle.ns_image.specs.Reading as r
@@ -20,26 +20,10 @@ use Rattle.ns_image.proofs.Texts.{both, together}
 
 -- ---- instructions that carry a place
 
-carries_HasPlace : (instr : Instr) → carries_place instr ≡ true → HasPlace instr
-carries_HasPlace (i.Send sel argc) e = tt
-carries_HasPlace (i.SendInner sel argc) e = tt
-carries_HasPlace (i.SendPrivate level sel argc) e = tt
-carries_HasPlace (i.SendSuper sel argc) e = tt
-carries_HasPlace (i.InitSuper argc) e = tt
-carries_HasPlace _ e = absurd (cc (e))
-
-HasPlace_carries : (instr : Instr) → HasPlace instr → carries_place instr ≡ true
-HasPlace_carries (i.Send sel argc) h = refl
-HasPlace_carries (i.SendInner sel argc) h = refl
-HasPlace_carries (i.SendPrivate level sel argc) h = refl
-HasPlace_carries (i.SendSuper sel argc) h = refl
-HasPlace_carries (i.InitSuper argc) h = refl
-HasPlace_carries _ h = absurd h
-
 -- the instruction of that number is there, and carries a place
 record IsCarrier (instrs : List Instr) (number : ℕ) : Type 0 where
   instr : number < length instrs
-  carries : (d : Instr) → HasPlace (slice_index_or instrs number d)
+  carries : (d : Instr) → IsTrue (carries_place (slice_index_or instrs number d))
 
 carrier_told : (instrs : List Instr) (number : ℕ) → r.is_carrier instrs number ≡ true → IsCarrier instrs number
 carrier_told instrs number e = found (slice_get instrs number) refl e
@@ -53,19 +37,19 @@ carrier_told instrs number e = found (slice_get instrs number) refl e
           carries = λ d.
               let there : Some instr ≡ Some (get_or instrs number d) = sym is ∙ slice_get-get_or instrs number d within in
               let same : instr ≡ get_or instrs number d = cc (there) in
-              subst HasPlace same (carries_HasPlace instr h);
+              ap carries_place (sym same) ∙ h;
         }
 
-told_carrier : (instrs : List Instr) (number : ℕ) → number < length instrs → ((d : Instr) → HasPlace (slice_index_or instrs number d)) → r.is_carrier instrs number ≡ true
+told_carrier : (instrs : List Instr) (number : ℕ) → number < length instrs → ((d : Instr) → IsTrue (carries_place (slice_index_or instrs number d))) → r.is_carrier instrs number ≡ true
 told_carrier instrs number within carries =
-    ap (λ (o : Option Instr). option_map_or carries_place o false) (slice_get-get_or instrs number i.PushNil within) ∙ HasPlace_carries (get_or instrs number i.PushNil) (carries i.PushNil)
+    ap (λ (o : Option Instr). option_map_or carries_place o false) (slice_get-get_or instrs number i.PushNil within) ∙ carries i.PushNil
 
 -- ---- single places
 
 -- A place stands in a file that is there, at an instruction that carries one.
 pub record PlaceIn (files : ℕ) (instrs : List Instr) (place : ℕ × Place) : Type 0 where
   pub instr : place.0 < length instrs
-  pub carries : (d : Instr) → HasPlace (slice_index_or instrs place.0 d)
+  pub carries : (d : Instr) → IsTrue (carries_place (slice_index_or instrs place.0 d))
   pub file : place.1.file < files
   pub line : (1 ≤ place.1.line) × IsWord place.1.line
   pub col : (1 ≤ place.1.col) × IsWord place.1.col

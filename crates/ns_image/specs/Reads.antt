@@ -22,11 +22,11 @@ abbrev pub Reads : {A : Type 0} → Outcome A → Result A Fault → List ℕ �
 Reads outcome result rest = ReadsAs (λ a. a) outcome result rest
 
 -- What reading answers: the code, or that fault. Want of memory says nothing of it.
-abbrev pub Answers : Result CodeProgram ImageFault → Result CodeProgram ImageFault → Type 0
-Answers read (Ok code) = read ≡ Ok code
-Answers read (Err f.Memory) = Unit {0}
-Answers read (Err f.NotAnImage) = read ≡ Err f.NotAnImage
-Answers read (Err f.BadVersion) = read ≡ Err f.BadVersion
-Answers read (Err f.Truncated) = read ≡ Err f.Truncated
-Answers read (Err (f.BadField at)) = read ≡ Err (f.BadField at)
-Answers read (Err f.Trailing) = read ≡ Err f.Trailing
+abbrev pub ReadingAnswers : Result CodeProgram ImageFault → Result CodeProgram ImageFault → Type 0
+ReadingAnswers read (Ok code) = read ≡ Ok code
+ReadingAnswers read (Err f.Memory) = Unit {0}
+ReadingAnswers read (Err f.NotAnImage) = read ≡ Err f.NotAnImage
+ReadingAnswers read (Err f.BadVersion) = read ≡ Err f.BadVersion
+ReadingAnswers read (Err f.Truncated) = read ≡ Err f.Truncated
+ReadingAnswers read (Err (f.BadField at)) = read ≡ Err (f.BadField at)
+ReadingAnswers read (Err f.Trailing) = read ≡ Err f.Trailing

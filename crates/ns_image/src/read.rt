@@ -4,7 +4,7 @@ ghost use Rattle.std.specs.Prelude.{IfOk};
 ghost use Rattle.ns_code.specs.Fits.{Fits};
 ghost use Rattle.ns_image.specs.Read.{half};
 ghost use Rattle.ns_image.specs.Reading as spec;
-ghost use Rattle.ns_image.specs.Reads.{Answers, Reads, ReadsAs};
+ghost use Rattle.ns_image.specs.Reads.{ReadingAnswers, Reads, ReadsAs};
 
 use crate::fault::{Fault, ImageFault};
 use crate::read::body::{Body, OldBody};
@@ -37,7 +37,7 @@ const MOST_BODIES: u32 = 65_536;
 /// code of version 1 no file is named, no instruction has a place, and locals have numbers for
 /// names.
 pub fn read(alloc: Global, bytes: &[u8]) -> Result<CodeProgram, ImageFault>
-    ensures exact { Answers (spec.read_image bytes.now) result }
+    ensures exact { ReadingAnswers (spec.read_image bytes.now) result }
     ensures fits { IfOk result Fits }
 {
     read_image(alloc, bytes)
@@ -45,7 +45,7 @@ pub fn read(alloc: Global, bytes: &[u8]) -> Result<CodeProgram, ImageFault>
 
 #[tactic(auto, unfolding(crate::specs::Reading::read_image))]
 fn read_image(alloc: Global, bytes: &[u8]) -> Result<CodeProgram, ImageFault>
-    ensures { Answers (spec.read_image bytes.now) result }
+    ensures { ReadingAnswers (spec.read_image bytes.now) result }
 {
     if !bytes.starts_with(b"NSPK") {
         return Err(ImageFault::NotAnImage);
@@ -55,7 +55,7 @@ fn read_image(alloc: Global, bytes: &[u8]) -> Result<CodeProgram, ImageFault>
 
 /// What follows the mark in an image of so many bytes.
 fn read_version(alloc: Global, size: usize, rest: &[u8]) -> Result<CodeProgram, ImageFault>
-    ensures { Answers (spec.versioned size (half rest.now)) result }
+    ensures { ReadingAnswers (spec.versioned size (half rest.now)) result }
 {
     let mut input = Input { rest };
     match input.half() {
@@ -68,7 +68,7 @@ fn read_version(alloc: Global, size: usize, rest: &[u8]) -> Result<CodeProgram, 
 
 /// What follows the version 2 in an image of so many bytes.
 fn read_new(alloc: Global, size: usize, rest: &[u8]) -> Result<CodeProgram, ImageFault>
-    ensures { Answers (spec.answer size (spec.program rest.now)) result }
+    ensures { ReadingAnswers (spec.answer size (spec.program rest.now)) result }
 {
     let mut input = Input { rest };
     match program(alloc, &mut input) {
@@ -79,7 +79,7 @@ fn read_new(alloc: Global, size: usize, rest: &[u8]) -> Result<CodeProgram, Imag
 
 /// What follows the version 1 in an image of so many bytes.
 fn read_old(alloc: Global, size: usize, rest: &[u8]) -> Result<CodeProgram, ImageFault>
-    ensures { Answers (spec.answer size (spec.old_program rest.now)) result }
+    ensures { ReadingAnswers (spec.answer size (spec.old_program rest.now)) result }
 {
     let mut input = Input { rest };
     match old_program(alloc, &mut input) {
@@ -90,7 +90,7 @@ fn read_old(alloc: Global, size: usize, rest: &[u8]) -> Result<CodeProgram, Imag
 
 /// The code, where no bytes follow.
 fn ended(code: CodeProgram, rest: &[u8]) -> Result<CodeProgram, ImageFault>
-    ensures { Answers (spec.ended code rest.now) result }
+    ensures { ReadingAnswers (spec.ended code rest.now) result }
 {
     match rest {
         [] => Ok(code),

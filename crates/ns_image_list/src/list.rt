@@ -10,6 +10,7 @@ use ns_base::text::Text;
 use ns_code::body::BodyCode;
 use ns_code::class::ClassCode;
 use ns_code::instruction::Instr;
+use ns_code::kinds::{BLOCK, INITIALISER, METHOD};
 use ns_code::local_names::{LocalNames, numbered_texts};
 use ns_code::program::CodeProgram;
 use std::alloc::Global;
@@ -93,9 +94,9 @@ fn kind_shown(kind: u8) -> &'static [u8]
     ensures { result.now ≡ spec.kind_shown kind }
 {
     match kind {
-        0 => b"method".as_slice(),
-        1 => b"block".as_slice(),
-        2 => b"init".as_slice(),
+        METHOD => b"method".as_slice(),
+        BLOCK => b"block".as_slice(),
+        INITIALISER => b"init".as_slice(),
         _ => b"clause".as_slice(),
     }
 }

@@ -3,9 +3,9 @@
 ghost use Rattle.std.specs.Prelude.{◌≡◌, ◌++◌, ◌∷◌, [], OnOk};
 ghost use Rattle.std.specs.Fmt.{signed_decimal};
 ghost use Rattle.ns_image_list.specs.Listing as spec;
-ghost use Rattle.ns_base.specs.Quoted.{doubled, quoted};
 
 use ns_base::no_memory::NoMemory;
+use ns_base::quoted::put_quoted;
 use ns_base::selector::Sel;
 use ns_code::program::CodeProgram;
 
@@ -71,25 +71,4 @@ pub fn put_text(out: &mut Vec<u8>, code: &CodeProgram, number: u32) -> Result<()
         None => put(out, b"?"),
         Some(text) => put_quoted(out, text.bytes()),
     }
-}
-
-fn put_quoted(out: &mut Vec<u8>, text: &[u8]) -> Result<(), NoMemory>
-    ensures { OnOk result (out.new.items ≡ out.old.items ++ quoted text.now) }
-{
-    put(out, b"'")?;
-    put_doubled(out, text)?;
-    put(out, b"'")
-}
-
-/// Bytes, with each quote doubled.
-fn put_doubled(out: &mut Vec<u8>, text: &[u8]) -> Result<(), NoMemory>
-    ensures { OnOk result (out.new.items ≡ out.old.items ++ doubled text.now) }
-{
-    'bytes: for byte in text {
-        if *byte == b'\'' {
-            out.push(b'\'')?;
-        }
-        out.push(*byte)?;
-    }
-    Ok(())
 }

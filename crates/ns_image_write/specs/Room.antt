@@ -4,7 +4,7 @@ use Rattle.std.specs.Option.{ForSome}
 use Rattle.ns_code.specs.declared.body.BodyCode.{BodyCode}
 use Rattle.ns_code.specs.Fits.{IsWord, IsShort}
 
-pub record HasRoom (body : BodyCode) : Type 0 where
+pub record ImageHasRoom (body : BodyCode) : Type 0 where
   pub parent : ForSome body.parent (λ k. k < 2 ^ 32 - 1)
   pub instr_count : IsWord (length body.instrs)
   pub local_names : All IsShort body.local_names

@@ -18,8 +18,8 @@ use Rattle.ns_resolved.specs.Uses.{Use, a_message, how_many, NodeHas, NodesHave}
 use Rattle.ns_resolved.specs.Expressions.{Standing, message_said, to_super, to_outer, name_sent}
 use Rattle.ns_resolved.specs.Classes.{Around, standing, base_by, head_node, clause_body, clause_bodies, super_bodies, super_arguments}
 use Rattle.ns_resolved.specs.Classes.{super_selector, message_selector}
-use Rattle.ns_link.specs.Reached.{IsReached}
-use Rattle.ns_link.specs.Reaching.{Reaches}
+use Rattle.ns_link.specs.Reached.{IsThereButBlocks}
+use Rattle.ns_link.specs.Reaching.{NamesHave}
 use Rattle.ns_link.proofs.Around.{ClassesTell, Stands}
 use Rattle.ns_link.proofs.ClassBalance as class_balance
 use Rattle.ns_link.proofs.Expressions.{message_has}
@@ -50,7 +50,7 @@ module _ (meant : m.Meant) where
   said_selector (p.binary name argument) here next = refl
   said_selector (p.keywords keys) here next = refl
 
-  module _ (Has : Use → Type 0) (here : Standing) (reached : Reaches Has here.scope)
+  module _ (Has : Use → Type 0) (here : Standing) (reached : NamesHave Has here.scope)
       (good : (selector : List ℕ) (count : ℕ) → Has (a_message selector count) → (count ≡ text_arity selector) × (count < 2 ^ 8)) where
     -- the superclass message has as many arguments as its selector takes, and they are few
     pub super_arguments_have : (clause : Option p.SuperClause) (next : ℕ) → f.super_faults here.scope clause ≡ [] → AllHaveText (t.flat_super clause) →
@@ -114,7 +114,7 @@ module _ (meant : m.Meant) where
           few_classes = omega (few, arith);
           shallow = s.shallow;
         } in (
-          head_has (IsReached meant next first) here (reaches meant depth here first stands) (λ selector count h. h) head over
+          head_has (IsThereButBlocks meant next first) here (reaches meant depth here first stands) (λ selector count h. h) head over
               (empty_right (top_found around.classes clause) (f.base_faults around.classes head ++ f.over_faults around.classes over) e)
               (texts_left (t.flat_base head) behind texts) (texts_left (t.flat_over over) (t.flat_super_message message) (texts_right (t.flat_base head) behind texts)),
           tt,

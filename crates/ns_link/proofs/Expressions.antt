@@ -15,7 +15,7 @@ use Rattle.ns_resolved.specs.Uses.{Use, how_many, NodeHas, NodesHave}
 use Rattle.ns_resolved.specs.Expressions.{Standing, Said, nothing, said, message_with, as_receiver, names_said, name_sent, keys_sent, sent_at, integer_of}
 use Rattle.ns_resolved.specs.Expressions.{expr_node, cascade_messages, message_said, key_expr_said, keys_nodes, bin_said, opers_said, un_node, un_said}
 use Rattle.ns_resolved.specs.Expressions.{primary_receiver, items_nodes, one}
-use Rattle.ns_link.specs.Reaching.{Reaches}
+use Rattle.ns_link.specs.Reaching.{NamesHave}
 use Rattle.ns_link.proofs.Faults.{empty_left, empty_right}
 use Rattle.ns_link.proofs.Differ.{not_past}
 use Rattle.ns_link.proofs.Patterns.{texts_left, texts_right}
@@ -39,7 +39,7 @@ more_items (p.more_exprs expr rest) texts = texts.1
 
 -- ---- expressions
 
-module _ (Has : Use → Type 0) (here : Standing) (reaches : Reaches Has here.scope) where
+module _ (Has : Use → Type 0) (here : Standing) (reaches : NamesHave Has here.scope) where
   keys_good : (keys : p.Keys) (next : ℕ) → f.keywords_found keys ≡ [] → AllHaveText (flat_keys keys) → NodesHave Has (keys_nodes here next keys) →
       IsGood Has here reaches (keys_sent here keys) (keys_nodes here next keys)
   keys_good p.no_keys next few texts have = (tt, reaches.message [] 0 refl (omega arith))

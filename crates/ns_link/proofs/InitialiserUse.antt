@@ -17,7 +17,7 @@ use Rattle.ns_resolved.specs.Classes.{Around, standing, super_selector, side_met
 use Rattle.ns_resolved.specs.Classes.{bars_slots}
 use Rattle.ns_resolved.specs.laws.Numbering.{bars_counted}
 use Rattle.ns_resolved.specs.laws.Counting.{super_counted, side_counted}
-use Rattle.ns_link.specs.Reached.{IsReached}
+use Rattle.ns_link.specs.Reached.{IsThereButBlocks}
 use Rattle.ns_link.proofs.Around.{Stands}
 use Rattle.ns_link.proofs.Balance as balance
 use Rattle.ns_link.proofs.ClassBalance as class_balance
@@ -89,7 +89,7 @@ module _ (meant : m.Meant) where
         few_classes = classes;
         shallow = shallow;
       } in
-      let Has = IsReached meant next first in
+      let Has = IsThereButBlocks meant next first in
       let reached = reaches meant depth here first stands in
       let start = super_arguments_have meant Has here reached (λ selector count h. h) clause (next + 1) (empty_left (f.super_faults here.scope clause) steps none)
       (lawful_texts (t.flat_super clause) depth (lawful_left (t.flat_super clause) (k.Open ∷ block) depth lawful)) in

@@ -13,7 +13,7 @@ use Rattle.ns_tree.specs.Plain as p
 use Rattle.ns_tree.specs.Rule.{Rule, GoodFrom}
 use Rattle.ns_tree.specs.Tree.{AllHaveText}
 use Rattle.ns_code.specs.Selector.{text_arity}
-use Rattle.ns_link.specs.Spelled.{Takes}
+use Rattle.ns_link.specs.Spelled.{PatternTakes}
 use Rattle.ns_link.proofs.Texts.{AreKeys, identifier_arity, operator_arity, keys_arity}
 
 -- ---- lists of tokens
@@ -84,7 +84,7 @@ params_take (part ∷ parts) param params h texts = by (starts_name part.text) r
       ap suc rest.1 ∙ sym (keys_arity part parts (texts.0, rest.0))
   by false e h texts = operator parts params e h texts.0
 
-pub pattern_takes : (pattern : p.Pattern) → IsThere (pattern_form pattern) → AllHaveText (flat_pattern pattern) → Takes pattern
+pub pattern_takes : (pattern : p.Pattern) → IsThere (pattern_form pattern) → AllHaveText (flat_pattern pattern) → PatternTakes pattern
 pattern_takes (p.pattern_with [] []) h texts = absurd h
 pattern_takes (p.pattern_with (part ∷ []) []) h texts = sym (ap text_arity (append-nil part.text) ∙ identifier_arity part.text texts.0.0)
 pattern_takes (p.pattern_with (part ∷ other ∷ parts) []) h texts = absurd h

@@ -1,30 +1,30 @@
 -- The places of a body belong to its sends and superclass parts, in their order.
-use Rattle.std.proofs.Common.{◌≡◌, ◌<◌, ℕ, ◌+◌, List, [], ◌∷◌, ◌++◌, length, sym, ◌∙◌, subst, arith, append_assoc, length-append}
-use Rattle.std.specs.Prelude.{All, map}
+use Rattle.std.proofs.Common.{◌≡◌, ◌<◌, ℕ, ◌+◌, List, [], ◌∷◌, ◌++◌, length, refl, sym, ◌∙◌, subst, arith, append_assoc, length-append}
+use Rattle.std.specs.Prelude.{All, map, IsTrue}
 use Rattle.std.specs.List.{AllPairs, slice_index_or}
 use Rattle.std.proofs.lemmas.List.Elements.{All-nil, All-cons}
 use Rattle.std.proofs.lemmas.List.Kept.{AllPairs-cons}
 use Rattle.ns_base.specs.declared.place.Place.{Place}
 use Rattle.ns_code.specs.declared.instruction.Instr.{Instr}
-use Rattle.ns_code.specs.Fits.{HasPlace}
+use Rattle.ns_code.specs.Instructions.{carries_place}
 use Rattle.ns_resolved.specs.Program as m
 use Rattle.ns_gen_code.specs.Code.{Line, Way, does, symbol, sends, starts, plain, inner, private_at, super, instr_of, places_from}
 
 -- the place belongs to an instruction of these that carries one
 abbrev pub Belongs : List Instr → ℕ × Place → Type 0
-Belongs instrs place = (place.0 < length instrs) × ((d : Instr) → HasPlace (slice_index_or instrs place.0 d))
+Belongs instrs place = (place.0 < length instrs) × ((d : Instr) → IsTrue (carries_place (slice_index_or instrs place.0 d)))
 
-behind_front : (front : List Instr) (instr : Instr) (rest : List Instr) → HasPlace instr →
-    (length front < length (front ++ instr ∷ rest)) × ((d : Instr) → HasPlace (slice_index_or (front ++ instr ∷ rest) (length front) d))
+behind_front : (front : List Instr) (instr : Instr) (rest : List Instr) → IsTrue (carries_place instr) →
+    (length front < length (front ++ instr ∷ rest)) × ((d : Instr) → IsTrue (carries_place (slice_index_or (front ++ instr ∷ rest) (length front) d)))
 behind_front [] instr rest h = (omega arith, λ d. h)
 behind_front (first ∷ front) instr rest h = let further = behind_front front instr rest h in let below = further.0 in (omega (below, arith), further.1)
 
 module _ (names : List (List ℕ)) where
-  send_carries : (way : Way) (sent : m.Sent) (count : ℕ) → HasPlace (instr_of names (sends way sent count))
-  send_carries plain sent count = tt
-  send_carries inner sent count = tt
-  send_carries (private_at level) sent count = tt
-  send_carries super sent count = tt
+  send_carries : (way : Way) (sent : m.Sent) (count : ℕ) → IsTrue (carries_place (instr_of names (sends way sent count)))
+  send_carries plain sent count = refl
+  send_carries inner sent count = refl
+  send_carries (private_at level) sent count = refl
+  send_carries super sent count = refl
 
   further_on : (front : List Instr) (instr : Instr) (lines : List Line) (all : List Instr) → all ≡ front ++ instr ∷ map (instr_of names) lines →
       ((next : List Instr) → all ≡ next ++ map (instr_of names) lines → All (Belongs all) (places_from (length next) lines)) →
@@ -33,7 +33,7 @@ module _ (names : List (List ℕ)) where
       let z : length (front ++ instr ∷ []) ≡ length front + 1 = length-append front (instr ∷ []) in
       subst (λ n. All (Belongs all) (places_from n lines)) z (h (front ++ instr ∷ []) (e ∙ sym (append_assoc front (instr ∷ []) (map (instr_of names) lines))))
 
-  carried : (front : List Instr) (instr : Instr) (lines : List Line) (all : List Instr) → all ≡ front ++ instr ∷ map (instr_of names) lines → HasPlace instr →
+  carried : (front : List Instr) (instr : Instr) (lines : List Line) (all : List Instr) → all ≡ front ++ instr ∷ map (instr_of names) lines → IsTrue (carries_place instr) →
       (place : Place) → Belongs all (length front, place)
   carried front instr lines all e h place =
       subst (λ (instrs : List Instr). Belongs instrs (length front, place)) (sym e) (behind_front front instr (map (instr_of names) lines) h)
@@ -49,7 +49,7 @@ module _ (names : List (List ℕ)) where
       (further_on front instr lines all e (λ next f. places_belong lines next all f))
   places_belong (starts place count ∷ lines) front all e =
       let instr = instr_of names (starts place count) in
-      All-cons (Belongs all) (length front, place) (places_from (length front + 1) lines) (carried front instr lines all e tt place)
+      All-cons (Belongs all) (length front, place) (places_from (length front + 1) lines) (carried front instr lines all e refl place)
       (further_on front instr lines all e (λ next f. places_belong lines next all f))
 
 -- ---- their order

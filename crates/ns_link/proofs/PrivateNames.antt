@@ -16,7 +16,7 @@ use Rattle.ns_resolved.specs.There.{slot_selectors, nested_names}
 use Rattle.ns_resolved.specs.Classes.{Around, within, slots_of, bars_slots, members_nested, side_nested, methods_listed, side_listed, class_side_listed}
 use Rattle.ns_resolved.specs.Classes.{class_declared, side_declared, members_declared, declaration_of, class_count}
 use Rattle.ns_resolved.specs.laws.Counting.{class_listed}
-use Rattle.ns_link.specs.Spelled.{AreMethods, HasMethodsAlone, IsSpelled}
+use Rattle.ns_link.specs.Spelled.{AreMethods, HasMethodsAlone, HasSpelledNames}
 use Rattle.ns_link.proofs.AmongNames.{Among, Either, If, or_else, first_one, left_first, left_more, right_first, right_more}
 use Rattle.ns_link.proofs.Around.{TellsPrivate}
 use Rattle.ns_link.proofs.Members.{any_both}
@@ -179,7 +179,7 @@ module _ (meant : m.Meant) where
       any_both (bytes_eq name) slots (nested ++ methods)
       ∙ or_else (list_any (bytes_eq name) slots) (list_any (bytes_eq name) (nested ++ methods)) (any_both (bytes_eq name) nested methods ∙ h)
 
-  pub class_tells : (class : p.Class) (around : Around) (number next : ℕ) → IsSpelled class →
+  pub class_tells : (class : p.Class) (around : Around) (number next : ℕ) → HasSpelledNames class →
       Sits meant.classes number (class_declared around number next class) → TellsPrivate meant (class_scope class) (declaration_of around number next class)
   class_tells (p.class_with name factory clause bars body members others) around number next spelled sits =
       let class = p.class_with name factory clause bars body members others in

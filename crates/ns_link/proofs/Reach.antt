@@ -20,8 +20,8 @@ use Rattle.ns_resolved.specs.Program as m
 use Rattle.ns_resolved.specs.Uses.{Use, ReachHas}
 use Rattle.ns_resolved.specs.Expressions.{Standing, at_level, reach_of, reach_outer, level_of, private_in, private_here, private_at}
 use Rattle.ns_resolved.specs.There.{HasLevel, HasPrivate, private_members, declaration_out, body_out}
-use Rattle.ns_link.specs.Reached.{IsReached}
-use Rattle.ns_link.specs.Reaching.{LocalHas, Reaches}
+use Rattle.ns_link.specs.Reached.{IsThereButBlocks}
+use Rattle.ns_link.specs.Reaching.{LocalHas, NamesHave}
 use Rattle.ns_link.proofs.Around.{TellsPrivate, Stands, local_from, class_from}
 use Rattle.ns_link.proofs.Differ.{if_none}
 
@@ -108,7 +108,7 @@ not_false false h = absurd (let f : true ≡ false = h in cc)
 
 module _ (meant : m.Meant) (depth : ℕ) (here : Standing) (body : m.Body) (stands : Stands meant depth here body) where
   abbrev Has : Use → Type 0
-  Has = IsReached meant here.body body
+  Has = IsThereButBlocks meant here.body body
 
   level_there : (level : ℕ) → level < length here.scope.classes → HasLevel meant body level × (level < 2 ^ 8)
   level_there level below =
@@ -187,7 +187,7 @@ module _ (meant : m.Meant) (depth : ℕ) (here : Standing) (body : m.Body) (stan
       let below = level_below here.scope.classes class.text (not_false around (if_none (not around) class.at c.NoSuchOuter e)) in
       level_has (level_of here.scope.classes class.text) (private_at here.scope (level_of here.scope.classes class.text) name) name below refl
 
-  pub reaches : Reaches Has here.scope
+  pub reaches : NamesHave Has here.scope
   reaches = record {
     local = λ name. local_has name (innermost here.scope.bodies name) (innermost (levels here.scope.side here.scope.classes) name) refl;
     send = λ name. send_has name (innermost here.scope.bodies name) (innermost (levels here.scope.side here.scope.classes) name) refl;

@@ -19,7 +19,7 @@ use Rattle.ns_resolved.specs.Program as m
 use Rattle.ns_resolved.specs.Uses.{DoesHave, LocalsHave, MethodHas, BlockHas}
 use Rattle.ns_resolved.specs.Expressions.{Standing}
 use Rattle.ns_resolved.specs.Statements.{local_names, bars_values, statements_steps}
-use Rattle.ns_link.specs.Reached.{IsReached}
+use Rattle.ns_link.specs.Reached.{IsThereButBlocks}
 use Rattle.ns_link.proofs.Around.{Stands}
 use Rattle.ns_link.proofs.Differ.{if_none}
 use Rattle.ns_link.proofs.Faults.{empty_left, empty_right}
@@ -30,7 +30,7 @@ use Rattle.ns_link.proofs.Tables.{numbered_length}
 
 -- what a body of this number uses is there
 abbrev pub Uses : m.Meant → ℕ → m.Body → Type 0
-Uses meant number body = DoesHave (IsReached meant number body) body.does
+Uses meant number body = DoesHave (IsThereButBlocks meant number body) body.does
 
 -- ---- how many locals there are
 
@@ -66,32 +66,32 @@ module _ (meant : m.Meant) (depth : ℕ) (here : Standing) (holder : m.Body) (st
   steps = statements_steps here (here.body + 1 + length (b.bars_blocks here.scope bars)) body
 
   locals_use : holder.locals ≡ local_names params bars → length (local_names params bars) < 2 ^ 8 → f.bars_faults here.scope bars ≡ [] →
-      AllHaveText (t.flat_bars bars) → LocalsHave (IsReached meant here.body holder) values
+      AllHaveText (t.flat_bars bars) → LocalsHave (IsThereButBlocks meant here.body holder) values
   locals_use same few none texts =
       let count = locals_counted params bars in
       let there = ap length same in
-      bars_locals (IsReached meant here.body holder) here (reaches meant depth here holder stands) bars (here.body + 1) (length params) (length (local_names params bars))
+      bars_locals (IsThereButBlocks meant here.body holder) here (reaches meant depth here holder stands) bars (here.body + 1) (length params) (length (local_names params bars))
       (omega (count, arith))
       (λ i below. ((here.body, holder, refl, stands.there, omega (below, there, arith)), omega arith, omega (below, few, arith))) none texts
 
   pub method_uses : (closing : List Kind) → holder.locals ≡ local_names params bars → length (local_names params bars) < 2 ^ 8 →
       f.bars_faults here.scope bars ++ f.statements_faults here.scope body ≡ [] → AllHaveText (t.flat_bars bars ++ (t.flat_statements body ++ closing)) →
-      LocalsHave (IsReached meant here.body holder) values × MethodHas (IsReached meant here.body holder) steps
+      LocalsHave (IsThereButBlocks meant here.body holder) values × MethodHas (IsThereButBlocks meant here.body holder) steps
   method_uses closing same few none texts =
       let behind = t.flat_statements body ++ closing in (
         locals_use same few (empty_left (f.bars_faults here.scope bars) (f.statements_faults here.scope body) none) (texts_left (t.flat_bars bars) behind texts),
-        statements_method (IsReached meant here.body holder) here (reaches meant depth here holder stands) body (here.body + 1 + length (b.bars_blocks here.scope bars))
+        statements_method (IsThereButBlocks meant here.body holder) here (reaches meant depth here holder stands) body (here.body + 1 + length (b.bars_blocks here.scope bars))
             (empty_right (f.bars_faults here.scope bars) (f.statements_faults here.scope body) none)
             (texts_left (t.flat_statements body) closing (texts_right (t.flat_bars bars) behind texts)),
       )
 
   pub block_uses : (closing : List Kind) → holder.locals ≡ local_names params bars → length (local_names params bars) < 2 ^ 8 →
       f.bars_faults here.scope bars ++ f.statements_faults here.scope body ≡ [] → AllHaveText (t.flat_bars bars ++ (t.flat_statements body ++ closing)) →
-      LocalsHave (IsReached meant here.body holder) values × BlockHas (IsReached meant here.body holder) steps
+      LocalsHave (IsThereButBlocks meant here.body holder) values × BlockHas (IsThereButBlocks meant here.body holder) steps
   block_uses closing same few none texts =
       let behind = t.flat_statements body ++ closing in (
         locals_use same few (empty_left (f.bars_faults here.scope bars) (f.statements_faults here.scope body) none) (texts_left (t.flat_bars bars) behind texts),
-        statements_block (IsReached meant here.body holder) here (reaches meant depth here holder stands) body (here.body + 1 + length (b.bars_blocks here.scope bars))
+        statements_block (IsThereButBlocks meant here.body holder) here (reaches meant depth here holder stands) body (here.body + 1 + length (b.bars_blocks here.scope bars))
             (λ at h. stands.home (not_false here.scope.in_method (if_none (not here.scope.in_method) at c.BadReturn h)))
             (empty_right (f.bars_faults here.scope bars) (f.statements_faults here.scope body) none)
             (texts_left (t.flat_statements body) closing (texts_right (t.flat_bars bars) behind texts)),

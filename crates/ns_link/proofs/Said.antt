@@ -14,7 +14,7 @@ use Rattle.ns_resolved.specs.There.{IsThere}
 use Rattle.ns_resolved.specs.Uses.{DoesHave}
 use Rattle.ns_gen_code.specs.Code.{body_lines, body_code, code_of}
 use Rattle.ns_gen_code.specs.Stated.{line_names, first_text}
-use Rattle.ns_link.specs.Spoken.{IsIn, NamesFit}
+use Rattle.ns_link.specs.Spoken.{IsInFiles, NamesFit}
 use Rattle.ns_link.proofs.Lines.{body_says, places_fine, names_named, texts_short}
 use Rattle.ns_link.proofs.Program.{all_named, flat_all, got}
 use Rattle.ns_link.proofs.Says.{BodySays, MethodSays, SlotSays, ClassSays}
@@ -26,15 +26,15 @@ use Rattle.ns_link.proofs.Words.{spoken_short}
 pub record Says (meant : m.Meant) : Type 0 where
   pub known : Known meant
   pub ordered : (body : m.Body) (k : ℕ) → flat_map line_names (body_lines k body.does) ≡ body_names body
-  pub bodies : All (BodySays (IsIn (length meant.files))) meant.bodies
+  pub bodies : All (BodySays (IsInFiles (length meant.files))) meant.bodies
   pub classes : All ClassSays meant.classes
 
 module _ (meant : m.Meant) (says : Says meant) where
   known : Known meant
   known = says.known
 
-  body_at : (n : ℕ) (body : m.Body) → slice_get meant.bodies n ≡ Some body → BodySays (IsIn (length meant.files)) body
-  body_at n body here = got (BodySays (IsIn (length meant.files))) meant.bodies n body says.bodies here
+  body_at : (n : ℕ) (body : m.Body) → slice_get meant.bodies n ≡ Some body → BodySays (IsInFiles (length meant.files)) body
+  body_at n body here = got (BodySays (IsInFiles (length meant.files))) meant.bodies n body says.bodies here
 
   -- ---- names of classes
 
@@ -95,8 +95,8 @@ module _ (meant : m.Meant) (says : Says meant) where
       let k = first_text meant.bodies n in
       let lines = body_lines k body.does in
       subst (All IsName) (says.ordered body k)
-      (names_named (IsIn (length meant.files)) meant n body (length (texts_of meant)) (kind_of body.does) false lines
-      (body_says (IsIn (length meant.files)) body.does k (body_at n body here).does)
+      (names_named (IsInFiles (length meant.files)) meant n body (length (texts_of meant)) (kind_of body.does) false lines
+      (body_says (IsInFiles (length meant.files)) body.does k (body_at n body here).does)
       (known.lines n body here (known.right.bodies n body here)))
 
   pub names_are_names : All IsName (code_of meant).names
@@ -107,7 +107,7 @@ module _ (meant : m.Meant) (says : Says meant) where
 
   pub texts_are_short : All IsShort (code_of meant).texts
   texts_are_short =
-      flat_all IsShort body_texts meant.bodies (λ n body here. texts_short (IsIn (length meant.files)) body.does (body_at n body here).does)
+      flat_all IsShort body_texts meant.bodies (λ n body here. texts_short (IsInFiles (length meant.files)) body.does (body_at n body here).does)
 
   one_fits : (n : ℕ) (code : BodyCode) (found : Option m.Body) → slice_get meant.bodies n ≡ found →
       option_map (body_code (names_of meant) (first_text meant.bodies n)) found ≡ Some code → NamesFit (length meant.files) code
@@ -118,7 +118,7 @@ module _ (meant : m.Meant) (says : Says meant) where
       subst (NamesFit (length meant.files)) (same_Some (body_code (names_of meant) k body) code e)
       (record {
         local_names = one.locals;
-        places = places_fine (IsIn (length meant.files)) (body_lines k body.does) 0 (body_says (IsIn (length meant.files)) body.does k one.does);
+        places = places_fine (IsInFiles (length meant.files)) (body_lines k body.does) 0 (body_says (IsInFiles (length meant.files)) body.does k one.does);
       })
 
   pub bodies_fit : All (NamesFit (length meant.files)) (code_of meant).bodies

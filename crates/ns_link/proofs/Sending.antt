@@ -14,11 +14,11 @@ use Rattle.ns_resolved.specs.Uses.{Use, a_message, how_many, ReachHas, NodeHas, 
 use Rattle.ns_resolved.specs.Expressions.{Standing, Receiver, to_value, to_self, to_super, to_outer, Said, nothing, said, Message, message_with, send_node}
 use Rattle.ns_resolved.specs.Expressions.{value_of, as_receiver, as_value, names_said, keys_said, messages_of, turns_of, with_cascade, named, set, sets_of}
 use Rattle.ns_resolved.specs.Expressions.{reach_of, reach_outer, name_sent, keys_sent}
-use Rattle.ns_link.specs.Reaching.{LocalHas, Reaches}
+use Rattle.ns_link.specs.Reaching.{LocalHas, NamesHave}
 use Rattle.ns_link.proofs.Texts.{identifier_arity}
 use Rattle.ns_link.specs.laws.Setters.{setter_arity}
 
-module _ (Has : Use → Type 0) (here : Standing) (reaches : Reaches Has here.scope) where
+module _ (Has : Use → Type 0) (here : Standing) (reaches : NamesHave Has here.scope) where
   abbrev pub ReceiverHas : Receiver → Type 0
   ReceiverHas (to_value value) = NodeHas Has value
   ReceiverHas to_self = Unit {0}

@@ -19,7 +19,7 @@ use Rattle.ns_scope.specs.Whole.{AreWholeUnits}
 use Rattle.ns_tree.specs.Parts.{unit_class}
 use Rattle.ns_link.specs.Each.{EachClass, EachSide, EachMember, EachWhat, EachUnit}
 use Rattle.ns_link.specs.Named.{SpelledIn}
-use Rattle.ns_link.specs.Spelled.{IsSpelled, FactoryTakes, MethodTakes, MembersTake, SideTakes, ClassSideTakes, AreMethods, HasMethodsAlone, SlotsNamed, BarsNamed}
+use Rattle.ns_link.specs.Spelled.{HasSpelledNames, FactoryTakes, MethodTakes, MembersTake, SideTakes, ClassSideTakes, AreMethods, HasMethodsAlone, SlotsNamed, BarsNamed}
 use Rattle.ns_link.proofs.Patterns.{texts_left, texts_right, form_there, factory_there, pattern_takes}
 
 -- ---- slots
@@ -93,7 +93,7 @@ module _ (primary : Rule p.Primary) where
 
   -- ---- classes
 
-  own_spelled : (class : p.Class) (depth n : ℕ) → (g.class primary (g.what primary depth)).Good n class → AllHaveText (flat_class class) → IsSpelled class
+  own_spelled : (class : p.Class) (depth n : ℕ) → (g.class primary (g.what primary depth)).Good n class → AllHaveText (flat_class class) → HasSpelledNames class
   own_spelled (p.class_with name factory clause bars body members others) depth n good texts =
       let class = p.class_with name factory clause bars body members others in
       let sides = flat_side members ++ flat_class_side others in

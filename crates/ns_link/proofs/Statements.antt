@@ -14,7 +14,7 @@ use Rattle.ns_resolved.specs.Uses.{Use, a_local, a_slot, a_return_home, NodeHas,
 use Rattle.ns_resolved.specs.Expressions.{Standing, expr_node}
 use Rattle.ns_resolved.specs.Statements.{first_values, slots_values, bars_values, list_steps, statements_steps}
 use Rattle.ns_resolved.specs.Tables.{step_node}
-use Rattle.ns_link.specs.Reaching.{Reaches}
+use Rattle.ns_link.specs.Reaching.{NamesHave}
 use Rattle.ns_link.proofs.Faults.{empty_left, empty_right}
 use Rattle.ns_link.proofs.Patterns.{texts_left, texts_right}
 use Rattle.ns_link.proofs.Expressions.{expr_has}
@@ -32,7 +32,7 @@ more_list : (list : p.StatementList) → AllHaveText (flat_more_list list) → A
 more_list p.no_statements texts = tt
 more_list (p.more_statements statement rest) texts = texts.1
 
-module _ (Has : Use → Type 0) (here : Standing) (reaches : Reaches Has here.scope) where
+module _ (Has : Use → Type 0) (here : Standing) (reaches : NamesHave Has here.scope) where
   -- ---- slots
 
   first_locals : (init : p.SlotInit) (next index : ℕ) (others : List m.First) → f.init_faults here.scope init ≡ [] → AllHaveText (flat_init init) →

@@ -7,7 +7,7 @@ use Rattle.ns_scope.specs.declared.scope.CodeSide.TheVariants as side
 use Rattle.ns_code.specs.Selector.{text_arity}
 use Rattle.ns_resolved.specs.Program as m
 use Rattle.ns_resolved.specs.Right.{HasInitialiser, HasClause, HaveMethods, AreIdentifiers}
-use Rattle.ns_link.specs.Spelled.{IsSpelled}
+use Rattle.ns_link.specs.Spelled.{HasSpelledNames}
 
 -- Its names are identifiers, its factory takes what its selector says, and its bodies are there.
 pub record NamesWhatIsThere (meant : m.Meant) (number : ℕ) (class : m.Declaration) : Type 0 where
@@ -21,4 +21,4 @@ pub record NamesWhatIsThere (meant : m.Meant) (number : ℕ) (class : m.Declarat
 
 -- Names and patterns of a class are spelled so, wherever it stands.
 abbrev pub SpelledIn : List ClassScope → p.Class → Type 0
-SpelledIn outer class = IsSpelled class
+SpelledIn outer class = HasSpelledNames class

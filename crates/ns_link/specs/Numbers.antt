@@ -1,16 +1,17 @@
 -- When the numbers of a body's code fit their fields.
-use Rattle.std.specs.Prelude.{◌≡◌, ℕ, ◌-◌, ◌<◌, ◌≤◌, ◌^◌, length, All}
+use Rattle.std.specs.Prelude.{◌≡◌, ℕ, ◌-◌, ◌<◌, ◌≤◌, ◌^◌, length, All, IsTrue}
 use Rattle.std.specs.List.{AllPairs, slice_index_or}
 use Rattle.std.specs.Option.{ForSome}
 use Rattle.ns_base.specs.declared.place.Place.{Place}
 use Rattle.ns_code.specs.declared.body.BodyCode.{BodyCode}
 use Rattle.ns_code.specs.declared.instruction.Instr.{Instr}
-use Rattle.ns_code.specs.Fits.{IsByte, IsHalf, IsWord, InstrFits, HasPlace}
+use Rattle.ns_code.specs.Fits.{IsByte, IsHalf, IsWord, InstrFits}
+use Rattle.ns_code.specs.Instructions.{carries_place}
 
 -- One place belongs to an instruction that carries one.
 pub record PlaceStands (body : BodyCode) (place : ℕ × Place) : Type 0 where
   pub instr : place.0 < length body.instrs
-  pub carries : (d : Instr) → HasPlace (slice_index_or body.instrs place.0 d)
+  pub carries : (d : Instr) → IsTrue (carries_place (slice_index_or body.instrs place.0 d))
 
 -- Of a body's head and of its instructions, to which its places belong; nothing is said of the places themselves and of
 -- the names of its locals.

@@ -18,7 +18,7 @@ LocalHas Has (t.Member level private) = Unit {0}
 LocalHas Has t.SelfSend = Unit {0}
 
 -- What names mean in a scope has the property, and so have messages, integers and arrays that are right by themselves.
-pub record Reaches (Has : Use → Type 0) (scope : Scope) : Type 0 where
+pub record NamesHave (Has : Use → Type 0) (scope : Scope) : Type 0 where
   pub local : (name : List ℕ) → LocalHas Has (resolve scope name)
   pub send : (name : List ℕ) → ReachHas Has (reach_of (resolve scope name)) name
   pub own : (name : List ℕ) → ReachHas Has (reach_self scope name) name

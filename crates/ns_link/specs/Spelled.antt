@@ -6,15 +6,15 @@ use Rattle.ns_scope.specs.Names.{selector_of}
 use Rattle.ns_code.specs.Selector.{text_arity}
 
 -- A pattern has as many parameters as its selector takes arguments.
-abbrev pub Takes : p.Pattern → Type 0
-Takes (p.pattern_with parts params) = length params ≡ text_arity (selector_of parts)
+abbrev pub PatternTakes : p.Pattern → Type 0
+PatternTakes (p.pattern_with parts params) = length params ≡ text_arity (selector_of parts)
 
 abbrev pub FactoryTakes : Option p.Pattern → Type 0
 FactoryTakes None = Unit {0}
-FactoryTakes (Some pattern) = Takes pattern
+FactoryTakes (Some pattern) = PatternTakes pattern
 
 abbrev pub MethodTakes : p.Method → Type 0
-MethodTakes (p.method_with pattern bars body) = Takes pattern
+MethodTakes (p.method_with pattern bars body) = PatternTakes pattern
 
 abbrev pub WhatTakes : p.What → Type 0
 WhatTakes (p.class_member class) = Unit {0}
@@ -55,7 +55,7 @@ BarsNamed (p.bars_around slots) = SlotsNamed slots
 
 -- The names of a class and of its slots are identifiers, its patterns take what their selectors say, and its class side
 -- declares methods alone.
-abbrev pub IsSpelled : p.Class → Type 0
-IsSpelled (p.class_with name factory clause bars body members others) =
+abbrev pub HasSpelledNames : p.Class → Type 0
+HasSpelledNames (p.class_with name factory clause bars body members others) =
     (is_identifier name.text ≡ true) × FactoryTakes factory × BarsNamed bars × SideTakes members × ClassSideTakes others
     × HasMethodsAlone others

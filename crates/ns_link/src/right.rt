@@ -16,8 +16,8 @@ ghost use Rattle.ns_resolved.specs.Right.{IsRightClass, IsRight};
 ghost use Rattle.ns_resolved.specs.Uses.{NodeHas};
 ghost use Rattle.ns_link.specs.Differ.{HasFewMembers};
 ghost use Rattle.ns_link.specs.Named.{NamesWhatIsThere};
-ghost use Rattle.ns_link.specs.Reached.{IsReached};
-ghost use Rattle.ns_link.specs.Reaching.{Reaches};
+ghost use Rattle.ns_link.specs.Reached.{IsThereButBlocks};
+ghost use Rattle.ns_link.specs.Reaching.{NamesHave};
 ghost use Rattle.ns_link.specs.Using.{UseWhatIsThere};
 
 /// What the record of a class of a whole program names is there: its names are identifiers, its
@@ -55,8 +55,8 @@ pub fn bodies_have_few_locals()
 /// messages have as many arguments as their selectors take, and these are few.
 pub fn expressions_use_what_is_reached()
     ensures { (program : Meant) (number : ℕ) (body : Body) (here : Standing) (next : ℕ) (expr : Expr) →
-        Reaches (IsReached program number body) here.scope → expr_faults here.scope expr ≡ [] →
-        AllHaveText (flat_expr expr) → NodeHas (IsReached program number body) (expr_node here next expr) }
+        NamesHave (IsThereButBlocks program number body) here.scope → expr_faults here.scope expr ≡ [] →
+        AllHaveText (flat_expr expr) → NodeHas (IsThereButBlocks program number body) (expr_node here next expr) }
 {}
 
 /// What the bodies of a whole program without static faults use is there: each local that an

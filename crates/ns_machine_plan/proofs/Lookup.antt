@@ -11,7 +11,8 @@ use Rattle.ns_code.specs.declared.program.CodeProgram.{CodeProgram}
 use Rattle.ns_code.specs.declared.body.BodyCode.{BodyCode}
 use Rattle.ns_code.specs.declared.instruction.Instr.{Instr}
 use Rattle.ns_code.specs.declared.instruction.Instr.TheVariants as i
-use Rattle.ns_code.specs.Fits.{Fits, BodyFits, PlaceFits, HasPlace}
+use Rattle.ns_code.specs.Fits.{Fits, BodyFits, PlaceFits}
+use Rattle.ns_code.specs.Instructions.{carries_place}
 use Rattle.ns_machine_moves.specs.Steps as moves
 use Rattle.ns_machine_moves.specs.Steps.{place_in, placed, steps_of, steps_from}
 use Rattle.ns_machine_plan.specs.declared.step.Step.{Step}
@@ -146,7 +147,7 @@ place_there code number next body more few is =
     ∙ numbered parts.before (parts.after ++ more) body.places next (subst (λ ps. length ps ≤ no_place) whole few))
 
 -- only what carries a place has one
-no_place_in : (code : CodeProgram) (body : BodyCode) (entries : List (ℕ × Place)) (at : ℕ) (instr : Instr) → All (PlaceFits code body) entries → slice_get body.instrs at ≡ Some instr → (HasPlace instr → ⊥) → place_in entries at ≡ None
+no_place_in : (code : CodeProgram) (body : BodyCode) (entries : List (ℕ × Place)) (at : ℕ) (instr : Instr) → All (PlaceFits code body) entries → slice_get body.instrs at ≡ Some instr → carries_place instr ≡ false → place_in entries at ≡ None
 no_place_in code body [] at instr fit is none = refl
 no_place_in code body (entry ∷ entries) at instr fit is none = tested (nat_eq entry.0 at) refl (no_place_in code body entries at instr tail is none)
   where
@@ -158,38 +159,38 @@ no_place_in code body (entry ∷ entries) at instr fit is none = tested (nat_eq 
         let here : entry.0 ≡ at = eqb-true entry.0 at e in
         let head : PlaceFits code body entry = fit zero entry (omega arith) in
         let same : slice_index_or body.instrs entry.0 instr ≡ instr = ap (λ n. get_or body.instrs n instr) here ∙ get_or_from_slice_get body.instrs at instr instr is in
-        absurd (none (subst HasPlace same (head.carries instr)))
+        absurd (let both : true ≡ false = sym (ap carries_place (sym same) ∙ head.carries instr) ∙ none in cc)
     tested false e later = later
 
 -- ---- the step and its place
 
-shown_is : (code : CodeProgram) (body : BodyCode) (number : ℕ) (instr : Instr) (places : List Place) (place : Option Place) → slice_get places number ≡ place → ((HasPlace instr → ⊥) → place ≡ None) → step_shown places (step_of code body number instr) ≡ (instr, place)
-shown_is code body number i.PushNil places place is none = ap (λ p. (i.PushNil, p)) (sym (none (λ h. h)))
-shown_is code body number i.PushTrue places place is none = ap (λ p. (i.PushTrue, p)) (sym (none (λ h. h)))
-shown_is code body number i.PushFalse places place is none = ap (λ p. (i.PushFalse, p)) (sym (none (λ h. h)))
-shown_is code body number (i.PushInt n) places place is none = ap (λ p. ((i.PushInt n), p)) (sym (none (λ h. h)))
-shown_is code body number (i.PushSym s) places place is none = ap (λ p. ((i.PushSym s), p)) (sym (none (λ h. h)))
-shown_is code body number (i.PushText n) places place is none = ap (λ p. ((i.PushText n), p)) (sym (none (λ h. h)))
-shown_is code body number i.PushSelf places place is none = ap (λ p. (i.PushSelf, p)) (sym (none (λ h. h)))
-shown_is code body number (i.PushOuter n) places place is none = ap (λ p. ((i.PushOuter n), p)) (sym (none (λ h. h)))
-shown_is code body number (i.PushLocal h k) places place is none = ap (λ p. ((i.PushLocal h k), p)) (sym (none (λ h. h)))
-shown_is code body number (i.StoreLocal h k) places place is none = ap (λ p. ((i.StoreLocal h k), p)) (sym (none (λ h. h)))
-shown_is code body number (i.PushBlock n) places place is none = ap (λ p. ((i.PushBlock n), p)) (sym (none (λ h. h)))
-shown_is code body number (i.MakeArray n) places place is none = ap (λ p. ((i.MakeArray n), p)) (sym (none (λ h. h)))
-shown_is code body number i.Pop places place is none = ap (λ p. (i.Pop, p)) (sym (none (λ h. h)))
-shown_is code body number (i.Pick n) places place is none = ap (λ p. ((i.Pick n), p)) (sym (none (λ h. h)))
+shown_is : (code : CodeProgram) (body : BodyCode) (number : ℕ) (instr : Instr) (places : List Place) (place : Option Place) → slice_get places number ≡ place → (carries_place instr ≡ false → place ≡ None) → step_shown places (step_of code body number instr) ≡ (instr, place)
+shown_is code body number i.PushNil places place is none = ap (λ p. (i.PushNil, p)) (sym (none refl))
+shown_is code body number i.PushTrue places place is none = ap (λ p. (i.PushTrue, p)) (sym (none refl))
+shown_is code body number i.PushFalse places place is none = ap (λ p. (i.PushFalse, p)) (sym (none refl))
+shown_is code body number (i.PushInt n) places place is none = ap (λ p. ((i.PushInt n), p)) (sym (none refl))
+shown_is code body number (i.PushSym s) places place is none = ap (λ p. ((i.PushSym s), p)) (sym (none refl))
+shown_is code body number (i.PushText n) places place is none = ap (λ p. ((i.PushText n), p)) (sym (none refl))
+shown_is code body number i.PushSelf places place is none = ap (λ p. (i.PushSelf, p)) (sym (none refl))
+shown_is code body number (i.PushOuter n) places place is none = ap (λ p. ((i.PushOuter n), p)) (sym (none refl))
+shown_is code body number (i.PushLocal h k) places place is none = ap (λ p. ((i.PushLocal h k), p)) (sym (none refl))
+shown_is code body number (i.StoreLocal h k) places place is none = ap (λ p. ((i.StoreLocal h k), p)) (sym (none refl))
+shown_is code body number (i.PushBlock n) places place is none = ap (λ p. ((i.PushBlock n), p)) (sym (none refl))
+shown_is code body number (i.MakeArray n) places place is none = ap (λ p. ((i.MakeArray n), p)) (sym (none refl))
+shown_is code body number i.Pop places place is none = ap (λ p. (i.Pop, p)) (sym (none refl))
+shown_is code body number (i.Pick n) places place is none = ap (λ p. ((i.Pick n), p)) (sym (none refl))
 shown_is code body number (i.Send sel argc) places place is none = ap (λ p. ((i.Send sel argc), p)) is
 shown_is code body number (i.SendInner sel argc) places place is none = ap (λ p. ((i.SendInner sel argc), p)) is
 shown_is code body number (i.SendPrivate level sel argc) places place is none = ap (λ p. ((i.SendPrivate level sel argc), p)) is
 shown_is code body number (i.SendSuper sel argc) places place is none = ap (λ p. ((i.SendSuper sel argc), p)) is
 shown_is code body number (i.InitSuper argc) places place is none = ap (λ p. ((i.InitSuper argc), p)) is
-shown_is code body number (i.StoreSlot n) places place is none = ap (λ p. ((i.StoreSlot n), p)) (sym (none (λ h. h)))
-shown_is code body number i.Return places place is none = ap (λ p. (i.Return, p)) (sym (none (λ h. h)))
-shown_is code body number i.ReturnSelf places place is none = ap (λ p. (i.ReturnSelf, p)) (sym (none (λ h. h)))
-shown_is code body number i.ReturnHome places place is none = ap (λ p. (i.ReturnHome, p)) (sym (none (λ h. h)))
-shown_is code body number (i.Jump n) places place is none = ap (λ p. ((i.Jump n), p)) (sym (none (λ h. h)))
-shown_is code body number (i.JumpFalse n) places place is none = ap (λ p. ((i.JumpFalse n), p)) (sym (none (λ h. h)))
-shown_is code body number (i.JumpTrue n) places place is none = ap (λ p. ((i.JumpTrue n), p)) (sym (none (λ h. h)))
+shown_is code body number (i.StoreSlot n) places place is none = ap (λ p. ((i.StoreSlot n), p)) (sym (none refl))
+shown_is code body number i.Return places place is none = ap (λ p. (i.Return, p)) (sym (none refl))
+shown_is code body number i.ReturnSelf places place is none = ap (λ p. (i.ReturnSelf, p)) (sym (none refl))
+shown_is code body number i.ReturnHome places place is none = ap (λ p. (i.ReturnHome, p)) (sym (none refl))
+shown_is code body number (i.Jump n) places place is none = ap (λ p. ((i.Jump n), p)) (sym (none refl))
+shown_is code body number (i.JumpFalse n) places place is none = ap (λ p. ((i.JumpFalse n), p)) (sym (none refl))
+shown_is code body number (i.JumpTrue n) places place is none = ap (λ p. ((i.JumpTrue n), p)) (sym (none refl))
 
 its_member : (code : CodeProgram) (body : BodyCode) (number : ℕ) (instr : Instr) → HasItsMember code body (step_of code body number instr)
 its_member code body number i.PushNil = tt

@@ -4,9 +4,9 @@ ghost use Rattle.std.specs.Prelude.{◌≡◌, ◌++◌, ◌∷◌, [], OnOk, ma
 ghost use Rattle.ns_tree.specs.declared.token.Kind.TheVariants as k;
 ghost use Rattle.ns_tree.specs.Flat.{ident, set_key, stop_if, flat_access, flat_caret};
 ghost use Rattle.ns_print.specs.Printed.{lines};
-ghost use Rattle.ns_base.specs.Quoted.{doubled};
 
 use ns_base::no_memory::NoMemory;
+use ns_base::quoted::put_doubled;
 use ns_base::text::Text;
 use ns_tree::tree::{Access, Named};
 
@@ -85,19 +85,6 @@ pub fn put_string(out: &mut Vec<u8>, text: &[u8]) -> Result<(), NoMemory>
     out.push(b'\'')?;
     put_doubled(out, text)?;
     put(out, b"'")
-}
-
-/// Bytes, with each quote doubled.
-fn put_doubled(out: &mut Vec<u8>, text: &[u8]) -> Result<(), NoMemory>
-    ensures { OnOk result (out.new.items ≡ out.old.items ++ doubled text.now) }
-{
-    for byte in text {
-        if *byte == b'\'' {
-            out.push(b'\'')?;
-        }
-        out.push(*byte)?;
-    }
-    Ok(())
 }
 
 pub fn put_access(out: &mut Vec<u8>, access: Option<Access>) -> Result<(), NoMemory>

@@ -6,7 +6,7 @@ ghost use Rattle.ns_verify.specs.Chains as spec;
 
 use ns_base::no_memory::NoMemory;
 use ns_code::body::BodyCode;
-use ns_verify_members::kinds::BLOCK;
+use ns_code::kinds::BLOCK;
 use std::alloc::Global;
 
 /// The body in which a block of that number stands: its parent, where that has a smaller number.

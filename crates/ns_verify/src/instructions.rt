@@ -13,9 +13,9 @@ use crate::tables::Tables;
 use ns_base::selector::Sel;
 use ns_code::body::BodyCode;
 use ns_code::instruction::Instr;
+use ns_code::kinds::{BLOCK, CLAUSE, INITIALISER, INSTANCES, METHOD};
 use ns_code::program::CodeProgram;
 use ns_code::table::{ends_wrongly, goes_on, takes, target};
-use ns_verify_members::kinds::{BLOCK, CLAUSE, INITIALISER, INSTANCES, METHOD};
 use ns_verify_members::names::is_name;
 
 /// The greatest height of a body that can run.

@@ -1,11 +1,11 @@
 -- How lists of numbers, tables of names and lists of private members grow.
-use Rattle.std.proofs.Common.{◌≡◌, ◌≢◌, ℕ, suc, ◌+◌, ◌<◌, List, [], ◌∷◌, ◌++◌, sym, ap, ◌∙◌, append_assoc, length, get_or, take, drop, drop-cons, add-one, true, if◌then◌else◌}
+use Rattle.std.proofs.Common.{◌≡◌, ◌≢◌, ℕ, suc, ◌+◌, ◌<◌, List, [], ◌∷◌, ◌++◌, sym, ap, ◌∙◌, append_assoc, length, get_or, take, drop, drop-cons, add-one, true, false, if◌then◌else◌}
 use Rattle.std.specs.List.{AllZip, AllPairs}
 use Rattle.std.proofs.lemmas.List.{take_more}
-use Rattle.ns_base.specs.Names.{put_in}
+use Rattle.ns_base.specs.Names.{has}
 use Rattle.ns_code.specs.declared.class.SlotCode.{SlotCode}
 use Rattle.ns_verify_members.specs.Numbers.{setter_number, named_numbers, slot_numbers, all_slot_numbers}
-use Rattle.ns_verify_members.proofs.Colons.{put_next}
+use Rattle.ns_verify_members.proofs.Colons.{new_behind}
 
 -- one more of each of two lists
 zip_more : {A B : Type 0} (R : A → B → Type 0) (xs : List A) (ys : List B) (x : A) (y : B) → AllZip R xs ys → R x y → AllZip R (xs ++ x ∷ []) (ys ++ y ∷ [])
@@ -19,14 +19,23 @@ pub zip_step : {A B : Type 0} (R : A → B → Type 0) (xs : List A) (ys new : L
 zip_step R xs ys new i x y within is all one is_new =
     rw (is_new, take_more xs i x within, ← is) (zip_more R (take i xs) ys x y all one)
 
--- a table of the names before one, and that name
-pub table_step : (table new names : List (List ℕ)) (text : List ℕ) (i : ℕ) → i < length names → text ≡ get_or names i text →
-    table ++ drop i names ≡ names → AllPairs (λ a b. a ≢ b) names → new ≡ put_in table text → new ++ drop (i + 1) names ≡ names
-table_step table new names text i within is all differ put =
+-- a table of the names before one, that name, and those behind it
+name_next : (table names : List (List ℕ)) (text : List ℕ) (i : ℕ) → i < length names → text ≡ get_or names i text →
+    table ++ drop i names ≡ names → table ++ text ∷ drop (i + 1) names ≡ names
+name_next table names text i within is all =
     let cut : drop i names ≡ text ∷ drop (i + 1) names = rw add-one (drop-cons names i text within ∙ ap (λ x. x ∷ drop (suc i) names) (sym is)) in
-    let whole : table ++ text ∷ drop (i + 1) names ≡ names = ap (table ++◌) (sym cut) ∙ all in
-    let next = put_next table text (drop (i + 1) names) names whole differ in
-    ap (λ x. x ++ drop (i + 1) names) (put ∙ next) ∙ append_assoc table (text ∷ []) (drop (i + 1) names) ∙ whole
+    ap (table ++◌) (sym cut) ∙ all
+
+-- the name isn't in the table of those before it, where all differ
+pub name_new : (table names : List (List ℕ)) (text : List ℕ) (i : ℕ) → i < length names → text ≡ get_or names i text →
+    table ++ drop i names ≡ names → AllPairs (λ a b. a ≢ b) names → has table text ≡ false
+name_new table names text i within is all differ = new_behind table text (drop (i + 1) names) names (name_next table names text i within is all) differ
+
+-- with it the table is that of the names before the next one
+pub table_step : (table new names : List (List ℕ)) (text : List ℕ) (i : ℕ) → i < length names → text ≡ get_or names i text →
+    table ++ drop i names ≡ names → new ≡ table ++ text ∷ [] → new ++ drop (i + 1) names ≡ names
+table_step table new names text i within is all put =
+    ap (λ x. x ++ drop (i + 1) names) put ∙ append_assoc table (text ∷ []) (drop (i + 1) names) ∙ name_next table names text i within is all
 
 -- the numbers of one more slot
 pub slots_step : (names : List (List ℕ)) (slots : List SlotCode) (items new whole : List ℕ) (i : ℕ) (slot : SlotCode) → i < length slots → (other : SlotCode) → slot ≡ get_or slots i other →

@@ -1,5 +1,5 @@
 -- The name that is another with a colon behind it, and names that are put into a table one after another.
-use Rattle.std.proofs.Common.{◌≡◌, ◌≢◌, ℕ, suc, ◌+◌, ◌<◌, List, [], ◌∷◌, ◌++◌, Option, Some, None, Bool, true, false, cond, not, ◌||◌, refl, sym, ap, ◌∙◌, subst, length, map, slice_get, option_map, get_or, arith, if◌then◌else◌}
+use Rattle.std.proofs.Common.{◌≡◌, ◌≢◌, ℕ, suc, ◌+◌, ◌<◌, List, [], ◌∷◌, ◌++◌, Option, Some, None, Bool, true, false, cond, not, ◌||◌, refl, sym, ap, ◌∙◌, subst, length, map, slice_get, option_map, get_or, arith}
 use Rattle.std.specs.Prelude.{unwrap_or, position}
 use Rattle.std.specs.List.{list_any, position_or_len, IsDistinct, AllByRecursion, AllPairs}
 use Rattle.std.specs.Str.{bytes_eq}
@@ -9,7 +9,7 @@ use Rattle.std.proofs.lemmas.Map.Keys.{IsDistinct-head, IsDistinct-tail}
 use Rattle.std.proofs.lemmas.Map.Made.{IsDistinct-from_AllPairs}
 use Rattle.std.proofs.lemmas.Option.{slice_get-map, get_or_from_slice_get}
 use Rattle.std.proofs.lemmas.Slice.Eq.{bytes_eq-Decides}
-use Rattle.ns_base.specs.Names.{has, put_in}
+use Rattle.ns_base.specs.Names.{has}
 use Rattle.ns_verify_members.specs.Numbers.{with_colon, setter_number}
 
 setter_from : (names : List (List ℕ)) (number : ℕ) (o : Option ℕ) (found : Option (List ℕ)) → slice_get names number ≡ found →
@@ -59,10 +59,8 @@ new_in (one ∷ seen) text rest apart =
     rw (nat_list_eq_equiv.symm text one, unlike_one one text seen rest (IsDistinct-head bytes_eq one (seen ++ text ∷ rest) apart))
     (new_in seen text rest (IsDistinct-tail bytes_eq one (seen ++ text ∷ rest) apart))
 
--- a name that is put in behind those before it goes last
-pub put_next : (seen : List (List ℕ)) (text : List ℕ) (rest names : List (List ℕ)) → seen ++ text ∷ rest ≡ names →
-    AllPairs (λ a b. a ≢ b) names → put_in seen text ≡ seen ++ text ∷ []
-put_next seen text rest names is differ =
-    let apart = IsDistinct-from_AllPairs bytes_eq-Decides names differ in
-    let new = new_in seen text rest (subst (IsDistinct bytes_eq) (sym is) apart) in
-    ap (λ b. if b then seen else seen ++ text ∷ []) new
+-- among names that differ one isn't among those before it
+pub new_behind : (seen : List (List ℕ)) (text : List ℕ) (rest names : List (List ℕ)) → seen ++ text ∷ rest ≡ names →
+    AllPairs (λ a b. a ≢ b) names → has seen text ≡ false
+new_behind seen text rest names is differ =
+    let apart = IsDistinct-from_AllPairs bytes_eq-Decides names differ in new_in seen text rest (subst (IsDistinct bytes_eq) (sym is) apart)

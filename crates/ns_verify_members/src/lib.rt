@@ -3,7 +3,6 @@
 //! Stands between code and ns_verify; the plan of the machine uses it too.
 #![tactic(auto)]
 
-pub mod kinds;
 pub mod members;
 pub mod names;
 pub mod numbers;

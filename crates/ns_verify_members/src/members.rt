@@ -9,12 +9,12 @@ ghost use Rattle.ns_code.specs.Soundness as sound;
 ghost use Rattle.ns_verify_members.specs.Members.{has_different_members};
 ghost use Rattle.ns_verify_members.specs.Numbers as spec;
 
-use crate::kinds::PRIVATE;
 use crate::names::{NameTable, is_name};
 use crate::numbers::are_apart;
 use ns_base::no_memory::NoMemory;
 use ns_base::selector::Sel;
 use ns_code::class::{ClassCode, MethodCode, NestedCode, SlotCode};
+use ns_code::kinds::PRIVATE;
 use ns_code::program::CodeProgram;
 use std::alloc::Global;
 

@@ -10,11 +10,11 @@ ghost use Rattle.ns_verify_members.specs.Numbers.{IsNameTable, setter_number, wi
 
 use ns_base::items::Items;
 use ns_base::key::Key;
-use ns_base::names::Names;
 use ns_base::no_memory::NoMemory;
 use ns_base::selector::Sel;
 use ns_base::spelled::is_identifier;
 use ns_base::text::Text;
+use ns_base::text_set::TextSet;
 use ns_code::program::CodeProgram;
 use ns_code::selectors::SelectorTable;
 use std::alloc::Global;
@@ -115,8 +115,7 @@ fn identifiers_of(alloc: Global, names: &[Text]) -> Result<Vec<bool>, NoMemory>
 
 /// For each of some names, which differ, the number of the one that is its text with a colon.
 fn setters_of(alloc: Global, names: &[Text]) -> Result<Vec<Option<u32>>, NoMemory>
-    requires few { length names.now ≤ 65536 }
-    requires differ { AllPairs (λ a b. a ≢ b) names.now }
+    requires { AllPairs (λ a b. a ≢ b) names.now }
     ensures { IfOk result (λ found. found.items ≡ map (with_colon names.now) names.now) }
 {
     let table = table_of(alloc, names)?;
@@ -126,7 +125,7 @@ fn setters_of(alloc: Global, names: &[Text]) -> Result<Vec<Option<u32>>, NoMemor
 }
 
 /// For each of some names the number of the one in a table that is its text with a colon.
-fn setters_in(alloc: Global, table: &Names, names: &[Text]) -> Result<Vec<Option<u32>>, NoMemory>
+fn setters_in(alloc: Global, table: &TextSet, names: &[Text]) -> Result<Vec<Option<u32>>, NoMemory>
     ensures { IfOk result (λ found. found.items ≡ map (with_colon table.now) names.now) }
 {
     let mut found = Vec::with_capacity(alloc, names.len())?;
@@ -137,30 +136,24 @@ fn setters_in(alloc: Global, table: &Names, names: &[Text]) -> Result<Vec<Option
 }
 
 /// The number of the name that is this text with a colon behind it.
-fn with_colon(alloc: Global, table: &Names, text: &[u8]) -> Result<Option<u32>, NoMemory>
+fn with_colon(alloc: Global, table: &TextSet, text: &[u8]) -> Result<Option<u32>, NoMemory>
     ensures { IfOk result (λ number. number ≡ with_colon table.now text.now) }
 {
     let mut bytes = Vec::with_capacity(alloc, text.len() + 1)?;
     bytes.extend_from_slice(text)?;
     bytes.push(b':')?;
-    match table.find(bytes.as_slice()) {
-        Some(sel) => Ok(Some(sel.0)),
-        None => Ok(None),
-    }
+    Ok(table.find(bytes.as_slice()))
 }
 
 /// The table of some names, which differ.
-fn table_of(alloc: Global, names: &[Text]) -> Result<Names, NoMemory>
+fn table_of(alloc: Global, names: &[Text]) -> Result<TextSet, NoMemory>
     requires { AllPairs (λ a b. a ≢ b) names.now }
     ensures { IfOk result (λ table. table ≡ names.now) }
 {
-    let mut table = Names::new(alloc, Key::of_texts(names));
+    let mut table = TextSet::new(alloc, Key::of_texts(names));
     'names: for name in names {
-        match table.intern(name.bytes()) {
-            Ok(_) => {}
-            // There are no more names than a table holds.
-            Err(_) => return Err(NoMemory),
-        }
+        let name = Text::of(alloc, name.bytes())?;
+        table.add(name)?;
     }
     Ok(table)
 }

@@ -7,13 +7,13 @@ ghost use Rattle.ns_code.specs.declared.program.CodeProgram.{CodeProgram};
 ghost use Rattle.ns_verify_members.specs.Members.{has_private};
 ghost use Rattle.ns_verify_members.specs.Numbers as spec;
 
-use crate::kinds::INSTANCES;
 use crate::members::{private_instance_numbers, private_side_numbers};
 use crate::names::NameTable;
 use crate::numbers::Numbers;
 use ns_base::no_memory::NoMemory;
 use ns_base::selector::Sel;
 use ns_code::class::ClassCode;
+use ns_code::kinds::INSTANCES;
 use ns_code::program::CodeProgram;
 use std::alloc::Global;
 

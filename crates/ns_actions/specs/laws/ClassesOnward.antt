@@ -29,7 +29,8 @@ use Rattle.ns_actions.specs.declared.site.Site.{Site}
 use Rattle.ns_actions.specs.Site.{error}
 use Rattle.ns_actions.specs.Control.{Progress, in_world, Activation, Exit, FromMethod, FromBody, FromClause, After, Gives, Enter, Stop, Skip, EnterPart, halts, charged}
 use Rattle.ns_actions.specs.Bodies.{initialiser_of, clause_of, no_home, opened}
-use Rattle.ns_actions.specs.Classes.{class_made, mixed, keeping, newly_kept, kept_or, class_over, head, nested, instance, super_selector, factory_selector, declared_part, object_part, part_of, super_part, slot_filled, body_ended, kept_by}
+use Rattle.ns_actions.specs.Classes.{class_made, mixed, keeping, newly_kept, kept_or, class_over, head, nested, instance, super_selector, factory_selector}
+use Rattle.ns_actions.specs.Classes.{declared_part, object_part, part_of, super_part, slot_filled, body_ended, kept_by}
 use Rattle.ns_actions.specs.Onward.{after_reached, reached, part_reached}
 use Rattle.ns_actions.specs.laws.Growing.{leaving_moves, frame_moves, writing_moves, storing_moves}
 use Rattle.ns_actions.specs.laws.Onward.{Going, may_come, onward_not, onward_on, onward_in, charged_all, opened_all, frame_onward, cells_onward, after_cells_onward, opened_onward}

@@ -54,7 +54,8 @@ use Rattle.ns_actions.specs.declared.row.Row.{Row}
 use Rattle.ns_actions.specs.declared.row.Row.TheVariants as row
 use Rattle.ns_actions.specs.declared.site.Site.{Site}
 use Rattle.ns_actions.specs.Site.{error, fault_ending, make_fault}
-use Rattle.ns_actions.specs.Control.{Progress, in_world, Activation, Exit, FromMethod, FromBody, FromClause, After, Gives, Halts, Control, Enter, Evaluate, Begin, Stop, Skip, EnterPart, Waiting, Waits, Finishes, halts, fails, charged}
+use Rattle.ns_actions.specs.Control.{Progress, in_world, Activation, Exit, FromMethod, FromBody, FromClause, After, Gives, Halts, Control, Enter, Evaluate}
+use Rattle.ns_actions.specs.Control.{Begin, Stop, Skip, EnterPart, Waiting, Waits, Finishes, halts, fails, charged}
 use Rattle.ns_actions.specs.Bodies.{has_environment, first_locals, parameters_of, initialiser_of, clause_of, no_home, opened}
 use Rattle.ns_actions.specs.Classes.{class_made, mixed, newly_kept, kept_or, class_over, keeping, head, nested, instance, super_selector, factory_selector, declared_part, object_part, part_of, body_ended}
 use Rattle.ns_actions.specs.Blocks.{new_cell, block_entered, value_with_arguments, has_arguments, turns_of, method_begun, listed, waiting, turned, item_at, acted}

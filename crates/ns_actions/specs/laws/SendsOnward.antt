@@ -44,7 +44,8 @@ use Rattle.ns_actions.specs.Control.{Progress, in_world, Activation, FromMethod,
 use Rattle.ns_actions.specs.Classes.{instance}
 use Rattle.ns_actions.specs.Rows.{row_at}
 use Rattle.ns_actions.specs.Kernel.{outcome_reached, answer_reached, reflected_reached, facet_reached, message_refused, data_reached, row_reached}
-use Rattle.ns_actions.specs.Sends.{Target, Arguments, Listed, Wrapped, given, first_of, one_more, method_entered, factory_entered, set, nested_in, done_with, not_found, answered_by, receiver_of, found_at, site_at, sent, sent_plain, performed}
+use Rattle.ns_actions.specs.Sends.{Target, Arguments, Listed, Wrapped, given, first_of, one_more, method_entered, factory_entered, set, nested_in, done_with}
+use Rattle.ns_actions.specs.Sends.{not_found, answered_by, receiver_of, found_at, site_at, sent, sent_plain, performed}
 use Rattle.ns_actions.specs.Onward.{reached, touched}
 use Rattle.ns_actions.specs.laws.Growing.{Moving, moving_not, step_moves, step_cells, storing_moves, allows, writes}
 use Rattle.ns_actions.specs.laws.Onward.{Going, may_come, onward_not, onward_in, charge_onward, frame_onward, cells_onward, opened_onward}

@@ -56,7 +56,8 @@ use Rattle.ns_actions.specs.declared.row.Row.{Row}
 use Rattle.ns_actions.specs.declared.row.Row.TheVariants as row
 use Rattle.ns_actions.specs.declared.site.Site.{Site}
 use Rattle.ns_actions.specs.Site.{error}
-use Rattle.ns_actions.specs.Control.{Progress, in_world, Activation, Exit, FromMethod, FromBody, FromClause, After, Gives, Halts, Control, Now, Enter, Evaluate, Begin, Skip, Stop, EnterPart, Waiting, Waits, Finishes, halts, fails, charged}
+use Rattle.ns_actions.specs.Control.{Progress, in_world, Activation, Exit, FromMethod, FromBody, FromClause, After, Gives, Halts, Control, Now, Enter, Evaluate}
+use Rattle.ns_actions.specs.Control.{Begin, Skip, Stop, EnterPart, Waiting, Waits, Finishes, halts, fails, charged}
 use Rattle.ns_actions.specs.Bodies.{parameters_of, initialiser_of, clause_of, no_home, opened, is_beside, environment_at}
 use Rattle.ns_actions.specs.Classes.{class_made, mixed, keeping, newly_kept, kept_or, class_over, head, nested, instance, super_selector, factory_selector, declared_part, object_part, part_of, body_ended}
 use Rattle.ns_actions.specs.Blocks.{new_cell, block_entered, value_with_arguments, has_arguments, turns_of, method_begun, listed, waiting, turned, item_at, acted}
@@ -66,7 +67,8 @@ use Rattle.ns_actions.specs.Sends.{Arguments, Listed, Wrapped, given, first_of, 
 use Rattle.ns_actions.specs.Actions.{Action, Sends, SendsPlain, Performs, Evaluates, Continues, BeginsPart, EndsPart, EndsBody, MakesBlock, MakesText, MakesArray, FillsSlot, StoresLocal}
 use Rattle.ns_actions.specs.Spending.{Charged, ControlSpends, PartSpends, WaitingSpends, CellSpends, EndSpends, turn_steps, action_steps, Spends}
 use Rattle.ns_actions.specs.laws.Onward.{charged_all}
-use Rattle.ns_actions.specs.laws.Counting.{SameCounts, counts_not, counts_on, made_counts, stored_counts, counts_allow, counts_write, nothing_charged, still_charged, step_charged, frame_charged, back_given, still_given, stopped_here, stopped_framed, opened_counts}
+use Rattle.ns_actions.specs.laws.Counting.{SameCounts, counts_not, counts_on, made_counts, stored_counts, counts_allow, counts_write, nothing_charged}
+use Rattle.ns_actions.specs.laws.Counting.{still_charged, step_charged, frame_charged, back_given, still_given, stopped_here, stopped_framed, opened_counts}
 
 -- ---- rows of the kernel
 

@@ -12,14 +12,9 @@ use crate::read::text::LocalName;
 use ns_base::items::Items;
 use ns_code::body::BodyCode;
 use ns_code::instructions::Instructions;
+use ns_code::kinds::{CLASS, CLAUSE};
 use ns_code::local_names::LocalNames;
 use std::alloc::Global;
-
-/// The greatest kind: 0 is a method, 1 a block, 2 an initialiser and 3 a clause.
-const CLAUSE: u8 = 3;
-
-/// The greatest side: 0 is that of instances, 1 that of the class.
-const CLASS_SIDE: u8 = 1;
 
 /// How many instructions a body has at most.
 const MOST_INSTRUCTIONS: u32 = 65_536;
@@ -99,7 +94,7 @@ fn head(alloc: Global, input: &mut Input<'_>) -> Result<BodyCode, Fault>
     ensures { Reads (spec.head input.old.rest.now) result input.new.rest.now }
 {
     let kind = input.byte_up_to(CLAUSE)?;
-    let side = input.byte_up_to(CLASS_SIDE)?;
+    let side = input.byte_up_to(CLASS)?;
     let class = input.word()?;
     let parent = input.reference()?;
     head_from_params(alloc, input, kind, side, class, parent)

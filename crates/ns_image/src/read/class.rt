@@ -9,10 +9,8 @@ use crate::read::input::Input;
 use ns_base::items::Items;
 use ns_base::selector::Sel;
 use ns_code::class::{ClassCode, MethodCode, NestedCode, SlotCode};
+use ns_code::kinds::PRIVATE;
 use std::alloc::Global;
-
-/// The greatest access: 0 is public, 1 protected and 2 private.
-const PRIVATE: u8 = 2;
 
 /// A slot of a class.
 struct Slot;

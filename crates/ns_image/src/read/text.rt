@@ -11,10 +11,10 @@ use crate::read::input::Input;
 use crate::spelling::{is_file_name, is_local_name};
 use ns_base::items::Items;
 use ns_base::key::{FEW, Key, Origin};
-use ns_base::names::MOST_NAMES;
 use ns_base::spelled::is_selector;
 use ns_base::text::Text;
 use ns_base::text_set::TextSet;
+use ns_code::program::MOST_NAMES;
 use std::alloc::Global;
 
 /// A literal text, which may be any bytes.

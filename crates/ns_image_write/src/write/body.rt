@@ -3,7 +3,7 @@
 ghost use Rattle.std.specs.Prelude.{◌≡◌, ◌++◌, length, All, OnOk, flat_map};
 ghost use Rattle.ns_code.specs.Fits.{IsShort, IsWord};
 ghost use Rattle.ns_image.specs.Bytes as spec;
-ghost use Rattle.ns_image_write.specs.Room.{HasRoom};
+ghost use Rattle.ns_image_write.specs.Room.{ImageHasRoom};
 
 use crate::write::output::{
     Part, put_all, put_byte, put_counted, put_flag, put_half, put_reference, put_word,
@@ -31,7 +31,7 @@ impl Part for (u32, Place) {
 impl Part for BodyCode {
     ghost layout = { spec.body };
 
-    ghost fits = { HasRoom };
+    ghost fits = { ImageHasRoom };
 
     fn put(&self, out: &mut Vec<u8>) -> Result<(), NoMemory> {
         put_fields(out, self)?;
@@ -66,7 +66,7 @@ fn put_local_names(out: &mut Vec<u8>, names: &LocalNames) -> Result<(), NoMemory
 }
 
 fn put_fields(out: &mut Vec<u8>, body: &BodyCode) -> Result<(), NoMemory>
-    requires { HasRoom body.now }
+    requires { ImageHasRoom body.now }
     ensures { OnOk result (out.new.items ≡ out.old.items ++ spec.body_fields body.now) }
 {
     put_byte(out, body.kind)?;

@@ -3,7 +3,9 @@ use Rattle.std.proofs.Common.{◌≡◌, ℕ, zero, suc, ◌+◌, ◌≤◌, ◌
 use Rattle.ns_tree.specs.declared.token.Kind.{Kind}
 use Rattle.ns_tree.specs.Rule.{Listed, none, next}
 use Rattle.ns_parse_tokens.specs.Left.{Left}
-use Rattle.ns_parse_tokens.specs.Read.{Outcome, Reader, got, fault, and_then, taken, read_one, begins, read_none, read_never, read_mapped, read_both, read_after, read_until, read_placed, read_or, read_maybe, read_turns, read_many, behind, read_list_turns, read_listed, tail, item, read_label_turns, read_labelled}
+use Rattle.ns_parse_tokens.specs.Read.{Outcome, Reader, got, fault, and_then, taken, read_one, begins, read_none, read_never, read_mapped, read_both}
+use Rattle.ns_parse_tokens.specs.Read.{read_after, read_until, read_placed, read_or, read_maybe, read_turns, read_many, behind, read_list_turns, read_listed}
+use Rattle.ns_parse_tokens.specs.Read.{tail, item, read_label_turns, read_labelled}
 use Rattle.ns_parse_tokens.specs.Reads.{Gives}
 
 -- The outcome has so many tokens fewer, or is a fault.

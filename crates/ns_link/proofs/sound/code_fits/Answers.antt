@@ -8,7 +8,7 @@ use Rattle.ns_resolved.specs.Classes.{meant}
 use Rattle.ns_gen_code.specs.Code.{code_of}
 use Rattle.ns_link.specs.Accepted.{IsAccepted}
 use Rattle.ns_link.specs.Numbers.{PlaceStands, NumbersFit}
-use Rattle.ns_link.specs.Spoken.{IsIn, NamesFit}
+use Rattle.ns_link.specs.Spoken.{IsInFiles, NamesFit}
 use Rattle.ns_link.proofs.sound.code_fits.Goals as goal
 
 -- what two properties of each give
@@ -30,7 +30,7 @@ body_fits code body numbers names =
       name_count = numbers.name_count;
       local_names = names.local_names;
       place_count = numbers.place_count;
-      places = both (PlaceStands body) (λ (place : ℕ × Place). IsIn (length code.files) place.1) (PlaceFits code body) body.places
+      places = both (PlaceStands body) (λ (place : ℕ × Place). IsInFiles (length code.files) place.1) (PlaceFits code body) body.places
           (λ place stands inside. record { instr = stands.instr; carries = stands.carries; file = inside.file; line = inside.line; col = inside.col })
           numbers.places names.places;
       places_in_order = numbers.places_in_order;

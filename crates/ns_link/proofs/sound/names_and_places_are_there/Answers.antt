@@ -7,12 +7,12 @@ use Rattle.ns_scope.specs.declared.program.Program.{Program}
 use Rattle.ns_scope.specs.Whole.{IsPlaceOf}
 use Rattle.ns_resolved.specs.Classes.{meant}
 use Rattle.ns_link.specs.Accepted.{IsAccepted}
-use Rattle.ns_link.specs.Spoken.{IsIn}
+use Rattle.ns_link.specs.Spoken.{IsInFiles}
 use Rattle.ns_link.proofs.Program.{units_say, units_records}
 use Rattle.ns_link.proofs.Said.{Says, names_are_names, texts_are_short, bodies_fit}
 use Rattle.ns_link.proofs.sound.names_and_places_are_there.Goals as goal
 
-place_in : (files number : ℕ) (place : Place) → number < files → IsPlaceOf number place → IsIn files place
+place_in : (files number : ℕ) (place : Place) → number < files → IsPlaceOf number place → IsInFiles files place
 place_in files number place below h =
     let same = h.0 in
     let line = h.1.1 in
@@ -39,9 +39,9 @@ returns c =
         lines = c.lines_use_what_is_there.ensures (meant program);
       };
       ordered = c.names_and_texts_stand_in_order.ensures.body_names;
-      bodies = units_say (IsIn total) total (λ number place below h. place_in total number place below h) units program.marks 0 0 0 (omega (one_each, as_many, arith))
+      bodies = units_say (IsInFiles total) total (λ number place below h. place_in total number place below h) units program.marks 0 0 0 (omega (one_each, as_many, arith))
           accepted.whole.units;
-      classes = units_records (IsIn total) total (λ number place below h. place_in total number place below h) units program.marks 0 0 0 (omega (one_each, as_many, arith))
+      classes = units_records (IsInFiles total) total (λ number place below h. place_in total number place below h) units program.marks 0 0 0 (omega (one_each, as_many, arith))
           accepted.whole.units;
     } in
     record {

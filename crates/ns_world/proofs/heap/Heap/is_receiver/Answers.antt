@@ -1,6 +1,3 @@
-use Rattle.std.proofs.Common.{ap, ◌∙◌, get_or}
-use Rattle.ns_world.specs.declared.word.Word.TheVariants.{Nil}
-use Rattle.ns_world.specs.Receivers.{is_receiver_head}
 use Rattle.ns_world.proofs.Kept.{seen_laid_out}
 use Rattle.ns_world.proofs.Receivers.{receiver_told}
 use Rattle.ns_world.proofs.heap.Heap.is_receiver.Goals as goal

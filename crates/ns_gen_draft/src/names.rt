@@ -1,27 +1,19 @@
-//! The table of names, in which each name has a number.
+//! The table of names while code is written. It has no limit of its own, so that a program with too
+//! many names is told as such whatever else is wrong with its size.
 
-ghost use Rattle.std.specs.Prelude.{◌≡◌, ◌<◌, [], length, false, Some, IfOk, OnOk, OnErr, IsErrOf, slice_get, option_map, position};
+ghost use Rattle.std.specs.Prelude.{◌≡◌, [], length, true, false, position, option_map, IfOk, OnOk, OnErr};
 ghost use Rattle.std.specs.Option.{is_some};
 ghost use Rattle.std.specs.Str.{bytes_eq};
-ghost use Rattle.ns_base.specs.Names.{NoRepeats, has, put_in, place_of, IsFull};
-ghost use Rattle.ns_base.specs.declared.names.NamesFault.TheVariants as f;
+ghost use Rattle.ns_base.specs.Names.{NoRepeats, has, put_in, place_of};
 
-use crate::key::Key;
-use crate::selector::Sel;
-use crate::text::Text;
-use crate::text_set::TextSet;
+use ns_base::items::Items;
+use ns_base::key::Key;
+use ns_base::no_memory::NoMemory;
+use ns_base::selector::Sel;
+use ns_base::text::Text;
+use ns_base::text_set::TextSet;
 use std::alloc::Global;
 use std::marker::Model;
-
-/// How many names a table holds at most.
-pub const MOST_NAMES: usize = 65_536;
-
-/// Why a name got no number.
-#[derive(Clone, Copy, PartialEq, Eq)]
-pub enum NamesFault {
-    Full,
-    Memory,
-}
 
 /// Texts without repeats, in the order of first use. A clause sees the list alone.
 #[derive(Drop)]
@@ -32,13 +24,13 @@ pub struct Names {
 
 impl Model for Names {
     ghost use Rattle.std.specs.Prelude.{List, ℕ};
-    ghost use Rattle.ns_base.specs.Names.{IsTable};
+    ghost use Rattle.ns_base.specs.Names.{NoRepeats};
 
     ghost Value = { List (List ℕ) };
 
-    ghost view = { λ names. names.texts };
+    ghost view = { λ table. table.texts };
 
-    ghost invariant = { λ names. IsTable names.texts };
+    ghost invariant = { λ table. NoRepeats table.texts };
 }
 
 impl Names {
@@ -52,13 +44,11 @@ impl Names {
         }
     }
 
-    /// The number of that text, which gets the next number where it is new. `Full` comes exactly
-    /// where it is new and the table holds 65,536 texts. After a refusal the table is as it was.
-    pub fn intern(&mut self, text: &[u8]) -> Result<Sel, NamesFault>
+    /// The number of that text, which gets the next number where it is new. More than 4,294,967,295
+    /// texts are taken for want of memory. After a refusal the table is as it was.
+    pub fn intern(&mut self, text: &[u8]) -> Result<Sel, NoMemory>
         ensures number { IfOk result (λ sel. sel.0 ≡ place_of self.old text.now) }
         ensures put { OnOk result (self.new ≡ put_in self.old text.now) }
-        ensures room { OnOk result (IsFull self.old text.now → ⊥) }
-        ensures full { IsErrOf result f.Full → IsFull self.old text.now }
         ensures unchanged { OnErr result (self.new ≡ self.old) }
         ensures no_repeats { NoRepeats self.new }
     {
@@ -69,29 +59,24 @@ impl Names {
     }
 
     /// Gives a new text the next number.
-    fn add(&mut self, text: &[u8]) -> Result<Sel, NamesFault>
+    fn add(&mut self, text: &[u8]) -> Result<Sel, NoMemory>
         requires { has self.old text.now ≡ false }
         ensures number { IfOk result (λ sel. sel.0 ≡ place_of self.old text.now) }
         ensures put { OnOk result (self.new ≡ put_in self.old text.now) }
-        ensures room { OnOk result (IsFull self.old text.now → ⊥) }
-        ensures full { IsErrOf result f.Full → IsFull self.old text.now }
         ensures unchanged { OnErr result (self.new ≡ self.old) }
         ensures no_repeats { NoRepeats self.new }
     {
-        if self.texts.as_slice().len() >= MOST_NAMES {
-            return Err(NamesFault::Full);
-        }
         match Text::of(self.alloc, text) {
-            Err(_) => Err(NamesFault::Memory),
+            Err(_) => Err(NoMemory),
             Ok(name) => match self.texts.add(name) {
-                Err(_) => Err(NamesFault::Memory),
+                Err(_) => Err(NoMemory),
                 Ok(number) => Ok(Sel(number)),
             },
         }
     }
 
     /// The number of that text, if the table has it.
-    pub fn find(&self, text: &[u8]) -> Option<Sel>
+    fn find(&self, text: &[u8]) -> Option<Sel>
         ensures number { option_map (λ sel. sel.0) result ≡ position (bytes_eq text.now) self.now }
         ensures found { is_some result ≡ has self.now text.now }
         ensures no_repeats { NoRepeats self.now }
@@ -102,18 +87,41 @@ impl Names {
         }
     }
 
-    /// The text of a number, which is below the count of names.
-    pub fn text(&self, sel: Sel) -> &[u8]
-        requires { sel.0 < length self.now }
-        ensures { slice_get self.now sel.0 ≡ Some result.now }
+    /// The number of a text of the table.
+    #[tactic(auto, using(crate::proofs::Tables::placed))]
+    pub fn number(&self, text: &[u8]) -> Sel
+        requires { has self.now text.now ≡ true }
+        ensures { result.0 ≡ place_of self.now text.now }
     {
-        self.texts.as_slice()[sel.0 as usize].bytes()
+        match self.find(text) {
+            Some(number) => number,
+            None => unreachable!(),
+        }
+    }
+
+    /// Its texts, in memory of their own.
+    pub fn texts(&self) -> Result<Items<Text>, NoMemory>
+        ensures { IfOk result (λ texts. texts ≡ self.now) }
+    {
+        let copies = copies(self.alloc, self.texts.as_slice())?;
+        Ok(Items::from_vec(copies))
     }
 
     /// How many names there are.
-    pub fn count(&self) -> u32
+    pub fn count(&self) -> usize
         ensures { result ≡ length self.now }
     {
-        self.texts.as_slice().len() as u32
+        self.texts.as_slice().len()
     }
+}
+
+/// Texts in memory of their own.
+pub fn copies(alloc: Global, texts: &[Text]) -> Result<Vec<Text>, NoMemory>
+    ensures { IfOk result (λ copies. copies.items ≡ texts.now) }
+{
+    let mut copies = Vec::new(alloc);
+    for text in texts {
+        copies.push(Text::of(alloc, text.bytes())?)?;
+    }
+    Ok(copies)
 }

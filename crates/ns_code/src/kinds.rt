@@ -14,5 +14,9 @@ pub const INSTANCES: u8 = 0;
 /// The side of the class.
 pub const CLASS: u8 = 1;
 
+/// The access of public members.
+pub const PUBLIC: u8 = 0;
+/// The access of protected members.
+pub const PROTECTED: u8 = 1;
 /// The access of private members.
 pub const PRIVATE: u8 = 2;

@@ -1,5 +1,5 @@
 use Rattle.std.proofs.Common.{◌≡◌, ◌++◌, drop}
-use Rattle.ns_gen_draft.proofs.name_table.copies.Given as goal
+use Rattle.ns_gen_draft.proofs.names.copies.Given as goal
 
 abbrev pub invariant-loop-text : goal.invariant-loop-text
 invariant-loop-text l = l.copies.items ++ drop l.text-index l.texts ≡ l.texts

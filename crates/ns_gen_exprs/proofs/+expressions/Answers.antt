@@ -13,90 +13,90 @@ use Rattle.ns_gen_exprs.proofs.Walking.{oper_put, bin_put, bin_kept, keywords_wh
 use Rattle.ns_gen_exprs.proofs.Walking.{keys_step, keys_number, items_step, items_number, expr_put}
 use Rattle.ns_gen_exprs.proofs.Firsts.{IsFirst, parted, un_first, bin_first, keys_first, rest_step, rest_number}
 use Rattle.ns_gen_exprs.proofs.Alone.{un_alone_said, un_alone_counted, bin_alone_said, bin_alone_counted, key_alone_node, key_alone_counted}
-use Rattle.ns_gen_exprs.proofs.Cascades.{cascade_whole, some_more}
-use Rattle.ns_gen_exprs.proofs.expressions.+expressions.Goals as goal
+use Rattle.ns_gen_exprs.proofs.Cascaded.{cascade_whole, some_more}
+use Rattle.ns_gen_exprs.proofs.+expressions.Goals as goal
 
-pub put_bin-returns-clause-put : goal.put_bin-returns-clause-put
-put_bin-returns-clause-put t c =
+pub expressions::put_bin-returns-clause-put : goal.expressions::put_bin-returns-clause-put
+expressions::put_bin-returns-clause-put t c =
     rw (bin_out c.args.bin.now)
     (bin_put (standing c.args.here.now) c.args.next.now c.put_un.new.next (un_of (out-BinExpr c.args.bin.now).first) (opers_of (out-BinExpr c.args.bin.now).more.items)
     c.in_ok-receiver.receiver c.args.writer.now c.put_un.new.writer c.put_opers.new.writer
     c.in_ok-receiver.ensures.kept c.in_ok-receiver.ensures.put c.in_ok-receiver.ensures.next (rw c.deref.ensures.value at c.in_ok-behind.ensures.put))
 
-pub put_bin-returns-clause-kept : goal.put_bin-returns-clause-kept
-put_bin-returns-clause-kept t c =
+pub expressions::put_bin-returns-clause-kept : goal.expressions::put_bin-returns-clause-kept
+expressions::put_bin-returns-clause-kept t c =
     rw (bin_out c.args.bin.now)
     (bin_kept (standing c.args.here.now) c.args.next.now (un_of (out-BinExpr c.args.bin.now).first) (opers_of (out-BinExpr c.args.bin.now).more.items)
     c.in_ok-receiver.receiver c.in_ok-behind.behind c.in_ok-receiver.ensures.kept (rw c.deref.ensures.value at c.in_ok-behind.ensures.left))
 
-pub put_bin-returns-clause-next : goal.put_bin-returns-clause-next
-put_bin-returns-clause-next t c =
+pub expressions::put_bin-returns-clause-next : goal.expressions::put_bin-returns-clause-next
+expressions::put_bin-returns-clause-next t c =
     rw (bin_out c.args.bin.now)
     (behind_both _ _ c.args.next.now c.put_un.new.next c.put_opers.new.next c.in_ok-receiver.ensures.next (rw c.deref.ensures.value at c.in_ok-behind.ensures.next))
 
-pub put_expr-returns-clause-put : goal.put_expr-returns-clause-put
-put_expr-returns-clause-put t c =
+pub expressions::put_expr-returns-clause-put : goal.expressions::put_expr-returns-clause-put
+expressions::put_expr-returns-clause-put t c =
     rw (expr_out c.args.expr.now)
     (expr_put (standing c.args.here.now) (out-Expr c.args.expr.now).sets.items _ c.args.writer.now c.put_unset.new.writer c.put_sets.new.writer
     (rw (expr_out c.args.expr.now) at c.in_ok-put_unset.ensures.put) (rw c.deref.ensures.value at c.in_ok-put_sets.ensures))
 
-pub put_implicit-returns-clause-put : goal.put_implicit-returns-clause-put
-put_implicit-returns-clause-put t c =
+pub expressions::put_implicit-returns-clause-put : goal.expressions::put_implicit-returns-clause-put
+expressions::put_implicit-returns-clause-put t c =
     implicit_whole (standing c.args.here.now) c.args.next.now c.in_ok-reach.reach (keys_of c.args.keys.now) c.in_ok-selector.selector c.place-place.result
     c.in_ok-way.way c.in_ok-count.count c.args.writer.now c.begin_object.new.writer c.put_keys.new.writer c.sends.new.self
     c.in_ok-selector.ensures (rw c.first_key.ensures at c.place-place.ensures) c.in_ok-count.ensures
     (rw c.bytes.ensures at (rw c.resolve.ensures at c.in_ok-reach.ensures)) c.in_ok-way.ensures.way c.in_ok-way.ensures.lines c.in_ok-put_keys.ensures.put
     (rw c.bytes-2.ensures at c.in_ok-sends.ensures.put)
 
-pub put_keywords-returns-clause-put : goal.put_keywords-returns-clause-put
-put_keywords-returns-clause-put t c =
+pub expressions::put_keywords-returns-clause-put : goal.expressions::put_keywords-returns-clause-put
+expressions::put_keywords-returns-clause-put t c =
     keywords_whole (standing c.args.here.now) c.args.next.now c.args.receiver.now (keys_of c.args.keys.now) c.in_ok-selector.selector c.place-place.result
     c.in_ok-way.way c.in_ok-count.count c.args.writer.now c.begin.new.writer c.put_keys.new.writer c.sends.new.self
     c.in_ok-selector.ensures (rw c.first_key.ensures at c.place-place.ensures) c.in_ok-count.ensures
     (rw c.bytes.ensures at c.in_ok-way.ensures.way) (rw c.bytes.ensures at c.in_ok-way.ensures.lines) c.in_ok-put_keys.ensures.put
     (rw c.bytes-2.ensures at c.in_ok-sends.ensures.put)
 
-pub put_items-loop-item-preserved : goal.put_items-loop-item-preserved
-put_items-loop-item-preserved t c = (
+pub expressions::put_items-loop-item-preserved : goal.expressions::put_items-loop-item-preserved
+expressions::put_items-loop-item-preserved t c = (
   items_step (standing c.args.here.now) c.loop-item.next c.put_expr.new.next c.loop-item.item-index c.args.items.now c.item-item.result c.loop-item.writer c.put_expr.new.writer _
       c.loop-item-test.true c.item-item.is c.loop-item.invariant.0 c.in_ok-put_expr.ensures.put c.in_ok-put_expr.ensures.next,
   items_number (standing c.args.here.now) c.loop-item.next c.put_expr.new.next c.loop-item.item-index _ c.args.items.now c.item-item.result
       c.loop-item-test.true c.item-item.is c.loop-item.invariant.1 c.in_ok-put_expr.ensures.next,
 )
 
-pub put_keys-loop-key-preserved : goal.put_keys-loop-key-preserved
-put_keys-loop-key-preserved t c = (
+pub expressions::put_keys-loop-key-preserved : goal.expressions::put_keys-loop-key-preserved
+expressions::put_keys-loop-key-preserved t c = (
   keys_step (standing c.args.here.now) c.loop-key.next c.put_bin_value.new.next c.loop-key.key-index c.args.keys.now c.key-item.result c.loop-key.writer c.put_bin_value.new.writer _
       c.loop-key-test.true c.key-item.is c.loop-key.invariant.0 c.in_ok-put_bin_value.ensures.put c.in_ok-put_bin_value.ensures.next,
   keys_number (standing c.args.here.now) c.loop-key.next c.put_bin_value.new.next c.loop-key.key-index _ c.args.keys.now c.key-item.result
       c.loop-key-test.true c.key-item.is c.loop-key.invariant.1 c.in_ok-put_bin_value.ensures.next,
 )
 
-pub put_oper-returns-clause-put : goal.put_oper-returns-clause-put
-put_oper-returns-clause-put t c =
+pub expressions::put_oper-returns-clause-put : goal.expressions::put_oper-returns-clause-put
+expressions::put_oper-returns-clause-put t c =
     oper_put (standing c.args.here.now) c.args.receiver.now c.args.name.now c.place.result (un_node (standing c.args.here.now) c.args.next.now (un_of c.args.argument.now))
     c.in_ok-way.way c.args.writer.now c.begin.new.writer c.put_un_value.new.writer c.sends.new.self
     c.place.ensures (rw c.bytes-selector.ensures at c.in_ok-way.ensures.way) (rw c.bytes-selector.ensures at c.in_ok-way.ensures.lines)
     c.in_ok-put_un_value.ensures.put (rw c.bytes-selector.ensures at c.in_ok-sends.ensures.put)
 
-pub put_keyed-returns-in_ok-put_keywords-in-len1-up-clause-put : goal.put_keyed-returns-in_ok-put_keywords-in-len1-up-clause-put
-put_keyed-returns-in_ok-put_keywords-in-len1-up-clause-put t c =
+pub expressions::put_keyed-returns-in_ok-put_keywords-in-len1-up-clause-put : goal.expressions::put_keyed-returns-in_ok-put_keywords-in-len1-up-clause-put
+expressions::put_keyed-returns-in_ok-put_keywords-in-len1-up-clause-put t c =
     c.in_ok-put_keywords-in-len1-up.ensures.put
     ∙ keyed_put (standing c.args.here.now) c.args.next.now c.args.receiver c.args.keys.now c.args.writer.now (omega arith)
 
-pub put_keyed-returns-in_ok-put_keywords-in-len1-up-clause-left : goal.put_keyed-returns-in_ok-put_keywords-in-len1-up-clause-left
-put_keyed-returns-in_ok-put_keywords-in-len1-up-clause-left t c = keyed_left c.args.receiver c.args.keys.now (omega arith)
+pub expressions::put_keyed-returns-in_ok-put_keywords-in-len1-up-clause-left : goal.expressions::put_keyed-returns-in_ok-put_keywords-in-len1-up-clause-left
+expressions::put_keyed-returns-in_ok-put_keywords-in-len1-up-clause-left t c = keyed_left c.args.receiver c.args.keys.now (omega arith)
 
-pub put_key_value-returns-in_ok-put_implicit-in-None-clause-put : goal.put_key_value-returns-in_ok-put_implicit-in-None-clause-put
-put_key_value-returns-in_ok-put_implicit-in-None-clause-put t c =
+pub expressions::put_key_value-returns-in_ok-put_implicit-in-None-clause-put : goal.expressions::put_key_value-returns-in_ok-put_implicit-in-None-clause-put
+expressions::put_key_value-returns-in_ok-put_implicit-in-None-clause-put t c =
     rw (key_expr_none c.args.expr.now c.in-None.is) (rw c.deref.ensures.value at c.in_ok-put_implicit-in-None.ensures.put)
 
-pub put_key_value-returns-in_ok-put_implicit-in-None-clause-next : goal.put_key_value-returns-in_ok-put_implicit-in-None-clause-next
-put_key_value-returns-in_ok-put_implicit-in-None-clause-next t c =
+pub expressions::put_key_value-returns-in_ok-put_implicit-in-None-clause-next : goal.expressions::put_key_value-returns-in_ok-put_implicit-in-None-clause-next
+expressions::put_key_value-returns-in_ok-put_implicit-in-None-clause-next t c =
     rw (key_expr_none c.args.expr.now c.in-None.is) (rw c.deref.ensures.value at c.in_ok-put_implicit-in-None.ensures.next)
 
-pub put_key_value-returns-in_ok-put_keyed_value-in-Some-clause-put : goal.put_key_value-returns-in_ok-put_keyed_value-in-Some-clause-put
-put_key_value-returns-in_ok-put_keyed_value-in-Some-clause-put t c =
+pub expressions::put_key_value-returns-in_ok-put_keyed_value-in-Some-clause-put : goal.expressions::put_key_value-returns-in_ok-put_keyed_value-in-Some-clause-put
+expressions::put_key_value-returns-in_ok-put_keyed_value-in-Some-clause-put t c =
     let keys = keys_of (out-KeyExpr c.args.expr.now).keys.items in
     rw (key_expr_some c.args.expr.now _ c.in-Some.is)
     (received_put (standing c.args.here.now) c.args.next.now c.put_bin.new.next (bin_of c.in-Some.receiver) keys
@@ -105,30 +105,30 @@ put_key_value-returns-in_ok-put_keyed_value-in-Some-clause-put t c =
     c.in_ok-receiver-in-Some.ensures.kept c.in_ok-receiver-in-Some.ensures.put c.in_ok-receiver-in-Some.ensures.next refl refl
     (rw c.deref-in-Some.ensures.value at c.in_ok-put_keyed_value-in-Some.ensures.put))
 
-pub put_key_value-returns-in_ok-put_keyed_value-in-Some-clause-next : goal.put_key_value-returns-in_ok-put_keyed_value-in-Some-clause-next
-put_key_value-returns-in_ok-put_keyed_value-in-Some-clause-next t c =
+pub expressions::put_key_value-returns-in_ok-put_keyed_value-in-Some-clause-next : goal.expressions::put_key_value-returns-in_ok-put_keyed_value-in-Some-clause-next
+expressions::put_key_value-returns-in_ok-put_keyed_value-in-Some-clause-next t c =
     rw (key_expr_some c.args.expr.now _ c.in-Some.is)
     (behind_both _ _ c.args.next.now c.put_bin.new.next c.put_keyed_value.new.next c.in_ok-receiver-in-Some.ensures.next
     (rw c.deref-in-Some.ensures.value at c.in_ok-put_keyed_value-in-Some.ensures.next))
 
-pub put_primary-returns-in_ok-put_tuple-in-Tuple-clause-put : goal.put_primary-returns-in_ok-put_tuple-in-Tuple-clause-put
-put_primary-returns-in_ok-put_tuple-in-Tuple-clause-put t c =
+pub expressions::put_primary-returns-in_ok-put_tuple-in-Tuple-clause-put : goal.expressions::put_primary-returns-in_ok-put_tuple-in-Tuple-clause-put
+expressions::put_primary-returns-in_ok-put_tuple-in-Tuple-clause-put t c =
     rw (tuple_out c.args.primary.now _ _ c.in-Tuple.is) (rw c.deref-in-Tuple.ensures.value at c.in_ok-put_tuple-in-Tuple.ensures.put)
 
-pub put_primary-returns-in_ok-put_tuple-in-Tuple-clause-next : goal.put_primary-returns-in_ok-put_tuple-in-Tuple-clause-next
-put_primary-returns-in_ok-put_tuple-in-Tuple-clause-next t c =
+pub expressions::put_primary-returns-in_ok-put_tuple-in-Tuple-clause-next : goal.expressions::put_primary-returns-in_ok-put_tuple-in-Tuple-clause-next
+expressions::put_primary-returns-in_ok-put_tuple-in-Tuple-clause-next t c =
     rw (tuple_out c.args.primary.now _ _ c.in-Tuple.is) (rw c.deref-in-Tuple.ensures.value at c.in_ok-put_tuple-in-Tuple.ensures.next)
 
-pub put_message-returns-in-Keys-clause-put : goal.put_message-returns-in-Keys-clause-put
-put_message-returns-in-Keys-clause-put t c =
+pub cascades::put_message-returns-in-Keys-clause-put : goal.cascades::put_message-returns-in-Keys-clause-put
+cascades::put_message-returns-in-Keys-clause-put t c =
     rw (keywords_out c.args.message.now _ c.in-Keys.is) (rw c.deref.ensures.value at c.put_keywords.ensures.put)
 
-pub put_message-returns-in-Keys-clause-next : goal.put_message-returns-in-Keys-clause-next
-put_message-returns-in-Keys-clause-next t c =
+pub cascades::put_message-returns-in-Keys-clause-next : goal.cascades::put_message-returns-in-Keys-clause-next
+cascades::put_message-returns-in-Keys-clause-next t c =
     rw (keywords_out c.args.message.now _ c.in-Keys.is) (rw c.deref.ensures.value at c.put_keywords.ensures.next)
 
-pub put_rest-loop-message-preserved : goal.put_rest-loop-message-preserved
-put_rest-loop-message-preserved t c =
+pub cascades::put_rest-loop-message-preserved : goal.cascades::put_rest-loop-message-preserved
+cascades::put_rest-loop-message-preserved t c =
     let count : c.loop-message.left - 1 ≡ length (drop (c.loop-message.message-index + 1) c.args.messages.now) =
     omega (
       c.loop-message.invariant.0,
@@ -148,7 +148,7 @@ put_rest-loop-message-preserved t c =
 
 -- ---- the message before a cascade
 
-first_name : (t : ℕ) (c : goal.put_first_name-In_ok-put_name-in-len1-up t) →
+first_name : (t : ℕ) (c : goal.cascades::put_first_name-In_ok-put_name-in-len1-up t) →
     IsFirst (standing c.args.here.now) (un_said (standing c.args.here.now) c.args.next.now (un_of c.args.un.now)) c.in_ok-receiver-in-len1-up.receiver
     c.args.writer.now c.put_name.new.writer
 first_name t c =
@@ -161,32 +161,32 @@ first_name t c =
     (rw c.as_slice.ensures.value at c.in_ok-receiver-in-len1-up.ensures.put) (rw c.as_slice.ensures.value at c.in_ok-receiver-in-len1-up.ensures.left)
     c.in_ok-put_copy-in-len1-up.ensures c.in_ok-put_name-in-len1-up.ensures
 
-pub put_first_name-returns-in_ok-put_name-in-len1-up-clause-put : goal.put_first_name-returns-in_ok-put_name-in-len1-up-clause-put
-put_first_name-returns-in_ok-put_name-in-len1-up-clause-put t c = (first_name t c).0
+pub cascades::put_first_name-returns-in_ok-put_name-in-len1-up-clause-put : goal.cascades::put_first_name-returns-in_ok-put_name-in-len1-up-clause-put
+cascades::put_first_name-returns-in_ok-put_name-in-len1-up-clause-put t c = (first_name t c).0
 
-pub put_first_name-returns-in_ok-put_name-in-len1-up-clause-kept : goal.put_first_name-returns-in_ok-put_name-in-len1-up-clause-kept
-put_first_name-returns-in_ok-put_name-in-len1-up-clause-kept t c = (first_name t c).1
+pub cascades::put_first_name-returns-in_ok-put_name-in-len1-up-clause-kept : goal.cascades::put_first_name-returns-in_ok-put_name-in-len1-up-clause-kept
+cascades::put_first_name-returns-in_ok-put_name-in-len1-up-clause-kept t c = (first_name t c).1
 
-pub put_first_name-returns-in_ok-put_name-in-len1-up-clause-said : goal.put_first_name-returns-in_ok-put_name-in-len1-up-clause-said
-put_first_name-returns-in_ok-put_name-in-len1-up-clause-said t c = (first_name t c).2
+pub cascades::put_first_name-returns-in_ok-put_name-in-len1-up-clause-said : goal.cascades::put_first_name-returns-in_ok-put_name-in-len1-up-clause-said
+cascades::put_first_name-returns-in_ok-put_name-in-len1-up-clause-said t c = (first_name t c).2
 
-pub put_first_oper-returns-in-empty-clause-put : goal.put_first_oper-returns-in-empty-clause-put
-put_first_oper-returns-in-empty-clause-put t c =
+pub cascades::put_first_oper-returns-in-empty-clause-put : goal.cascades::put_first_oper-returns-in-empty-clause-put
+cascades::put_first_oper-returns-in-empty-clause-put t c =
     rw (un_alone_said (standing c.args.here.now) c.args.next.now c.args.bin.now (rw c.as_slice.ensures.value at c.in-empty.len_below)) c.put_first_name.ensures.put
 
-pub put_first_oper-returns-in-empty-clause-kept : goal.put_first_oper-returns-in-empty-clause-kept
-put_first_oper-returns-in-empty-clause-kept t c =
+pub cascades::put_first_oper-returns-in-empty-clause-kept : goal.cascades::put_first_oper-returns-in-empty-clause-kept
+cascades::put_first_oper-returns-in-empty-clause-kept t c =
     rw (un_alone_said (standing c.args.here.now) c.args.next.now c.args.bin.now (rw c.as_slice.ensures.value at c.in-empty.len_below)) c.put_first_name.ensures.kept
 
-pub put_first_oper-returns-in-empty-clause-said : goal.put_first_oper-returns-in-empty-clause-said
-put_first_oper-returns-in-empty-clause-said t c =
+pub cascades::put_first_oper-returns-in-empty-clause-said : goal.cascades::put_first_oper-returns-in-empty-clause-said
+cascades::put_first_oper-returns-in-empty-clause-said t c =
     rw (un_alone_said (standing c.args.here.now) c.args.next.now c.args.bin.now (rw c.as_slice.ensures.value at c.in-empty.len_below)) c.put_first_name.ensures.said
 
-pub put_first_oper-returns-in-empty-clause-next : goal.put_first_oper-returns-in-empty-clause-next
-put_first_oper-returns-in-empty-clause-next t c =
+pub cascades::put_first_oper-returns-in-empty-clause-next : goal.cascades::put_first_oper-returns-in-empty-clause-next
+cascades::put_first_oper-returns-in-empty-clause-next t c =
     rw (un_alone_counted c.args.here.now.scope.now c.args.bin.now (rw c.as_slice.ensures.value at c.in-empty.len_below)) c.put_first_name.ensures.next
 
-first_oper : (t : ℕ) (c : goal.put_first_oper-In_ok-put_oper-in-len1-up t) →
+first_oper : (t : ℕ) (c : goal.cascades::put_first_oper-In_ok-put_oper-in-len1-up t) →
     IsFirst (standing c.args.here.now) (bin_said (standing c.args.here.now) c.args.next.now (bin_of c.args.bin.now)) c.in_ok-receiver-in-len1-up.receiver
     c.args.writer.now c.put_oper.new.writer
     × (c.put_oper.new.next ≡ c.args.next.now + length (bin_blocks c.args.here.now.scope.now (bin_of c.args.bin.now)))
@@ -202,39 +202,39 @@ first_oper t c =
     (rw c.as_slice.ensures.value at c.in_ok-receiver-in-len1-up.ensures.next)
     c.in_ok-put_copy-in-len1-up.ensures c.in_ok-put_oper-in-len1-up.ensures.put c.in_ok-put_oper-in-len1-up.ensures.next)
 
-pub put_first_oper-returns-in_ok-put_oper-in-len1-up-clause-put : goal.put_first_oper-returns-in_ok-put_oper-in-len1-up-clause-put
-put_first_oper-returns-in_ok-put_oper-in-len1-up-clause-put t c = (first_oper t c).0.0
+pub cascades::put_first_oper-returns-in_ok-put_oper-in-len1-up-clause-put : goal.cascades::put_first_oper-returns-in_ok-put_oper-in-len1-up-clause-put
+cascades::put_first_oper-returns-in_ok-put_oper-in-len1-up-clause-put t c = (first_oper t c).0.0
 
-pub put_first_oper-returns-in_ok-put_oper-in-len1-up-clause-kept : goal.put_first_oper-returns-in_ok-put_oper-in-len1-up-clause-kept
-put_first_oper-returns-in_ok-put_oper-in-len1-up-clause-kept t c = (first_oper t c).0.1
+pub cascades::put_first_oper-returns-in_ok-put_oper-in-len1-up-clause-kept : goal.cascades::put_first_oper-returns-in_ok-put_oper-in-len1-up-clause-kept
+cascades::put_first_oper-returns-in_ok-put_oper-in-len1-up-clause-kept t c = (first_oper t c).0.1
 
-pub put_first_oper-returns-in_ok-put_oper-in-len1-up-clause-said : goal.put_first_oper-returns-in_ok-put_oper-in-len1-up-clause-said
-put_first_oper-returns-in_ok-put_oper-in-len1-up-clause-said t c = (first_oper t c).0.2
+pub cascades::put_first_oper-returns-in_ok-put_oper-in-len1-up-clause-said : goal.cascades::put_first_oper-returns-in_ok-put_oper-in-len1-up-clause-said
+cascades::put_first_oper-returns-in_ok-put_oper-in-len1-up-clause-said t c = (first_oper t c).0.2
 
-pub put_first_oper-returns-in_ok-put_oper-in-len1-up-clause-next : goal.put_first_oper-returns-in_ok-put_oper-in-len1-up-clause-next
-put_first_oper-returns-in_ok-put_oper-in-len1-up-clause-next t c = (first_oper t c).1
+pub cascades::put_first_oper-returns-in_ok-put_oper-in-len1-up-clause-next : goal.cascades::put_first_oper-returns-in_ok-put_oper-in-len1-up-clause-next
+cascades::put_first_oper-returns-in_ok-put_oper-in-len1-up-clause-next t c = (first_oper t c).1
 
-pub put_first-returns-in-empty-clause-put : goal.put_first-returns-in-empty-clause-put
-put_first-returns-in-empty-clause-put t c =
+pub cascades::put_first-returns-in-empty-clause-put : goal.cascades::put_first-returns-in-empty-clause-put
+cascades::put_first-returns-in-empty-clause-put t c =
     rw (bin_alone_said (standing c.args.here.now) c.args.next.now c.args.expr.now c.in-Some.bin c.in-Some.is (rw c.as_slice.ensures.value at c.in-empty.len_below))
     c.put_first_oper.ensures.put
 
-pub put_first-returns-in-empty-clause-kept : goal.put_first-returns-in-empty-clause-kept
-put_first-returns-in-empty-clause-kept t c =
+pub cascades::put_first-returns-in-empty-clause-kept : goal.cascades::put_first-returns-in-empty-clause-kept
+cascades::put_first-returns-in-empty-clause-kept t c =
     rw (bin_alone_said (standing c.args.here.now) c.args.next.now c.args.expr.now c.in-Some.bin c.in-Some.is (rw c.as_slice.ensures.value at c.in-empty.len_below))
     c.put_first_oper.ensures.kept
 
-pub put_first-returns-in-empty-clause-said : goal.put_first-returns-in-empty-clause-said
-put_first-returns-in-empty-clause-said t c =
+pub cascades::put_first-returns-in-empty-clause-said : goal.cascades::put_first-returns-in-empty-clause-said
+cascades::put_first-returns-in-empty-clause-said t c =
     rw (bin_alone_said (standing c.args.here.now) c.args.next.now c.args.expr.now c.in-Some.bin c.in-Some.is (rw c.as_slice.ensures.value at c.in-empty.len_below))
     c.put_first_oper.ensures.said
 
-pub put_first-returns-in-empty-clause-next : goal.put_first-returns-in-empty-clause-next
-put_first-returns-in-empty-clause-next t c =
+pub cascades::put_first-returns-in-empty-clause-next : goal.cascades::put_first-returns-in-empty-clause-next
+cascades::put_first-returns-in-empty-clause-next t c =
     rw (bin_alone_counted c.args.here.now.scope.now c.args.expr.now c.in-Some.bin c.in-Some.is (rw c.as_slice.ensures.value at c.in-empty.len_below))
     c.put_first_oper.ensures.next
 
-first_keys : (t : ℕ) (c : goal.put_first-In_ok-put_keywords-in-len1-up t) →
+first_keys : (t : ℕ) (c : goal.cascades::put_first-In_ok-put_keywords-in-len1-up t) →
     IsFirst (standing c.args.here.now) (key_expr_said (standing c.args.here.now) c.args.next.now (key_expr_of c.args.expr.now))
     c.in_ok-receiver-in-len1-up.receiver c.args.writer.now c.put_keywords.new.writer
     × (c.put_keywords.new.next ≡ c.args.next.now + length (key_expr_blocks c.args.here.now.scope.now (key_expr_of c.args.expr.now)))
@@ -247,40 +247,40 @@ first_keys t c =
     c.in_ok-put_copy-in-len1-up.ensures (rw c.deref.ensures.value at c.in_ok-put_keywords-in-len1-up.ensures.put)
     (rw c.deref.ensures.value at c.in_ok-put_keywords-in-len1-up.ensures.next))
 
-pub put_first-returns-in_ok-put_keywords-in-len1-up-clause-put : goal.put_first-returns-in_ok-put_keywords-in-len1-up-clause-put
-put_first-returns-in_ok-put_keywords-in-len1-up-clause-put t c = (first_keys t c).0.0
+pub cascades::put_first-returns-in_ok-put_keywords-in-len1-up-clause-put : goal.cascades::put_first-returns-in_ok-put_keywords-in-len1-up-clause-put
+cascades::put_first-returns-in_ok-put_keywords-in-len1-up-clause-put t c = (first_keys t c).0.0
 
-pub put_first-returns-in_ok-put_keywords-in-len1-up-clause-kept : goal.put_first-returns-in_ok-put_keywords-in-len1-up-clause-kept
-put_first-returns-in_ok-put_keywords-in-len1-up-clause-kept t c = (first_keys t c).0.1
+pub cascades::put_first-returns-in_ok-put_keywords-in-len1-up-clause-kept : goal.cascades::put_first-returns-in_ok-put_keywords-in-len1-up-clause-kept
+cascades::put_first-returns-in_ok-put_keywords-in-len1-up-clause-kept t c = (first_keys t c).0.1
 
-pub put_first-returns-in_ok-put_keywords-in-len1-up-clause-said : goal.put_first-returns-in_ok-put_keywords-in-len1-up-clause-said
-put_first-returns-in_ok-put_keywords-in-len1-up-clause-said t c = (first_keys t c).0.2
+pub cascades::put_first-returns-in_ok-put_keywords-in-len1-up-clause-said : goal.cascades::put_first-returns-in_ok-put_keywords-in-len1-up-clause-said
+cascades::put_first-returns-in_ok-put_keywords-in-len1-up-clause-said t c = (first_keys t c).0.2
 
-pub put_first-returns-in_ok-put_keywords-in-len1-up-clause-next : goal.put_first-returns-in_ok-put_keywords-in-len1-up-clause-next
-put_first-returns-in_ok-put_keywords-in-len1-up-clause-next t c = (first_keys t c).1
+pub cascades::put_first-returns-in_ok-put_keywords-in-len1-up-clause-next : goal.cascades::put_first-returns-in_ok-put_keywords-in-len1-up-clause-next
+cascades::put_first-returns-in_ok-put_keywords-in-len1-up-clause-next t c = (first_keys t c).1
 
 -- ---- cascades
 
-pub put_cascade-returns-clause-put : goal.put_cascade-returns-clause-put
-put_cascade-returns-clause-put t c =
+pub cascades::put_cascade-returns-clause-put : goal.cascades::put_cascade-returns-clause-put
+cascades::put_cascade-returns-clause-put t c =
     rw (expr_out c.args.expr.now)
     (cascade_whole (standing c.args.here.now) c.args.next.now c.put_first.new.next (key_expr_of (out-Expr c.args.expr.now).first)
     (out-Expr c.args.expr.now).sets.items (out-Expr c.args.expr.now).more.items c.in_ok-receiver.receiver c.args.writer.now c.put_first.new.writer
     c.put_rest.new.writer c.in_ok-receiver.ensures.put c.in_ok-receiver.ensures.kept c.in_ok-receiver.ensures.said c.in_ok-receiver.ensures.next
     (sym c.if-not-is_repeated.ensures) (some_more _ _ (omega (rw c.deref.ensures.value at c.deref.ensures.len, arith)) c.if-is_empty.ensures) (rw c.deref.ensures.value at c.in_ok-put_rest.ensures.put))
 
-pub put_cascade-returns-clause-next : goal.put_cascade-returns-clause-next
-put_cascade-returns-clause-next t c =
+pub cascades::put_cascade-returns-clause-next : goal.cascades::put_cascade-returns-clause-next
+cascades::put_cascade-returns-clause-next t c =
     rw (expr_out c.args.expr.now)
     (behind_both _ _ c.args.next.now c.put_first.new.next c.put_rest.new.next c.in_ok-receiver.ensures.next
     (rw c.deref.ensures.value at c.in_ok-put_rest.ensures.next))
 
-pub put_unset-returns-in_ok-put_key_value-in-empty-clause-put : goal.put_unset-returns-in_ok-put_key_value-in-empty-clause-put
-put_unset-returns-in_ok-put_key_value-in-empty-clause-put t c =
+pub expressions::put_unset-returns-in_ok-put_key_value-in-empty-clause-put : goal.expressions::put_unset-returns-in_ok-put_key_value-in-empty-clause-put
+expressions::put_unset-returns-in_ok-put_key_value-in-empty-clause-put t c =
     rw (key_alone_node (standing c.args.here.now) c.args.next.now c.args.expr.now (rw c.as_slice.ensures.value at c.in-empty.len_below))
     c.in_ok-put_key_value-in-empty.ensures.put
 
-pub put_unset-returns-in_ok-put_key_value-in-empty-clause-next : goal.put_unset-returns-in_ok-put_key_value-in-empty-clause-next
-put_unset-returns-in_ok-put_key_value-in-empty-clause-next t c =
+pub expressions::put_unset-returns-in_ok-put_key_value-in-empty-clause-next : goal.expressions::put_unset-returns-in_ok-put_key_value-in-empty-clause-next
+expressions::put_unset-returns-in_ok-put_key_value-in-empty-clause-next t c =
     rw (key_alone_counted c.args.here.now.scope.now c.args.expr.now (rw c.as_slice.ensures.value at c.in-empty.len_below))
     c.in_ok-put_key_value-in-empty.ensures.next

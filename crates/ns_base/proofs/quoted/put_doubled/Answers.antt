@@ -1,7 +1,7 @@
 use Rattle.std.proofs.Common.{refl, arith}
 use Rattle.std.proofs.lemmas.Grind.{common_steps}
 use Rattle.ns_base.specs.laws.Quoted.{doubled_step}
-use Rattle.ns_image_list.proofs.output.put_doubled.Goals as goal
+use Rattle.ns_base.proofs.quoted.put_doubled.Goals as goal
 
 pub bytes-init : goal.bytes-init
 bytes-init c = refl
