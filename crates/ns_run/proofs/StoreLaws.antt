@@ -76,7 +76,7 @@ cause_keeps : (file : List ℕ) (why : LoadCause) → KeepsNone (of_cause file w
 cause_keeps file cause.Missing = refl
 cause_keeps file cause.TooLong = refl
 cause_keeps file cause.ReadFault = refl
-cause_keeps file (cause.Spelling number place) = refl
+cause_keeps file (cause.Spelling wrong place) = refl
 
 fault_keeps : (names : List (List ℕ)) (why : LoadFault) → KeepsNone (of_fault names why)
 fault_keeps names (fault.At why file) = cause_keeps (name_of names file) why

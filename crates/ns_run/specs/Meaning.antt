@@ -90,7 +90,7 @@ abbrev pub of_cause : List ℕ → LoadCause → Report
 of_cause file Missing = refused_file file (codes "Missing")
 of_cause file TooLong = refused_file file (codes "TooLong")
 of_cause file ReadFault = told []
-of_cause file (Spelling number place) = refused_text file place (spelling_name number)
+of_cause file (Spelling wrong place) = refused_text file place (spelling_name wrong)
 
 -- the refusal of files (none want memory)
 abbrev pub of_fault : List (List ℕ) → LoadFault → Report
