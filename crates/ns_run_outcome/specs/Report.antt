@@ -85,6 +85,10 @@ refused_text file place cause =
 abbrev pub told : List ℕ → Report
 told text = record { out = text; err = []; status = status.Done; stored = None }
 
+-- what stands where a definition has a case that never comes: no text and no image is refused for such a cause
+abbrev pub never_told : Report
+never_told = told []
+
 -- A command that only stores a file writes nothing, and is done.
 abbrev pub stores : List ℕ → List ℕ → Report
 stores name bytes = record { out = []; err = []; status = status.Done; stored = Some (record { name = name; bytes = bytes }) }
