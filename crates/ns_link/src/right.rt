@@ -1,14 +1,13 @@
 //! Laws of the meaning of programs. Each function does nothing, and its contract is the law.
 
-ghost use Rattle.std.specs.Prelude.{◌≡◌, ◌≤◌, ◌<◌, ◌^◌, ℕ, [], Some, None, slice_get, map, length};
+ghost use Rattle.std.specs.Prelude.{◌≡◌, ◌≤◌, ◌<◌, ◌^◌, ℕ, [], Some, slice_get, length};
 ghost use Rattle.ns_tree.specs.Flat.{flat_expr};
 ghost use Rattle.ns_tree.specs.Plain.{Expr};
-ghost use Rattle.ns_tree.specs.PlainOf.{unit_of};
 ghost use Rattle.ns_tree.specs.Tree.{AllHaveText};
 ghost use Rattle.ns_scope.specs.declared.program.Program.{Program};
 ghost use Rattle.ns_scope.specs.Whole.{IsWhole};
 ghost use Rattle.ns_static_rules.specs.Faults.{expr_faults};
-ghost use Rattle.ns_static_rules.specs.Least.{least, faults};
+ghost use Rattle.ns_static.specs.Check.{IsFaultless};
 ghost use Rattle.ns_resolved.specs.Program.{Meant, Declaration, Body};
 ghost use Rattle.ns_resolved.specs.Expressions.{Standing, expr_node};
 ghost use Rattle.ns_resolved.specs.Classes.{meant};
@@ -31,7 +30,7 @@ pub fn classes_name_what_is_there()
 
 /// The classes of a whole program without static faults are right.
 pub fn classes_are_right()
-    ensures { (program : Program) → IsWhole program → least (faults (map unit_of program.units) program.marks) ≡ None → (number : ℕ) (class : Declaration) →
+    ensures { (program : Program) → IsWhole program → IsFaultless program → (number : ℕ) (class : Declaration) →
         slice_get (meant program).classes number ≡ Some class → IsRightClass (meant program) number class }
 {
     ns_resolved::laws::classes_are_nested();
@@ -39,15 +38,14 @@ pub fn classes_are_right()
 
 /// The classes of a whole program without static faults are few, and so are the members of each.
 pub fn classes_and_members_are_few()
-    ensures classes { (program : Program) → IsWhole program → least (faults (map unit_of program.units) program.marks) ≡ None →
-        length (meant program).classes ≤ 4096 }
-    ensures members { (program : Program) → IsWhole program → least (faults (map unit_of program.units) program.marks) ≡ None →
+    ensures classes { (program : Program) → IsWhole program → IsFaultless program → length (meant program).classes ≤ 4096 }
+    ensures members { (program : Program) → IsWhole program → IsFaultless program →
         (number : ℕ) (class : Declaration) → slice_get (meant program).classes number ≡ Some class → HasFewMembers class }
 {}
 
 /// The locals of a body of a whole program without static faults are few.
 pub fn bodies_have_few_locals()
-    ensures { (program : Program) → IsWhole program → least (faults (map unit_of program.units) program.marks) ≡ None → (number : ℕ) (body : Body) →
+    ensures { (program : Program) → IsWhole program → IsFaultless program → (number : ℕ) (body : Body) →
         slice_get (meant program).bodies number ≡ Some body → length body.locals < 2 ^ 8 }
 {}
 
@@ -63,12 +61,12 @@ pub fn expressions_use_what_is_reached()
 /// expression names is one of a body around, each member that is reached is one of a declaration
 /// around, and their numbers fit; a return leaves a method.
 pub fn bodies_use_what_is_there()
-    ensures { (program : Program) → IsWhole program → least (faults (map unit_of program.units) program.marks) ≡ None → UseWhatIsThere (meant program) }
+    ensures { (program : Program) → IsWhole program → IsFaultless program → UseWhatIsThere (meant program) }
 {}
 
 /// A whole program without static faults means what is right.
 pub fn whole_programs_are_right()
-    ensures { (program : Program) → IsWhole program → least (faults (map unit_of program.units) program.marks) ≡ None → IsRight (meant program) }
+    ensures { (program : Program) → IsWhole program → IsFaultless program → IsRight (meant program) }
 {
     ns_resolved::laws::bodies_are_placed();
     classes_name_what_is_there();

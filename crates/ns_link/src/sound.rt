@@ -1,11 +1,10 @@
 //! Laws of the code of programs. Each function does nothing, and its contract is the law.
 
-ghost use Rattle.std.specs.Prelude.{◌≡◌, ◌≢◌, ◌≤◌, None, All, map, length};
+ghost use Rattle.std.specs.Prelude.{◌≡◌, ◌≢◌, ◌≤◌, None, All, length};
 ghost use Rattle.std.specs.List.{AllPairs};
-ghost use Rattle.ns_tree.specs.PlainOf.{unit_of};
 ghost use Rattle.ns_scope.specs.declared.program.Program.{Program};
 ghost use Rattle.ns_scope.specs.Whole.{IsWhole};
-ghost use Rattle.ns_static_rules.specs.Least.{least, faults};
+ghost use Rattle.ns_static.specs.Check.{IsFaultless};
 ghost use Rattle.ns_code.specs.Fits.{IsWord, IsFileName, IsName, IsShort, ClassFits, Fits};
 ghost use Rattle.ns_resolved.specs.Classes.{meant};
 ghost use Rattle.ns_gen_code.specs.Code.{code_of};
@@ -17,8 +16,7 @@ ghost use Rattle.ns_link.specs.Spoken.{NamesFit};
 
 /// The code of a whole program without static faults whose sizes are within their limits is sound.
 pub fn code_is_sound()
-    ensures { (program : Program) → IsWhole program → least (faults (map unit_of program.units) program.marks) ≡ None →
-        size_fault (code_of (meant program)) ≡ None → IsSound (code_of (meant program)) }
+    ensures { (program : Program) → IsWhole program → IsFaultless program → size_fault (code_of (meant program)) ≡ None → IsSound (code_of (meant program)) }
 {
     crate::right::whole_programs_are_right();
     ns_gen_code::laws::right_programs_have_sound_code();
@@ -71,8 +69,7 @@ pub fn names_and_places_are_there()
 /// The code of a whole program without static faults whose sizes are within their limits fits its
 /// fields.
 pub fn code_fits()
-    ensures { (program : Program) → IsWhole program → least (faults (map unit_of program.units) program.marks) ≡ None →
-        size_fault (code_of (meant program)) ≡ None → Fits (code_of (meant program)) }
+    ensures { (program : Program) → IsWhole program → IsFaultless program → size_fault (code_of (meant program)) ≡ None → Fits (code_of (meant program)) }
 {
     tables_are_small();
     numbers_fit();

@@ -38,7 +38,7 @@ bytes_tell k text bytes (Ok source) h m i = sym (file_cut k text bytes h) ∙ m
 bytes_tell k text bytes (Err (At Missing file)) h m i = absurd i
 bytes_tell k text bytes (Err (At TooLong file)) h m i = sym (file_cut k text bytes h) ∙ m (λ e. cc (e))
 bytes_tell k text bytes (Err (At ReadFault file)) h m i = absurd i
-bytes_tell k text bytes (Err (At (Spelling number place) file)) h m i = sym (file_cut k text bytes h) ∙ m (λ e. cc (e))
+bytes_tell k text bytes (Err (At (Spelling wrong place) file)) h m i = sym (file_cut k text bytes h) ∙ m (λ e. cc (e))
 bytes_tell k text bytes (Err Memory) h m i = tt
 
 pub IfSome_at : {X : Type 0} (o : Option X) (x : X) (P : X → Type 0) → o ≡ Some x → IfSome o P → P x

@@ -95,7 +95,7 @@ next_fault files names i k name us ms (At ReadFault f) l is at e t = λ lib. sub
 
     reached : AreUnits (load_from 0 (map files (take i names)))
     reached = subst AreUnits (sym e) tt
-next_fault files names i k name us ms (At (Spelling number place) f) l is at e t = λ lib. refused_file files names lib i k name us ms (At (Spelling number place) f) l is at e t
+next_fault files names i k name us ms (At (Spelling wrong place) f) l is at e t = λ lib. refused_file files names lib i k name us ms (At (Spelling wrong place) f) l is at e t
 next_fault files names i k name us ms Memory l is at e t = λ lib. tt
 
 -- Where all files are units, the library decides.
@@ -109,7 +109,7 @@ pub spelled_fault : (names : List (List ℕ)) (lib : Bool) (files : Files) (faul
 spelled_fault names lib files (At Missing k) s h = absurd s
 spelled_fault names lib files (At TooLong k) s h = absurd s
 spelled_fault names lib files (At ReadFault k) s h = absurd s
-spelled_fault names lib files (At (Spelling number place) k) s h = h (λ e. cc (e))
+spelled_fault names lib files (At (Spelling wrong place) k) s h = h (λ e. cc (e))
 spelled_fault names lib files Memory s h = tt
 
 -- ---- what is read

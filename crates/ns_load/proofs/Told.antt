@@ -22,7 +22,7 @@ pub bytes_fault : (k : ℕ) (bytes : List ℕ) (fault : LoadFault) → (fault �
 bytes_fault k bytes (At Missing file) m = (Some bytes, m (λ e. cc (e)))
 bytes_fault k bytes (At TooLong file) m = (Some bytes, m (λ e. cc (e)))
 bytes_fault k bytes (At ReadFault file) m = (None, tt)
-bytes_fault k bytes (At (Spelling number place) file) m = (Some bytes, m (λ e. cc (e)))
+bytes_fault k bytes (At (Spelling wrong place) file) m = (Some bytes, m (λ e. cc (e)))
 bytes_fault k bytes Memory m = (None, tt)
 
 pub result_fault : (k : ℕ) (bytes : List ℕ) (result : Result Source LoadFault)
@@ -87,8 +87,8 @@ pub fault_texts : (names : List (List ℕ)) (k : ℕ) (us : List p.SourceUnit) (
 fault_texts names k us ms (At Missing f) a e l (text, h) = refused_texts names us ms text (At Missing f) (texts_of 0 us ms a) (subst (λ n. n < length names) e l) (subst (λ n. read_file n text ≡ refused (At Missing f)) e h)
 fault_texts names k us ms (At TooLong f) a e l (text, h) = refused_texts names us ms text (At TooLong f) (texts_of 0 us ms a) (subst (λ n. n < length names) e l) (subst (λ n. read_file n text ≡ refused (At TooLong f)) e h)
 fault_texts names k us ms (At ReadFault f) a e l (text, h) = no_texts names (At ReadFault f) (λ texts lib. tt)
-fault_texts names k us ms (At (Spelling number place) f) a e l (text, h) =
-    refused_texts names us ms text (At (Spelling number place) f) (texts_of 0 us ms a) (subst (λ n. n < length names) e l) (subst (λ n. read_file n text ≡ refused (At (Spelling number place) f)) e h)
+fault_texts names k us ms (At (Spelling wrong place) f) a e l (text, h) =
+    refused_texts names us ms text (At (Spelling wrong place) f) (texts_of 0 us ms a) (subst (λ n. n < length names) e l) (subst (λ n. read_file n text ≡ refused (At (Spelling wrong place) f)) e h)
 fault_texts names k us ms Memory a e l (text, h) = memory_texts names
 
 -- ---- all files
@@ -109,7 +109,7 @@ spelled_texts : (texts : List (Option (List ℕ))) (lib : Bool) (fault : LoadFau
 spelled_texts texts lib (At Missing k) s h = absurd s
 spelled_texts texts lib (At TooLong k) s h = absurd s
 spelled_texts texts lib (At ReadFault k) s h = tt
-spelled_texts texts lib (At (Spelling number place) k) s h = h (λ e. cc (e))
+spelled_texts texts lib (At (Spelling wrong place) k) s h = h (λ e. cc (e))
 spelled_texts texts lib Memory s h = tt
 
 -- What is answered of the library behind files that were read is told of the texts.

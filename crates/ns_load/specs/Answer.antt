@@ -19,7 +19,7 @@ abbrev pub IsSpelling : LoadFault → Type 0
 IsSpelling (At Missing file) = ⊥
 IsSpelling (At TooLong file) = ⊥
 IsSpelling (At ReadFault file) = ⊥
-IsSpelling (At (Spelling number place) file) = Unit {0}
+IsSpelling (At (Spelling wrong place) file) = Unit {0}
 IsSpelling Memory = Unit {0}
 
 -- The bytes of a file are too many, or wrong, or no memory was found.
@@ -27,7 +27,7 @@ abbrev pub IsOfBytes : LoadFault → Type 0
 IsOfBytes (At Missing file) = ⊥
 IsOfBytes (At TooLong file) = Unit {0}
 IsOfBytes (At ReadFault file) = ⊥
-IsOfBytes (At (Spelling number place) file) = Unit {0}
+IsOfBytes (At (Spelling wrong place) file) = Unit {0}
 IsOfBytes Memory = Unit {0}
 
 -- ---- one file
@@ -37,7 +37,7 @@ abbrev pub TellsFileFault : ℕ → Option (List ℕ) → LoadFault → Type 0
 TellsFileFault k text (At Missing file) = read_file k text ≡ refused (At Missing file)
 TellsFileFault k text (At TooLong file) = read_file k text ≡ refused (At TooLong file)
 TellsFileFault k text (At ReadFault file) = (file ≡ k) × IsSome text
-TellsFileFault k text (At (Spelling number place) file) = read_file k text ≡ refused (At (Spelling number place) file)
+TellsFileFault k text (At (Spelling wrong place) file) = read_file k text ≡ refused (At (Spelling wrong place) file)
 TellsFileFault k text Memory = Unit {0}
 
 -- The answer says what the file is read as.
@@ -50,7 +50,7 @@ abbrev pub IsFaultOf : ℕ → Option (List ℕ) → LoadFault → Type 0
 IsFaultOf k text (At Missing file) = read_file k text ≡ refused (At Missing file)
 IsFaultOf k text (At TooLong file) = read_file k text ≡ refused (At TooLong file)
 IsFaultOf k text (At ReadFault file) = Unit {0}
-IsFaultOf k text (At (Spelling number place) file) = read_file k text ≡ refused (At (Spelling number place) file)
+IsFaultOf k text (At (Spelling wrong place) file) = read_file k text ≡ refused (At (Spelling wrong place) file)
 IsFaultOf k text Memory = Unit {0}
 
 -- There is a text of which the fault is that of a file.
@@ -77,7 +77,7 @@ abbrev pub TellsFault : List (List ℕ) → Bool → Files → LoadFault → Typ
 TellsFault names lib files (At Missing k) = loaded names lib files ≡ stopped (At Missing k)
 TellsFault names lib files (At TooLong k) = loaded names lib files ≡ stopped (At TooLong k)
 TellsFault names lib files (At ReadFault k) = IsReached names files k
-TellsFault names lib files (At (Spelling number place) k) = loaded names lib files ≡ stopped (At (Spelling number place) k)
+TellsFault names lib files (At (Spelling wrong place) k) = loaded names lib files ≡ stopped (At (Spelling wrong place) k)
 TellsFault names lib files Memory = Unit {0}
 
 -- The answer says what the files are loaded as.
@@ -90,7 +90,7 @@ abbrev pub IsFaultOfTexts : List (Option (List ℕ)) → Bool → LoadFault → 
 IsFaultOfTexts texts lib (At Missing k) = loaded_texts texts lib ≡ stopped (At Missing k)
 IsFaultOfTexts texts lib (At TooLong k) = loaded_texts texts lib ≡ stopped (At TooLong k)
 IsFaultOfTexts texts lib (At ReadFault k) = Unit {0}
-IsFaultOfTexts texts lib (At (Spelling number place) k) = loaded_texts texts lib ≡ stopped (At (Spelling number place) k)
+IsFaultOfTexts texts lib (At (Spelling wrong place) k) = loaded_texts texts lib ≡ stopped (At (Spelling wrong place) k)
 IsFaultOfTexts texts lib Memory = Unit {0}
 
 -- The answer says what these texts are loaded as.

@@ -6,6 +6,8 @@ use Rattle.ns_lex.specs.declared.fault.LexFault.{LexFault}
 use Rattle.ns_lex.specs.declared.fault.LexFault.TheVariants as lexing
 use Rattle.ns_load.specs.Place.{marks, place_of}
 use Rattle.ns_load.specs.declared.fault.LoadCause.TheVariants.{Missing, TooLong, Spelling}
+use Rattle.ns_load.specs.declared.fault.SpellingCause.{SpellingCause}
+use Rattle.ns_load.specs.declared.fault.SpellingCause.TheVariants.{BadByte, UnclosedComment, UnclosedString, BigNumber, TooDeep, Syntax}
 use Rattle.ns_load.specs.declared.fault.LoadFault.{LoadFault}
 use Rattle.ns_load.specs.declared.fault.LoadFault.TheVariants.{At, Memory}
 use Rattle.ns_parse.specs.Parse.{parse}
@@ -20,16 +22,16 @@ pub data Reading : Type 0 where
   spells : (unit : p.SourceUnit) (places : List Place) → Reading
   refused : (fault : LoadFault) → Reading
 
--- the fault of a text that is wrong at that offset
-abbrev pub wrong : ℕ → List ℕ → ℕ → ℕ → LoadFault
-wrong file source number offset = At (Spelling number (place_of file source offset)) file
+-- the fault of a text that is wrong so at that offset
+abbrev pub wrong : ℕ → List ℕ → SpellingCause → ℕ → LoadFault
+wrong file source cause offset = At (Spelling cause (place_of file source offset)) file
 
 -- a fault of the tokens (no source wants memory)
 abbrev pub lexical : ℕ → List ℕ → LexFault → LoadFault
-lexical file source (lexing.BadByte at) = wrong file source 1 at
-lexical file source (lexing.UnclosedComment at) = wrong file source 2 at
-lexical file source (lexing.UnclosedString at) = wrong file source 3 at
-lexical file source (lexing.BigNumber at) = wrong file source 4 at
+lexical file source (lexing.BadByte at) = wrong file source BadByte at
+lexical file source (lexing.UnclosedComment at) = wrong file source UnclosedComment at
+lexical file source (lexing.UnclosedString at) = wrong file source UnclosedString at
+lexical file source (lexing.BigNumber at) = wrong file source BigNumber at
 lexical file source lexing.Memory = Memory
 
 -- where a token begins, or the end where there is none
@@ -43,8 +45,8 @@ offset_of tokens k end_of = offset_from (slice_get tokens k) end_of
 
 -- a fault of the grammar, which stands at a token or at the end
 abbrev pub grammatical : ℕ → List ℕ → List Token → ParseFault → LoadFault
-grammatical file source tokens (parsing.TooDeep k) = wrong file source 5 (offset_of tokens k (length source))
-grammatical file source tokens (parsing.Syntax k) = wrong file source 6 (offset_of tokens k (length source))
+grammatical file source tokens (parsing.TooDeep k) = wrong file source TooDeep (offset_of tokens k (length source))
+grammatical file source tokens (parsing.Syntax k) = wrong file source Syntax (offset_of tokens k (length source))
 grammatical file source tokens parsing.Memory = Memory
 
 abbrev pub parsed : ℕ → List ℕ → List Token → Result p.SourceUnit ParseFault → Reading

@@ -16,10 +16,25 @@ pub enum LoadCause {
     TooLong,
     /// The file could not be read.
     ReadFault,
-    /// The text is wrong at that place. The number says how: 1 a bad byte, 2 a comment without an
-    /// end, 3 a string without an end, 4 a number that is too big, 5 a bracket that is too deep, 6
-    /// no file goes on so.
-    Spelling { number: u8, place: Place },
+    /// The text is wrong at that place.
+    Spelling { cause: SpellingCause, place: Place },
+}
+
+/// What is wrong with a text.
+#[derive(Clone, Copy)]
+pub enum SpellingCause {
+    /// A byte that begins no token and no gap, or one that may not follow a number.
+    BadByte,
+    /// A comment has no end.
+    UnclosedComment,
+    /// A string has no end.
+    UnclosedString,
+    /// A number is above the greatest.
+    BigNumber,
+    /// A bracket stands in too many others.
+    TooDeep,
+    /// No file goes on so.
+    Syntax,
 }
 
 /// Why there is no program.

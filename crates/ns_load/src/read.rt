@@ -8,7 +8,7 @@ ghost use Rattle.ns_load.specs.Source as spec;
 ghost use Rattle.ns_load.specs.Stated.{IsReading};
 ghost use Rattle.ns_load.specs.declared.fault.LoadFault.TheVariants.{Memory};
 
-use crate::fault::{LoadCause, LoadFault};
+use crate::fault::{LoadCause, LoadFault, SpellingCause};
 use crate::place::{marks, place_of};
 use ns_base::items::Items;
 use ns_base::key::Key;
@@ -95,10 +95,20 @@ fn lexical(file: u32, source: &[u8], fault: LexFault) -> LoadFault
     ensures spelling { IsSpelling result }
 {
     match fault {
-        LexFault::BadByte(at) => wrong(file, source, 1, at as usize),
-        LexFault::UnclosedComment(at) => wrong(file, source, 2, at as usize),
-        LexFault::UnclosedString(at) => wrong(file, source, 3, at as usize),
-        LexFault::BigNumber(at) => wrong(file, source, 4, at as usize),
+        LexFault::BadByte(at) => wrong(file, source, SpellingCause::BadByte, at as usize),
+        LexFault::UnclosedComment(at) => wrong(
+            file,
+            source,
+            SpellingCause::UnclosedComment,
+            at as usize,
+        ),
+        LexFault::UnclosedString(at) => wrong(
+            file,
+            source,
+            SpellingCause::UnclosedString,
+            at as usize,
+        ),
+        LexFault::BigNumber(at) => wrong(file, source, SpellingCause::BigNumber, at as usize),
         LexFault::Memory => LoadFault::Memory,
     }
 }
@@ -110,21 +120,31 @@ fn grammatical(file: u32, source: &[u8], tokens: &[Token], fault: ParseFault) ->
     ensures spelling { IsSpelling result }
 {
     match fault {
-        ParseFault::TooDeep(k) => wrong(file, source, 5, offset_of(tokens, k, source.len())),
-        ParseFault::Syntax(k) => wrong(file, source, 6, offset_of(tokens, k, source.len())),
+        ParseFault::TooDeep(k) => wrong(
+            file,
+            source,
+            SpellingCause::TooDeep,
+            offset_of(tokens, k, source.len()),
+        ),
+        ParseFault::Syntax(k) => wrong(
+            file,
+            source,
+            SpellingCause::Syntax,
+            offset_of(tokens, k, source.len()),
+        ),
         ParseFault::Memory => LoadFault::Memory,
     }
 }
 
-/// The fault of a text that is wrong at that offset.
-fn wrong(file: u32, source: &[u8], number: u8, offset: usize) -> LoadFault
+/// The fault of a text that is wrong so at that offset.
+fn wrong(file: u32, source: &[u8], cause: SpellingCause, offset: usize) -> LoadFault
     requires { length source.now ≤ 1048576 }
-    ensures exact { result ≡ spec.wrong file source.now number offset }
+    ensures exact { result ≡ spec.wrong file source.now cause offset }
     ensures spelling { IsSpelling result }
 {
     let place = place_of(file, source, offset);
     LoadFault::At {
-        cause: LoadCause::Spelling { number, place },
+        cause: LoadCause::Spelling { cause, place },
         file,
     }
 }

@@ -22,7 +22,7 @@ pub refusal_is : (names : List (List ℕ)) (lib : Bool) (files : Files) (fault :
 refusal_is names lib files (At Missing k) i t = t
 refusal_is names lib files (At TooLong k) i t = t
 refusal_is names lib files (At ReadFault k) i t = absurd i
-refusal_is names lib files (At (Spelling number place) k) i t = t
+refusal_is names lib files (At (Spelling wrong place) k) i t = t
 refusal_is names lib files Memory i t = absurd i
 
 -- The report of a refusal is what the files mean.
@@ -34,7 +34,7 @@ pub cause_ends : (file : List ℕ) (cause : LoadCause) → IsEnding (of_cause fi
 cause_ends file Missing = tt
 cause_ends file TooLong = tt
 cause_ends file ReadFault = tt
-cause_ends file (Spelling number place) = tt
+cause_ends file (Spelling wrong place) = tt
 
 pub fault_ends : (names : List (List ℕ)) (fault : LoadFault) → IsEnding (of_fault names fault).status
 fault_ends names (At cause k) = cause_ends (name_of names k) cause
@@ -45,7 +45,7 @@ pub cause_says : {P : Type 0} (file : List ℕ) (cause : LoadCause) → (cause �
 cause_says file Missing f name m = f refl
 cause_says file TooLong f name m = absurd ((file_plain file (codes "TooLong") (λ front. refl)).says name m)
 cause_says file ReadFault f name m = absurd ((told_plain []).says name m)
-cause_says file (Spelling number place) f name m = absurd ((text_plain file place (spelling_name number) (spelling_ends number)).says name m)
+cause_says file (Spelling wrong place) f name m = absurd ((text_plain file place (spelling_name wrong) (spelling_ends wrong)).says name m)
 
 pub fault_says : {P : Type 0} (names : List (List ℕ)) (fault : LoadFault) → ((k : ℕ) → fault ≡ At Missing k → P) → (name : List ℕ) → IsMissing name (of_fault names fault) → P
 fault_says names (At cause k) f name m = cause_says (name_of names k) cause (λ e. f k (ap (λ why. At why k) e)) name m
@@ -61,5 +61,5 @@ pub read_fault_there : (names : List (List ℕ)) (lib : Bool) (files : Files) (f
 read_fault_there names lib files (At Missing k) i t = absurd (cc (i))
 read_fault_there names lib files (At TooLong k) i t = absurd (cc (i))
 read_fault_there names lib files (At ReadFault k) i t = (k, t.0)
-read_fault_there names lib files (At (Spelling number place) k) i t = absurd (cc (i))
+read_fault_there names lib files (At (Spelling wrong place) k) i t = absurd (cc (i))
 read_fault_there names lib files Memory i t = absurd i

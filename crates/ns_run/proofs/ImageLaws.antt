@@ -21,7 +21,7 @@ use Rattle.ns_run_outcome.specs.declared.report.Report.{Report}
 use Rattle.ns_run_outcome.specs.declared.stop.Stop.{Stop}
 use Rattle.ns_run_outcome.specs.declared.stop.Stop.TheVariants as stop
 use Rattle.ns_run.proofs.ReportLaws.{ending_plain, stop_keeps}
-use Rattle.ns_run.specs.Image.{ImageWork, Executes, Lists, image_cause, of_executed, of_image_bytes, of_image_file, of_image, of_listed, of_short, place_text, unsound}
+use Rattle.ns_run.specs.Image.{ImageWork, Executes, Lists, of_executed, of_image_bytes, of_image_fault, of_image_file, of_image, of_listed, of_short, place_text, unsound}
 use Rattle.ns_run.specs.Outcome.{OfSomeText}
 use Rattle.ns_base.specs.declared.no_memory.NoMemory.{NoMemory}
 use Rattle.ns_run.specs.Run.{run_report}
@@ -81,13 +81,13 @@ refused_plain file why b = record {
 pub told_plain_for : (file text : List ℕ) → IsPlainFor file (told text)
 told_plain_for file text = record { ends = tt; says = λ m. cc (m.0) }
 
-pub image_plain : (file : List ℕ) (why : ImageFault) → IsPlainFor file (refused_file file (image_cause why))
+pub image_plain : (file : List ℕ) (why : ImageFault) → IsPlainFor file (of_image_fault file why)
 image_plain file fault.NotAnImage = refused_plain file (codes "NotAnImage") refl
 image_plain file fault.BadVersion = refused_plain file (codes "BadVersion") refl
 image_plain file fault.Truncated = refused_plain file (codes "Truncated") refl
 image_plain file (fault.BadField at) = refused_plain file (codes "BadField " ++ decimal at) refl
 image_plain file fault.Trailing = refused_plain file (codes "Trailing") refl
-image_plain file fault.Memory = refused_plain file (codes "NoMemory") refl
+image_plain file fault.Memory = told_plain_for file []
 
 verify_begins : (why : VerifyCause) (rest : List ℕ) → begins_so (verify_name why ++ rest) ≡ false
 verify_begins cause.BadJump rest = refl

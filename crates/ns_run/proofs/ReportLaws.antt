@@ -1,5 +1,5 @@
 -- What tells one report from another.
-use Rattle.std.proofs.Common.{◌≡◌, ℕ, List, [], ◌∷◌, ◌++◌, take, cond, Bool, true, false, Option, Some, None, Result, Ok, Err, refl, sym, ap, subst, ◌∙◌, codes, IfOk, MatchResult, append_assoc, reverse, nat_eq}
+use Rattle.std.proofs.Common.{◌≡◌, ℕ, List, [], ◌∷◌, ◌++◌, take, Bool, true, false, Option, Some, None, Result, Ok, Err, refl, sym, ap, subst, ◌∙◌, codes, IfOk, MatchResult, append_assoc, reverse}
 use Rattle.std.specs.Prelude.{IsSomeAnd, slice_get}
 use Rattle.std.specs.Bool.{OnTrue}
 use Rattle.std.specs.Fmt.{decimal}
@@ -11,6 +11,8 @@ use Rattle.ns_base.specs.declared.no_memory.NoMemory.{NoMemory}
 use Rattle.ns_base.specs.declared.place.Place.{Place}
 use Rattle.ns_base.specs.declared.status.Status.{Status}
 use Rattle.ns_base.specs.declared.status.Status.TheVariants.{Done, ProgramError, Limit, Refused, ReadFault, WriteFault, Memory}
+use Rattle.ns_load.specs.declared.fault.SpellingCause.{SpellingCause}
+use Rattle.ns_load.specs.declared.fault.SpellingCause.TheVariants as spelling
 use Rattle.ns_run_outcome.specs.Outcome.{IsDelivered, IsEnding, IsMissing, LeavesStreams, Wrote, missing_line}
 use Rattle.ns_run_outcome.specs.Report.{many_name, refused_file, refused_text, spelling_name, size_name, static_name, told}
 use Rattle.ns_run_outcome.specs.declared.report.Report.{Report}
@@ -72,24 +74,13 @@ not_this file front name d h =
 abbrev pub EndsOtherwise : List ℕ → Type 0
 EndsOtherwise name = (front : List ℕ) → bytes_eq (take 5 (reverse (name ++ 10 ∷ []) ++ reverse front)) missing_end ≡ false
 
-pub spelling_ends : (number : ℕ) → EndsOtherwise (spelling_name number)
-spelling_ends number =
-    elim (nat_eq number 1) as (λ q. EndsOtherwise (cond q (codes "BadByte") (cond (nat_eq number 2) (codes "UnclosedComment") (cond (nat_eq number 3) (codes "UnclosedString") (cond (nat_eq number 4) (codes "BigNumber") (cond (nat_eq number 5) (codes "TooDeep") (codes "Syntax"))))))) [
-      | true ↦ λ front. refl
-      | false ↦ elim (nat_eq number 2) as (λ q. EndsOtherwise (cond q (codes "UnclosedComment") (cond (nat_eq number 3) (codes "UnclosedString") (cond (nat_eq number 4) (codes "BigNumber") (cond (nat_eq number 5) (codes "TooDeep") (codes "Syntax")))))) [
-        | true ↦ λ front. refl
-        | false ↦ elim (nat_eq number 3) as (λ q. EndsOtherwise (cond q (codes "UnclosedString") (cond (nat_eq number 4) (codes "BigNumber") (cond (nat_eq number 5) (codes "TooDeep") (codes "Syntax"))))) [
-          | true ↦ λ front. refl
-          | false ↦ elim (nat_eq number 4) as (λ q. EndsOtherwise (cond q (codes "BigNumber") (cond (nat_eq number 5) (codes "TooDeep") (codes "Syntax")))) [
-            | true ↦ λ front. refl
-            | false ↦ elim (nat_eq number 5) as (λ q. EndsOtherwise (cond q (codes "TooDeep") (codes "Syntax"))) [
-              | true ↦ λ front. refl
-              | false ↦ λ front. refl
-            ]
-          ]
-        ]
-      ]
-    ]
+pub spelling_ends : (cause : SpellingCause) → EndsOtherwise (spelling_name cause)
+spelling_ends spelling.BadByte = λ front. refl
+spelling_ends spelling.UnclosedComment = λ front. refl
+spelling_ends spelling.UnclosedString = λ front. refl
+spelling_ends spelling.BigNumber = λ front. refl
+spelling_ends spelling.TooDeep = λ front. refl
+spelling_ends spelling.Syntax = λ front. refl
 
 pub many_ends : (kind : Many) → EndsOtherwise (many_name kind)
 many_ends many.Parameters = λ front. refl

@@ -5,6 +5,8 @@ use Rattle.ns_base.specs.declared.place.Place.{Place}
 use Rattle.ns_run_code.specs.Exec.{Executed, executed, has_run, refused_code, refused_image}
 use Rattle.ns_run_code.specs.Listing.{Listed, listed, lines, unlisted}
 use Rattle.ns_gen_code.specs.Code.{code_of}
+use Rattle.ns_image.specs.declared.fault.ImageFault.{ImageFault}
+use Rattle.ns_image.specs.declared.fault.ImageFault.TheVariants as images
 use Rattle.ns_gen_code.specs.Sizes.{size_fault}
 use Rattle.ns_gen_code.specs.declared.size.SizeKind.{SizeKind}
 use Rattle.ns_session_files.specs.Joint.{Joint, joint, stopped_for}
@@ -23,7 +25,7 @@ use Rattle.ns_run_outcome.specs.Report.{refused_file}
 use Rattle.ns_run_outcome.specs.declared.report.Report.{Report}
 use Rattle.ns_static_rules.specs.Least.{faults, least}
 use Rattle.ns_static_rules.specs.declared.fault.Placed.{Placed}
-use Rattle.ns_run.specs.Image.{ImageWork, Executes, Lists, of_executed, of_image, of_image_bytes, of_listed, of_short, unsound}
+use Rattle.ns_run.specs.Image.{ImageWork, Executes, Lists, of_executed, of_image, of_image_bytes, of_image_fault, of_listed, of_short, unsound}
 use Rattle.ns_run.specs.Meaning.{name_of, of_cause, of_check, of_fault, of_joint, of_line, of_loading, of_reading, of_refusal, of_run, of_sample, of_show, of_sized, of_texts, of_units}
 use Rattle.ns_run.specs.Outcome.{IsNoBuild, OverTexts, StoresNothing}
 use Rattle.ns_run.specs.Task.{Task, Checks, Shows, Builds, Runs}
@@ -76,7 +78,7 @@ cause_keeps : (file : List ℕ) (why : LoadCause) → KeepsNone (of_cause file w
 cause_keeps file cause.Missing = refl
 cause_keeps file cause.TooLong = refl
 cause_keeps file cause.ReadFault = refl
-cause_keeps file (cause.Spelling number place) = refl
+cause_keeps file (cause.Spelling wrong place) = refl
 
 fault_keeps : (names : List (List ℕ)) (why : LoadFault) → KeepsNone (of_fault names why)
 fault_keeps names (fault.At why file) = cause_keeps (name_of names file) why
@@ -99,13 +101,21 @@ unsound_keeps : (file : List ℕ) (why : VerifyCause) (at : Where) → KeepsNone
 unsound_keeps file why (where_at.Class k) = refl
 unsound_keeps file why (where_at.Body k i) = refl
 
+image_keeps_none : (file : List ℕ) (why : ImageFault) → KeepsNone (of_image_fault file why)
+image_keeps_none file images.NotAnImage = refl
+image_keeps_none file images.BadVersion = refl
+image_keeps_none file images.Truncated = refl
+image_keeps_none file (images.BadField at) = refl
+image_keeps_none file images.Trailing = refl
+image_keeps_none file images.Memory = refl
+
 executed_keeps : (file : List ℕ) (done : Executed) → KeepsNone (of_executed file done)
-executed_keeps file (refused_image why) = refl
+executed_keeps file (refused_image why) = image_keeps_none file why
 executed_keeps file (refused_code why at) = unsound_keeps file why at
 executed_keeps file (has_run ran) = refl
 
 listed_keeps : (file : List ℕ) (done : Listed) → KeepsNone (of_listed file done)
-listed_keeps file (unlisted why) = refl
+listed_keeps file (unlisted why) = image_keeps_none file why
 listed_keeps file (lines text) = refl
 
 bytes_keep : (work : ImageWork) (file bytes : List ℕ) → KeepsNone (of_image_bytes work file bytes)

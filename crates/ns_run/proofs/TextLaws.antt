@@ -41,7 +41,7 @@ texts_refused : (texts : List (Option (List ℕ))) (lib : Bool) (fault : LoadFau
 texts_refused texts lib (At Missing k) i t = t
 texts_refused texts lib (At TooLong k) i t = t
 texts_refused texts lib (At ReadFault k) i t = absurd i
-texts_refused texts lib (At (Spelling number place) k) i t = t
+texts_refused texts lib (At (Spelling wrong place) k) i t = t
 texts_refused texts lib Memory i t = absurd i
 
 -- The report of a refusal is what the texts mean.

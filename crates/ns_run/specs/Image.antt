@@ -7,7 +7,7 @@ use Rattle.ns_run_code.specs.Exec.{Executed, executed, has_run, refused_code, re
 use Rattle.ns_run_code.specs.Listing.{Listed, listed, lines, unlisted}
 use Rattle.ns_image.specs.declared.fault.ImageFault.{ImageFault}
 use Rattle.ns_image.specs.declared.fault.ImageFault.TheVariants.{NotAnImage, BadVersion, Truncated, BadField, Trailing, Memory}
-use Rattle.ns_run_outcome.specs.Report.{bad_word, refused_file, told, verify_name}
+use Rattle.ns_run_outcome.specs.Report.{bad_word, never_told, refused_file, told, verify_name}
 use Rattle.ns_run_outcome.specs.declared.report.Report.{Report}
 use Rattle.ns_run.specs.Run.{run_report}
 use Rattle.ns_run.specs.declared.task.ImageTask as tasks
@@ -31,14 +31,14 @@ abbrev pub ImageInRange : ImageWork → Type 0
 ImageInRange (Executes limits arguments) = InRange limits
 ImageInRange Lists = Unit {0}
 
--- why bytes are no image, and at which byte where a field is bad (no image wants memory)
-abbrev pub image_cause : ImageFault → List ℕ
-image_cause NotAnImage = codes "NotAnImage"
-image_cause BadVersion = codes "BadVersion"
-image_cause Truncated = codes "Truncated"
-image_cause (BadField at) = codes "BadField " ++ decimal at
-image_cause Trailing = codes "Trailing"
-image_cause Memory = codes "NoMemory"
+-- the refusal of bytes that are no image: why, and at which byte where a field is bad (no image wants memory)
+abbrev pub of_image_fault : List ℕ → ImageFault → Report
+of_image_fault file NotAnImage = refused_file file (codes "NotAnImage")
+of_image_fault file BadVersion = refused_file file (codes "BadVersion")
+of_image_fault file Truncated = refused_file file (codes "Truncated")
+of_image_fault file (BadField at) = refused_file file (codes "BadField " ++ decimal at)
+of_image_fault file Trailing = refused_file file (codes "Trailing")
+of_image_fault file Memory = never_told
 
 -- where it isn't: at a class, or at an instruction of a body
 abbrev pub place_text : Where → List ℕ
@@ -50,12 +50,12 @@ abbrev pub unsound : List ℕ → VerifyCause → Where → Report
 unsound file cause at = refused_file file (verify_name cause ++ place_text at)
 
 abbrev pub of_executed : List ℕ → Executed → Report
-of_executed file (refused_image fault) = refused_file file (image_cause fault)
+of_executed file (refused_image fault) = of_image_fault file fault
 of_executed file (refused_code cause at) = unsound file cause at
 of_executed file (has_run ran) = run_report None ran
 
 abbrev pub of_listed : List ℕ → Listed → Report
-of_listed file (unlisted fault) = refused_file file (image_cause fault)
+of_listed file (unlisted fault) = of_image_fault file fault
 of_listed file (lines text) = told text
 
 -- what is done with these bytes of the image of that name

@@ -19,7 +19,7 @@ use Rattle.ns_load.specs.declared.fault.LoadFault.{LoadFault}
 use Rattle.ns_load.specs.declared.fault.LoadFault.TheVariants.{At, Memory}
 use Rattle.ns_resolved.specs.Classes.{meant_of}
 use Rattle.ns_resolved.specs.Program.{Meant}
-use Rattle.ns_run_outcome.specs.Report.{bad_word, refused_file, refused_text, spelling_name, static_name, stores, told, too_large}
+use Rattle.ns_run_outcome.specs.Report.{bad_word, never_told, refused_file, refused_text, spelling_name, static_name, stores, told, too_large}
 use Rattle.ns_run_outcome.specs.declared.report.Report.{Report}
 use Rattle.ns_run_outcome.specs.declared.usage.TheConstants.{HELP, VERSION}
 use Rattle.ns_print.specs.Printed.{printed}
@@ -50,7 +50,7 @@ of_check names (Some fault) = refused_text (name_of names fault.place.file) faul
 
 -- the canonical source of the first unit (there is always one)
 abbrev pub of_show : List p.SourceUnit → Report
-of_show [] = told []
+of_show [] = never_told
 of_show (unit ∷ more) = told (printed (flat unit))
 
 -- the run of a program, of which this size is too large: the code of what is meant decides on sizes alone
@@ -89,13 +89,13 @@ of_units (Runs limits arguments classes) names files trees places = of_run names
 abbrev pub of_cause : List ℕ → LoadCause → Report
 of_cause file Missing = refused_file file (codes "Missing")
 of_cause file TooLong = refused_file file (codes "TooLong")
-of_cause file ReadFault = told []
-of_cause file (Spelling number place) = refused_text file place (spelling_name number)
+of_cause file ReadFault = never_told
+of_cause file (Spelling wrong place) = refused_text file place (spelling_name wrong)
 
 -- the refusal of files (none want memory)
 abbrev pub of_fault : List (List ℕ) → LoadFault → Report
 of_fault names (At cause file) = of_cause (name_of names file) cause
-of_fault names Memory = told []
+of_fault names Memory = never_told
 
 abbrev pub of_loading : Task → List (List ℕ) → Bool → Loading → Report
 of_loading task names lib (units trees places) = of_units task names (file_names names lib) trees places

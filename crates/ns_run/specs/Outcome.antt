@@ -56,7 +56,7 @@ abbrev pub IsRefusedFor : LoadCause → Type 0
 IsRefusedFor cause.Missing = Unit {0}
 IsRefusedFor cause.TooLong = Unit {0}
 IsRefusedFor cause.ReadFault = ⊥
-IsRefusedFor (cause.Spelling number place) = Unit {0}
+IsRefusedFor (cause.Spelling wrong place) = Unit {0}
 
 -- The fault refuses a file: it isn't that one couldn't be read, nor want of memory.
 abbrev pub IsRefusal : LoadFault → Type 0

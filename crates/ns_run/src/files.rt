@@ -112,8 +112,8 @@ pub fn on_cause(alloc: Global, file: &str, cause: LoadCause) -> Result<Report, S
         LoadCause::Missing => or_stop(refused_file(alloc, file, "Missing")),
         LoadCause::TooLong => or_stop(refused_file(alloc, file, "TooLong")),
         LoadCause::ReadFault => Err(Stop::ReadFault),
-        LoadCause::Spelling { number, place } => {
-            or_stop(refused_text(alloc, file, place, spelling_name(number)))
+        LoadCause::Spelling { cause, place } => {
+            or_stop(refused_text(alloc, file, place, spelling_name(cause)))
         }
     }
 }

@@ -9,7 +9,6 @@ ghost use Rattle.ns_run_code.specs.Exec.{executed};
 ghost use Rattle.ns_run_code.specs.Listing.{listed};
 ghost use Rattle.ns_image.specs.declared.fault.ImageFault.{ImageFault};
 ghost use Rattle.ns_run_outcome.specs.Outcome.{IsEnding, IsMissing};
-ghost use Rattle.ns_run_outcome.specs.Report.{refused_file as refused_file_lem};
 ghost use Rattle.ns_run.specs.Image as spec;
 ghost use Rattle.ns_run.specs.Outcome.{OfSomeText};
 ghost use Rattle.ns_run.specs.Stated.{ReportsTold};
@@ -122,7 +121,7 @@ fn on_listing(alloc: Global, name: &str, bytes: &[u8]) -> Result<Report, NoMemor
 
 /// The report of bytes that are no image.
 fn refused_image(alloc: Global, name: &str, fault: ImageFault) -> Result<Report, NoMemory>
-    ensures { IfOk result (λ r. r ≡ refused_file_lem name.now (spec.image_cause fault)) }
+    ensures { IfOk result (λ r. r ≡ spec.of_image_fault name.now fault) }
 {
     match fault {
         ImageFault::NotAnImage => refused_file(alloc, name, "NotAnImage"),
@@ -135,7 +134,7 @@ fn refused_image(alloc: Global, name: &str, fault: ImageFault) -> Result<Report,
 }
 
 fn bad_field(alloc: Global, name: &str, at: u64) -> Result<Report, NoMemory>
-    ensures { IfOk result (λ r. r ≡ refused_file_lem name.now (spec.image_cause (ImageFault.BadField at))) }
+    ensures { IfOk result (λ r. r ≡ spec.of_image_fault name.now (ImageFault.BadField at)) }
 {
     let cause = format!(in alloc; "BadField {at}")?;
     refused_file(alloc, name, cause.as_str())

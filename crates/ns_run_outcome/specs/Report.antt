@@ -1,10 +1,12 @@
 -- What a command stores and writes, and its status.
-use Rattle.std.specs.Prelude.{ℕ, List, [], ◌∷◌, ◌++◌, Some, None, codes, nat_eq, if◌then◌else◌}
+use Rattle.std.specs.Prelude.{ℕ, List, [], ◌∷◌, ◌++◌, Some, None, codes}
 use Rattle.std.specs.Fmt.{decimal}
 use Rattle.ns_base.specs.declared.place.Place.{Place}
 use Rattle.ns_base.specs.declared.status.Status.TheVariants as status
 use Rattle.ns_gen_code.specs.declared.size.SizeKind.{SizeKind}
 use Rattle.ns_gen_code.specs.declared.size.SizeKind.TheVariants as size
+use Rattle.ns_load.specs.declared.fault.SpellingCause.{SpellingCause}
+use Rattle.ns_load.specs.declared.fault.SpellingCause.TheVariants.{BadByte, UnclosedComment, UnclosedString, BigNumber, TooDeep, Syntax}
 use Rattle.ns_run_outcome.specs.declared.report.Report.{Report}
 use Rattle.ns_static_rules.specs.declared.fault.Many.{Many}
 use Rattle.ns_static_rules.specs.declared.fault.Many.TheVariants.{Parameters, Locals, Elements, Members, Classes}
@@ -14,15 +16,14 @@ use Rattle.ns_static_rules.specs.declared.fault.StaticCause.TheVariants.{NoSuchO
 use Rattle.ns_verify.specs.declared.fault.VerifyCause.{VerifyCause}
 use Rattle.ns_verify.specs.declared.fault.VerifyCause.TheVariants.{BadJump, BadHeight, BadSlot, BadScope, BadLiteral, NoReturn}
 
--- what is wrong with a text, by its number from 1 to 6
-abbrev pub spelling_name : ℕ → List ℕ
-spelling_name number =
-    if nat_eq number 1 then codes "BadByte"
-    else (if nat_eq number 2 then codes "UnclosedComment"
-    else (if nat_eq number 3 then codes "UnclosedString"
-    else (if nat_eq number 4 then codes "BigNumber"
-    else (if nat_eq number 5 then codes "TooDeep"
-    else codes "Syntax"))))
+-- what is wrong with a text
+abbrev pub spelling_name : SpellingCause → List ℕ
+spelling_name BadByte = codes "BadByte"
+spelling_name UnclosedComment = codes "UnclosedComment"
+spelling_name UnclosedString = codes "UnclosedString"
+spelling_name BigNumber = codes "BigNumber"
+spelling_name TooDeep = codes "TooDeep"
+spelling_name Syntax = codes "Syntax"
 
 abbrev pub many_name : Many → List ℕ
 many_name Parameters = codes "TooMany(Parameters)"
@@ -83,6 +84,10 @@ refused_text file place cause =
 -- A command that only tells a text writes it, and is done.
 abbrev pub told : List ℕ → Report
 told text = record { out = text; err = []; status = status.Done; stored = None }
+
+-- what stands where a definition has a case that never comes: no text and no image is refused for such a cause
+abbrev pub never_told : Report
+never_told = told []
 
 -- A command that only stores a file writes nothing, and is done.
 abbrev pub stores : List ℕ → List ℕ → Report

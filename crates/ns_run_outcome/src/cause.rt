@@ -4,20 +4,21 @@ ghost use Rattle.std.specs.Prelude.{◌≡◌};
 ghost use Rattle.ns_run_outcome.specs.Report as spec;
 
 use ns_gen_code::size::SizeKind;
+use ns_load::fault::SpellingCause;
 use ns_static_rules::fault::{Many, StaticCause};
 use ns_verify::fault::VerifyCause;
 
-/// What is wrong with a text, by the number that the loader gives.
-pub fn spelling_name(number: u8) -> &'static str
-    ensures { result.now ≡ spec.spelling_name number }
+/// What is wrong with a text.
+pub fn spelling_name(cause: SpellingCause) -> &'static str
+    ensures { result.now ≡ spec.spelling_name cause }
 {
-    match number {
-        1 => "BadByte",
-        2 => "UnclosedComment",
-        3 => "UnclosedString",
-        4 => "BigNumber",
-        5 => "TooDeep",
-        _ => "Syntax",
+    match cause {
+        SpellingCause::BadByte => "BadByte",
+        SpellingCause::UnclosedComment => "UnclosedComment",
+        SpellingCause::UnclosedString => "UnclosedString",
+        SpellingCause::BigNumber => "BigNumber",
+        SpellingCause::TooDeep => "TooDeep",
+        SpellingCause::Syntax => "Syntax",
     }
 }
 

@@ -47,7 +47,7 @@ abbrev pub IsRefusedFile : LoadCause → Type 0
 IsRefusedFile Missing = Unit {0}
 IsRefusedFile TooLong = Unit {0}
 IsRefusedFile ReadFault = ⊥
-IsRefusedFile (Spelling number place) = Unit {0}
+IsRefusedFile (Spelling wrong place) = Unit {0}
 
 abbrev pub HasRefusedFile : JointFault → Type 0
 HasRefusedFile fault.Unread = Unit {0}
@@ -77,7 +77,7 @@ abbrev pub fault_from : (LoadCause → ℕ → JointFault) → LoadFault → Joi
 fault_from unloading (At Missing file) = unloading Missing file
 fault_from unloading (At TooLong file) = unloading TooLong file
 fault_from unloading (At ReadFault file) = fault.Unread
-fault_from unloading (At (Spelling number place) file) = unloading (Spelling number place) file
+fault_from unloading (At (Spelling wrong place) file) = unloading (Spelling wrong place) file
 fault_from unloading Memory = fault.Memory
 
 -- ---- one application

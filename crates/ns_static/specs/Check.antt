@@ -1,5 +1,5 @@
 -- What the check of a program answers.
-use Rattle.std.specs.Prelude.{◌≡◌, map, Option, Some}
+use Rattle.std.specs.Prelude.{◌≡◌, map, Option, None, Some}
 use Rattle.ns_tree.specs.PlainOf.{unit_of}
 use Rattle.ns_scope.specs.declared.program.Program.{Program}
 use Rattle.ns_static_rules.specs.declared.fault.Placed.{Placed}
@@ -10,6 +10,10 @@ use Rattle.ns_static_rules.specs.Least.{least, faults}
 -- the least fault of a program, if it has one
 abbrev pub fault_of : Program → Option Placed
 fault_of program = least (faults (map unit_of program.units) program.marks)
+
+-- The program has no static fault.
+abbrev pub IsFaultless : Program → Type 0
+IsFaultless program = fault_of program ≡ None
 
 -- A fault that is told is the least one; want of memory is told of any program.
 abbrev pub Told : Option Placed → StaticFault → Type 0

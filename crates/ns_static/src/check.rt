@@ -2,7 +2,7 @@
 
 ghost use Rattle.std.specs.Prelude.{◌≡◌, None, IfOk, MatchResult};
 ghost use Rattle.ns_scope.specs.Whole.{IsWhole};
-ghost use Rattle.ns_static.specs.Check.{fault_of, Told};
+ghost use Rattle.ns_static.specs.Check.{fault_of, IsFaultless, Told};
 
 use crate::fault::StaticFault;
 use crate::units::{Before, unit_faults};
@@ -40,7 +40,7 @@ impl Checked {
     /// The program.
     pub fn program(&self) -> &Program
         ensures program { result.now ≡ self.now }
-        ensures faultless { fault_of result.now ≡ None }
+        ensures faultless { IsFaultless result.now }
         ensures whole { IsWhole result.now }
     {
         &self.program
