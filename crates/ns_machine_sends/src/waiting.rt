@@ -137,6 +137,7 @@ fn arrive_in(
 }
 
 /// Fills the values so far that an answer has a place behind the caller's.
+#[tactic(auto, using(crate::proofs::Awaited::place_there, crate::proofs::Awaited::top_fits))]
 pub fn make_place(code: &CodeProgram, core: &mut Core, at: Registers, sent: Sent)
     requires stands { AreStanding code.now core.old.stack at }
     requires waits { ArgumentsWait code.now core.old.stack at sent.floor sent.first }
