@@ -101,11 +101,12 @@ must_end code grants onward stay old new from n steps before after stays is (inl
 must_end code grants onward stay old new from n steps before after stays is (inr turned) going = let still = turned.still in absurd (cc)
 
 waits_go : (code : CodeProgram) (core : Core) (p : Pending) (at : Registers)
-    → is_still (state_shown code core.places (phase_shown core.phase) p core.stack at (progress_in core)) ≡ false
+    → is_still (state_shown code core.places (phase_shown core.phase) p core.arguments.items core.stack at (progress_in core)) ≡ false
 waits_go code core pending.Nothing at = refl
-waits_go code core (pending.Sending receiver sel site floor first) at = refl
+waits_go code core (pending.Sending receiver sel site floor) at = refl
 waits_go code core (pending.Performing receiver sel array site floor) at = refl
 waits_go code core (pending.Evaluating block site floor first) at = refl
+waits_go code core (pending.EvaluatingKept block site floor) at = refl
 
 -- the moves of a turn that has led to an end
 pub has_ran : (code : CodeProgram) (steps : ℕ) (old : State) (core : Core) → Turns code steps old (shown code core next.Ended)

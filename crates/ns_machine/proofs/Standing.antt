@@ -99,12 +99,13 @@ with_board_of core board = record core { run = record core.run { board = board }
 
 -- it shows the same state with that board
 waiting_swapped : (code : CodeProgram) (core : Core) (board : Board) (p : Pending) (at : Registers)
-    → state_shown code core.places (phase_shown core.phase) p core.stack at (progress_in (with_board_of core board))
-    ≡ swapped board (state_shown code core.places (phase_shown core.phase) p core.stack at (progress_in core))
+    → state_shown code core.places (phase_shown core.phase) p core.arguments.items core.stack at (progress_in (with_board_of core board))
+    ≡ swapped board (state_shown code core.places (phase_shown core.phase) p core.arguments.items core.stack at (progress_in core))
 waiting_swapped code core board pending.Nothing at = refl
-waiting_swapped code core board (pending.Sending receiver sel site floor first) at = refl
+waiting_swapped code core board (pending.Sending receiver sel site floor) at = refl
 waiting_swapped code core board (pending.Performing receiver sel array site floor) at = refl
 waiting_swapped code core board (pending.Evaluating block site floor first) at = refl
+waiting_swapped code core board (pending.EvaluatingKept block site floor) at = refl
 
 pub stage_swapped : (code : CodeProgram) (core : Core) (board : Board) (stage : Stage)
     → stage_shown code (with_board_of core board) stage ≡ swapped board (stage_shown code core stage)
@@ -123,7 +124,7 @@ pub swapped_machine : (code : CodeProgram) (grants : Grants) (plan : Plan) (core
     → SwapsKeepValid code grants → IsMachine code grants plan core own stage → IsMachine code grants plan (with_board_of core board) own stage
 swapped_machine code grants plan core own stage board keeps is = record {
   valid = subst (Valid code grants) (sym (stage_swapped code core board stage)) (keeps board (stage_shown code core stage) is.valid);
-  rooms = record { cells = is.rooms.cells; out = is.rooms.out; frames = is.rooms.frames; values = is.rooms.values; sends = is.rooms.sends };
+  rooms = record { cells = is.rooms.cells; out = is.rooms.out; frames = is.rooms.frames; values = is.rooms.values; evaluations = is.rooms.evaluations; sends = is.rooms.sends };
   stand = stand_swapped code core board stage is.stand;
   kept = is.kept;
   prepared = is.prepared;
@@ -148,7 +149,7 @@ waiting_machine : (code : CodeProgram) (grants : Grants) (plan : Plan) (old new 
     → Stays (with_phase old phase) new → IsMachine code grants plan new own after
 waiting_machine code grants plan old new phase own before after is valid stand run stays = record {
   valid = valid;
-  rooms = rooms_stay code (with_phase old phase) new (record { cells = is.rooms.cells; out = is.rooms.out; frames = is.rooms.frames; values = is.rooms.values; sends = is.rooms.sends }) stays;
+  rooms = rooms_stay code (with_phase old phase) new (record { cells = is.rooms.cells; out = is.rooms.out; frames = is.rooms.frames; values = is.rooms.values; evaluations = is.rooms.evaluations; sends = is.rooms.sends }) stays;
   stand = stand;
   kept = subst (λ (r : Run). All (IsRight r.world.world.cells code) r.memo) (sym run) is.kept;
   prepared = is.prepared;

@@ -1,5 +1,5 @@
 -- A send that waits on the values alone.
-use Rattle.std.proofs.Common.{◌≡◌, ℕ, ◌≤◌, List, [], length, drop, refl, ap, sym, subst, ◌∙◌, arith, slice_get}
+use Rattle.std.proofs.Common.{◌≡◌, ℕ, ◌≤◌, List, [], length, refl, ap, sym, subst, ◌∙◌, arith, slice_get}
 use Rattle.ns_base.specs.declared.place.Place.{Place as SourcePlace}
 use Rattle.ns_base.specs.declared.selector.Sel.{Sel}
 use Rattle.ns_code.specs.declared.program.CodeProgram.{CodeProgram}
@@ -44,20 +44,19 @@ none_standing code stack at top none laid low = record {
 }
 
 pub send_waits : (code : CodeProgram) (core : Core) (stack : Stack) (at : Registers) (receiver : Value) (sel : Sel) (site : KeptSite) (place : ℕ) (arguments : List Value)
-    → site ≡ record { place = place; class = class_name_of core.run.world.world.cells receiver; sel = sel } → in_use stack at ≡ arguments
+    → site ≡ record { place = place; class = class_name_of core.run.world.world.cells receiver; sel = sel }
     → stack.frames.items ≡ [] → IsLaid stack at → stack.values.room ≡ core.stack.values.room → stack.frames.room ≡ core.stack.frames.room
     → SendWaits code core receiver sel (slice_get core.places place) arguments
-    (record core { stack = stack; waiting = pending.Sending receiver sel site 0 0 }) (next.Waits at)
-send_waits code core stack at receiver sel site place arguments site_is used none laid values frames = record {
+    (record core { stack = stack; waiting = pending.Sending receiver sel site 0; arguments = record core.arguments { items = arguments } }) (next.Waits at)
+send_waits code core stack at receiver sel site place arguments site_is none laid values frames = record {
   state =
-      ap (λ (f : List state.Frame). state.Pends (phase_shown core.phase) (state.Sending receiver sel (drop 0 (in_use stack at)) (site_shown core.places site)) f (progress_in core))
+      ap (λ (f : List state.Frame). state.Pends (phase_shown core.phase) (state.Sending receiver sel arguments (site_shown core.places site)) f (progress_in core))
       (none_shown code core.places stack.frames.items at.next (in_use stack (with_top 0 at)) none)
-      ∙ (ap (λ (values : List Value). state.Pends (phase_shown core.phase) (state.Sending receiver sel values (site_shown core.places site)) [] (progress_in core)) used
-      ∙ ap (λ (s : KeptSite). state.Pends (phase_shown core.phase) (state.Sending receiver sel arguments (site_shown core.places s)) [] (progress_in core)) site_is);
+      ∙ ap (λ (s : KeptSite). state.Pends (phase_shown core.phase) (state.Sending receiver sel arguments (site_shown core.places s)) [] (progress_in core)) site_is;
   stand = (
     none_standing code stack at at.top none laid (omega arith),
     record {
-      arguments = record {
+      below = record {
         order = omega arith;
         low = omega arith;
         reach = omega arith;
@@ -67,5 +66,5 @@ send_waits code core stack at receiver sel site place arguments site_is used non
     },
   );
   run = refl;
-  stays = record { world = record { limits = refl; room = (refl, refl) }; values = values; frames = frames; places = refl };
+  stays = record { world = record { limits = refl; room = (refl, refl) }; values = values; frames = frames; places = refl; arguments = refl };
 }

@@ -20,6 +20,7 @@ use ns_code::selector::text_arity;
 use ns_facets::board::Board;
 use ns_find::memo::Memo;
 use ns_machine_core::state::{Core, Phase};
+use ns_machine_frames::arguments::Arguments;
 use ns_machine_frames::frame::Pending;
 use ns_machine_frames::stack::Stack;
 use ns_machine_plan::plan::Plan;
@@ -27,14 +28,14 @@ use ns_world::ending::{Ending, LimitKind};
 use ns_world::world::World;
 use std::alloc::Global;
 
-/// How many values are kept at least beside those of frames: the arguments of a send or an evaluation that waits.
-const ARGUMENTS: u64 = 256;
+/// The most arguments of an evaluation.
+const ARGUMENTS: usize = 255;
 
 /// The most arguments that a selector takes which the machine sends by itself.
 const OWN_ARGUMENTS: usize = 2;
 
-/// The most values that can be numbered.
-const MOST_VALUES: u64 = 4_294_967_295;
+/// The most arguments that can be numbered.
+const MOST: usize = 4_294_967_295;
 
 /// The memory of a run in which nothing was done. Where it ends at once, its start has passed the limit on cells.
 pub fn memory_for(
@@ -49,6 +50,7 @@ pub fn memory_for(
 {
     let world = world_for(alloc, limits)?;
     let stack = stack_for(alloc, code, plan, limits.depth)?;
+    let arguments = arguments_for(alloc, code.names.as_slice())?;
     let memo = Memo::new(alloc)?;
     let places = places_for(alloc, code, plan)?;
     Ok(Core {
@@ -62,6 +64,7 @@ pub fn memory_for(
         places,
         phase: Phase::Start,
         waiting: Pending::Nothing,
+        arguments,
         ending: Ending::Limit(LimitKind::Cells),
     })
 }
@@ -78,24 +81,30 @@ fn world_for(alloc: Global, limits: Limits) -> Result<World, NoMemory>
     Ok(world)
 }
 
-/// No frames, with memory for as many as the limit on depth allows, for their values, and for the arguments of a send that
-/// waits, with its answer.
+/// No frames, with memory for as many as the limit on depth allows, for their values, and for one more.
 fn stack_for(alloc: Global, code: &CodeProgram, plan: &Plan, depth: u64) -> Result<Stack, NoMemory>
     requires depth { depth ≤ 100000 }
     requires plan { IsPlanOf code.now plan.now }
     ensures frames { IfOk result (λ stack. depth ≤ stack.frames.room) }
-    ensures values { IfOk result (λ stack. depth * greatest_of code.now.bodies + 256 ≤ stack.values.room) }
-    ensures sends { IfOk result (λ stack. depth * greatest_of code.now.bodies + most_arguments code.now.names + 1 ≤ stack.values.room) }
+    ensures values { IfOk result (λ stack. depth * greatest_of code.now.bodies + 1 ≤ stack.values.room) }
 {
-    let most = most_arguments(code.names.as_slice()) as u64;
-    if MOST_VALUES < most {
-        return Err(NoMemory);
-    }
-    let beside = ARGUMENTS.max(most + 1);
-    let values = depth * u64::from(plan.greatest_frame()) + beside;
+    let _code = code;
+    let values = depth * u64::from(plan.greatest_frame()) + 1;
     let mut stack = Stack::new(alloc);
     stack.reserve(values, depth)?;
     Ok(stack)
+}
+
+/// No arguments, with memory for those of each evaluation and of each selector of these names.
+fn arguments_for(alloc: Global, names: &[Text]) -> Result<Arguments, NoMemory>
+    ensures evaluations { IfOk result (λ arguments. 255 ≤ arguments.room) }
+    ensures sends { IfOk result (λ arguments. most_arguments names.now ≤ arguments.room) }
+{
+    let most = most_arguments(names).max(ARGUMENTS);
+    if MOST < most {
+        return Err(NoMemory);
+    }
+    Arguments::new(alloc, most as u32)
 }
 
 /// The most arguments that a selector takes of these names, or of those that the machine sends by itself.

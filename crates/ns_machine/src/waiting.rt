@@ -53,7 +53,7 @@ fn first_class(world: &World) -> Value
     }
 }
 
-/// Lets a send wait, with no frame below it.
+/// Lets a send wait with arguments, which are kept, and with no frame below it.
 pub fn wait_for_send(
     code: &CodeProgram,
     core: &mut Core,
@@ -70,17 +70,14 @@ pub fn wait_for_send(
 {
     let _code = code;
     let site = site_of(&mut core.run.world, receiver, sel, place);
-    let bottom = core.stack.reset();
-    core.stack.make_room(bottom, arguments.len() as u32);
-    let at = core.stack.push_all(bottom, arguments);
+    core.arguments.set(arguments);
     core.waiting = Pending::Sending {
         receiver,
         sel,
         site,
         floor: 0,
-        first: 0,
     };
-    Next::Waits(at)
+    Next::Waits(core.stack.reset())
 }
 
 /// The site of a send to a receiver.

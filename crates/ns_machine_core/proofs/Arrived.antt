@@ -114,3 +114,15 @@ block_waits code core at block site floor first stands waits = record {
   run = refl;
   stays = waiting_stays core (pending.Evaluating block site floor first);
 }
+
+-- The same with the arguments that are kept.
+pub block_waits_kept : (code : CodeProgram) (core : Core) (at : Registers) (block : Value) (site : KeptSite) (floor : ℕ) → AreStanding code core.stack at
+    → ArgumentsWait code core.stack at floor floor
+    → Arrives code core at floor (reached_shown code (site_shown core.places site) core.arguments.items (reached.Evaluates block given.Listed) (progress_in core))
+    (record core { waiting = pending.EvaluatingKept block site floor }) (next.Waits at)
+block_waits_kept code core at block site floor stands waits = record {
+  state = refl;
+  stand = (stands, waits);
+  run = refl;
+  stays = waiting_stays core (pending.EvaluatingKept block site floor);
+}

@@ -17,6 +17,7 @@ use Rattle.ns_actions.specs.declared.control.Given.{Given}
 use Rattle.ns_actions.specs.declared.control.Given.TheVariants as given
 use Rattle.ns_actions.specs.declared.control.Reached.TheVariants as reached
 use Rattle.ns_actions.specs.Bodies.{parameters_of, locals_of, has_environment, height_in, greatest_of}
+use Rattle.ns_actions.specs.Control.{Progress}
 use Rattle.ns_actions.specs.Shown.{given_values, passed, reached_shown}
 use Rattle.ns_actions.specs.Fitting.{StandsWell, FitsNext}
 use Rattle.ns_machine_frames.specs.declared.calls.Call.{Call}
@@ -96,3 +97,15 @@ can_be_entered right depth code own core at call exit entered site sound fits ma
       };
       given = may.given;
     }
+
+-- those arguments are among its locals
+pub arguments_are_locals : ((code : CodeProgram) (number : ℕ) (body : BodyCode) → IsSound code → slice_get code.bodies number ≡ Some body → StandsRight code number body)
+    → (code : CodeProgram) (own : ℕ) (values : List Value) (exit : Exit) (entered : Entered) (site : Site) (progress : Progress) → IsSound code
+    → FitsNext own code (reached_shown code site values (reached.Enters exit entered) progress) → has_environment code entered.body ≡ false
+    → length (given_values progress.world.cells (passed exit values) entered.given) ≤ locals_of code entered.body
+arguments_are_locals right code own values exit entered site progress sound fits none =
+    let well : StandsWell code entered.body = stands_well right code entered.body sound fits.0.fits.there in
+    let many = as_many (has_environment code entered.body) (given_values progress.world.cells (passed exit values) entered.given) (parameters_of code entered.body)
+    (locals_of code entered.body) well.parameters (fits.0.beside well) none in
+    let fewer = well.parameters in
+    omega (arith, many, fewer)

@@ -104,7 +104,7 @@ outside_stored code core world at hops index running value source can top is_top
       (is (site_shown core.places running.activation.site) (progress_in core))
       ∙ by_stood (stood core.stack at) refl can.finds is_top;
   stand = can.stands.frames;
-  stays = record { world = rest; values = refl; frames = refl; places = refl };
+  stays = record { world = rest; values = refl; frames = refl; places = refl; arguments = refl };
   kept = can.kept;
 }
   where

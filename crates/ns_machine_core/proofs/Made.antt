@@ -48,6 +48,7 @@ settled_does code old new world at to instr place site answer next can rest is l
     values = is.stays.values;
     frames = is.stays.frames;
     places = is.stays.places;
+    arguments = is.stays.arguments;
   };
   kept = rw is.run can.kept;
 }

@@ -63,7 +63,7 @@ slot_done code core world at to slot place running value can top under laid fill
       ∙ (by_stood (stood core.stack to) under (subst (λ (s : List Stood). Finds code core.places (instr.StoreSlot slot) s (progress_in core)) under can.finds)
       ∙ ap (λ (s : List Stood). done code core.places (phase_shown core.phase) (instr.StoreSlot slot) place s (progress_in core)) (sym under));
   stand = record { laid = laid; within = can.stands.frames.within };
-  stays = record { world = rest; values = refl; frames = refl; places = refl };
+  stays = record { world = rest; values = refl; frames = refl; places = refl; arguments = refl };
   kept = can.kept;
 }
   where

@@ -1,7 +1,10 @@
 -- What a body that an action reached needs, so that it can be entered.
-use Rattle.std.specs.Prelude.{◌≡◌, ℕ, ◌<◌, ◌≤◌, length}
+use Rattle.std.specs.Prelude.{◌≡◌, ℕ, ◌<◌, ◌≤◌, List, length, false}
 use Rattle.ns_code.specs.declared.program.CodeProgram.{CodeProgram}
 use Rattle.ns_verify.specs.Verify.{IsSound}
+use Rattle.ns_world.specs.declared.value.Value.{Value}
+use Rattle.ns_actions.specs.Bodies.{has_environment, locals_of}
+use Rattle.ns_actions.specs.Control.{Progress}
 use Rattle.ns_actions.specs.declared.site.Site.{Site}
 use Rattle.ns_actions.specs.declared.control.Exit.{Exit}
 use Rattle.ns_actions.specs.declared.control.Entered.{Entered}
@@ -33,3 +36,10 @@ WhatIsReachedIsEntered code =
     (own : ℕ) (core : Core) (at : Registers) (call : Call) (exit : Exit) (entered : Entered) (site : Site) → IsSound code
     → FitsNext own code (reached_shown code site (arguments_of call core.stack at) (reached.Enters exit entered) (progress_in core))
     → MayEnter code core at call exit entered → CanEnter code core at call exit entered
+
+-- The arguments with which an action of sound code enters a body are among its locals, where these stand beside it.
+abbrev pub ArgumentsAreLocals : CodeProgram → Type 0
+ArgumentsAreLocals code =
+    (own : ℕ) (values : List Value) (exit : Exit) (entered : Entered) (site : Site) (progress : Progress) → IsSound code
+    → FitsNext own code (reached_shown code site values (reached.Enters exit entered) progress) → has_environment code entered.body ≡ false
+    → length (given_values progress.world.cells (passed exit values) entered.given) ≤ locals_of code entered.body

@@ -22,14 +22,15 @@ abbrev pub most_arguments : List (List ℕ) → ℕ
 most_arguments [] = 2
 most_arguments (name ∷ names) = max (text_arity name) (most_arguments names)
 
--- Memory was taken for all cells, all output, and as many frames as the limit on depth allows, with their values and 256 more,
--- or the arguments of a send with an answer, where these are more.
+-- Memory was taken for all cells, all output, and as many frames as the limit on depth allows, with their values and one more,
+-- which the block of a method of the kernel gets or a send gives; and for the arguments of a send or an evaluation that waits.
 pub record HasRooms (code : CodeProgram) (core : Core) : Type 0 where
   pub cells : HasRoom core.run.world
   pub out : core.run.world.world.limits.out ≤ core.run.world.out_room
   pub frames : core.run.world.world.limits.depth ≤ core.stack.frames.room
-  pub values : core.run.world.world.limits.depth * greatest_of code.bodies + 256 ≤ core.stack.values.room
-  pub sends : core.run.world.world.limits.depth * greatest_of code.bodies + most_arguments code.names + 1 ≤ core.stack.values.room
+  pub values : core.run.world.world.limits.depth * greatest_of code.bodies + 1 ≤ core.stack.values.room
+  pub evaluations : 255 ≤ core.arguments.room
+  pub sends : most_arguments code.names ≤ core.arguments.room
 
 -- Frames stand on one another, and each has its part of the values.
 pub record AreStanding (code : CodeProgram) (stack : Stack) (at : Registers) : Type 0 where
@@ -48,17 +49,18 @@ pub record ArgumentsWait (code : CodeProgram) (stack : Stack) (at : Registers) (
   pub reach : first ≤ bound (greatest_of code.bodies) stack.frames.items
   pub stands : AreStanding code stack (with_top floor at)
 
--- So do those of a send, whose site has its selector.
-pub record SendWaits (code : CodeProgram) (stack : Stack) (at : Registers) (site : KeptSite) (sel : Sel) (floor first : ℕ) : Type 0 where
-  pub arguments : ArgumentsWait code stack at floor first
+-- So it is up to the floor of a send, whose arguments stand elsewhere and whose site has its selector.
+pub record SendWaits (code : CodeProgram) (stack : Stack) (at : Registers) (site : KeptSite) (sel : Sel) (floor : ℕ) : Type 0 where
+  pub below : ArgumentsWait code stack at floor floor
   pub named : site.sel ≡ sel
 
--- What stands where a send or an evaluation waits; arguments in an array stand nowhere.
+-- What stands where a send or an evaluation waits; arguments that are kept, or stand in an array, are not among the values in use.
 abbrev pub Wait : CodeProgram → Pending → Stack → Registers → Type 0
 Wait code pending.Nothing stack at = Unit {0}
-Wait code (pending.Sending receiver sel site floor first) stack at = SendWaits code stack at site sel floor first
-Wait code (pending.Performing receiver sel array site floor) stack at = SendWaits code stack at site sel floor floor
+Wait code (pending.Sending receiver sel site floor) stack at = SendWaits code stack at site sel floor
+Wait code (pending.Performing receiver sel array site floor) stack at = SendWaits code stack at site sel floor
 Wait code (pending.Evaluating block site floor first) stack at = ArgumentsWait code stack at floor first
+Wait code (pending.EvaluatingKept block site floor) stack at = ArgumentsWait code stack at floor floor
 
 -- The frames stand where the run goes next.
 abbrev pub StandAt : CodeProgram → Core → Next → Type 0
@@ -72,6 +74,7 @@ pub record Stays (old new : Core) : Type 0 where
   pub values : new.stack.values.room ≡ old.stack.values.room
   pub frames : new.stack.frames.room ≡ old.stack.frames.room
   pub places : new.places ≡ old.places
+  pub arguments : new.arguments.room ≡ old.arguments.room
 
 -- The lookups that a machine keeps are right in the world of another, which it was before.
 abbrev pub KeepsRightIn : CodeProgram → Core → Core → Type 0

@@ -96,3 +96,23 @@ pub fn wait_for_block(
     };
     Next::Waits(at)
 }
+
+/// Lets the evaluation of a block wait, with the arguments that are kept.
+#[inline(always)]
+#[tactic(auto, using(crate::proofs::Arrived::block_waits_kept))]
+pub fn wait_for_block_kept(
+    code: &CodeProgram,
+    core: &mut Core,
+    at: Registers,
+    block: Value,
+    site: KeptSite,
+    floor: u32,
+) -> Next
+    requires stands { AreStanding code.now core.old.stack at }
+    requires waits { ArgumentsWait code.now core.old.stack at floor floor }
+    ensures { Arrives code.now core.old at floor (reached_at code.now core.old site core.old.arguments.items (reached.Evaluates block Listed)) core.new result }
+{
+    let _code = code;
+    core.waiting = Pending::EvaluatingKept { block, site, floor };
+    Next::Waits(at)
+}

@@ -2,7 +2,7 @@
 
 ghost use Rattle.ns_code.specs.declared.program.CodeProgram.{CodeProgram};
 ghost use Rattle.ns_facets.specs.declared.row.Grants.{Grants};
-ghost use Rattle.ns_machine_core.specs.Entering.{WhatIsReachedIsEntered};
+ghost use Rattle.ns_machine_core.specs.Entering.{WhatIsReachedIsEntered, ArgumentsAreLocals};
 ghost use Rattle.ns_machine_core.specs.Framed.{ValidIsFramed, WaitingHasRoom, ArgumentsAreFew};
 ghost use Rattle.ns_machine_core.specs.Moving.{ValidHasNextStep};
 ghost use Rattle.ns_machine_core.specs.Passing.{PassingKeepsReady, DoneIsPassed};
@@ -70,7 +70,8 @@ pub fn turns_go_by_moves()
 /// A body that an action of sound code has reached can be entered: it has as many arguments as it asks for, and the
 /// limit on depth, within which its frame was charged, gives it room.
 pub fn what_is_reached_can_be_entered()
-    ensures { (code : CodeProgram) → WhatIsReachedIsEntered code }
+    ensures entered { (code : CodeProgram) → WhatIsReachedIsEntered code }
+    ensures arguments { (code : CodeProgram) → ArgumentsAreLocals code }
 {
     ns_verify::laws::sound_bodies_stand_right();
     ns_machine_frames::laws::frames_have_room();

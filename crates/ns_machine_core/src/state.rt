@@ -3,6 +3,7 @@
 use ns_act::run::Run;
 use ns_base::items::Items;
 use ns_base::place::Place;
+use ns_machine_frames::arguments::Arguments;
 use ns_machine_frames::frame::Pending;
 use ns_machine_frames::registers::Registers;
 use ns_machine_frames::stack::Stack;
@@ -19,7 +20,8 @@ pub enum Phase {
 }
 
 /// What has been done, the frames with their values, the places that sites name by their numbers, how far the run has
-/// come, what waits in it or waited last, and, once it has ended, how.
+/// come, what waits in it or waited last, the arguments that are kept for that, where they are no operands, and, once it has
+/// ended, how.
 #[derive(Drop)]
 pub struct Core {
     pub run: Run,
@@ -27,6 +29,7 @@ pub struct Core {
     pub places: Items<Place>,
     pub phase: Phase,
     pub waiting: Pending,
+    pub arguments: Arguments,
     pub ending: Ending,
 }
 

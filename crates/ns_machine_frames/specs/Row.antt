@@ -3,7 +3,7 @@ use Rattle.std.specs.Prelude.{ℕ, ◌≤◌, List, length}
 use Rattle.ns_world.specs.declared.value.Value.{Value}
 use Rattle.ns_machine_frames.specs.declared.frame.Frame.{Frame}
 
--- the values that were ever needed, and for how many there is room
+-- values, and for how many there is room
 pub record ValueRow : Type 0 where
   pub items : List Value
   pub room : ℕ

@@ -2,6 +2,7 @@
 use Rattle.std.specs.Prelude.{ℕ, List, [], ◌∷◌, drop, slice_get}
 use Rattle.ns_base.specs.declared.place.Place.{Place as SourcePlace}
 use Rattle.ns_code.specs.declared.program.CodeProgram.{CodeProgram}
+use Rattle.ns_world.specs.declared.value.Value.{Value}
 use Rattle.ns_world.specs.Heap.{cell_number}
 use Rattle.ns_actions.specs.declared.site.Site.{Site}
 use Rattle.ns_actions.specs.Control.{Progress, Activation, FromMethod, FromBody, FromClause}
@@ -57,12 +58,14 @@ frames_shown code places (one ∷ stood) = frame_shown code places one ∷ frame
 abbrev pub frames_below : CodeProgram → List SourcePlace → Stack → Registers → ℕ → List state.Frame
 frames_below code places stack at floor = frames_shown code places (stood stack (with_top floor at))
 
--- the state of a run that has begun and hasn't ended, by what waits
-abbrev pub state_shown : CodeProgram → List SourcePlace → Phase → Pending → Stack → Registers → Progress → State
-state_shown code places phase pending.Nothing stack at progress = Going phase (frames_shown code places (stood stack at)) progress
-state_shown code places phase (pending.Sending receiver sel site floor first) stack at progress =
-    Pends phase (Sending receiver sel (drop first (in_use stack at)) (site_shown places site)) (frames_below code places stack at floor) progress
-state_shown code places phase (pending.Performing receiver sel array site floor) stack at progress =
+-- the state of a run that has begun and hasn't ended, by what waits and by the arguments that are kept for it
+abbrev pub state_shown : CodeProgram → List SourcePlace → Phase → Pending → List Value → Stack → Registers → Progress → State
+state_shown code places phase pending.Nothing kept stack at progress = Going phase (frames_shown code places (stood stack at)) progress
+state_shown code places phase (pending.Sending receiver sel site floor) kept stack at progress =
+    Pends phase (Sending receiver sel kept (site_shown places site)) (frames_below code places stack at floor) progress
+state_shown code places phase (pending.Performing receiver sel array site floor) kept stack at progress =
     Pends phase (Performing receiver sel array (site_shown places site)) (frames_below code places stack at floor) progress
-state_shown code places phase (pending.Evaluating block site floor first) stack at progress =
+state_shown code places phase (pending.Evaluating block site floor first) kept stack at progress =
     Pends phase (Evaluating block (drop first (in_use stack at)) (site_shown places site)) (frames_below code places stack at floor) progress
+state_shown code places phase (pending.EvaluatingKept block site floor) kept stack at progress =
+    Pends phase (Evaluating block kept (site_shown places site)) (frames_below code places stack at floor) progress

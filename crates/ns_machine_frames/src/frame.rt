@@ -75,8 +75,9 @@ pub struct Layout {
     pub height: u32,
 }
 
-/// What waits to be done next: nothing; a send, with its arguments from a place on; a send with the elements of an array;
-/// or the evaluation of a block, with its arguments from a place on. The frames' values end at the floor.
+/// What waits to be done next: nothing; a send with the arguments that the machine keeps; a send with the elements of an
+/// array; the evaluation of a block with operands, from a place on; or one with the arguments that the machine keeps. The
+/// frames' values end at the floor.
 #[derive(Clone, Copy)]
 pub enum Pending {
     Nothing,
@@ -85,7 +86,6 @@ pub enum Pending {
         sel: Sel,
         site: KeptSite,
         floor: u32,
-        first: u32,
     },
     Performing {
         receiver: Value,
@@ -99,5 +99,10 @@ pub enum Pending {
         site: KeptSite,
         floor: u32,
         first: u32,
+    },
+    EvaluatingKept {
+        block: Value,
+        site: KeptSite,
+        floor: u32,
     },
 }

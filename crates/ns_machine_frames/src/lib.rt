@@ -3,6 +3,7 @@
 //! Stands between ns_machine_moves and ns_machine_core.
 #![tactic(auto)]
 
+pub mod arguments;
 pub mod calls;
 mod ending;
 mod entering;

@@ -46,6 +46,7 @@ kept_sends code core new at sent run activation target next rest is = record {
     values = is.stays.values;
     frames = is.stays.frames;
     places = is.stays.places;
+    arguments = is.stays.arguments;
   };
   kept = subst (λ (w : WorldView). All (IsRight w.world.cells code) new.run.memo) same is.kept;
 }

@@ -151,6 +151,7 @@ setter_sends code core new at sent receiver word v values next can all same is =
     values = is.stays.values;
     frames = is.stays.frames;
     places = is.stays.places;
+    arguments = is.stays.arguments;
   };
   kept = rw is.run can.kept;
 }

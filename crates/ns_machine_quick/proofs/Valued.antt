@@ -121,6 +121,7 @@ put_sends code core new at sent receiver kind place values v next activation can
     values = is.stays.values;
     frames = is.stays.frames;
     places = is.stays.places;
+    arguments = is.stays.arguments;
   };
   kept = rw is.run can.kept;
 }

@@ -71,7 +71,7 @@ evaluation_moves code core new at looping block argument state world n can top i
       (frames_shown code core.places (turned state s)) (in_world (progress_in core) world.world)) (sure code core at looping can top).stood_is
       ∙ moves_to code core at looping (waited.Evaluates block argument state) world can top is);
   stand = awaits.stand;
-  stays = stays_on core (in_other core world) new (record { world = rest; values = refl; frames = refl; places = refl }) awaits.stays;
+  stays = stays_on core (in_other core world) new (record { world = rest; values = refl; frames = refl; places = refl; arguments = refl }) awaits.stays;
   kept = rw awaits.run can.kept;
 }
 
@@ -146,7 +146,7 @@ count_is looping state frames top waits =
 module _ (code : CodeProgram) (first : Core) (at : Registers) (looping : LoopingFrame) where
   stands_other : (world : WorldView) → CanAct code first at → SameRest first.run.world world → Stands code (in_other first world) at
   stands_other world can rest = record {
-    rooms = rooms_stay code first (in_other first world) can.stands.rooms (record { world = rest; values = refl; frames = refl; places = refl });
+    rooms = rooms_stay code first (in_other first world) can.stands.rooms (record { world = rest; values = refl; frames = refl; places = refl; arguments = refl });
     frames = can.stands.frames;
   }
 

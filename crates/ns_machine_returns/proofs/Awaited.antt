@@ -75,7 +75,7 @@ awaits code core at above looping block argument state stack stands top argued =
     },
   );
   run = refl;
-  stays = record { world = record { limits = refl; room = (refl, refl) }; values = argued.room.values; frames = argued.room.frames; places = refl };
+  stays = record { world = record { limits = refl; room = (refl, refl) }; values = argued.room.values; frames = argued.room.frames; places = refl; arguments = refl };
 }
   where
     items : stack.frames.items ≡ Looping (record looping { state = state }) ∷ below core.stack.frames.items

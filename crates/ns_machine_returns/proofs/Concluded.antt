@@ -20,7 +20,7 @@ use Rattle.ns_machine_frames.specs.declared.frame.Pending.TheVariants as pending
 use Rattle.ns_machine_frames.specs.declared.registers.Registers.{Registers}
 use Rattle.ns_machine_frames.specs.declared.stack.Stack.{Stack}
 use Rattle.ns_machine_frames.specs.Standing.{Stood, standing, at_next}
-use Rattle.ns_machine_frames.specs.Stack.{stood, in_use, with_top, IsLaid}
+use Rattle.ns_machine_frames.specs.Stack.{stood, with_top, IsLaid}
 use Rattle.ns_machine_frames.specs.View.{frames_shown}
 use Rattle.ns_machine_core.specs.declared.state.Core.{Core}
 use Rattle.ns_machine_core.specs.declared.state.Phase.{Phase}
@@ -67,9 +67,9 @@ hosted_ends code core at value is none = run_ends code core at value phase.Hoste
 
 -- ---- the second opening send
 
--- there is room for its two values
-pub two_fit : (code : CodeProgram) (core : Core) → HasRooms code core → 0 + 2 ≤ core.stack.values.room
-two_fit code core rooms = let enough = rooms.values in omega (arith, enough)
+-- there is room for its two arguments
+pub two_fit : (code : CodeProgram) (core : Core) → HasRooms code core → 2 ≤ core.arguments.room
+two_fit code core rooms = let enough = rooms.evaluations in omega (arith, enough)
 
 -- without frames any top within what is filled stands
 none_stand : (code : CodeProgram) (stack : Stack) (at : Registers) → stack.frames.items ≡ [] → at.top ≤ length stack.values.items
@@ -79,43 +79,45 @@ none_stand code stack at none filled within small = record {
   within = rw none tt;
 }
 
-pub second_opens : (code : CodeProgram) (core : Core) (at both : Registers) (stack : Stack) (own : OwnSends) (receiver : Value) (arguments : ℕ) (class : ClassName)
+pub second_opens : (code : CodeProgram) (core : Core) (at bare : Registers) (stack : Stack) (own : OwnSends) (receiver : Value) (arguments : ℕ) (class : ClassName)
     → AreOwn code core.places own → core.stack.frames.items ≡ [] → core.phase ≡ phase.First arguments
-    → class ≡ class_name_of core.run.world.world.cells receiver → stack.frames.items ≡ [] → in_use stack both ≡ platform ∷ Ref arguments ∷ [] → IsLaid stack both
+    → class ≡ class_name_of core.run.world.world.cells receiver → stack.frames.items ≡ [] → IsLaid stack bare
     → stack.values.room ≡ core.stack.values.room → stack.frames.room ≡ core.stack.frames.room
     → IsHanded code core at receiver
     (record core {
       stack = stack;
       phase = phase.Second;
-      waiting = pending.Sending receiver own.main_args (record { place = own.opening; class = class; sel = own.main_args }) 0 0;
+      waiting = pending.Sending receiver own.main_args (record { place = own.opening; class = class; sel = own.main_args }) 0;
+      arguments = record core.arguments { items = platform ∷ Ref arguments ∷ [] };
     })
-    (next.Waits both)
-second_opens code core at both stack own receiver arguments class owns none is_first is_class bare used laid values frames = record {
+    (next.Waits bare)
+second_opens code core at bare stack own receiver arguments class owns none is_first is_class empty laid values frames = record {
   state = waits ∙ sym (alone code core at receiver none ∙ ap (λ (p : Phase). concluded code (phase_shown p) receiver (progress_in core)) is_first);
   stand =
       let low : 0 ≤ length stack.values.items = omega arith in (
-        none_stand code stack both bare laid.filled laid.within laid.small,
+        none_stand code stack bare empty laid.filled laid.within laid.small,
         record {
-          arguments = record {
+          below = record {
             order = omega arith;
             low = omega arith;
             reach = omega arith;
-            stands = none_stand code stack (with_top 0 both) bare low laid.within laid.small;
+            stands = none_stand code stack (with_top 0 bare) empty low laid.within laid.small;
           };
           named = refl;
         },
       );
   run = refl;
-  stays = record { world = record { limits = refl; room = (refl, refl) }; values = values; frames = frames; places = refl };
+  stays = record { world = record { limits = refl; room = (refl, refl) }; values = values; frames = frames; places = refl; arguments = refl };
 }
   where
     sel_is : own.main_args ≡ own_sel code MainArgs
     sel_is = let e = owns.main_args in ap (λ (n : ℕ). let s : Sel = record { 0 = n } in s) e
 
-    pending_for : Sel → Option SourcePlace → ClassName → List Value → List Stood → State
-    pending_for sel place named arguments frames =
-        Pends state.Second (Sending receiver sel arguments (record { place = place; class = named; sel = sel })) (frames_shown code core.places frames) (progress_in core)
+    pending_for : Sel → Option SourcePlace → ClassName → List Stood → State
+    pending_for sel place named frames =
+        Pends state.Second (Sending receiver sel (platform ∷ Ref arguments ∷ []) (record { place = place; class = named; sel = sel }))
+        (frames_shown code core.places frames) (progress_in core)
 
-    waits : pending_for own.main_args (slice_get core.places own.opening) class (in_use stack both) (stood stack (with_top 0 both))
-        ≡ pending_for (own_sel code MainArgs) (opening_place code) (class_name_of core.run.world.world.cells receiver) (platform ∷ Ref arguments ∷ []) []
-    waits = rw (stood_none stack (with_top 0 both) bare, used, is_class, owns.opening, sel_is) refl
+    waits : pending_for own.main_args (slice_get core.places own.opening) class (stood stack (with_top 0 bare))
+        ≡ pending_for (own_sel code MainArgs) (opening_place code) (class_name_of core.run.world.world.cells receiver) []
+    waits = rw (stood_none stack (with_top 0 bare) empty, is_class, owns.opening, sel_is) refl

@@ -44,6 +44,7 @@ left_stays core at here world stack is = record {
   values = ap (λ (row : ValueRow). row.room) is.values;
   frames = ap (λ (row : FrameRow). row.room) is.frames;
   places = refl;
+  arguments = refl;
 }
 
 left_rooms : (code : CodeProgram) (core : Core) (at here : Registers) (world : WorldView) (stack : Stack) → HasRooms code core
@@ -55,7 +56,8 @@ left_rooms code core at here world stack rooms is =
       out = rw (stays.world.limits, stays.world.room.1) rooms.out;
       frames = rw (stays.world.limits, stays.frames) rooms.frames;
       values = rw (stays.world.limits, stays.values) rooms.values;
-      sends = rw (stays.world.limits, stays.values) rooms.sends;
+      evaluations = rw stays.arguments rooms.evaluations;
+      sends = rw stays.arguments rooms.sends;
     }
 
 pub left_takes : (code : CodeProgram) (core : Core) (at here : Registers) (world : WorldView) (stack : Stack) → Stands code core at

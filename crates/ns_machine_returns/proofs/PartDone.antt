@@ -39,7 +39,7 @@ use Rattle.ns_machine_returns.proofs.PartLocals.{HasAll, part_all}
 
 -- what stays in another world of the same limits
 pub world_stays : (core : Core) (world : WorldView) → SameRest core.run.world world → Stays core (in_other core world)
-world_stays core world rest = record { world = rest; values = refl; frames = refl; places = refl }
+world_stays core world rest = record { world = rest; values = refl; frames = refl; places = refl; arguments = refl }
 
 -- What the action came to.
 pub record IsReached (code : CodeProgram) (core : Core) (world : WorldView) (activation : Activation) (items : List Value) (reached : PartReached) : Type 0 where
@@ -101,7 +101,7 @@ pub part_failed : ((missing : State) → AreTaken missing) → (code : CodeProgr
 part_failed taken code core world at argc place frame items fault can top e many is = record {
   state = leads taken code core world at argc place frame items (part.Fails fault) can top e many is;
   stand = tt;
-  stays = record { world = is.rest; values = refl; frames = refl; places = refl };
+  stays = record { world = is.rest; values = refl; frames = refl; places = refl; arguments = refl };
   kept = can.kept;
 }
 

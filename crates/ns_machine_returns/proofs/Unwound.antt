@@ -55,6 +55,7 @@ gone_stays count core at here world stack gone = record {
   values = ap (λ (row : ValueRow). row.room) gone.values;
   frames = ap (λ (row : FrameRow). row.room) gone.frames;
   places = refl;
+  arguments = refl;
 }
 
 world_after : (count : ℕ) (core : Core) (at here : Registers) (world : WorldView) (stack : Stack) → AreGone count core at world stack here

@@ -105,15 +105,12 @@ fn open_second(
     };
     core.phase = Phase::Second;
     let bare = core.stack.clear(at);
-    core.stack.make_room(bare, 2);
-    let one = core.stack.push(bare, PLATFORM);
-    let both = core.stack.push(one, Value::Ref(arguments));
+    core.arguments.set(&[PLATFORM, Value::Ref(arguments)]);
     core.waiting = Pending::Sending {
         receiver,
         sel: own.main_args,
         site,
         floor: 0,
-        first: 0,
     };
-    Next::Waits(both)
+    Next::Waits(bare)
 }

@@ -53,7 +53,7 @@ may_enter law code core at sent leaving exit entered left goes taken =
 
 -- ---- without arguments
 
-none_left : (floor : ℕ) (values : List Value) → drop floor (take floor values) ≡ []
+pub none_left : (floor : ℕ) (values : List Value) → drop floor (take floor values) ≡ []
 none_left floor values =
     let same : floor + 0 ≡ floor = omega arith in
     subst (λ (n : ℕ). drop floor (take n values) ≡ []) same (drop-take floor 0 values)

@@ -81,7 +81,8 @@ rooms_same code core world board limits room rooms = record {
   out = rw (limits, room.1) rooms.out;
   frames = rw limits rooms.frames;
   values = rw limits rooms.values;
-  sends = rw limits rooms.sends;
+  evaluations = rooms.evaluations;
+  sends = rooms.sends;
 }
 
 pub row_left : (code : CodeProgram) (core : Core) (at : Registers) (sent : Sent) (world : WorldView) (board : Board) → world.world.limits ≡ core.run.world.world.limits
@@ -131,5 +132,6 @@ row_leads code core new at sent receiver number row world board r next same reac
     values = is.stays.values;
     frames = is.stays.frames;
     places = is.stays.places;
+    arguments = is.stays.arguments;
   };
 }

@@ -1,6 +1,7 @@
 pub mod Ended
 pub mod Arrived
 pub mod Entered
+pub mod EnteredKept
 pub mod Placed
 pub mod Leads
 pub mod Stepped
@@ -8,4 +9,5 @@ pub mod Looked
 pub mod Received
 pub mod Selves
 pub mod Evaluated
+pub mod Awaited
 pub mod Resent

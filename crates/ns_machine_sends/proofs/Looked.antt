@@ -88,6 +88,7 @@ looked_sends code core new at sent run activation target next rest is = record {
     values = is.stays.values;
     frames = is.stays.frames;
     places = is.stays.places;
+    arguments = is.stays.arguments;
   };
   kept = subst (λ (w : WorldView). All (IsRight w.world.cells code) new.run.memo) same is.kept;
 }

@@ -23,15 +23,17 @@ use Rattle.ns_actions.specs.Bodies.{no_home}
 use Rattle.ns_actions.specs.Kernel.{row_reached}
 use Rattle.ns_actions.specs.Lawful.{FitsSelector}
 use Rattle.ns_actions.specs.Rows.{row_at}
-use Rattle.ns_actions.specs.Sends.{answered_by}
+use Rattle.ns_actions.specs.Sends.{To, answered_by}
 use Rattle.ns_actions.specs.Stated.{WaitedIsLawful, WaitedFits, WaitedStays, WaitedSpends}
 use Rattle.ns_actions.specs.Suiting.{FoundSuits}
 use Rattle.ns_machine_moves.specs.Arrivals.{arrived}
 use Rattle.ns_act.specs.declared.run.Run.{Run}
 use Rattle.ns_act.specs.declared.sends.Answered.{Answered}
 use Rattle.ns_act.specs.declared.sends.Answered.TheVariants as answers
-use Rattle.ns_act.specs.Answered.{IsAnswered}
+use Rattle.ns_act.specs.Answered.{answered_shown, answered, IsAnswered}
+use Rattle.ns_act.specs.Run.{progress_of}
 use Rattle.ns_act.specs.Room.{SameRest}
+use Rattle.ns_kernel_rows.specs.Asked.{IsAsked}
 use Rattle.ns_kernel_rows.specs.Reaching.{Reaches}
 use Rattle.ns_machine_frames.specs.declared.frame.Frame.{Frame}
 use Rattle.ns_machine_frames.specs.declared.registers.Registers.{Registers}
@@ -45,10 +47,12 @@ use Rattle.ns_machine_core.specs.laws.Worlds.{in_other}
 use Rattle.ns_machine_sends.specs.declared.led.Led.{Led}
 use Rattle.ns_machine_sends.specs.declared.led.Led.TheVariants as led
 use Rattle.ns_machine_sends.specs.declared.sent.Sent.{Sent}
-use Rattle.ns_machine_sends.specs.Going.{arguments_in, control_at, GoesOn, ComesToBody, answered_at, CanAnswer}
+use Rattle.ns_machine_sends.specs.Going.{GoesOn, ComesToBody, IsLeft}
+use Rattle.ns_machine_sends.specs.Kept.{kept_control, kept_answer, CanAskKept, CanAnswerKept}
 use Rattle.ns_machine_sends.specs.Waiting.{CanSendOn, sent_on_at, looked_on, LeadsTo, LeadsKept}
 use Rattle.ns_machine_sends.specs.laws.Goes.{room_above}
-use Rattle.ns_machine_sends.proofs.Leads.{with_world, row_control}
+use Rattle.ns_machine_sends.specs.laws.Stepped.{no_one}
+use Rattle.ns_machine_sends.proofs.Leads.{with_world}
 use Rattle.ns_machine_core.specs.laws.Charged.{step_is}
 use Rattle.ns_machine_sends.proofs.Stepped.{left_in}
 
@@ -64,20 +68,45 @@ no_value (reached.Begins method state) frames none = tt
 no_value (reached.Performs receiver sel array) frames none = tt
 
 pub value_led : (code : CodeProgram) (core : Core) (at : Registers) (sent : Sent) (value : Value)
-    → LeadsKept code core at sent.floor (control_at code core at sent (reached.Gives value)) core (led.Gives value)
+    → LeadsKept code core at sent.floor (kept_control code core sent (reached.Gives value)) core (led.Gives value)
 value_led code core at sent value =
     record { control_is = refl; stack = refl; phase = refl; stays = stack_stays core core.stack refl refl; memo = refl }
 
+pub row_asked : (code : CodeProgram) (core : Core) (at : Registers) (sent : Sent) (receiver : Value) (number : ℕ) → IsLeft code core at sent
+    → CanAskKept code core receiver number → IsAsked code core.run.world receiver core.arguments.items
+row_asked code core at sent receiver number left can = record {
+  lawful = can.lawful;
+  room = record { cells = left.rooms.cells; out = left.rooms.out };
+  live = can.live;
+  all_live = can.all_live;
+}
+
+row_control : (code : CodeProgram) (core : Core) (sent : Sent) (receiver : Value) (number : ℕ) (row : Row) (world : WorldView) (board : Board) (r : Reached)
+    → row ≡ row_at number
+    → Reaches code core.arguments.items (row_reached code row sent.site.sel receiver core.arguments.items) core.run.world core.run.board r world board
+    → kept_control code (with_world core world board) sent r ≡ kept_answer code core sent receiver (answers.Row number)
+row_control code core sent receiver number row world board r same reaches =
+    reaches (site_shown core.places sent.site) core.run.begun
+    ∙ ap (λ (w : Row). row_reached code w sent.site.sel receiver core.arguments.items (site_shown core.places sent.site) (progress_in core)) same
+
+pub row_goes : (code : CodeProgram) (core : Core) (sent : Sent) (receiver : Value) (number : ℕ) (row : Row) (world : WorldView) (board : Board) (r : Reached)
+    → row ≡ row_at number
+    → Reaches code core.arguments.items (row_reached code row sent.site.sel receiver core.arguments.items) core.run.world core.run.board r world board
+    → GoesOn code (length core.stack.frames.items) (kept_answer code core sent receiver (answers.Row number))
+    → GoesOn code (length core.stack.frames.items) (kept_control code (with_world core world board) sent r)
+row_goes code core sent receiver number row world board r same reaches goes =
+    subst (λ (c : Control). GoesOn code (length core.stack.frames.items) c) (sym (row_control code core sent receiver number row world board r same reaches)) goes
+
 pub row_led : (code : CodeProgram) (core new : Core) (at : Registers) (sent : Sent) (receiver : Value) (number : ℕ) (row : Row) (world : WorldView) (board : Board) (r : Reached)
     (to : Led) → row ≡ row_at number
-    → Reaches code (arguments_in core at sent) (row_reached code row sent.site.sel receiver (arguments_in core at sent)) core.run.world core.run.board r world board
+    → Reaches code core.arguments.items (row_reached code row sent.site.sel receiver core.arguments.items) core.run.world core.run.board r world board
     → world.world.limits ≡ core.run.world.world.limits → SameRoom core.run.world world
-    → LeadsKept code (with_world core world board) at sent.floor (control_at code (with_world core world board) at sent r) new to
-    → LeadsKept code core at sent.floor (answered_at code core at sent receiver (answers.Row number)) new to
+    → LeadsKept code (with_world core world board) at sent.floor (kept_control code (with_world core world board) sent r) new to
+    → LeadsKept code core at sent.floor (kept_answer code core sent receiver (answers.Row number)) new to
 row_led code core new at sent receiver number row world board r (led.Goes n) same reaches limits room is = record {
   state = is.state
       ∙ ap (λ (c : Control). arrived code (phase_shown core.phase) c (frames_shown code core.places (stood core.stack (with_top sent.floor at))))
-      (row_control code core at sent receiver number row world board r same reaches);
+      (row_control code core sent receiver number row world board r same reaches);
   stand = is.stand;
   memo = is.memo;
   stays = record {
@@ -88,10 +117,11 @@ row_led code core new at sent receiver number row world board r (led.Goes n) sam
     values = is.stays.values;
     frames = is.stays.frames;
     places = is.stays.places;
+    arguments = is.stays.arguments;
   };
 }
 row_led code core new at sent receiver number row world board r (led.Gives value) same reaches limits room is = record {
-  control_is = sym (row_control code core at sent receiver number row world board r same reaches) ∙ is.control_is;
+  control_is = sym (row_control code core sent receiver number row world board r same reaches) ∙ is.control_is;
   stack = is.stack;
   phase = is.phase;
   stays = record {
@@ -102,6 +132,7 @@ row_led code core new at sent receiver number row world board r (led.Gives value
     values = is.stays.values;
     frames = is.stays.frames;
     places = is.stays.places;
+    arguments = is.stays.arguments;
   };
   memo = is.memo;
 }
@@ -110,7 +141,7 @@ row_led code core new at sent receiver number row world board r (led.Gives value
 
 pub answer_can_on : (code : CodeProgram) (core : Core) (at : Registers) (sent : Sent) (receiver : Value) (run : Run) (member : Found) (answer : Answered)
     → CanSendOn code core at sent receiver → FoundSuits core.run.world.world.cells receiver member → IsAnswered member core.run.world answer run.world
-    → CanAnswer code (record core { run = run }) at sent receiver answer
+    → CanAnswerKept code (record core { run = run }) receiver answer
 answer_can_on code core at sent receiver run member (answers.Comes r) can suits is = is
 answer_can_on code core at sent receiver run member (answers.Row number) can suits is = record {
   lawful = rw is.1 can.lawful;
@@ -119,10 +150,25 @@ answer_can_on code core at sent receiver run member (answers.Row number) can sui
   suits = rw is.1 (subst (λ (f : Found). FoundSuits core.run.world.world.cells receiver f) is.0 suits);
 }
 
+-- what it came to with the arguments that were handed over, which are those that are kept
+pub answer_is : (code : CodeProgram) (core : Core) (sent : Sent) (receiver : Value) (run : Run) (answer : Answered) (values : List Value)
+    → values ≡ core.arguments.items
+    → answered_shown code sent.site.sel receiver (site_shown core.places sent.site) values answer (progress_of run)
+    ≡ answered code no_one (To receiver Plain) sent.site.sel values (site_shown core.places sent.site) (progress_in core)
+    → kept_answer code (record core { run = run }) sent receiver answer ≡ looked_on code core sent receiver
+answer_is code core sent receiver run answer values same e =
+    subst (λ (vs : List Value). answered_shown code sent.site.sel receiver (site_shown core.places sent.site) vs answer (progress_of run)
+    ≡ answered code no_one (To receiver Plain) sent.site.sel vs (site_shown core.places sent.site) (progress_in core)) same e
+
+pub answer_goes : (code : CodeProgram) (core : Core) (sent : Sent) (receiver : Value) (run : Run) (answer : Answered) (control : Control)
+    → kept_answer code (record core { run = run }) sent receiver answer ≡ control → GoesOn code (length core.stack.frames.items) control
+    → GoesOn code (length core.stack.frames.items) (kept_answer code (record core { run = run }) sent receiver answer)
+answer_goes code core sent receiver run answer control e goes = subst (λ (c : Control). GoesOn code (length core.stack.frames.items) c) (sym e) goes
+
 pub answer_led : (code : CodeProgram) (core new : Core) (at : Registers) (sent : Sent) (receiver : Value) (run : Run) (answer : Answered) (control : Control) (to : Led)
-    → answered_at code (record core { run = run }) at sent receiver answer ≡ control → SameRest core.run.world run.world
+    → kept_answer code (record core { run = run }) sent receiver answer ≡ control → SameRest core.run.world run.world
     → All (IsRight core.run.world.world.cells code) run.memo
-    → LeadsKept code (record core { run = run }) at sent.floor (answered_at code (record core { run = run }) at sent receiver answer) new to
+    → LeadsKept code (record core { run = run }) at sent.floor (kept_answer code (record core { run = run }) sent receiver answer) new to
     → LeadsTo code core at sent.floor control new to
 answer_led code core new at sent receiver run answer control (led.Goes n) e rest kept is = record {
   state = is.state
@@ -136,6 +182,7 @@ answer_led code core new at sent receiver run answer control (led.Goes n) e rest
     values = is.stays.values;
     frames = is.stays.frames;
     places = is.stays.places;
+    arguments = is.stays.arguments;
   };
   kept = subst (λ (memo : List (Option Kept)). All (IsRight core.run.world.world.cells code) memo) (sym is.memo) kept;
 }
@@ -151,6 +198,7 @@ answer_led code core new at sent receiver run answer control (led.Gives value) e
     values = is.stays.values;
     frames = is.stays.frames;
     places = is.stays.places;
+    arguments = is.stays.arguments;
   };
   kept = subst (λ (memo : List (Option Kept)). All (IsRight core.run.world.world.cells code) memo) (sym is.memo) kept;
 }
@@ -174,41 +222,41 @@ step_can_on charging code core at sent receiver world e room can = record {
     is = step_is core.run.world.world world.world e
 
 -- such a send is its step, and what its lookup answers then
-pub on_stepped : (code : CodeProgram) (core : Core) (at : Registers) (sent : Sent) (receiver : Value) (world : WorldView) → stepped core.run.world.world ≡ Some world.world
-    → sent_on_at code core at sent receiver ≡ looked_on code (in_other core world) at sent receiver
-on_stepped code core at sent receiver world e =
+pub on_stepped : (code : CodeProgram) (core : Core) (sent : Sent) (receiver : Value) (world : WorldView) → stepped core.run.world.world ≡ Some world.world
+    → sent_on_at code core sent receiver ≡ looked_on code (in_other core world) sent receiver
+on_stepped code core sent receiver world e =
     ap (λ (o : Option World). charged halts Steps o (progress_in core)
     (answered_by code (found_from core.run.world.world.cells code (start_of core.run.world.world.cells receiver) sent.site.sel.0 Plain) sent.site.sel receiver
-    (arguments_in core at sent) (site_shown core.places sent.site))) e
-    ∙ ap (λ (h : Heap). answered_by code (found_from h code (start_of h receiver) sent.site.sel.0 Plain) sent.site.sel receiver (arguments_in core at sent)
+    core.arguments.items (site_shown core.places sent.site))) e
+    ∙ ap (λ (h : Heap). answered_by code (found_from h code (start_of h receiver) sent.site.sel.0 Plain) sent.site.sel receiver core.arguments.items
     (site_shown core.places sent.site) (in_world (progress_in core) world.world))
     (sym (ap (λ (w : World). w.cells) (step_is core.run.world.world world.world e)))
 
 pub on_goes : (code : CodeProgram) → WaitedIsLawful code → WaitedFits code → WaitedStays code → WaitedSpends code → (core : Core) (at : Registers) (sent : Sent) (receiver : Value)
     (world : WorldView) → stepped core.run.world.world ≡ Some world.world → CanSendOn code core at sent receiver
-    → GoesOn code (length core.stack.frames.items) (looked_on code (in_other core world) at sent receiver)
+    → GoesOn code (length core.stack.frames.items) (looked_on code (in_other core world) sent receiver)
 on_goes code lawful fits stays spends core at sent receiver world e can =
-    let values = arguments_in core at sent in
+    let values = core.arguments.items in
     let site = site_shown core.places sent.site in
     let after = lawful receiver sent.site.sel values site (progress_in core) can.lawful can.live can.selector in
-    subst (λ (c : Control). GoesOn code (length core.stack.frames.items) c) (on_stepped code core at sent receiver world e)
+    subst (λ (c : Control). GoesOn code (length core.stack.frames.items) c) (on_stepped code core sent receiver world e)
     (record {
       own = initialiser_kind;
       lawful = after;
       fits = fits receiver sent.site.sel values site (progress_in core) can.lawful can.live can.selector;
       room = room_above code (length core.stack.frames.items) 1 no_home (FitsSelector core.run.world.world.cells code sent.site.sel values) (progress_in core) site
-          (sent_on_at code core at sent receiver) (spends receiver sent.site.sel values site (progress_in core)) after
+          (sent_on_at code core sent receiver) (spends receiver sent.site.sel values site (progress_in core)) after
           (stays receiver sent.site.sel values site (progress_in core)) can.selector can.depth;
     })
 
 pub on_leads : (code : CodeProgram) (core new : Core) (at : Registers) (sent : Sent) (receiver : Value) (world : WorldView) (to : Led)
     → stepped core.run.world.world ≡ Some world.world → SameRoom core.run.world world
-    → LeadsTo code (in_other core world) at sent.floor (looked_on code (in_other core world) at sent receiver) new to
-    → LeadsTo code core at sent.floor (sent_on_at code core at sent receiver) new to
+    → LeadsTo code (in_other core world) at sent.floor (looked_on code (in_other core world) sent receiver) new to
+    → LeadsTo code core at sent.floor (sent_on_at code core sent receiver) new to
 on_leads code core new at sent receiver world (led.Goes n) e room is = record {
   state = is.state
       ∙ ap (λ (c : Control). arrived code (phase_shown core.phase) c (frames_shown code core.places (stood core.stack (with_top sent.floor at))))
-      (sym (on_stepped code core at sent receiver world e));
+      (sym (on_stepped code core sent receiver world e));
   stand = is.stand;
   stays = record {
     world = record {
@@ -218,11 +266,12 @@ on_leads code core new at sent receiver world (led.Goes n) e room is = record {
     values = is.stays.values;
     frames = is.stays.frames;
     places = is.stays.places;
+    arguments = is.stays.arguments;
   };
   kept = subst (λ (h : Heap). All (IsRight h code) new.run.memo) (ap (λ (w : World). w.cells) (step_is core.run.world.world world.world e)) is.kept;
 }
 on_leads code core new at sent receiver world (led.Gives value) e room is = record {
-  control_is = on_stepped code core at sent receiver world e ∙ is.control_is;
+  control_is = on_stepped code core sent receiver world e ∙ is.control_is;
   stack = is.stack;
   phase = is.phase;
   stays = record {
@@ -233,18 +282,19 @@ on_leads code core new at sent receiver world (led.Gives value) e room is = reco
     values = is.stays.values;
     frames = is.stays.frames;
     places = is.stays.places;
+    arguments = is.stays.arguments;
   };
   kept = subst (λ (h : Heap). All (IsRight h code) new.run.memo) (ap (λ (w : World). w.cells) (step_is core.run.world.world world.world e)) is.kept;
 }
 
 pub no_step_leads : (code : CodeProgram) (core : Core) (at : Registers) (sent : Sent) (receiver : Value) → stepped core.run.world.world ≡ None
     → CanSendOn code core at sent receiver
-    → LeadsTo code core at sent.floor (sent_on_at code core at sent receiver) (record core { ending = ending.Limit Steps }) (led.Goes next.Ended)
+    → LeadsTo code core at sent.floor (sent_on_at code core sent receiver) (record core { ending = ending.Limit Steps }) (led.Goes next.Ended)
 no_step_leads code core at sent receiver e can = record {
   state = ap (λ (c : Control). arrived code (phase_shown core.phase) c (frames_shown code core.places (stood core.stack (with_top sent.floor at))))
       (sym (ap (λ (o : Option World). charged halts Steps o (progress_in core)
       (answered_by code (found_from core.run.world.world.cells code (start_of core.run.world.world.cells receiver) sent.site.sel.0 Plain) sent.site.sel receiver
-      (arguments_in core at sent) (site_shown core.places sent.site))) e));
+      core.arguments.items (site_shown core.places sent.site))) e));
   stand = tt;
   stays = ended_stays core (ending.Limit Steps);
   kept = can.kept;

@@ -29,7 +29,8 @@ rooms_in code core run rest rooms = record {
   out = rw (rest.limits, rest.room.1) rooms.out;
   frames = rw rest.limits rooms.frames;
   values = rw rest.limits rooms.values;
-  sends = rw rest.limits rooms.sends;
+  evaluations = rooms.evaluations;
+  sends = rooms.sends;
 }
 
 pub left_in : (code : CodeProgram) (core : Core) (at : Registers) (sent : Sent) (run : Run) → SameRest core.run.world run.world → IsLeft code core at sent

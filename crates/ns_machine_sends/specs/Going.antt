@@ -100,11 +100,12 @@ TakesNone given.Listed (exit.Clause class) = Unit {0}
 abbrev pub AreTaken : Core → Exit → Given → List Value → Type 0
 AreTaken core exit given there = arguments_for there given ≡ given_values core.run.world.world.cells (passed exit there) given
 
--- Values stand in place of the arguments, from the floor on, and all else is as it was.
+-- Values stand as arguments from the floor on, and all else is as it was.
 pub record ArePlaced (code : CodeProgram) (old : Core) (at : Registers) (floor : ℕ) (values : List Value) (new : Core) (to : Registers) : Type 0 where
   pub below : stood new.stack (with_top floor to) ≡ stood old.stack (with_top floor at)
   pub arguments : drop floor (in_use new.stack to) ≡ values
   pub frames : new.stack.frames ≡ old.stack.frames
+  pub filled : length old.stack.values.items ≤ length new.stack.values.items
   pub stands : AreStanding code new.stack to
   pub waits : ArgumentsWait code new.stack to floor floor
   pub run : new.run ≡ old.run

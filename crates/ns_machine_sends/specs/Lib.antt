@@ -1,4 +1,5 @@
 pub mod Going
+pub mod Kept
 pub mod Sending
 pub mod Operands
 pub mod Waiting

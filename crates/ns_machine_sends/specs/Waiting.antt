@@ -1,5 +1,5 @@
 -- What waits, with room for an answer.
-use Rattle.std.specs.Prelude.{◌≡◌, ◌<◌, ◌≤◌, ℕ, length, IsTrue, All}
+use Rattle.std.specs.Prelude.{◌≡◌, ◌<◌, ◌≤◌, ℕ, List, length, IsTrue, All}
 use Rattle.ns_verify.specs.Verify.{IsSound}
 use Rattle.ns_world.specs.Lawful.{IsLawful, IsLiveValue}
 use Rattle.ns_world.specs.Starts.{start_of}
@@ -26,7 +26,7 @@ use Rattle.ns_machine_core.specs.Standing.{AreStanding, ArgumentsWait, Stays, Ke
 use Rattle.ns_machine_sends.specs.declared.sent.Sent.{Sent}
 use Rattle.ns_machine_sends.specs.declared.led.Led.{Led}
 use Rattle.ns_machine_sends.specs.declared.led.Led.TheVariants as led
-use Rattle.ns_machine_sends.specs.Going.{arguments_in, IsLeft, Leads}
+use Rattle.ns_machine_sends.specs.Going.{IsLeft, Leads}
 use Rattle.ns_machine_sends.specs.Sending.{Sends}
 
 -- a machine in which the evaluation of a block waits
@@ -36,6 +36,12 @@ with_block sent block core = record core { waiting = pending.Evaluating block se
 -- The evaluation of a block waits in a machine that is ready.
 pub record BlockWaits (code : CodeProgram) (grants : Grants) (core : Core) (at : Registers) (sent : Sent) (block : Value) : Type 0 where
   pub is : core.waiting ≡ pending.Evaluating block sent.site sent.floor sent.first
+  pub ready : IsReady code grants core (next.Waits at)
+
+-- So it does with the arguments that are kept.
+pub record BlockWaitsKept (code : CodeProgram) (grants : Grants) (core : Core) (at : Registers) (sent : Sent) (block : Value) : Type 0 where
+  pub is : core.waiting ≡ pending.EvaluatingKept block sent.site sent.floor
+  pub first : sent.first ≡ sent.floor
   pub ready : IsReady code grants core (next.Waits at)
 
 -- There is a place at the floor, and nothing that is in use has changed.
@@ -48,16 +54,17 @@ pub record HasMadePlace (code : CodeProgram) (old : Core) (at : Registers) (sent
   pub place : sent.floor < length new.stack.values.items
   pub run : new.run ≡ old.run
   pub phase : new.phase ≡ old.phase
+  pub arguments : new.arguments ≡ old.arguments
   pub stays : Stays old new
 
--- What is known where the evaluation of a block waits.
-pub record IsWaiting (code : CodeProgram) (core : Core) (at : Registers) (sent : Sent) (block : Value) : Type 0 where
+-- What is known where the evaluation of a block waits with these arguments.
+pub record IsWaiting (code : CodeProgram) (core : Core) (arguments : List Value) (block : Value) : Type 0 where
   pub sound : IsSound code
   pub lawful : IsLawful core.run.world.world code
   pub depth : core.run.world.world.depth ≡ length core.stack.frames.items
   pub block_is : IsTrue (is_block core.run.world.world.cells block)
-  pub few : length (arguments_in core at sent) ≤ 255
-  pub live : All (IsLiveValue core.run.world.world.cells code) (arguments_in core at sent)
+  pub few : length arguments ≤ 255
+  pub live : All (IsLiveValue core.run.world.world.cells code) arguments
 
 -- What an evaluation has reached: a body is entered, or the run ends.
 abbrev pub EntersOrEnds : Reached → Type 0
@@ -70,10 +77,10 @@ EntersOrEnds (reached.Begins method state) = ⊥
 EntersOrEnds (reached.Performs receiver sel array) = ⊥
 
 -- where its evaluation leads
-abbrev pub evaluated_at : CodeProgram → Core → Registers → Sent → Value → Control
-evaluated_at code core at sent block = evaluated code block (arguments_in core at sent) (site_shown core.places sent.site) (progress_in core)
+abbrev pub evaluated_with : CodeProgram → Core → Sent → List Value → Value → Control
+evaluated_with code core sent arguments block = evaluated code block arguments (site_shown core.places sent.site) (progress_in core)
 
--- A send that waited can be made: its selector takes as many live arguments as stand there, and there is as much depth as frames.
+-- A send that waited can be made: its selector takes as many live arguments as are kept, and there is as much depth as frames.
 pub record CanSendOn (code : CodeProgram) (core : Core) (at : Registers) (sent : Sent) (receiver : Value) : Type 0 where
   pub left : IsLeft code core at sent
   pub lawful : IsLawful core.run.world.world code
@@ -81,16 +88,16 @@ pub record CanSendOn (code : CodeProgram) (core : Core) (at : Registers) (sent :
   pub kept : KeepsRightIn code core core
   pub depth : core.run.world.world.depth ≡ length core.stack.frames.items
   pub live : IsLiveValue core.run.world.world.cells code receiver
-  pub selector : FitsSelector core.run.world.world.cells code sent.site.sel (arguments_in core at sent)
+  pub selector : FitsSelector core.run.world.world.cells code sent.site.sel core.arguments.items
 
 -- where it leads, with its step and after it
-abbrev pub sent_on_at : CodeProgram → Core → Registers → Sent → Value → Control
-sent_on_at code core at sent receiver = sent_from code receiver sent.site.sel (arguments_in core at sent) (site_shown core.places sent.site) (progress_in core)
+abbrev pub sent_on_at : CodeProgram → Core → Sent → Value → Control
+sent_on_at code core sent receiver = sent_from code receiver sent.site.sel core.arguments.items (site_shown core.places sent.site) (progress_in core)
 
-abbrev pub looked_on : CodeProgram → Core → Registers → Sent → Value → Control
-looked_on code core at sent receiver =
+abbrev pub looked_on : CodeProgram → Core → Sent → Value → Control
+looked_on code core sent receiver =
     answered_by code (found_from core.run.world.world.cells code (start_of core.run.world.world.cells receiver) sent.site.sel.0 Plain) sent.site.sel receiver
-    (arguments_in core at sent) (site_shown core.places sent.site) (progress_in core)
+    core.arguments.items (site_shown core.places sent.site) (progress_in core)
 
 -- A value is given that is yet to be taken; nothing but the run has changed.
 pub record IsGivenOn (code : CodeProgram) (old : Core) (control : Control) (new : Core) (value : Value) : Type 0 where

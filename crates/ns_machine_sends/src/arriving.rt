@@ -6,10 +6,11 @@ ghost use Rattle.ns_actions.specs.declared.control.Reached.TheVariants as reache
 ghost use Rattle.ns_machine_core.specs.Arriving.{Arrives};
 ghost use Rattle.ns_machine_core.specs.Doing.{IsRunning};
 ghost use Rattle.ns_machine_sends.specs.Going.{control_at, IsLeft, GoesOn, IsGiven, ComesToBody};
+ghost use Rattle.ns_machine_sends.specs.Kept.{kept_control};
 
 use crate::ending::{fail, refuse};
-use crate::entering::enter_reached;
-use crate::evaluating::wait_for;
+use crate::entering::{enter_kept, enter_reached};
+use crate::evaluating::{wait_for, wait_for_kept};
 use crate::sent::Sent;
 use ns_act::targets::class_of;
 use ns_actions::control::Reached;
@@ -117,6 +118,38 @@ pub fn arrive(
             Next::On(enter_reached(code, core, at, sent, exit, entered))
         }
         Reached::Evaluates { block, given } => wait_for(code, core, at, sent, block, given),
+        Reached::Begins { method, state } => begin_method(code, core, at, sent, method, state),
+        Reached::Performs {
+            receiver,
+            sel,
+            array,
+        } => perform(code, core, at, sent, receiver, sel, array),
+    }
+}
+
+/// Goes where an action has led with the arguments that are kept.
+#[inline(always)]
+pub fn arrive_kept(
+    code: &CodeProgram,
+    core: &mut Core,
+    at: Registers,
+    sent: Sent,
+    reached: Reached,
+) -> Next
+    requires left { IsLeft code.now core.old at sent }
+    requires goes { GoesOn code.now (length core.old.stack.frames.items) (kept_control code.now core.old sent reached) }
+    requires given { IsGiven core.old.run.world.world.cells reached }
+    requires body { ComesToBody reached core.old.stack.frames.items }
+    ensures { Arrives code.now core.old at sent.floor (kept_control code.now core.old sent reached) core.new result }
+{
+    match reached {
+        Reached::Gives(value) => answer(code, core, at, sent, value),
+        Reached::Fails(fault) => fail(code, core, at, sent, fault),
+        Reached::Refused(sel) => refuse(code, core, at, sent, sel),
+        Reached::Enters { exit, entered } => {
+            Next::On(enter_kept(code, core, at, sent, exit, entered))
+        }
+        Reached::Evaluates { block, given } => wait_for_kept(code, core, at, sent, block, given),
         Reached::Begins { method, state } => begin_method(code, core, at, sent, method, state),
         Reached::Performs {
             receiver,

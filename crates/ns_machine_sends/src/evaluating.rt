@@ -8,18 +8,18 @@ ghost use Rattle.ns_actions.specs.declared.control.Reached.TheVariants as reache
 ghost use Rattle.ns_kernel_rows.specs.Plain.{IsGivenThere};
 ghost use Rattle.ns_machine_core.specs.Arriving.{Arrives};
 ghost use Rattle.ns_machine_sends.specs.Going.{control_at, GoesOn, IsLeft};
+ghost use Rattle.ns_machine_sends.specs.Kept.{kept_control};
 
-use crate::placing::place_items;
+use crate::placing::keep_items;
 use crate::sent::Sent;
 use ns_actions::control::Given;
 use ns_code::program::CodeProgram;
-use ns_machine_core::arriving::wait_for_block;
+use ns_machine_core::arriving::{wait_for_block, wait_for_block_kept};
 use ns_machine_core::state::{Core, Next};
 use ns_machine_frames::registers::Registers;
 use ns_world::value::Value;
 
-/// Lets the evaluation of a block wait, with its arguments where they stand, or with the elements of an array in their
-/// place.
+/// Lets the evaluation of a block wait, with its arguments where they stand, or with the elements of an array.
 #[inline(always)]
 pub fn wait_for(
     code: &CodeProgram,
@@ -43,9 +43,30 @@ pub fn wait_for(
     }
 }
 
-/// Lets the evaluation of a block wait with the elements of an array.
+/// Lets the evaluation of a block wait with the arguments that are kept, or with the elements of an array.
+pub fn wait_for_kept(
+    code: &CodeProgram,
+    core: &mut Core,
+    at: Registers,
+    sent: Sent,
+    block: Value,
+    given: Given,
+) -> Next
+    requires left { IsLeft code.now core.old at sent }
+    requires goes { GoesOn code.now (length core.old.stack.frames.items) (kept_control code.now core.old sent (reached.Evaluates block given)) }
+    requires given { IsGivenThere core.old.run.world.world.cells given }
+    ensures { Arrives code.now core.old at sent.floor (kept_control code.now core.old sent (reached.Evaluates block given)) core.new result }
+{
+    match given {
+        Given::Listed => wait_kept(code, core, at, sent, block),
+        Given::Items(array) => wait_with_items(code, core, at, sent, block, array),
+        Given::Message(_) => unreachable!(),
+    }
+}
+
+/// Lets the evaluation of a block wait with the elements of an array, which are kept.
 #[inline(never)]
-#[tactic(auto, using(crate::proofs::Placed::items_fit, crate::proofs::Placed::items_wait))]
+#[tactic(auto, using(crate::proofs::Placed::keeping_left, crate::proofs::Placed::items_wait))]
 fn wait_with_items(
     code: &CodeProgram,
     core: &mut Core,
@@ -59,6 +80,16 @@ fn wait_with_items(
     requires there { IsThere core.old.run.world.world.cells (Ref array) }
     ensures { Arrives code.now core.old at sent.floor (control_at code.now core.old at sent (reached.Evaluates block (given.Items array))) core.new result }
 {
-    let to = place_items(code, core, at, sent, array);
-    wait_for_block(code, core, to, block, sent.site, sent.floor, sent.floor)
+    keep_items(core, array);
+    wait_kept(code, core, at, sent, block)
+}
+
+/// Lets the evaluation of a block wait with the arguments that are kept.
+#[inline(always)]
+#[tactic(auto, using(crate::proofs::Placed::floor_waits))]
+fn wait_kept(code: &CodeProgram, core: &mut Core, at: Registers, sent: Sent, block: Value) -> Next
+    requires { IsLeft code.now core.old at sent }
+    ensures { Arrives code.now core.old at sent.floor (kept_control code.now core.old sent (reached.Evaluates block given.Listed)) core.new result }
+{
+    wait_for_block_kept(code, core, at, block, sent.site, sent.floor)
 }

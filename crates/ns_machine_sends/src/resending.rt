@@ -1,14 +1,15 @@
-//! Sends that waited, from their step on. What stands below them may be no body, so a value that is given at once is told,
-//! and not yet brought to it.
+//! Sends that waited, from their step on, with the arguments that are kept. What stands below them may be no body, so a value
+//! that is given at once is told, and not yet brought to it.
 
 ghost use Rattle.std.specs.Prelude.{◌≡◌, length};
 ghost use Rattle.ns_code.specs.declared.own.Own.TheVariants.{DoesNotUnderstand};
 ghost use Rattle.ns_code.specs.Selector.{own_number};
 ghost use Rattle.ns_act.specs.declared.sends.Answered.TheVariants as answers;
-ghost use Rattle.ns_machine_sends.specs.Going.{control_at, GoesOn, IsLeft, IsGiven, answered_at, CanAsk, CanAnswer};
+ghost use Rattle.ns_machine_sends.specs.Going.{GoesOn, IsLeft, IsGiven};
+ghost use Rattle.ns_machine_sends.specs.Kept.{kept_control, kept_answer, CanAskKept, CanAnswerKept};
 ghost use Rattle.ns_machine_sends.specs.Waiting.{CanSendOn, sent_on_at, looked_on, LeadsTo, LeadsKept};
 
-use crate::arriving::arrive;
+use crate::arriving::arrive_kept;
 use crate::led::Led;
 use crate::sent::Sent;
 use ns_act::sends::Answered;
@@ -37,7 +38,7 @@ pub fn send_on(
 ) -> Led
     requires can { CanSendOn code.now core.old at sent receiver }
     requires own { own.0 ≡ own_number code.now DoesNotUnderstand }
-    ensures { LeadsTo code.now core.old at sent.floor (sent_on_at code.now core.old at sent receiver) core.new result }
+    ensures { LeadsTo code.now core.old at sent.floor (sent_on_at code.now core.old sent receiver) core.new result }
 {
     charging_keeps_lawful();
     sends_that_waited_go_on();
@@ -61,11 +62,10 @@ fn look_on(
 ) -> Led
     requires can { CanSendOn code.now core.old at sent receiver }
     requires own { own.0 ≡ own_number code.now DoesNotUnderstand }
-    requires goes { GoesOn code.now (length core.old.stack.frames.items) (looked_on code.now core.old at sent receiver) }
-    ensures { LeadsTo code.now core.old at sent.floor (looked_on code.now core.old at sent receiver) core.new result }
+    requires goes { GoesOn code.now (length core.old.stack.frames.items) (looked_on code.now core.old sent receiver) }
+    ensures { LeadsTo code.now core.old at sent.floor (looked_on code.now core.old sent receiver) core.new result }
 {
     rows_that_are_found_suit();
-    let arguments = core.stack.from(at, sent.first);
     let answered = ns_act::answering::send(
         &mut core.run,
         code,
@@ -73,7 +73,7 @@ fn look_on(
         receiver,
         Sending::Plain,
         sent.site.sel,
-        arguments,
+        core.arguments.as_slice(),
     );
     come_to(code, core, at, sent, receiver, answered)
 }
@@ -89,9 +89,9 @@ fn come_to(
     answered: Answered,
 ) -> Led
     requires left { IsLeft code.now core.old at sent }
-    requires goes { GoesOn code.now (length core.old.stack.frames.items) (answered_at code.now core.old at sent receiver answered) }
-    requires can { CanAnswer code.now core.old at sent receiver answered }
-    ensures { LeadsKept code.now core.old at sent.floor (answered_at code.now core.old at sent receiver answered) core.new result }
+    requires goes { GoesOn code.now (length core.old.stack.frames.items) (kept_answer code.now core.old sent receiver answered) }
+    requires can { CanAnswerKept code.now core.old receiver answered }
+    ensures { LeadsKept code.now core.old at sent.floor (kept_answer code.now core.old sent receiver answered) core.new result }
 {
     match answered {
         Answered::Comes(reached) => lead(code, core, at, sent, reached),
@@ -100,7 +100,7 @@ fn come_to(
 }
 
 /// Asks a row of the kernel, and goes where that leads.
-#[tactic(auto, using(crate::proofs::Leads::row_left, crate::proofs::Leads::row_goes, crate::proofs::Leads::row_given, crate::proofs::Leads::row_asked, crate::proofs::Resent::row_led))]
+#[tactic(auto, using(crate::proofs::Leads::row_left, crate::proofs::Resent::row_goes, crate::proofs::Leads::row_given, crate::proofs::Resent::row_asked, crate::proofs::Resent::row_led))]
 fn ask_on(
     code: &CodeProgram,
     core: &mut Core,
@@ -110,12 +110,11 @@ fn ask_on(
     number: u32,
 ) -> Led
     requires left { IsLeft code.now core.old at sent }
-    requires goes { GoesOn code.now (length core.old.stack.frames.items) (answered_at code.now core.old at sent receiver (answers.Row number)) }
-    requires can { CanAsk code.now core.old at sent receiver number }
-    ensures { LeadsKept code.now core.old at sent.floor (answered_at code.now core.old at sent receiver (answers.Row number)) core.new result }
+    requires goes { GoesOn code.now (length core.old.stack.frames.items) (kept_answer code.now core.old sent receiver (answers.Row number)) }
+    requires can { CanAskKept code.now core.old receiver number }
+    ensures { LeadsKept code.now core.old at sent.floor (kept_answer code.now core.old sent receiver (answers.Row number)) core.new result }
 {
     let row = row_of(number);
-    let arguments = core.stack.from(at, sent.first);
     let reached = row_reached(
         &mut core.run.world,
         &mut core.run.board,
@@ -123,7 +122,7 @@ fn ask_on(
         row,
         sent.site.sel,
         receiver,
-        arguments,
+        core.arguments.as_slice(),
     );
     lead(code, core, at, sent, reached)
 }
@@ -132,12 +131,12 @@ fn ask_on(
 #[tactic(auto, using(crate::proofs::Resent::no_value, crate::proofs::Resent::value_led, crate::specs::laws::Looked::comes_leads))]
 fn lead(code: &CodeProgram, core: &mut Core, at: Registers, sent: Sent, reached: Reached) -> Led
     requires left { IsLeft code.now core.old at sent }
-    requires goes { GoesOn code.now (length core.old.stack.frames.items) (control_at code.now core.old at sent reached) }
+    requires goes { GoesOn code.now (length core.old.stack.frames.items) (kept_control code.now core.old sent reached) }
     requires given { IsGiven core.old.run.world.world.cells reached }
-    ensures { LeadsKept code.now core.old at sent.floor (control_at code.now core.old at sent reached) core.new result }
+    ensures { LeadsKept code.now core.old at sent.floor (kept_control code.now core.old sent reached) core.new result }
 {
     match reached {
         Reached::Gives(value) => Led::Gives(value),
-        _ => Led::Goes(arrive(code, core, at, sent, reached)),
+        _ => Led::Goes(arrive_kept(code, core, at, sent, reached)),
     }
 }

@@ -1,4 +1,4 @@
-//! What waits: the evaluation of a block.
+//! What waits: the evaluation of a block, with its arguments where they stand or with those that are kept.
 
 ghost use Rattle.std.specs.Prelude.{◌+◌, ◌<◌, ◌≤◌, length};
 ghost use Rattle.ns_facets.specs.declared.row.Grants.{Grants};
@@ -6,9 +6,10 @@ ghost use Rattle.ns_machine_core.specs.declared.state.Next.TheVariants as next;
 ghost use Rattle.ns_machine_core.specs.Ready.{Moves};
 ghost use Rattle.ns_machine_core.specs.Standing.{AreStanding, ArgumentsWait};
 ghost use Rattle.ns_machine_core.specs.Arriving.{Arrives};
-ghost use Rattle.ns_machine_sends.specs.Going.{control_at, GoesOn, IsGiven, IsLeft, Leads};
-ghost use Rattle.ns_machine_sends.specs.Waiting.{BlockWaits, EntersOrEnds, HasMadePlace, IsWaiting, evaluated_at, with_block};
+ghost use Rattle.ns_machine_sends.specs.Going.{arguments_in, control_at, GoesOn, IsGiven, IsLeft, Leads};
+ghost use Rattle.ns_machine_sends.specs.Waiting.{BlockWaits, BlockWaitsKept, EntersOrEnds, HasMadePlace, IsWaiting, evaluated_with, with_block};
 
+use crate::arriving::arrive_kept;
 use crate::ending::{fail, refuse};
 use crate::entering::enter_reached;
 use crate::sent::Sent;
@@ -53,13 +54,28 @@ pub fn evaluate_at_once(
     enter_block(code, core, at, sent, block)
 }
 
+/// Evaluates the block that waits, with the arguments that are kept.
+pub fn evaluate_kept(
+    code: &CodeProgram,
+    core: &mut Core,
+    at: Registers,
+    sent: Sent,
+    block: Value,
+) -> Next
+    requires { (grants : Grants) × BlockWaitsKept code.now grants core.old at sent block }
+    ensures { Moves code.now core.old (next.Waits at) core.new result }
+{
+    make_place(code, core, at, sent);
+    enter_block_kept(code, core, at, sent, block)
+}
+
 /// Checks the arguments of a block, charges its step and its frame, and goes where that leads.
 #[inline(always)]
 #[tactic(auto, using(crate::proofs::Evaluated::block_there, crate::proofs::Stepped::left_in, crate::proofs::Leads::plain_given))]
 fn enter_block(code: &CodeProgram, core: &mut Core, at: Registers, sent: Sent, block: Value) -> Next
     requires left { IsLeft code.now core.old at sent }
-    requires is { IsWaiting code.now core.old at sent block }
-    ensures { Leads code.now core.old at sent.floor (evaluated_at code.now core.old at sent block) core.new result }
+    requires is { IsWaiting code.now core.old (arguments_in core.old at sent) block }
+    ensures { Leads code.now core.old at sent.floor (evaluated_with code.now core.old sent (arguments_in core.old at sent) block) core.new result }
 {
     sends_keep_lawful();
     what_is_handed_on_fits();
@@ -68,6 +84,28 @@ fn enter_block(code: &CodeProgram, core: &mut Core, at: Registers, sent: Sent, b
     let arguments = core.stack.from(at, sent.first);
     let reached = ns_act::blocks::evaluate(&mut core.run.world, code, block, arguments);
     arrive_in(code, core, at, sent, reached)
+}
+
+/// The same with the arguments that are kept.
+#[tactic(auto, using(crate::proofs::Evaluated::block_there, crate::proofs::Stepped::left_in, crate::proofs::Leads::plain_given))]
+fn enter_block_kept(
+    code: &CodeProgram,
+    core: &mut Core,
+    at: Registers,
+    sent: Sent,
+    block: Value,
+) -> Next
+    requires left { IsLeft code.now core.old at sent }
+    requires is { IsWaiting code.now core.old core.old.arguments.items block }
+    ensures { Leads code.now core.old at sent.floor (evaluated_with code.now core.old sent core.old.arguments.items block) core.new result }
+{
+    sends_keep_lawful();
+    what_is_handed_on_fits();
+    actions_spend_exactly();
+    sites_stay();
+    let arguments = core.arguments.as_slice();
+    let reached = ns_act::blocks::evaluate(&mut core.run.world, code, block, arguments);
+    arrive_kept(code, core, at, sent, reached)
 }
 
 /// Goes into the body that an evaluation has reached, or ends the run.
@@ -98,14 +136,17 @@ fn arrive_in(
     }
 }
 
-/// Fills the values so far that an answer has a place behind the arguments that wait.
+/// Fills the values so far that an answer has a place behind the caller's.
+#[tactic(auto, using(crate::proofs::Awaited::place_there, crate::proofs::Awaited::top_fits))]
 pub fn make_place(code: &CodeProgram, core: &mut Core, at: Registers, sent: Sent)
     requires stands { AreStanding code.now core.old.stack at }
     requires waits { ArgumentsWait code.now core.old.stack at sent.floor sent.first }
-    requires room { at.top + 1 ≤ core.old.stack.values.room }
+    requires room { sent.floor + 1 ≤ core.old.stack.values.room }
     ensures { HasMadePlace code.now core.old at sent core.new }
 {
     let _code = code;
-    let _sent = sent;
+    if sent.floor < at.top {
+        return;
+    }
     core.stack.make_room(at, 1);
 }

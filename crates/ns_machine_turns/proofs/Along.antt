@@ -121,8 +121,9 @@ body_falls code law plan sends now new here next runs moved =
 pub waits_goes : (code : CodeProgram) (core : Core) (at : Registers) → is_still (shown code core (Waits at)) ≡ false
 waits_goes code core at = by_pending core.waiting
   where
-    by_pending : (p : Pending) → is_still (state_shown code core.places (phase_shown core.phase) p core.stack at (progress_in core)) ≡ false
+    by_pending : (p : Pending) → is_still (state_shown code core.places (phase_shown core.phase) p core.arguments.items core.stack at (progress_in core)) ≡ false
     by_pending pending.Nothing = refl
-    by_pending (pending.Sending receiver sel site floor first) = refl
+    by_pending (pending.Sending receiver sel site floor) = refl
     by_pending (pending.Performing receiver sel array site floor) = refl
     by_pending (pending.Evaluating block site floor first) = refl
+    by_pending (pending.EvaluatingKept block site floor) = refl

@@ -109,7 +109,7 @@ runs_on code plan sends old new from next keeps runs moved = record {
 pub turning_begins : (code : CodeProgram) → Known code → (steps : ℕ) (core : Core) (next : Next) → IsTurning code steps core next core next
 turning_begins code known steps core next = record {
   ready = λ grants ready. ready;
-  stays = record { world = record { limits = refl; room = (refl, refl) }; values = refl; frames = refl; places = refl };
+  stays = record { world = record { limits = refl; room = (refl, refl) }; values = refl; frames = refl; places = refl; arguments = refl };
   under = begins code known steps (shown code core next);
 }
 

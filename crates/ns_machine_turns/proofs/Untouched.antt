@@ -26,7 +26,7 @@ module _ (code : CodeProgram) (core : Core) (at : Registers) (memo : List (Optio
   memo_ready : (grants : Grants) → IsReady code grants core (On at) → IsReady code grants (with_memo core memo) (On at)
   memo_ready grants ready = record {
     valid = ready.valid;
-    rooms = record { cells = ready.rooms.cells; out = ready.rooms.out; frames = ready.rooms.frames; values = ready.rooms.values; sends = ready.rooms.sends };
+    rooms = record { cells = ready.rooms.cells; out = ready.rooms.out; frames = ready.rooms.frames; values = ready.rooms.values; evaluations = ready.rooms.evaluations; sends = ready.rooms.sends };
     stand = ready.stand;
     kept = kept;
   }
@@ -46,6 +46,7 @@ module _ (code : CodeProgram) (core : Core) (at : Registers) (memo : List (Optio
       values = turning.stays.values;
       frames = turning.stays.frames;
       places = turning.stays.places;
+      arguments = turning.stays.arguments;
     };
     under = turning.under;
   }

@@ -113,6 +113,9 @@ fn pending_charges(plan: &Plan, code: &CodeProgram, core: &Core, at: Registers) 
         Pending::Evaluating { block, first, .. } => {
             u32::from(arity(code, &core.run.world, block)) == at.top - first
         }
+        Pending::EvaluatingKept { block, .. } => {
+            u32::from(arity(code, &core.run.world, block)) == core.arguments.count()
+        }
         Pending::Sending { .. } | Pending::Performing { .. } => true,
     }
 }

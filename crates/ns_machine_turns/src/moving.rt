@@ -6,17 +6,18 @@ ghost use Rattle.ns_machine_core.specs.declared.state.Next.TheVariants as next;
 ghost use Rattle.ns_machine_core.specs.Ready.{Moves};
 ghost use Rattle.ns_machine_core.specs.Shown.{shown};
 ghost use Rattle.ns_machine_turns.specs.Turning.{RunsBy};
+ghost use Rattle.ns_machine_turns.specs.Resending.{sent_from_floor};
 
 use crate::resending::{perform_waiting, send_waiting};
 use crate::stepping::go_on;
 use ns_code::program::CodeProgram;
 use ns_machine_core::own::OwnSends;
 use ns_machine_core::state::{Core, Next};
-use ns_machine_frames::frame::Pending;
+use ns_machine_frames::frame::{KeptSite, Pending};
 use ns_machine_frames::registers::Registers;
 use ns_machine_plan::plan::Plan;
 use ns_machine_sends::sent::Sent;
-use ns_machine_sends::waiting::evaluate;
+use ns_machine_sends::waiting::{evaluate, evaluate_kept};
 
 /// One move of a run that goes on: the next step of the body that runs, the next action of a method of the kernel, or
 /// what waits.
@@ -52,27 +53,41 @@ pub fn take_up(
             floor,
             first,
         } => evaluate(code, core, at, Sent { site, floor, first }, block),
+        Pending::EvaluatingKept { block, site, floor } => {
+            evaluate_kept(code, core, at, at_floor(site, floor), block)
+        }
         Pending::Sending {
             receiver,
             sel,
             site,
             floor,
-            first,
-        } => send_waiting(
-            code,
-            core,
-            at,
-            Sent { site, floor, first },
-            receiver,
-            sel,
-            own,
-        ),
+        } => send_waiting(code, core, at, at_floor(site, floor), receiver, sel, own),
         Pending::Performing {
             receiver,
             sel,
             array,
             site,
             floor,
-        } => perform_waiting(code, core, at, site, floor, receiver, sel, array, own),
+        } => perform_waiting(
+            code,
+            core,
+            at,
+            at_floor(site, floor),
+            receiver,
+            sel,
+            array,
+            own,
+        ),
+    }
+}
+
+/// What was sent from a floor on, above which none of its arguments stand.
+fn at_floor(site: KeptSite, floor: u32) -> Sent
+    ensures { result ≡ sent_from_floor site floor }
+{
+    Sent {
+        site,
+        floor,
+        first: floor,
     }
 }

@@ -1,9 +1,7 @@
-//! Sends that waited: one that opens a run or that a host made, with its arguments where they stand, and one of
+//! Sends that waited: one that opens a run or that a host made, with the arguments that are kept, and one of
 //! `perform:with:`, with the elements of its array.
 
 ghost use Rattle.std.specs.Prelude.{◌≡◌};
-ghost use Rattle.ns_world.specs.declared.value.Value.TheVariants.{Ref};
-ghost use Rattle.ns_kdata.specs.Arguments.{IsThere, items_of};
 ghost use Rattle.ns_machine_frames.specs.declared.frame.Pending.TheVariants as pending;
 ghost use Rattle.ns_machine_frames.specs.Stack.{stood, with_top};
 ghost use Rattle.ns_machine_core.specs.declared.state.Next.TheVariants as next;
@@ -13,7 +11,6 @@ ghost use Rattle.ns_machine_core.specs.Ready.{Moves};
 ghost use Rattle.ns_machine_sends.specs.Sending.{Sends};
 ghost use Rattle.ns_machine_sends.specs.Waiting.{CanSendOn, sent_on_at};
 ghost use Rattle.ns_machine_turns.specs.Prepared.{CanRun};
-ghost use Rattle.ns_machine_turns.specs.Resending.{sent_from_floor, CanPlace, IsSet};
 
 use ns_actions::laws::sends_that_waited_go_on;
 use ns_base::selector::Sel;
@@ -21,17 +18,16 @@ use ns_code::program::CodeProgram;
 use ns_machine_core::laws::{arguments_are_few, valid_frames_are_framed};
 use ns_machine_core::own::OwnSends;
 use ns_machine_core::state::{Core, Next};
-use ns_machine_frames::frame::KeptSite;
 use ns_machine_frames::registers::Registers;
 use ns_machine_returns::handing::hand;
 use ns_machine_sends::led::Led;
-use ns_machine_sends::placing::place_items;
+use ns_machine_sends::placing::keep_items;
 use ns_machine_sends::resending::send_on;
 use ns_machine_sends::sent::Sent;
 use ns_machine_sends::waiting::make_place;
 use ns_world::value::Value;
 
-/// Makes a send that waits with its arguments where they stand.
+/// Makes a send that waits with the arguments that are kept.
 pub fn send_waiting(
     code: &CodeProgram,
     core: &mut Core,
@@ -42,72 +38,43 @@ pub fn send_waiting(
     own: OwnSends,
 ) -> Next
     requires can { CanRun code.now core.old (next.Waits at) }
-    requires waits { core.old.waiting ≡ pending.Sending receiver sel sent.site sent.floor sent.first }
+    requires waits { core.old.waiting ≡ pending.Sending receiver sel sent.site sent.floor }
+    requires first { sent.first ≡ sent.floor }
     requires own { AreOwn code.now core.old.places own }
     ensures { Moves code.now core.old (next.Waits at) core.new result }
 {
     valid_frames_are_framed();
-    arguments_are_few();
     let _sel = sel;
     make_place(code, core, at, sent);
     send_to(code, core, at, sent, receiver, own)
 }
 
-/// Makes a send of `perform:with:` that waits, with the elements of its array.
+/// Makes a send of `perform:with:` that waits, with the elements of its array, which are kept.
 pub fn perform_waiting(
     code: &CodeProgram,
     core: &mut Core,
     at: Registers,
-    site: KeptSite,
-    floor: u32,
+    sent: Sent,
     receiver: Value,
     sel: Sel,
     array: u32,
     own: OwnSends,
 ) -> Next
     requires can { CanRun code.now core.old (next.Waits at) }
-    requires waits { core.old.waiting ≡ pending.Performing receiver sel array site floor }
+    requires waits { core.old.waiting ≡ pending.Performing receiver sel array sent.site sent.floor }
+    requires first { sent.first ≡ sent.floor }
     requires own { AreOwn code.now core.old.places own }
     ensures { Moves code.now core.old (next.Waits at) core.new result }
 {
     valid_frames_are_framed();
     arguments_are_few();
     let _sel = sel;
-    let sent = Sent {
-        site,
-        floor,
-        first: floor,
-    };
-    let above = place_arguments(code, core, at, site, floor, array);
-    send_to(code, core, above, sent, receiver, own)
+    keep_items(core, array);
+    make_place(code, core, at, sent);
+    send_to(code, core, at, sent, receiver, own)
 }
 
-/// Puts the elements of an array where the arguments of a send stand, from its floor on.
-fn place_arguments(
-    code: &CodeProgram,
-    core: &mut Core,
-    at: Registers,
-    site: KeptSite,
-    floor: u32,
-    array: u32,
-) -> Registers
-    requires can { CanPlace code.now core.old at floor (items_of core.old.run.world.world.cells (Ref array)) }
-    requires there { IsThere core.old.run.world.world.cells (Ref array) }
-    ensures { IsSet code.now core.old at (sent_from_floor site floor) (items_of core.old.run.world.world.cells (Ref array)) core.new result }
-{
-    let sent = Sent {
-        site,
-        floor,
-        first: floor,
-    };
-    let below = Registers { top: floor, ..at };
-    make_place(code, core, below, sent);
-    let above = place_items(code, core, below, sent, array);
-    make_place(code, core, above, sent);
-    above
-}
-
-/// Makes a send whose arguments stand behind its floor, and brings a value that it gives at once to what stands below.
+/// Makes a send with the arguments that are kept, and brings a value that it gives at once to what stands below.
 fn send_to(
     code: &CodeProgram,
     core: &mut Core,
@@ -119,7 +86,7 @@ fn send_to(
     requires can { CanSendOn code.now core.old at sent receiver }
     requires room { HasRoomOnTop code.now (stood core.old.stack (with_top sent.floor at)) }
     requires own { AreOwn code.now core.old.places own }
-    ensures { Sends code.now core.old at sent.floor (sent_on_at code.now core.old at sent receiver) core.new result }
+    ensures { Sends code.now core.old at sent.floor (sent_on_at code.now core.old sent receiver) core.new result }
 {
     sends_that_waited_go_on();
     match send_on(code, core, at, sent, receiver, own.does_not_understand) {

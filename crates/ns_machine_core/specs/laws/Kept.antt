@@ -3,6 +3,7 @@ use Rattle.std.proofs.Common.{◌≡◌, List, refl, subst, ◌∙◌}
 use Rattle.ns_base.specs.declared.place.Place.{Place as SourcePlace}
 use Rattle.ns_code.specs.declared.program.CodeProgram.{CodeProgram}
 use Rattle.ns_facets.specs.declared.row.Grants.{Grants}
+use Rattle.ns_world.specs.declared.value.Value.{Value}
 use Rattle.ns_world.specs.Lawful.{IsLawful}
 use Rattle.ns_machine_moves.specs.State.{Phase, progress_of}
 use Rattle.ns_machine_moves.specs.Valid.{Valid}
@@ -22,17 +23,18 @@ use Rattle.ns_machine_core.specs.Standing.{HasRooms, Stays}
 -- ---- worlds of valid states
 
 -- the world of what is shown is the machine's
-waiting_progress : (code : CodeProgram) (places : List SourcePlace) (phase : Phase) (p : Pending) (stack : Stack) (at : Registers) (progress : Progress)
-    → progress_of (state_shown code places phase p stack at progress) ≡ progress
-waiting_progress code places phase pending.Nothing stack at progress = refl
-waiting_progress code places phase (pending.Sending receiver sel site floor first) stack at progress = refl
-waiting_progress code places phase (pending.Performing receiver sel array site floor) stack at progress = refl
-waiting_progress code places phase (pending.Evaluating block site floor first) stack at progress = refl
+waiting_progress : (code : CodeProgram) (places : List SourcePlace) (phase : Phase) (p : Pending) (kept : List Value) (stack : Stack) (at : Registers) (progress : Progress)
+    → progress_of (state_shown code places phase p kept stack at progress) ≡ progress
+waiting_progress code places phase pending.Nothing kept stack at progress = refl
+waiting_progress code places phase (pending.Sending receiver sel site floor) kept stack at progress = refl
+waiting_progress code places phase (pending.Performing receiver sel array site floor) kept stack at progress = refl
+waiting_progress code places phase (pending.Evaluating block site floor first) kept stack at progress = refl
+waiting_progress code places phase (pending.EvaluatingKept block site floor) kept stack at progress = refl
 
 -- The progress of the state that is shown is the machine's.
 pub shown_progress : (code : CodeProgram) (core : Core) (n : Next) → progress_of (shown code core n) ≡ progress_in core
 shown_progress code core (next.On at) = refl
-shown_progress code core (next.Waits at) = waiting_progress code core.places (phase_shown core.phase) core.waiting core.stack at (progress_in core)
+shown_progress code core (next.Waits at) = waiting_progress code core.places (phase_shown core.phase) core.waiting core.arguments.items core.stack at (progress_in core)
 shown_progress code core next.Ended = refl
 
 -- The world of a machine in a valid state is lawful.
@@ -49,7 +51,8 @@ rooms_stay code old new rooms stays = record {
   out = rw (stays.world.limits, stays.world.room.1) rooms.out;
   frames = rw (stays.world.limits, stays.frames) rooms.frames;
   values = rw (stays.world.limits, stays.values) rooms.values;
-  sends = rw (stays.world.limits, stays.values) rooms.sends;
+  evaluations = rw stays.arguments rooms.evaluations;
+  sends = rw stays.arguments rooms.sends;
 }
 
 -- What stays, and stays again, stays.
@@ -62,4 +65,5 @@ stays_on first second third one two = record {
   values = two.values ∙ one.values;
   frames = two.frames ∙ one.frames;
   places = two.places ∙ one.places;
+  arguments = two.arguments ∙ one.arguments;
 }

@@ -29,15 +29,16 @@ stack_stays core stack values frames = record {
   values = values;
   frames = frames;
   places = refl;
+  arguments = refl;
 }
 
 -- or where a run has ended, or something waits in it
 pub ended_stays : (core : Core) (ending : Ending) → Stays core (record core { ending = ending })
-ended_stays core ending = record { world = record { limits = refl; room = (refl, refl) }; values = refl; frames = refl; places = refl }
+ended_stays core ending = record { world = record { limits = refl; room = (refl, refl) }; values = refl; frames = refl; places = refl; arguments = refl }
 
 -- All but what waits stays where what waits is set.
 pub waiting_stays : (core : Core) (waiting : Pending) → Stays core (record core { waiting = waiting })
-waiting_stays core waiting = record { world = record { limits = refl; room = (refl, refl) }; values = refl; frames = refl; places = refl }
+waiting_stays core waiting = record { world = record { limits = refl; room = (refl, refl) }; values = refl; frames = refl; places = refl; arguments = refl }
 
 -- how many operands the topmost frame has
 pub operands_count : (from top : ℕ) (items : List Value) → top ≤ length items → length (reverse (drop from (take top items))) ≡ top - from

@@ -52,6 +52,7 @@ answer_sends code core new at sent receiver run answer control next e rest kept 
     values = is.stays.values;
     frames = is.stays.frames;
     places = is.stays.places;
+    arguments = is.stays.arguments;
   };
   kept = subst (λ (memo : List (Option Kept)). All (IsRight core.run.world.world.cells code) memo) (sym is.memo) kept;
 }

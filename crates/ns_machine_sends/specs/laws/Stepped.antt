@@ -82,6 +82,7 @@ step_stays core new world e room stays = record {
   values = stays.values;
   frames = stays.frames;
   places = stays.places;
+  arguments = stays.arguments;
 }
 
 pub step_kept : (code : CodeProgram) (core new : Core) (world : WorldView) → stepped core.run.world.world ≡ Some world.world

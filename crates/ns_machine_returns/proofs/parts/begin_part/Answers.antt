@@ -31,7 +31,7 @@ super_part-reached-requires-clause-holder c =
 
 pub enter_part-requires : goal.enter_part-requires
 enter_part-requires c =
-    enters c.what_is_reached_can_be_entered.ensures c.actions_keep_lawful.ensures.super_part c.actions_spend_exactly.ensures c.what_is_handed_on_fits.ensures
+    enters c.what_is_reached_can_be_entered.ensures.entered c.actions_keep_lawful.ensures.super_part c.actions_spend_exactly.ensures c.what_is_handed_on_fits.ensures
     c.args.code.now c.args.core.now c.super_part-reached.new.world c.args.at c.args.count c.running-frame.result c.operands-arguments.result.now c.in-Enters.entered
     c.requires c.running-frame.ensures
     (part_finds c.args.code.now c.args.core.now c.args.at c.args.count c.running-frame.result c.operands-arguments.result.now c.requires c.running-frame.ensures

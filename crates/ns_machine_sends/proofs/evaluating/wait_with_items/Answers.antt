@@ -1,6 +1,8 @@
-use Rattle.ns_machine_sends.proofs.Placed.{items_fit}
+use Rattle.ns_world.specs.declared.value.Value.TheVariants.{Ref}
+use Rattle.ns_kdata.specs.Arguments.{items_of}
+use Rattle.ns_machine_sends.proofs.Placed.{items_fit, keeping_left, items_wait}
 use Rattle.ns_machine_sends.proofs.evaluating.wait_with_items.Goals as goal
 
-pub place_items-to-requires-clause-room : goal.place_items-to-requires-clause-room
-place_items-to-requires-clause-room c =
+pub keep_items-requires-clause-room : goal.keep_items-requires-clause-room
+keep_items-requires-clause-room c =
     items_fit c.args.code.now c.args.core.now c.args.at c.args.sent c.args.block c.args.array c.requires.left c.requires.goes

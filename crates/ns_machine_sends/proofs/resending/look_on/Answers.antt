@@ -1,21 +1,18 @@
 use Rattle.ns_world.specs.Starts.{start_of}
 use Rattle.ns_find.specs.declared.found.Sending.TheVariants.{Plain}
 use Rattle.ns_find.specs.Find.{found_from}
-use Rattle.ns_actions.specs.Sends.{To}
 use Rattle.ns_machine_frames.specs.View.{site_shown}
 use Rattle.ns_machine_sends.specs.Waiting.{looked_on}
-use Rattle.ns_machine_sends.proofs.Resent.{answer_can_on, answer_led}
-use Rattle.ns_machine_sends.specs.laws.Looked.{answer_goes}
+use Rattle.ns_machine_sends.proofs.Resent.{answer_can_on, answer_is, answer_goes, answer_led}
 use Rattle.ns_machine_sends.specs.laws.Stepped.{no_one}
-use Rattle.ns_machine_sends.proofs.Stepped.{with_values}
 use Rattle.ns_machine_sends.proofs.resending.look_on.Goals as goal
 
 pub come_to-requires-clause-goes : goal.come_to-requires-clause-goes
 come_to-requires-clause-goes c =
-    answer_goes c.args.code.now c.args.core.now c.args.at c.args.sent c.args.receiver c.send-answered.new.run c.send-answered.result
-    (looked_on c.args.code.now c.args.core.now c.args.at c.args.sent c.args.receiver)
-    (with_values c.args.code.now c.args.core.now c.args.at c.args.sent c.args.receiver c.send-answered.new.run c.send-answered.result no_one
-    (To c.args.receiver Plain) c.from-arguments.result.now c.from-arguments.ensures
+    answer_goes c.args.code.now c.args.core.now c.args.sent c.args.receiver c.send-answered.new.run c.send-answered.result
+    (looked_on c.args.code.now c.args.core.now c.args.sent c.args.receiver)
+    (answer_is c.args.code.now c.args.core.now c.args.sent c.args.receiver c.send-answered.new.run c.send-answered.result
+    c.as_slice.result.now c.as_slice.ensures
     (c.send-answered.ensures.answered (site_shown c.args.core.now.places c.args.sent.site) no_one))
     c.requires.goes
 
@@ -30,8 +27,8 @@ come_to-requires-clause-can c =
 pub returns : goal.returns
 returns c =
     answer_led c.args.code.now c.args.core.now c.come_to.new.core c.args.at c.args.sent c.args.receiver c.send-answered.new.run c.send-answered.result
-    (looked_on c.args.code.now c.args.core.now c.args.at c.args.sent c.args.receiver) c.come_to.result
-    (with_values c.args.code.now c.args.core.now c.args.at c.args.sent c.args.receiver c.send-answered.new.run c.send-answered.result no_one
-    (To c.args.receiver Plain) c.from-arguments.result.now c.from-arguments.ensures
+    (looked_on c.args.code.now c.args.core.now c.args.sent c.args.receiver) c.come_to.result
+    (answer_is c.args.code.now c.args.core.now c.args.sent c.args.receiver c.send-answered.new.run c.send-answered.result
+    c.as_slice.result.now c.as_slice.ensures
     (c.send-answered.ensures.answered (site_shown c.args.core.now.places c.args.sent.site) no_one))
     c.send-answered.ensures.rest c.send-answered.ensures.kept c.come_to.ensures

@@ -1,4 +1,4 @@
-use Rattle.ns_machine_sends.proofs.Evaluated.{once_left, once_waiting, once_moves}
+use Rattle.ns_machine_sends.proofs.Awaited.{once_left, once_waiting, once_moves}
 use Rattle.ns_machine_sends.proofs.waiting.evaluate_at_once.Goals as goal
 
 pub enter_block-requires-clause-left : goal.enter_block-requires-clause-left

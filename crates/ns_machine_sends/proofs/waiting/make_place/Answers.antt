@@ -1,4 +1,4 @@
-use Rattle.ns_machine_sends.proofs.Evaluated.{place_made}
+use Rattle.ns_machine_sends.proofs.Awaited.{place_made}
 use Rattle.ns_machine_sends.proofs.waiting.make_place.Goals as goal
 
 pub returns : goal.returns
