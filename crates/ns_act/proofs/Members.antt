@@ -8,13 +8,13 @@ use Rattle.ns_world.specs.World.{World}
 use Rattle.ns_world.specs.Lawful.{IsLawful, HasHolder}
 use Rattle.ns_find.specs.declared.found.Found.{Found}
 use Rattle.ns_find.specs.declared.found.Found.TheVariants.{Getter, Setter, Nested}
-use Rattle.ns_find.specs.Belonging.{HasSlot}
+use Rattle.ns_find.specs.Belonging.{IsSlotOf}
 use Rattle.ns_actions.specs.Lawful.{HasClass}
 use Rattle.ns_actions.specs.Suits.{Suits}
 
 -- the law that a slot's word may be written, and that an object's words are all such
 abbrev pub SlotsOpen : Type 0
-SlotsOpen = (world : World) (code : CodeProgram) (at holder word : ℕ) → IsLawful world code → HasHolder world.cells (Ref at) holder → HasSlot world.cells code holder word → word < length (open_words_at world.cells at)
+SlotsOpen = (world : World) (code : CodeProgram) (at holder word : ℕ) → IsLawful world code → HasHolder world.cells (Ref at) holder → IsSlotOf world.cells code holder word → word < length (open_words_at world.cells at)
 
 abbrev pub AllOpen : Type 0
 AllOpen = (world : World) (at holder : ℕ) → HasHolder world.cells (Ref at) holder → open_words_at world.cells at ≡ words_at world.cells at

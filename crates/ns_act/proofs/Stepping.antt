@@ -11,7 +11,7 @@ use Rattle.ns_world.specs.Heap.{Heap}
 use Rattle.ns_world.specs.Lawful.{IsLiveValue}
 use Rattle.ns_world.specs.World.{World, stepped}
 use Rattle.ns_find.specs.declared.found.Sending.TheVariants.{Plain}
-use Rattle.ns_kdata.specs.Arguments.{IsThere}
+use Rattle.ns_kdata.specs.Arguments.{CellIsThere}
 use Rattle.ns_actions.specs.declared.site.Site.{Site}
 use Rattle.ns_actions.specs.Control.{Progress, Activation, halts, charged}
 use Rattle.ns_actions.specs.Sends.{Target, To, receiver_of, found_at, site_at, answered_by, sent, sent_plain}
@@ -42,7 +42,7 @@ pub plain_steps : (code : CodeProgram) (activation : Activation) (receiver : Val
     ≡ charged halts Steps (stepped progress.world) progress (answered code activation (To receiver Plain) sel values (site_at progress.world.cells place receiver sel))
 plain_steps code activation receiver sel values place progress = send_steps code activation (To receiver Plain) sel values place progress
 
-pub live_there : (heap : Heap) (code : CodeProgram) (value : Value) → IsLiveValue heap code value → IsThere heap value
+pub live_there : (heap : Heap) (code : CodeProgram) (value : Value) → IsLiveValue heap code value → CellIsThere heap value
 live_there heap code (Ref at) live = live.0
 live_there heap code Nil live = tt
 live_there heap code True live = tt

@@ -16,6 +16,6 @@ abbrev pub environments_out : CodeProgram → ℕ → ℕ → ℕ
 environments_out code body hops = if has_environment code body then hops else hops - 1
 
 -- A local that doesn't stand beside running code is one of an environment, and that and those on the way are there.
-pub record HasLocal (heap : Heap) (code : CodeProgram) (activation : Activation) (hops place : ℕ) : Type 0 where
+pub record LocalIsReadable (heap : Heap) (code : CodeProgram) (activation : Activation) (hops place : ℕ) : Type 0 where
   pub way : is_beside code activation hops ≡ false → HasEnvironments heap activation.env (environments_out code activation.body hops)
   pub inside : is_beside code activation hops ≡ false → place < length (words_at heap (environment_at heap code activation hops))

@@ -15,7 +15,7 @@ use Rattle.ns_actions.specs.declared.control.Exit.{Exit}
 use Rattle.ns_actions.specs.declared.control.Reached.{Reached}
 use Rattle.ns_actions.specs.declared.control.PartReached.{PartReached}
 use Rattle.ns_actions.specs.Bodies.{opened}
-use Rattle.ns_actions.specs.Control.{Progress, in_world, Activation, After, Control, Enter, Part, Stop, EnterPart, FromMethod, Waiting, halts, charged}
+use Rattle.ns_actions.specs.Control.{Progress, in_world, Activation, After, Control, Enter, PartControl, Stop, EnterPart, FromMethod, Waiting, halts, charged}
 use Rattle.ns_actions.specs.Sends.{Target, To, Wrapped, given, receiver_of, site_at, sent, sent_plain}
 use Rattle.ns_actions.specs.Shown.{reached_shown, part_shown, answer_shown, exit_shown}
 use Rattle.ns_act.specs.declared.methods.Waited.{Waited}
@@ -47,7 +47,7 @@ ReachesGiven code onward arguments result old new action =
     → reached_shown code site values result (in_world rest new.world) ≡ action site (in_world rest old.world)
 
 -- A superclass part goes where the action leads.
-abbrev pub PartReachesAs : CodeProgram → List Value → PartReached → WorldView → WorldView → (Site → Progress → Part) → Type 0
+abbrev pub PartReachesAs : CodeProgram → List Value → PartReached → WorldView → WorldView → (Site → Progress → PartControl) → Type 0
 PartReachesAs code values result old new action =
     (site : Site) (rest : Progress) → part_shown code site values result (in_world rest new.world) ≡ action site (in_world rest old.world)
 
@@ -86,11 +86,11 @@ body_entered code exit running arguments site progress =
     charged halts Depth (entered progress.world) progress (body_opened code exit running arguments site)
 
 -- an initialiser of a superclass, when its frame is charged
-abbrev pub part_opened : CodeProgram → Running → List Value → Site → Progress → Part
+abbrev pub part_opened : CodeProgram → Running → List Value → Site → Progress → PartControl
 part_opened code running arguments site = opened code Stop EnterPart (activation_at site running) arguments
 
 -- its frame, and then the initialiser
-abbrev pub part_entered : CodeProgram → Running → List Value → Site → Progress → Part
+abbrev pub part_entered : CodeProgram → Running → List Value → Site → Progress → PartControl
 part_entered code running arguments site progress =
     charged Stop Depth (entered progress.world) progress (part_opened code running arguments site)
 

@@ -8,7 +8,7 @@ ghost use Rattle.ns_world.specs.Lawful.{IsLawful, IsLiveValue};
 ghost use Rattle.ns_world.specs.Starts.{start_of};
 ghost use Rattle.ns_find.specs.declared.found.Sending.TheVariants.{Inner};
 ghost use Rattle.ns_find.specs.Find.{found_from};
-ghost use Rattle.ns_find.specs.Memo.{IsRight};
+ghost use Rattle.ns_find.specs.Memo.{PlaceIsRight};
 ghost use Rattle.ns_actions.specs.declared.site.Site.{Site};
 ghost use Rattle.ns_actions.specs.Bodies.{no_home};
 ghost use Rattle.ns_actions.specs.Control.{Activation};
@@ -17,7 +17,7 @@ ghost use Rattle.ns_actions.specs.Sends as spec;
 ghost use Rattle.ns_actions.specs.Suits.{Suits};
 ghost use Rattle.ns_act.specs.Answered.{answered_shown, answered, IsAnswered};
 ghost use Rattle.ns_act.specs.Plain.{IsPlain};
-ghost use Rattle.ns_act.specs.Room.{HasRoom, SameRest};
+ghost use Rattle.ns_act.specs.Room.{HasCellRoom, SameRest};
 ghost use Rattle.ns_act.specs.Run.{progress_of, IsReady, KeepsRight};
 ghost use Rattle.ns_act.specs.Stated.{RunReachesAs, RunAnswersAs};
 
@@ -47,9 +47,9 @@ pub fn found_of(
 ) -> Found
     requires lawful { IsLawful run.old.world.world code.now }
     requires receiver { IsLiveValue run.old.world.world.cells code.now receiver }
-    requires kept { All (IsRight run.old.world.world.cells code.now) run.old.memo }
+    requires kept { All (PlaceIsRight run.old.world.world.cells code.now) run.old.memo }
     ensures found { result ≡ found_from run.old.world.world.cells code.now (start_of run.old.world.world.cells receiver) sel.0 kind }
-    ensures kept { All (IsRight run.old.world.world.cells code.now) run.new.memo }
+    ensures kept { All (PlaceIsRight run.old.world.world.cells code.now) run.new.memo }
     ensures rest { run.new ≡ record run.old { memo = run.new.memo } }
 {
     look(&mut run.world, code, &mut run.memo, receiver, sel, kind)
@@ -67,9 +67,9 @@ fn look(
 ) -> Found
     requires lawful { IsLawful world.old.world code.now }
     requires receiver { IsLiveValue world.old.world.cells code.now receiver }
-    requires kept { All (IsRight world.old.world.cells code.now) memo.old }
+    requires kept { All (PlaceIsRight world.old.world.cells code.now) memo.old }
     ensures found { result ≡ found_from world.old.world.cells code.now (start_of world.old.world.cells receiver) sel.0 kind }
-    ensures kept { All (IsRight world.old.world.cells code.now) memo.new }
+    ensures kept { All (PlaceIsRight world.old.world.cells code.now) memo.new }
     ensures world { world.new ≡ world.old }
 {
     lookups_can_start();
@@ -87,7 +87,7 @@ pub fn done_with(
     values: &[Value],
 ) -> Answered
     requires lawful { IsLawful run.old.world.world code.now }
-    requires room { HasRoom run.old.world }
+    requires room { HasCellRoom run.old.world }
     requires begun { run.old.begun < no_home }
     requires suits { Suits run.old.world.world.cells code.now receiver found }
     ensures answered { (site : Site) (sel : Sel) →
@@ -130,7 +130,7 @@ fn not_found(
     values: &[Value],
 ) -> Reached
     requires lawful { IsLawful run.old.world.world code.now }
-    requires room { HasRoom run.old.world }
+    requires room { HasCellRoom run.old.world }
     requires begun { run.old.begun < no_home }
     requires suits { Suits run.old.world.world.cells code.now receiver found }
     requires selector { FitsSelector run.old.world.world.cells code.now sel values.now }
@@ -177,7 +177,7 @@ fn not_understood(
     requires selector { FitsSelector run.old.world.world.cells code.now sel values.now }
     ensures reached { RunReachesAs code.now values.now result run.old run.new (spec.not_understood code.now sel receiver values.now) }
     ensures rest { SameRest run.old.world run.new.world }
-    ensures kept { All (IsRight run.old.world.world.cells code.now) run.new.memo }
+    ensures kept { All (PlaceIsRight run.old.world.world.cells code.now) run.new.memo }
     ensures plain { IsPlain result }
 {
     what_is_found_suits();
@@ -205,7 +205,7 @@ pub fn answered_by(
     ensures answered { RunAnswersAs code.now sel receiver values.now result run.old run.new (spec.answered_by code.now found sel receiver values.now) }
     ensures member { IsAnswered found run.old.world result run.new.world }
     ensures rest { SameRest run.old.world run.new.world }
-    ensures kept { All (IsRight run.old.world.world.cells code.now) run.new.memo }
+    ensures kept { All (PlaceIsRight run.old.world.world.cells code.now) run.new.memo }
 {
     match found {
         Found::Absent => { Answered::Comes(not_understood(run, code, own, sel, receiver, values)) }
@@ -235,7 +235,7 @@ pub fn send(
     ensures member { IsAnswered (found_from run.old.world.world.cells code.now (start_of run.old.world.world.cells receiver) sel.0 kind)
         run.old.world result run.new.world }
     ensures rest { SameRest run.old.world run.new.world }
-    ensures kept { All (IsRight run.old.world.world.cells code.now) run.new.memo }
+    ensures kept { All (PlaceIsRight run.old.world.world.cells code.now) run.new.memo }
 {
     what_is_found_suits();
     let found = found_of(run, code, receiver, sel, kind);

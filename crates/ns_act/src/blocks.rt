@@ -1,10 +1,10 @@
 //! The evaluation of blocks.
 
 ghost use Rattle.ns_world.specs.declared.cell.NewCell.TheVariants as new;
-ghost use Rattle.ns_kdata.specs.Arguments.{IsThere};
+ghost use Rattle.ns_kdata.specs.Arguments.{CellIsThere};
 ghost use Rattle.ns_actions.specs.Blocks as spec;
 ghost use Rattle.ns_act.specs.Plain.{IsPlain};
-ghost use Rattle.ns_act.specs.Room.{HasRoom, SameRest};
+ghost use Rattle.ns_act.specs.Room.{HasCellRoom, SameRest};
 ghost use Rattle.ns_act.specs.Stated.{ReachesAs};
 
 use crate::bodies::enter_body;
@@ -22,8 +22,8 @@ use ns_world::world::World;
 /// its environment doesn't fit.
 #[inline(always)]
 pub fn evaluate(world: &mut World, code: &CodeProgram, block: Value, arguments: &[Value]) -> Reached
-    requires room { HasRoom world.old }
-    requires block { IsThere world.old.world.cells block }
+    requires room { HasCellRoom world.old }
+    requires block { CellIsThere world.old.world.cells block }
     ensures reached { ReachesAs code.now arguments.now result world.old world.new (spec.evaluated code.now block arguments.now) }
     ensures rest { SameRest world.old world.new }
     ensures plain { IsPlain result }
@@ -34,7 +34,7 @@ pub fn evaluate(world: &mut World, code: &CodeProgram, block: Value, arguments: 
 /// The same, by the block's cell.
 #[inline(always)]
 fn enter_block(world: &mut World, code: &CodeProgram, cell: NewCell, arguments: &[Value]) -> Reached
-    requires room { HasRoom world.old }
+    requires room { HasCellRoom world.old }
     ensures reached { ReachesAs code.now arguments.now result world.old world.new (spec.block_entered code.now cell arguments.now) }
     ensures rest { SameRest world.old world.new }
     ensures plain { IsPlain result }
@@ -65,7 +65,7 @@ fn enter_block(world: &mut World, code: &CodeProgram, cell: NewCell, arguments: 
 /// The same, by what the block runs in.
 #[inline(always)]
 fn step_in(world: &mut World, code: &CodeProgram, running: Running, arguments: &[Value]) -> Reached
-    requires room { HasRoom world.old }
+    requires room { HasCellRoom world.old }
     ensures reached { ReachesAs code.now arguments.now result world.old world.new
         (spec.block_entered code.now (new.Block running.body running.env running.home running.me running.holder) arguments.now) }
     ensures rest { SameRest world.old world.new }

@@ -8,7 +8,7 @@ ghost use Rattle.ns_actions.specs.Bodies.{first_locals};
 ghost use Rattle.ns_actions.specs.Control.{Progress, in_world, frame_left};
 ghost use Rattle.ns_actions.specs.Shown.{given_values, passed};
 ghost use Rattle.ns_act.specs.Plain.{IsOwnGiven, IsPlain};
-ghost use Rattle.ns_act.specs.Room.{HasRoom, SameRest};
+ghost use Rattle.ns_act.specs.Room.{HasCellRoom, SameRest};
 ghost use Rattle.ns_act.specs.Stated.{ReachesGiven, PartReachesAs, body_opened, body_entered, part_opened, part_entered};
 
 use crate::running::{Running, has_environment, own_locals};
@@ -27,7 +27,7 @@ fn make_environment(
     running: Running,
     arguments: &[Value],
 ) -> Result<u32, CellLimit>
-    requires room { HasRoom world.old }
+    requires room { HasCellRoom world.old }
     ensures makes { MakesCell world.old (EnvironmentCell running.env (first_locals code.now running.body arguments.now)) result world.new }
     ensures rest { SameRest world.old world.new }
 {
@@ -61,7 +61,7 @@ pub fn open_body(
     given: Given,
     arguments: &[Value],
 ) -> Reached
-    requires room { HasRoom world.old }
+    requires room { HasCellRoom world.old }
     ensures reached { ReachesGiven code.now (λ heap values. given_values heap (passed exit values) given) arguments.now result world.old world.new
         (body_opened code.now exit running arguments.now) }
     ensures rest { SameRest world.old world.new }
@@ -93,7 +93,7 @@ pub fn enter_body(
     given: Given,
     arguments: &[Value],
 ) -> Reached
-    requires room { HasRoom world.old }
+    requires room { HasCellRoom world.old }
     ensures reached { ReachesGiven code.now (λ heap values. given_values heap (passed exit values) given) arguments.now result world.old world.new
         (body_entered code.now exit running arguments.now) }
     ensures rest { SameRest world.old world.new }
@@ -114,7 +114,7 @@ pub fn open_part(
     running: Running,
     arguments: &[Value],
 ) -> PartReached
-    requires room { HasRoom world.old }
+    requires room { HasCellRoom world.old }
     ensures reached { PartReachesAs code.now arguments.now result world.old world.new (part_opened code.now running arguments.now) }
     ensures rest { SameRest world.old world.new }
 {
@@ -137,7 +137,7 @@ pub fn enter_part(
     running: Running,
     arguments: &[Value],
 ) -> PartReached
-    requires room { HasRoom world.old }
+    requires room { HasCellRoom world.old }
     ensures reached { PartReachesAs code.now arguments.now result world.old world.new (part_entered code.now running arguments.now) }
     ensures rest { SameRest world.old world.new }
 {

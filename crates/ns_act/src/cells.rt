@@ -1,7 +1,7 @@
 //! New cells as values.
 
 ghost use Rattle.ns_actions.specs.Blocks as spec;
-ghost use Rattle.ns_act.specs.Room.{HasRoom, SameRest};
+ghost use Rattle.ns_act.specs.Room.{HasCellRoom, SameRest};
 ghost use Rattle.ns_act.specs.Running.{activation_at};
 ghost use Rattle.ns_act.specs.Stated.{AnswersAs};
 
@@ -16,7 +16,7 @@ use ns_world::world::World;
 /// exactly where it doesn't fit.
 #[inline]
 pub fn new_block(world: &mut World, running: Running, body: u32) -> Answer
-    requires room { HasRoom world.old }
+    requires room { HasCellRoom world.old }
     ensures answer { AnswersAs result world.old world.new (λ site. spec.new_block (activation_at site running) body) }
     ensures rest { SameRest world.old world.new }
 {
@@ -34,7 +34,7 @@ pub fn new_block(world: &mut World, running: Running, body: u32) -> Answer
 
 /// A new text of these bytes; the limit on cells exactly where it doesn't fit.
 pub fn new_text(world: &mut World, bytes: &[u8]) -> Answer
-    requires room { HasRoom world.old }
+    requires room { HasCellRoom world.old }
     ensures answer { AnswersAs result world.old world.new (λ site. spec.new_text bytes.now) }
     ensures rest { SameRest world.old world.new }
 {
@@ -46,7 +46,7 @@ pub fn new_text(world: &mut World, bytes: &[u8]) -> Answer
 
 /// A new array of these elements; the limit on cells exactly where it doesn't fit.
 pub fn new_array(world: &mut World, items: &[Value]) -> Answer
-    requires room { HasRoom world.old }
+    requires room { HasCellRoom world.old }
     ensures answer { AnswersAs result world.old world.new (λ site. spec.new_array items.now) }
     ensures rest { SameRest world.old world.new }
 {

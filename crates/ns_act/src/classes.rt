@@ -13,7 +13,7 @@ ghost use Rattle.ns_actions.specs.Control.{Progress, Now};
 ghost use Rattle.ns_actions.specs.Lawful.{HasClass, FitsExit};
 ghost use Rattle.ns_actions.specs.Shown.{reached_shown, part_shown, answer_shown, exit_shown, given_values};
 ghost use Rattle.ns_act.specs.Plain.{IsOwnGiven, IsPlain};
-ghost use Rattle.ns_act.specs.Room.{HasRoom, SameRest};
+ghost use Rattle.ns_act.specs.Room.{HasCellRoom, SameRest};
 ghost use Rattle.ns_act.specs.Running.{activation_at};
 ghost use Rattle.ns_act.specs.Stated.{ReachesAnyhow, ReachesGiven, PartReachesAs, AnswersAs};
 ghost use Rattle.ns_act.specs.declared.running.Running.{Running};
@@ -46,7 +46,7 @@ pub fn instance(
     arguments: &[Value],
 ) -> Reached
     requires lawful { IsLawful world.old.world code.now }
-    requires room { HasRoom world.old }
+    requires room { HasCellRoom world.old }
     requires class { IsTrue (is_class (find_cell world.old.world.cells class)) }
     ensures reached { ReachesGiven code.now (λ heap values. given_values heap values given) arguments.now result world.old world.new
         (spec.instance code.now class arguments.now) }
@@ -85,7 +85,7 @@ pub fn nested_class(
     class: u32,
 ) -> Reached
     requires lawful { IsLawful world.old.world code.now }
-    requires room { HasRoom world.old }
+    requires room { HasCellRoom world.old }
     requires class { HasClass world.old.world.cells code.now object holder class }
     ensures reached { ReachesAnyhow code.now result world.old world.new
         (spec.nested code.now object holder class (kept_class world.old.world.cells code.now object holder class)) }
@@ -102,7 +102,7 @@ pub fn nested_class(
 /// The head of the clause of a nested class, or the class over the kernel's Object.
 fn head(world: &mut World, code: &CodeProgram, object: u32, holder: u32, class: u32) -> Reached
     requires lawful { IsLawful world.old.world code.now }
-    requires room { HasRoom world.old }
+    requires room { HasCellRoom world.old }
     requires class { HasClass world.old.world.cells code.now object holder class }
     ensures reached { ReachesAnyhow code.now result world.old world.new (spec.head code.now object holder class (clause_of code.now class)) }
     ensures rest { SameRest world.old world.new }
@@ -142,7 +142,7 @@ fn enter_clause(
     class: u32,
     body: u32,
 ) -> Reached
-    requires room { HasRoom world.old }
+    requires room { HasCellRoom world.old }
     ensures reached { ReachesAnyhow code.now result world.old world.new (spec.head code.now object holder class (Some body)) }
     ensures rest { SameRest world.old world.new }
     ensures plain { IsPlain result }
@@ -174,7 +174,7 @@ pub fn class_over(
     over: Value,
 ) -> Answer
     requires lawful { IsLawful world.old.world code.now }
-    requires room { HasRoom world.old }
+    requires room { HasCellRoom world.old }
     requires class { HasClass world.old.world.cells code.now object holder class }
     requires over { IsLive world.old.world.cells code.now over }
     ensures answer { AnswersAs result world.old world.new (spec.class_over code.now object holder class over) }
@@ -197,7 +197,7 @@ fn newly_kept(
     over: Value,
 ) -> Answer
     requires lawful { IsLawful world.old.world code.now }
-    requires room { HasRoom world.old }
+    requires room { HasCellRoom world.old }
     requires class { HasClass world.old.world.cells code.now object holder class }
     requires over { IsLive world.old.world.cells code.now over }
     ensures answer { AnswersAs result world.old world.new (spec.newly_kept code.now object holder class over) }
@@ -243,7 +243,7 @@ pub fn super_part(
     arguments: &[Value],
 ) -> PartReached
     requires lawful { IsLawful world.old.world code.now }
-    requires room { HasRoom world.old }
+    requires room { HasCellRoom world.old }
     requires holder { IsTrue (is_class (find_cell world.old.world.cells running.holder)) }
     ensures reached { PartReachesAs code.now arguments.now result world.old world.new
         (λ site. spec.super_part code.now (activation_at site running) arguments.now) }
@@ -264,7 +264,7 @@ fn part_of(
     sel: u32,
     arguments: &[Value],
 ) -> PartReached
-    requires room { HasRoom world.old }
+    requires room { HasCellRoom world.old }
     requires over { (class : ℕ) → over ≡ Ref class → IsTrue (is_class (find_cell world.old.world.cells class)) }
     ensures reached { PartReachesAs code.now arguments.now result world.old world.new
         (λ site. spec.part_of code.now (activation_at site running) over sel arguments.now) }
@@ -296,7 +296,7 @@ fn declared_part(
     sel: u32,
     arguments: &[Value],
 ) -> PartReached
-    requires room { HasRoom world.old }
+    requires room { HasCellRoom world.old }
     requires over { IsTrue (is_class (find_cell world.old.world.cells over)) }
     ensures reached { PartReachesAs code.now arguments.now result world.old world.new
         (λ site. spec.declared_part code.now (activation_at site running) over sel arguments.now) }
@@ -361,7 +361,7 @@ pub fn body_ended(
     value: Value,
 ) -> Answer
     requires lawful { IsLawful world.old.world code.now }
-    requires room { HasRoom world.old }
+    requires room { HasCellRoom world.old }
     requires depth { 0 < world.old.world.depth }
     requires exit { FitsExit world.old.world.cells code.now (exit_shown exit running.me running.holder) }
     requires value { IsLive world.old.world.cells code.now value }

@@ -5,7 +5,7 @@ ghost use Rattle.ns_code.specs.declared.program.CodeProgram.{CodeProgram};
 ghost use Rattle.ns_world.specs.declared.value.Value.{Value};
 ghost use Rattle.ns_world.specs.Heap.{Heap};
 ghost use Rattle.ns_world.specs.Lawful.{IsLiveValue};
-ghost use Rattle.ns_kdata.specs.Arguments.{IsThere};
+ghost use Rattle.ns_kdata.specs.Arguments.{CellIsThere};
 ghost use Rattle.ns_act.specs.Stated.{SentIsItsAnswer, PlainIsItsAnswer};
 
 /// A send of running code charges its step, and is then what its target finds answers; and so is a
@@ -17,5 +17,5 @@ pub fn a_send_is_its_step_and_its_answer()
 
 /// A live value is there.
 pub fn live_values_are_there()
-    ensures { (heap : Heap) (code : CodeProgram) (value : Value) → IsLiveValue heap code value → IsThere heap value }
+    ensures { (heap : Heap) (code : CodeProgram) (value : Value) → IsLiveValue heap code value → CellIsThere heap value }
 {}

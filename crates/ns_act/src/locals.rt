@@ -8,7 +8,7 @@ ghost use Rattle.ns_actions.specs.Control.{Progress, in_world};
 ghost use Rattle.ns_actions.specs.Bodies as spec;
 ghost use Rattle.ns_act.specs.Room.{SameRest};
 ghost use Rattle.ns_act.specs.Running.{activation_at, code_of};
-ghost use Rattle.ns_act.specs.Locals.{HasEnvironments, HasLocal, environments_out};
+ghost use Rattle.ns_act.specs.Locals.{HasEnvironments, LocalIsReadable, environments_out};
 
 use crate::running::{Running, has_environment};
 use ns_code::program::CodeProgram;
@@ -76,7 +76,7 @@ pub fn store_local(
     place: u8,
     value: Value,
 )
-    requires { HasLocal world.old.world.cells code.now (code_of running) hops place }
+    requires { LocalIsReadable world.old.world.cells code.now (code_of running) hops place }
     ensures stored { (site : Site) (rest : Progress) →
         in_world rest world.new.world ≡ spec.local_stored code.now (activation_at site running) hops place value (in_world rest world.old.world) }
     ensures rest { SameRest world.old world.new }

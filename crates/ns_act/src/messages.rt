@@ -7,7 +7,7 @@ ghost use Rattle.ns_actions.specs.declared.site.Site.{Site};
 ghost use Rattle.ns_actions.specs.Control.{Progress, in_world};
 ghost use Rattle.ns_actions.specs.Lawful.{FitsSelector};
 ghost use Rattle.ns_actions.specs.Suits.{Follows};
-ghost use Rattle.ns_act.specs.Room.{HasRoom, SameRest};
+ghost use Rattle.ns_act.specs.Room.{HasCellRoom, SameRest};
 ghost use Rattle.ns_act.specs.Wrapping.{wrapped, message_shown};
 
 use ns_actions::finding::messages_follow;
@@ -20,7 +20,7 @@ use ns_world::world::World;
 /// Makes the Message of a selector and these arguments, which stand in an array of its own; the
 /// limit on cells exactly where the array or the Message doesn't fit.
 pub fn make_message(world: &mut World, sel: Sel, values: &[Value]) -> Result<u32, Fault>
-    requires room { HasRoom world.old }
+    requires room { HasCellRoom world.old }
     ensures message { (site : Site) (rest : Progress) →
         message_shown site result (in_world rest world.new.world) ≡ wrapped sel values.now (in_world rest world.old.world) }
     ensures follows { (code : CodeProgram) → IsLawful world.old.world code → FitsSelector world.old.world.cells code sel values.now →

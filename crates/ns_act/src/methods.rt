@@ -1,7 +1,7 @@
 //! The methods of the kernel that evaluate blocks, one action at a time.
 
 ghost use Rattle.std.specs.Prelude.{◌≡◌, ◌<◌};
-ghost use Rattle.ns_kdata.specs.Arguments.{IsThere};
+ghost use Rattle.ns_kdata.specs.Arguments.{CellIsThere};
 ghost use Rattle.ns_actions.specs.Blocks as spec;
 ghost use Rattle.ns_actions.specs.Control.{Waits};
 ghost use Rattle.ns_act.specs.Room.{SameRest};
@@ -32,7 +32,7 @@ pub enum Waited {
 #[inline(always)]
 pub fn method_next(world: &mut World, method: KMethod, state: KState) -> Waited
     requires depth { 0 < world.old.world.depth }
-    requires receiver { IsThere world.old.world.cells state.receiver }
+    requires receiver { CellIsThere world.old.world.cells state.receiver }
     ensures waited { WaitsAs result world.old world.new (spec.method_next method state) }
     ensures rest { SameRest world.old world.new }
 {
@@ -43,7 +43,7 @@ pub fn method_next(world: &mut World, method: KMethod, state: KState) -> Waited
 #[inline(always)]
 pub fn act(world: &mut World, action: KAction, state: KState) -> Waited
     requires depth { 0 < world.old.world.depth }
-    requires receiver { IsThere world.old.world.cells state.receiver }
+    requires receiver { CellIsThere world.old.world.cells state.receiver }
     ensures waited { WaitsAs result world.old world.new (spec.acted action state) }
     ensures rest { SameRest world.old world.new }
 {
@@ -110,7 +110,7 @@ fn waiting(state: KState, count: i64) -> KState
 /// The element of an array as it is now, nil where there is none.
 #[inline(always)]
 fn item_at(world: &World, array: Value, item: i64) -> Value
-    requires { IsThere world.now.world.cells array }
+    requires { CellIsThere world.now.world.cells array }
     ensures { result ≡ spec.item_at world.now.world.cells array item }
 {
     let place = item.unsigned_abs();

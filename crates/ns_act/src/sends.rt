@@ -14,7 +14,7 @@ ghost use Rattle.ns_actions.specs.Lawful.{FitsSelector, HasClass};
 ghost use Rattle.ns_actions.specs.Sends as spec;
 ghost use Rattle.ns_act.specs.Counting as counting;
 ghost use Rattle.ns_act.specs.Plain.{IsPlain};
-ghost use Rattle.ns_act.specs.Room.{HasRoom, SameRest};
+ghost use Rattle.ns_act.specs.Room.{HasCellRoom, SameRest};
 ghost use Rattle.ns_act.specs.Stated.{ReachesAs, ReachesAnyhow, RunReachesAs, opened_with_message, entered_with_message};
 
 use crate::bodies::{enter_body, open_body};
@@ -63,7 +63,7 @@ pub fn enter_method(
     receiver: Value,
     values: &[Value],
 ) -> Reached
-    requires room { HasRoom run.old.world }
+    requires room { HasCellRoom run.old.world }
     requires begun { run.old.begun < no_home }
     ensures reached { RunReachesAs code.now values.now result run.old run.new
         (spec.method_entered code.now body holder receiver (spec.Listed values.now)) }
@@ -96,7 +96,7 @@ pub fn enter_method_with_message(
     sel: Sel,
     values: &[Value],
 ) -> Reached
-    requires room { HasRoom run.old.world }
+    requires room { HasCellRoom run.old.world }
     requires begun { run.old.begun < no_home }
     ensures reached { RunReachesAs code.now values.now result run.old run.new
         (spec.method_entered code.now body holder receiver (spec.Wrapped sel values.now)) }
@@ -118,7 +118,7 @@ fn enter_with_message(
     sel: Sel,
     values: &[Value],
 ) -> Reached
-    requires room { HasRoom world.old }
+    requires room { HasCellRoom world.old }
     ensures reached { ReachesAnyhow code.now result world.old world.new (entered_with_message code.now running sel values.now) }
     ensures rest { SameRest world.old world.new }
     ensures plain { IsPlain result }
@@ -137,7 +137,7 @@ fn open_with_message(
     sel: Sel,
     values: &[Value],
 ) -> Reached
-    requires room { HasRoom world.old }
+    requires room { HasCellRoom world.old }
     ensures reached { ReachesAnyhow code.now result world.old world.new (opened_with_message code.now running sel values.now) }
     ensures rest { SameRest world.old world.new }
     ensures plain { IsPlain result }
@@ -173,7 +173,7 @@ fn method_running(home: u64, body: u32, holder: u32, receiver: Value) -> Running
 #[inline(never)]
 pub fn enter_factory(world: &mut World, code: &CodeProgram, class: u32, values: &[Value]) -> Reached
     requires lawful { IsLawful world.old.world code.now }
-    requires room { HasRoom world.old }
+    requires room { HasCellRoom world.old }
     requires class { IsTrue (is_class (find_cell world.old.world.cells class)) }
     ensures reached { ReachesAs code.now values.now result world.old world.new (spec.factory_entered code.now class (spec.Listed values.now)) }
     ensures rest { SameRest world.old world.new }
@@ -230,7 +230,7 @@ pub fn nested_in(
     class: u32,
 ) -> Reached
     requires lawful { IsLawful world.old.world code.now }
-    requires room { HasRoom world.old }
+    requires room { HasCellRoom world.old }
     requires class { (object : ℕ) → receiver ≡ Ref object → HasClass world.old.world.cells code.now object holder class }
     ensures reached { ReachesAnyhow code.now result world.old world.new (spec.nested_in code.now receiver holder class) }
     ensures rest { SameRest world.old world.new }
@@ -251,7 +251,7 @@ pub fn enter_factory_with_message(
     values: &[Value],
 ) -> Reached
     requires lawful { IsLawful world.old.world code.now }
-    requires room { HasRoom world.old }
+    requires room { HasCellRoom world.old }
     requires class { IsTrue (is_class (find_cell world.old.world.cells class)) }
     requires selector { FitsSelector world.old.world.cells code.now sel values.now }
     ensures reached { ReachesAnyhow code.now result world.old world.new (spec.factory_entered code.now class (spec.Wrapped sel values.now)) }
@@ -274,7 +274,7 @@ fn instance_with_message(
     values: &[Value],
 ) -> Reached
     requires lawful { IsLawful world.old.world code.now }
-    requires room { HasRoom world.old }
+    requires room { HasCellRoom world.old }
     requires class { IsTrue (is_class (find_cell world.old.world.cells class)) }
     requires selector { FitsSelector world.old.world.cells code.now sel values.now }
     ensures reached { ReachesAnyhow code.now result world.old world.new (λ site progress.
@@ -298,7 +298,7 @@ pub fn set_with_message(
     values: &[Value],
 ) -> Reached
     requires lawful { IsLawful world.old.world code.now }
-    requires room { HasRoom world.old }
+    requires room { HasCellRoom world.old }
     requires word { (at : ℕ) → receiver ≡ Ref at → word < length (open_words_at world.old.world.cells at) }
     requires selector { FitsSelector world.old.world.cells code.now sel values.now }
     ensures reached { ReachesAnyhow code.now result world.old world.new (λ site. spec.set word receiver (spec.Wrapped sel values.now)) }

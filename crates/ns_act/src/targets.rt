@@ -6,7 +6,7 @@ ghost use Rattle.ns_code.specs.declared.own.Own.TheVariants.{DoesNotUnderstand};
 ghost use Rattle.ns_code.specs.Selector.{own_number};
 ghost use Rattle.ns_world.specs.Lawful.{IsLawful, IsLiveValue};
 ghost use Rattle.ns_world.specs.Starts.{class_name_of};
-ghost use Rattle.ns_find.specs.Memo.{IsRight};
+ghost use Rattle.ns_find.specs.Memo.{PlaceIsRight};
 ghost use Rattle.ns_find.specs.declared.found.Sending.TheVariants.{Inner};
 ghost use Rattle.ns_find.specs.Find.{found_from, side_of, super_start as start_above};
 ghost use Rattle.ns_actions.specs.Bodies as bodies;
@@ -57,10 +57,10 @@ fn found_above(
 ) -> Found
     requires lawful { IsLawful world.old.world code.now }
     requires running { FitsActivation world.old.world.cells code.now (code_of running) }
-    requires kept { All (IsRight world.old.world.cells code.now) memo.old }
+    requires kept { All (PlaceIsRight world.old.world.cells code.now) memo.old }
     ensures found { result ≡ found_from world.old.world.cells code.now
         (start_above world.old.world.cells running.holder (bodies.side_of_body code.now running.body)) sel.0 Inner }
-    ensures kept { All (IsRight world.old.world.cells code.now) memo.new }
+    ensures kept { All (PlaceIsRight world.old.world.cells code.now) memo.new }
     ensures world { world.new ≡ world.old }
 {
     enclosing_objects_are_there();
@@ -87,7 +87,7 @@ pub fn send_super(
         (λ site. answered code.now (activation_at site running) spec.ToSuper sel values.now site) }
     ensures member { IsAnswered (spec.found_at run.old.world.world.cells code.now (code_of running) spec.ToSuper sel.0) run.old.world result run.new.world }
     ensures rest { SameRest run.old.world run.new.world }
-    ensures kept { All (IsRight run.old.world.world.cells code.now) run.new.memo }
+    ensures kept { All (PlaceIsRight run.old.world.world.cells code.now) run.new.memo }
 {
     what_is_found_suits();
     let found = found_above(&mut run.world, code, &mut run.memo, running, sel);
@@ -168,7 +168,7 @@ pub fn send_private(
     ensures member { IsAnswered (spec.found_at run.old.world.world.cells code.now (code_of running) (spec.ToPrivate level) sel.0)
         run.old.world result run.new.world }
     ensures rest { SameRest run.old.world run.new.world }
-    ensures kept { All (IsRight run.old.world.world.cells code.now) run.new.memo }
+    ensures kept { All (PlaceIsRight run.old.world.world.cells code.now) run.new.memo }
 {
     what_is_found_suits();
     enclosing_objects_are_there();

@@ -11,7 +11,7 @@ use Rattle.ns_world.specs.World.{World}
 use Rattle.ns_world.specs.Lawful.{IsLawful, IsLiveValue, FitsBody, FitsEnvironment, BlockIsLawful, parent_of}
 use Rattle.ns_actions.specs.Control.{Activation}
 use Rattle.ns_actions.specs.Bodies.{has_environment, enclosing}
-use Rattle.ns_actions.specs.Lawful.{FitsActivation, declaration_at, IsBlockIn}
+use Rattle.ns_actions.specs.Lawful.{FitsActivation, declaration_at, IsBlockOf}
 use Rattle.ns_actions.specs.Fitting.{FitsOwnEnvironment}
 use Rattle.ns_actions.proofs.Opening.{earlier, at_depth}
 use Rattle.ns_actions.specs.lemmas.Places.{places_fit}
@@ -29,7 +29,7 @@ same_fits heap code inner outer (Kernel class') holder class side fits = absurd 
 one_body : (o : Option BodyCode) (b c : BodyCode) → o ≡ Some b → o ≡ Some c → b ≡ c
 one_body o b c e f = let both : Some b ≡ Some c = sym e ∙ f in cc
 
-pub block_is_lawful : (world : World) (code : CodeProgram) (activation : Activation) (block : ℕ) → IsLawful world code → FitsActivation world.cells code activation → FitsOwnEnvironment world.cells code activation → IsBlockIn code block activation.body
+pub block_is_lawful : (world : World) (code : CodeProgram) (activation : Activation) (block : ℕ) → IsLawful world code → FitsActivation world.cells code activation → FitsOwnEnvironment world.cells code activation → IsBlockOf code block activation.body
     → BlockIsLawful world.cells code block activation.env activation.self activation.holder
 block_is_lawful world code activation block lawful fits own is = record {
   declared = rw is.inner_is refl;

@@ -15,7 +15,7 @@ use Rattle.ns_world.specs.Layout.{declaration_of, entries_of, entry_word}
 use Rattle.ns_world.specs.Lawful.{IsLawful, IsLiveValue, HasHolder, class_of_object}
 use Rattle.ns_find.specs.declared.found.Sending.TheVariants.{Inner}
 use Rattle.ns_find.specs.Find.{found_from, found_private, super_start, is_start}
-use Rattle.ns_find.specs.Belonging.{HasSlot}
+use Rattle.ns_find.specs.Belonging.{IsSlotOf}
 use Rattle.ns_classes.specs.laws.Entries.{entry_inside}
 use Rattle.ns_actions.specs.Control.{Activation}
 use Rattle.ns_actions.specs.Bodies.{enclosing, side_of_body, side_at}
@@ -114,6 +114,6 @@ entry_open world code at holder entry lawful has inside =
 slot_entry : (code : CodeProgram) (decl entry : ℕ) (class : ClassCode) → slice_get code.classes decl ≡ Some class → entry < length class.slots → entry < entries_of code decl
 slot_entry code decl entry class e inside = rw e (omega (arith, inside))
 
-pub slot_open : (world : World) (code : CodeProgram) (at holder word : ℕ) → IsLawful world code → HasHolder world.cells (Ref at) holder → HasSlot world.cells code holder word → word < length (open_words_at world.cells at)
+pub slot_open : (world : World) (code : CodeProgram) (at holder word : ℕ) → IsLawful world code → HasHolder world.cells (Ref at) holder → IsSlotOf world.cells code holder word → word < length (open_words_at world.cells at)
 slot_open world code at holder word lawful has slot =
     omega (arith, slot.word_is, entry_open world code at holder slot.entry lawful has (slot_entry code (declaration_of world.cells holder) slot.entry slot.class slot.class_is slot.inside))

@@ -39,14 +39,14 @@ use Rattle.ns_actions.specs.laws.LawfulBlocks.{self_live, evaluated_lawful}
 use Rattle.ns_actions.specs.laws.LawfulSends.{super_fits, body_declared}
 use Rattle.ns_actions.specs.lemmas.Suiting.{found_suits, private_suits}
 use Rattle.ns_actions.specs.lemmas.Places.{places_fit}
-use Rattle.ns_actions.specs.lemmas.Running.{RunsBody, found_runs}
+use Rattle.ns_actions.specs.lemmas.Running.{BodyRuns, found_runs}
 use Rattle.ns_actions.proofs.Running.{outer_private, super_runs}
 use Rattle.ns_actions.specs.lemmas.RowsSuit.{value_suits, above_suits, own_suits}
 use Rattle.ns_actions.proofs.WaitsFit.{method_hands_on}
-use Rattle.ns_actions.specs.lemmas.Opening.{Around}
+use Rattle.ns_actions.specs.lemmas.Opening.{FitsAround}
 use Rattle.ns_actions.proofs.Opening.{block_around}
 use Rattle.ns_actions.proofs.PartsFit.{super_part_fits}
-use Rattle.ns_actions.specs.lemmas.Fitting.{Later, opened_fits, entered_here, body_lasts, fits_now, stepped_fits}
+use Rattle.ns_actions.specs.lemmas.Fitting.{ShownLater, opened_fits, entered_here, body_lasts, fits_now, stepped_fits}
 
 -- ---- sends
 
@@ -85,10 +85,10 @@ sent_fits code activation ToSuper sel values place progress lawful here fits = d
 -- ---- evaluations
 
 -- a block's body runs with its self and its holder
-block_runs : (world : World) (code : CodeProgram) (number : ℕ) (env receiver : Value) (holder : ℕ) → IsLawful world code → BlockIsLawful world.cells code number env receiver holder → RunsBody world.cells code receiver holder number block_kind (parameters_of code number)
+block_runs : (world : World) (code : CodeProgram) (number : ℕ) (env receiver : Value) (holder : ℕ) → IsLawful world code → BlockIsLawful world.cells code number env receiver holder → BodyRuns world.cells code receiver holder number block_kind (parameters_of code number)
 block_runs world code number env receiver holder lawful block = there (slice_get code.bodies number) refl block.declared
   where
-    there : (o : Option BodyCode) → slice_get code.bodies number ≡ o → IsSome o → RunsBody world.cells code receiver holder number block_kind (parameters_of code number)
+    there : (o : Option BodyCode) → slice_get code.bodies number ≡ o → IsSome o → BodyRuns world.cells code receiver holder number block_kind (parameters_of code number)
     there (Some body) e some = record {
       live = self_live world code number body receiver holder lawful e (block.fits body e);
       there = block.declared;
@@ -99,22 +99,22 @@ block_runs world code number env receiver holder lawful block = there (slice_get
     there None e some = absurd (cc)
 
 -- what the block keeps still stands around its body
-kept_around : (old new : World) (code : CodeProgram) (number : ℕ) (env receiver : Value) (holder : ℕ) → RunsOn code old new → BlockIsLawful old.cells code number env receiver holder → Around new.cells code number env
+kept_around : (old new : World) (code : CodeProgram) (number : ℕ) (env receiver : Value) (holder : ℕ) → RunsOn code old new → BlockIsLawful old.cells code number env receiver holder → FitsAround new.cells code number env
 kept_around old later code number env receiver holder run block = there (slice_get code.bodies number) refl block.declared
   where
-    there : (o : Option BodyCode) → slice_get code.bodies number ≡ o → IsSome o → Around later.cells code number env
+    there : (o : Option BodyCode) → slice_get code.bodies number ≡ o → IsSome o → FitsAround later.cells code number env
     there (Some body) e some = block_around later.cells code number body env run.after.parents e
         (fits_stays (number + 1) old.cells later.cells code body.parent env (keeps_of code old later run) (block.environment body e))
     there None e some = absurd (cc)
 
 block_later : (code : CodeProgram) (o : Option Cell) (number : ℕ) (arguments : List Value) (site : Site) (progress : Progress) → LawfulRun code progress → find_cell progress.world.cells number ≡ o
-    → Later block_kind progress.world code (block_entered code (option_map_or shape_of o (new.Mirror Nil)) arguments site progress)
+    → ShownLater block_kind progress.world code (block_entered code (option_map_or shape_of o (new.Mirror Nil)) arguments site progress)
 block_later code (Some (BlockCell body env home receiver holder)) number arguments site progress lawful e = tested (eqb (length arguments) (parameters_of code body)) refl
   where
     activation : Activation
     activation = record { self = receiver; holder = holder; body = body; home = home; env = env; site = site }
 
-    runs : RunsBody progress.world.cells code receiver holder body block_kind (parameters_of code body)
+    runs : BodyRuns progress.world.cells code receiver holder body block_kind (parameters_of code body)
     runs = block_runs progress.world code body env receiver holder lawful (lawful.cells number (BlockCell body env home receiver holder) e)
 
     Counted : Type 0
@@ -123,9 +123,9 @@ block_later code (Some (BlockCell body env home receiver holder)) number argumen
     framed : Progress → Control
     framed progress = charged halts Depth (entered progress.world) progress (opened code halts (Enter FromBody) activation arguments)
 
-    within : Counted → (world : World) → stepped progress.world ≡ Some world → Later block_kind progress.world code (framed (in_world progress world))
+    within : Counted → (world : World) → stepped progress.world ≡ Some world → ShownLater block_kind progress.world code (framed (in_world progress world))
     within count world s =
-        charged_all (Later block_kind progress.world code) halts Depth (entered world) (in_world progress world) (opened code halts (Enter FromBody) activation arguments) tt
+        charged_all (ShownLater block_kind progress.world code) halts Depth (entered world) (in_world progress world) (opened code halts (Enter FromBody) activation arguments) tt
         (λ next d.
         opened_fits block_kind progress.world code (Enter FromBody) activation arguments (in_world progress next) (later_on progress.world world next (later_stepped progress.world world s) (later_entered world next d))
         (λ env' locals last more all. λ run.
@@ -134,8 +134,8 @@ block_later code (Some (BlockCell body env home receiver holder)) number argumen
         (λ stands. kept_around progress.world last code body env receiver holder run (lawful.cells number (BlockCell body env home receiver holder) e))
         (λ is. let q : 1 ≡ 2 = is in absurd (omega (arith, q))) tt refl tt))
 
-    tested : (b : Bool) → eqb (length arguments) (parameters_of code body) ≡ b → Later block_kind progress.world code (cond b (charged halts Steps (stepped progress.world) progress framed) (fails WrongArity site progress))
-    tested true t = charged_all (Later block_kind progress.world code) halts Steps (stepped progress.world) progress framed tt (λ world s. within (eqb-true (length arguments) (parameters_of code body) t) world s)
+    tested : (b : Bool) → eqb (length arguments) (parameters_of code body) ≡ b → ShownLater block_kind progress.world code (cond b (charged halts Steps (stepped progress.world) progress framed) (fails WrongArity site progress))
+    tested true t = charged_all (ShownLater block_kind progress.world code) halts Steps (stepped progress.world) progress framed tt (λ world s. within (eqb-true (length arguments) (parameters_of code body) t) world s)
     tested false t = tt
 block_later code None number arguments site progress lawful e = tt
 block_later code (Some (ObjectCell class entries)) number arguments site progress lawful e = tt
@@ -147,7 +147,7 @@ block_later code (Some (FacetCell kind)) number arguments site progress lawful e
 block_later code (Some (MirrorCell mirrored)) number arguments site progress lawful e = tt
 block_later code (Some (MessageCell sel args)) number arguments site progress lawful e = tt
 
-evaluated_later : (code : CodeProgram) (block : Value) (arguments : List Value) (site : Site) (progress : Progress) → LawfulRun code progress → Later block_kind progress.world code (evaluated code block arguments site progress)
+evaluated_later : (code : CodeProgram) (block : Value) (arguments : List Value) (site : Site) (progress : Progress) → LawfulRun code progress → ShownLater block_kind progress.world code (evaluated code block arguments site progress)
 evaluated_later code (Ref at) arguments site progress lawful = block_later code (find_cell progress.world.cells at) at arguments site progress lawful refl
 evaluated_later code Nil arguments site progress lawful = tt
 evaluated_later code True arguments site progress lawful = tt

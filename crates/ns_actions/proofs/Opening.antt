@@ -11,7 +11,7 @@ use Rattle.ns_world.specs.declared.value.Value.TheVariants.{Nil, True, False, In
 use Rattle.ns_world.specs.Heap.{Heap}
 use Rattle.ns_world.specs.Lawful.{FitsEnvironment}
 use Rattle.ns_world.specs.laws.Chains.{both_of}
-use Rattle.ns_actions.specs.lemmas.Opening.{Around}
+use Rattle.ns_actions.specs.lemmas.Opening.{FitsAround}
 
 -- a parent is earlier
 earlier_from : (number k : ℕ) (bodies : List BodyCode) (body : BodyCode) (parent : ℕ) → are_parents_earlier number bodies ≡ true → slice_get bodies k ≡ Some body → body.parent ≡ Some parent → parent < number + k
@@ -49,7 +49,7 @@ at_depth code heap (suc depth) (suc other) (Some body) (Sym sel) early below h =
 at_depth code heap (suc depth) (suc other) (Some body) (Kernel class) early below h = absurd h
 
 -- what a block keeps stands around its body
-pub block_around : (heap : Heap) (code : CodeProgram) (number : ℕ) (body : BodyCode) (env : Value) → are_parents_earlier 0 code.bodies ≡ true → slice_get code.bodies number ≡ Some body → FitsEnvironment (number + 1) heap code body.parent env → Around heap code number env
+pub block_around : (heap : Heap) (code : CodeProgram) (number : ℕ) (body : BodyCode) (env : Value) → are_parents_earlier 0 code.bodies ≡ true → slice_get code.bodies number ≡ Some body → FitsEnvironment (number + 1) heap code body.parent env → FitsAround heap code number env
 block_around heap code number body env early e fits =
     λ depth deep.
     subst (λ o. FitsEnvironment depth heap code o env) (sym (ap (λ o. option_map_or (λ (b : BodyCode). b.parent) o None) e))

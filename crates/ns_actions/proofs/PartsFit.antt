@@ -24,7 +24,7 @@ use Rattle.ns_world.specs.laws.Chains.{linked}
 use Rattle.ns_world.specs.laws.Classes.{lawful_order, lawful_small}
 use Rattle.ns_find.specs.laws.SoundBodies.{initialiser_there, named_factory}
 use Rattle.ns_actions.specs.Site.{error}
-use Rattle.ns_actions.specs.Control.{Progress, in_world, Activation, FromBody, Part, Skip, Stop, EnterPart, charged}
+use Rattle.ns_actions.specs.Control.{Progress, in_world, Activation, FromBody, PartControl, Skip, Stop, EnterPart, charged}
 use Rattle.ns_actions.specs.Bodies.{has_environment, first_locals, parameters_of, initialiser_of, no_home, opened}
 use Rattle.ns_actions.specs.Classes.{super_selector, factory_selector, declared_part, object_part, part_of, super_part}
 use Rattle.ns_actions.specs.Lawful.{LawfulRun, LawfulPart, FitsActivation}
@@ -36,20 +36,20 @@ use Rattle.ns_actions.specs.laws.LawfulParts.{super_lawful}
 use Rattle.ns_actions.specs.lemmas.Lasting.{holder_lasts}
 use Rattle.ns_actions.specs.lemmas.Suiting.{object_holders, above_too}
 use Rattle.ns_actions.specs.lemmas.Places.{holder_live}
-use Rattle.ns_actions.specs.lemmas.Running.{RunsBody, body_runs, instance_fits}
+use Rattle.ns_actions.specs.lemmas.Running.{BodyRuns, body_runs, instance_fits}
 use Rattle.ns_actions.proofs.Running.{own_params}
-use Rattle.ns_actions.specs.lemmas.Opening.{Around, nothing_around, opened_bare, opened_over}
+use Rattle.ns_actions.specs.lemmas.Opening.{FitsAround, nothing_around, opened_bare, opened_over}
 use Rattle.ns_actions.specs.lemmas.Fitting.{entered_here, body_lasts, class_there}
 
 -- What is to be shown of a part, where the run goes on lawfully and its arguments are counted.
-abbrev PartLater : World → CodeProgram → Type 0 → Part → Type 0
+abbrev PartLater : World → CodeProgram → Type 0 → PartControl → Type 0
 PartLater old code Counted (Skip progress) = Unit {0}
 PartLater old code Counted (Stop ending progress) = Unit {0}
 PartLater old code Counted (EnterPart activation locals progress) =
     RunsOn code old progress.world → (FitsActivation progress.world.cells code activation × (kind_of code activation.body ≡ initialiser_kind)) × (Counted → FitsEntered progress.world.cells code activation locals)
 
-opened_part : (old : World) (code : CodeProgram) (Counted : Type 0) (activation : Activation) (arguments : List Value) (progress : Progress) (params : ℕ) → RunsBody old.cells code activation.self activation.holder activation.body initialiser_kind params
-    → HasHolder old.cells activation.self activation.holder → (Counted → length arguments ≡ params) → ((heap : Heap) → StandsWell code activation.body → Around heap code activation.body activation.env) → PartLater old code Counted (opened code Stop EnterPart activation arguments progress)
+opened_part : (old : World) (code : CodeProgram) (Counted : Type 0) (activation : Activation) (arguments : List Value) (progress : Progress) (params : ℕ) → BodyRuns old.cells code activation.self activation.holder activation.body initialiser_kind params
+    → HasHolder old.cells activation.self activation.holder → (Counted → length arguments ≡ params) → ((heap : Heap) → StandsWell code activation.body → FitsAround heap code activation.body activation.env) → PartLater old code Counted (opened code Stop EnterPart activation arguments progress)
 opened_part old code Counted activation arguments progress params runs has counts outer = tested (has_environment code activation.body) refl
   where
     locals : List Value
@@ -105,7 +105,7 @@ above_has world code (Kernel class) holder over lawful has super is = absurd has
 -- The initialiser of a class runs with a self, and takes as many arguments as its factory.
 record Initialises (world : World) (code : CodeProgram) (self : Value) (over : ℕ) : Type 0 where
   has : HasHolder world.cells self over
-  runs : (let init : ℕ = initialiser_of code (declaration_of world.cells over) in RunsBody world.cells code self over init initialiser_kind (parameters_of code init))
+  runs : (let init : ℕ = initialiser_of code (declaration_of world.cells over) in BodyRuns world.cells code self over init initialiser_kind (parameters_of code init))
   takes : selector_arity code (factory_selector code (declaration_of world.cells over)) ≡ parameters_of code (initialiser_of code (declaration_of world.cells over))
 
 factory_takes : (world : World) (code : CodeProgram) (over : ℕ) → IsLawful world code → is_class (find_cell world.cells over) ≡ true
@@ -126,7 +126,7 @@ initialiser_runs : (world : World) (code : CodeProgram) (self : Value) (over : �
 initialiser_runs world code (Ref at) over lawful has is = record { has = has; runs = declared (slice_get code.classes (declaration_of world.cells over)) refl; takes = factory_takes world code over lawful is }
   where
     declared : (o : Option ClassCode) → slice_get code.classes (declaration_of world.cells over) ≡ o
-        → RunsBody world.cells code (Ref at) over (option_map_or (λ (c : ClassCode). c.init) o 0) initialiser_kind (parameters_of code (option_map_or (λ (c : ClassCode). c.init) o 0))
+        → BodyRuns world.cells code (Ref at) over (option_map_or (λ (c : ClassCode). c.init) o 0) initialiser_kind (parameters_of code (option_map_or (λ (c : ClassCode). c.init) o 0))
     declared (Some c) e =
         let body = initialiser_there code (declaration_of world.cells over) c lawful.classes e in
         own_params world.cells code (Ref at) over c.init initialiser_kind c.params
@@ -147,7 +147,7 @@ declared_fits code Counted activation over sel arguments progress counts init = 
     inner : Activation
     inner = record { self = activation.self; holder = over; body = initialiser_of code (declaration_of progress.world.cells over); home = no_home; env = Nil; site = activation.site }
 
-    outer : (heap : Heap) → StandsWell code inner.body → Around heap code inner.body Nil
+    outer : (heap : Heap) → StandsWell code inner.body → FitsAround heap code inner.body Nil
     outer heap stands = nothing_around heap code inner.body initialiser_kind init.runs.kind_is (λ e. let q : 2 ≡ 1 = e in omega (arith, q)) stands
 
     tested : (b : Bool) → eqb sel (factory_selector code (declaration_of progress.world.cells over)) ≡ b
@@ -196,7 +196,7 @@ super_initialises world code self holder lawful has class super = found (find_ce
     found (Some (MirrorCell shown)) e s = absurd (cc)
     found (Some (MessageCell name args)) e s = absurd (cc)
 
-part_now : (old : World) (code : CodeProgram) (Counted : Type 0) (part : Part) → IsLawful old code → IsLater old (part_reached part).world → LawfulPart code part → PartLater old code Counted part → FitsNextPart code part × (Counted → EntersPart code part)
+part_now : (old : World) (code : CodeProgram) (Counted : Type 0) (part : PartControl) → IsLawful old code → IsLater old (part_reached part).world → LawfulPart code part → PartLater old code Counted part → FitsNextPart code part × (Counted → EntersPart code part)
 part_now old code Counted (Skip progress) before later lawful fits = (tt, λ c. tt)
 part_now old code Counted (Stop ending progress) before later lawful fits = (tt, λ c. tt)
 part_now old code Counted (EnterPart activation locals progress) before later lawful fits = fits (record { before = before; after = lawful.0; later = later })

@@ -28,10 +28,10 @@ use Rattle.ns_actions.specs.Lawful.{FitsActivation, declaration_at}
 use Rattle.ns_actions.specs.laws.LawfulBlocks.{body_side}
 use Rattle.ns_actions.specs.lemmas.Places.{instance_body, places_fit}
 use Rattle.ns_actions.specs.lemmas.Suiting.{object_holders, above_too, one_holder}
-use Rattle.ns_actions.specs.lemmas.Running.{RunsBody, Runs, instance_runs, side_runs}
+use Rattle.ns_actions.specs.lemmas.Running.{BodyRuns, Runs, instance_runs, side_runs}
 
 -- so many parameters are its own
-pub own_params : (heap : Heap) (code : CodeProgram) (self : Value) (holder body kind params : ℕ) → RunsBody heap code self holder body kind params → RunsBody heap code self holder body kind (parameters_of code body)
+pub own_params : (heap : Heap) (code : CodeProgram) (self : Value) (holder body kind params : ℕ) → BodyRuns heap code self holder body kind params → BodyRuns heap code self holder body kind (parameters_of code body)
 own_params heap code self holder body kind params runs = record { live = runs.live; there = runs.there; fits = runs.fits; kind_is = runs.kind_is; params_are = refl }
 
 -- ---- private members, and sends to super

@@ -22,7 +22,7 @@ use Rattle.ns_classes.specs.Nested.{kept_class, nested_entry}
 use Rattle.ns_actions.specs.declared.site.Site.{Site}
 use Rattle.ns_actions.specs.Site.{error, fault_ending, make_fault}
 use Rattle.ns_actions.specs.Control.{Progress, in_world, Activation, Exit, FromMethod, FromBody, FromClause, After, Gives, Halts, Control, Now, Enter}
-use Rattle.ns_actions.specs.Control.{Part, Skip, Stop, EnterPart, halts, charged, frame_left}
+use Rattle.ns_actions.specs.Control.{PartControl, Skip, Stop, EnterPart, halts, charged, frame_left}
 use Rattle.ns_actions.specs.Bodies.{initialiser_of, clause_of, no_home, opened}
 
 -- ---- making a class
@@ -102,7 +102,7 @@ abbrev pub factory_selector : CodeProgram → ℕ → ℕ
 factory_selector code decl = option_map_or (λ (class : ClassCode). class.factory.0) (slice_get code.classes decl) 0
 
 -- The part of a declared superclass: its factory must be what was sent, and its initialiser runs with the same self.
-abbrev pub declared_part : CodeProgram → Activation → ℕ → ℕ → List Value → Progress → Part
+abbrev pub declared_part : CodeProgram → Activation → ℕ → ℕ → List Value → Progress → PartControl
 declared_part code activation over sel arguments progress =
     if sel == factory_selector code (declaration_of progress.world.cells over)
     then charged Stop Depth (entered progress.world) progress
@@ -110,17 +110,17 @@ declared_part code activation over sel arguments progress =
     else Stop (error InitMismatch activation.site) progress
 
 -- The part of the kernel's Object: its factory is `new`, and it does nothing.
-abbrev pub object_part : CodeProgram → Activation → ℕ → Progress → Part
+abbrev pub object_part : CodeProgram → Activation → ℕ → Progress → PartControl
 object_part code activation sel progress =
     if bytes_eq (selector_text code sel) (codes "new") then Skip progress else Stop (error InitMismatch activation.site) progress
 
 -- the part of a superclass
-abbrev pub part_of : CodeProgram → Activation → Value → ℕ → List Value → Progress → Part
+abbrev pub part_of : CodeProgram → Activation → Value → ℕ → List Value → Progress → PartControl
 part_of code activation (Ref over) sel arguments progress = declared_part code activation over sel arguments progress
 part_of code activation over sel arguments progress = object_part code activation sel progress
 
 -- The part of the superclass of the class whose initialiser runs, with the arguments of its superclass message.
-abbrev pub super_part : CodeProgram → Activation → List Value → Progress → Part
+abbrev pub super_part : CodeProgram → Activation → List Value → Progress → PartControl
 super_part code activation arguments progress =
     part_of code activation (superclass_in (find_cell progress.world.cells activation.holder))
     (super_selector code (declaration_of progress.world.cells activation.holder)) arguments progress

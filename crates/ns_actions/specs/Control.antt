@@ -63,10 +63,10 @@ pub data Control : Type 0 where
 
 -- where control goes in a superclass part: past it, for the kernel's Object; to the end of the run; or into
 -- the initialiser of a declared superclass, whose value is dropped
-pub data Part : Type 0 where
-  Skip : (progress : Progress) → Part
-  Stop : (ending : Ending) (progress : Progress) → Part
-  EnterPart : (activation : Activation) (locals : List Value) (progress : Progress) → Part
+pub data PartControl : Type 0 where
+  Skip : (progress : Progress) → PartControl
+  Stop : (ending : Ending) (progress : Progress) → PartControl
+  EnterPart : (activation : Activation) (locals : List Value) (progress : Progress) → PartControl
 
 -- what a method of the kernel does next: it waits for a block's value, or it ends
 pub data Waiting : Type 0 where

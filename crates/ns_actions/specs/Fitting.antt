@@ -21,7 +21,7 @@ use Rattle.ns_kcode.specs.declared.state.KMethod.{KMethod}
 use Rattle.ns_kcode.specs.declared.state.KMethod.TheVariants as method
 use Rattle.ns_kcode.specs.declared.state.KState.{KState}
 use Rattle.ns_actions.specs.declared.site.Site.{Site}
-use Rattle.ns_actions.specs.Control.{Progress, Activation, Exit, FromMethod, FromBody, FromClause, Control, Now, Enter, Evaluate, Begin, Perform, Part, Skip, Stop, EnterPart, Waiting, Waits, Finishes}
+use Rattle.ns_actions.specs.Control.{Progress, Activation, Exit, FromMethod, FromBody, FromClause, Control, Now, Enter, Evaluate, Begin, Perform, PartControl, Skip, Stop, EnterPart, Waiting, Waits, Finishes}
 use Rattle.ns_actions.specs.Bodies.{parameters_of, locals_of, has_environment, clause_of, no_home}
 use Rattle.ns_actions.specs.Classes.{super_selector, super_part}
 use Rattle.ns_actions.specs.Blocks.{is_block, is_integer, has_arguments, evaluated, method_next}
@@ -122,14 +122,14 @@ FitsNext own code (Perform receiver sel array site progress) =
     FitsSelector progress.world.cells code sel (items_of progress.world.cells (Ref array)) × IsTrue (is_array progress.world.cells (Ref array))
 
 -- So does the initialiser of a superclass that is entered.
-abbrev pub FitsNextPart : CodeProgram → Part → Type 0
+abbrev pub FitsNextPart : CodeProgram → PartControl → Type 0
 FitsNextPart code (Skip progress) = Unit {0}
 FitsNextPart code (Stop ending progress) = Unit {0}
 FitsNextPart code (EnterPart activation locals progress) =
     FitsActivation progress.world.cells code activation × (kind_of code activation.body ≡ initialiser_kind)
 
 -- It has all of its locals and fits its environment as well.
-abbrev pub EntersPart : CodeProgram → Part → Type 0
+abbrev pub EntersPart : CodeProgram → PartControl → Type 0
 EntersPart code (EnterPart activation locals progress) = FitsEntered progress.world.cells code activation locals
 EntersPart code other = Unit {0}
 
@@ -174,7 +174,7 @@ GoesOnAt Few site home (Begin method state at progress) = at ≡ site
 GoesOnAt Few site home (Perform receiver sel array at progress) = at ≡ site
 
 -- The initialiser of a superclass has the site of what begins it, and no home.
-abbrev pub PartGoesOnAt : Site → Part → Type 0
+abbrev pub PartGoesOnAt : Site → PartControl → Type 0
 PartGoesOnAt site (Skip progress) = Unit {0}
 PartGoesOnAt site (Stop ending progress) = Unit {0}
 PartGoesOnAt site (EnterPart activation locals progress) = (activation.site ≡ site) × (activation.home ≡ no_home)

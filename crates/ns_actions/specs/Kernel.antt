@@ -11,7 +11,7 @@ use Rattle.ns_world.specs.Heap.{cell_number}
 use Rattle.ns_kint.specs.Integer.{integer}
 use Rattle.ns_kdata.specs.declared.row.DataRow.{DataRow}
 use Rattle.ns_kdata.specs.declared.row.DataRow.TheVariants.{DoesNotUnderstand}
-use Rattle.ns_kdata.specs.Outcome.{Outcome, Answers, Fails}
+use Rattle.ns_kdata.specs.Outcome.{RowOutcome, Answers, Fails}
 use Rattle.ns_kdata.specs.Arguments.{argument, number_of, shape_of_value}
 use Rattle.ns_kdata.specs.Rows.{message_selector}
 use Rattle.ns_kdata.specs.Datum.{datum}
@@ -30,7 +30,7 @@ use Rattle.ns_actions.specs.Classes.{mixed}
 use Rattle.ns_actions.specs.Blocks.{block_arity, value_with_arguments, method_begun}
 
 -- what a row of data comes to
-abbrev pub outcome_reached : Outcome → Site → Progress → Control
+abbrev pub outcome_reached : RowOutcome → Site → Progress → Control
 outcome_reached (Answers value world) site progress = gives value (in_world progress world)
 outcome_reached (Fails fault) site progress = halts (fault_ending fault site) progress
 
@@ -59,7 +59,7 @@ message_site (fault.Kind NotUnderstood) (Sym sel) site = site_of_message site se
 message_site fault selector site = site
 
 -- the kernel's `doesNotUnderstand:`
-abbrev pub message_refused : Outcome → Value → Site → Progress → Control
+abbrev pub message_refused : RowOutcome → Value → Site → Progress → Control
 message_refused (Answers value world) selector site progress = gives value (in_world progress world)
 message_refused (Fails fault) selector site progress = halts (fault_ending fault (message_site fault selector site)) progress
 

@@ -14,7 +14,7 @@ use Rattle.ns_world.specs.Layout.{declaration_of}
 use Rattle.ns_world.specs.Lawful.{IsLawful, IsLiveValue, IsEnvironmentOrNil, is_environment, HasHolder, FitsBody, parent_of}
 use Rattle.ns_find.specs.Belonging.{HasNested}
 use Rattle.ns_kcode.specs.declared.state.KState.{KState}
-use Rattle.ns_actions.specs.Control.{Progress, Activation, Exit, FromClause, After, Gives, Halts, Control, Now, Enter, Evaluate, Begin, Perform, Part, Skip, Stop, EnterPart, Waiting, Waits, Finishes}
+use Rattle.ns_actions.specs.Control.{Progress, Activation, Exit, FromClause, After, Gives, Halts, Control, Now, Enter, Evaluate, Begin, Perform, PartControl, Skip, Stop, EnterPart, Waiting, Waits, Finishes}
 use Rattle.ns_actions.specs.Bodies.{is_beside, environment_at}
 use Rattle.ns_actions.specs.Sends.{Target, To, ToPrivate, ToSuper}
 
@@ -51,7 +51,7 @@ LawfulControl code (Perform receiver sel array site progress) =
     LawfulRun code progress × IsLiveValue progress.world.cells code receiver × IsLiveValue progress.world.cells code (Ref array)
 
 -- Where control goes in a superclass part of a lawful run.
-abbrev pub LawfulPart : CodeProgram → Part → Type 0
+abbrev pub LawfulPart : CodeProgram → PartControl → Type 0
 LawfulPart code (Skip progress) = LawfulRun code progress
 LawfulPart code (Stop ending progress) = LawfulRun code progress
 LawfulPart code (EnterPart activation locals progress) = LawfulRun code progress × LiveActivation progress.world.cells code activation locals
@@ -125,7 +125,7 @@ body_out code body zero = Some body
 body_out code body (suc hops) = option_and_then (parent_of code) (body_out code body hops)
 
 -- A block stands in a body: it is a block of that class and side, and the body has an environment for it.
-pub record IsBlockIn (code : CodeProgram) (block body : ℕ) : Type 0 where
+pub record IsBlockOf (code : CodeProgram) (block body : ℕ) : Type 0 where
   pub inner : BodyCode
   pub outer : BodyCode
   pub inner_is : slice_get code.bodies block ≡ Some inner

@@ -5,7 +5,7 @@ use Rattle.ns_world.specs.declared.value.Value.TheVariants.{Ref}
 use Rattle.ns_world.specs.Heap.{Heap, heap_size, find_cell, cell_number}
 use Rattle.ns_world.specs.World.{World}
 use Rattle.ns_mirror.specs.Looking.{mirrored}
-use Rattle.ns_actions.specs.Control.{Progress, After, Gives, Halts, Control, Now, Enter, Evaluate, Begin, Perform, Part, Skip, Stop, EnterPart, Waiting, Waits, Finishes}
+use Rattle.ns_actions.specs.Control.{Progress, After, Gives, Halts, Control, Now, Enter, Evaluate, Begin, Perform, PartControl, Skip, Stop, EnterPart, Waiting, Waits, Finishes}
 
 -- No limit changed, no counter but depth fell, what was printed stands, and each cell that was there is as it
 -- was, but those that are named.
@@ -34,7 +34,7 @@ reached (Evaluate block arguments site progress) = progress
 reached (Begin method state site progress) = progress
 reached (Perform receiver sel array site progress) = progress
 
-abbrev pub part_reached : Part → Progress
+abbrev pub part_reached : PartControl → Progress
 part_reached (Skip progress) = progress
 part_reached (Stop ending progress) = progress
 part_reached (EnterPart activation locals progress) = progress

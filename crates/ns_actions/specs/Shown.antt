@@ -19,7 +19,7 @@ use Rattle.ns_actions.specs.declared.control.PartReached.{PartReached}
 use Rattle.ns_actions.specs.declared.control.PartReached.TheVariants as part
 use Rattle.ns_actions.specs.Site.{error, fault_ending, site_of_message}
 use Rattle.ns_actions.specs.Control.{Progress, Activation, Exit, FromMethod, FromBody, FromClause, After, Gives, Halts, Control, Enter, Evaluate}
-use Rattle.ns_actions.specs.Control.{Begin, Perform, Part, Skip, Stop, EnterPart, gives, halts}
+use Rattle.ns_actions.specs.Control.{Begin, Perform, PartControl, Skip, Stop, EnterPart, gives, halts}
 use Rattle.ns_actions.specs.Bodies.{has_environment, first_locals}
 
 -- the arguments that go on
@@ -63,7 +63,7 @@ reached_shown code site values (reached.Begins method state) progress = Begin me
 reached_shown code site values (reached.Performs receiver sel array) progress = Perform receiver sel array site progress
 
 -- where a superclass part goes
-abbrev pub part_shown : CodeProgram → Site → List Value → PartReached → Progress → Part
+abbrev pub part_shown : CodeProgram → Site → List Value → PartReached → Progress → PartControl
 part_shown code site values part.Skips progress = Skip progress
 part_shown code site values (part.Fails fault) progress = Stop (fault_ending fault site) progress
 part_shown code site values (part.Enters entered) progress =

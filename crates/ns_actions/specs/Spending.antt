@@ -4,7 +4,7 @@ use Rattle.ns_code.specs.declared.program.CodeProgram.{CodeProgram}
 use Rattle.ns_kcode.specs.declared.state.KAction.{KAction}
 use Rattle.ns_kcode.specs.declared.state.KAction.TheVariants as action
 use Rattle.ns_kcode.specs.Next.{next}
-use Rattle.ns_actions.specs.Control.{Progress, FromMethod, FromBody, FromClause, After, Gives, Halts, Control, Now, Enter, Evaluate, Begin, Perform, Part, Skip, Stop, EnterPart, Waiting, Waits, Finishes}
+use Rattle.ns_actions.specs.Control.{Progress, FromMethod, FromBody, FromClause, After, Gives, Halts, Control, Now, Enter, Evaluate, Begin, Perform, PartControl, Skip, Stop, EnterPart, Waiting, Waits, Finishes}
 use Rattle.ns_actions.specs.Classes.{super_part, body_ended}
 use Rattle.ns_actions.specs.Blocks.{new_block, new_text, new_array, evaluated, method_next}
 use Rattle.ns_actions.specs.Sends.{sent, sent_plain, performed}
@@ -39,7 +39,7 @@ ControlSpends steps old (Begin method state site progress) = Charged steps 1 0 o
 ControlSpends steps old (Perform receiver sel array site progress) = Charged steps 0 0 old progress
 
 -- A superclass part that is entered has charged a frame.
-abbrev pub PartSpends : Progress → Part → Type 0
+abbrev pub PartSpends : Progress → PartControl → Type 0
 PartSpends old (Skip progress) = Charged 0 0 0 old progress
 PartSpends old (Stop ending progress) = Stopped 0 old progress
 PartSpends old (EnterPart activation locals progress) = Charged 0 1 0 old progress

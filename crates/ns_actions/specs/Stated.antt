@@ -13,7 +13,7 @@ use Rattle.ns_actions.specs.Bodies.{no_home, local_at, enclosing}
 use Rattle.ns_actions.specs.Blocks.{block_body_in, evaluated}
 use Rattle.ns_actions.specs.Classes.{super_part}
 use Rattle.ns_actions.specs.Sends.{sent_from}
-use Rattle.ns_actions.specs.Lawful.{LawfulRun, LawfulControl, FitsSelector, FitsActivation, FitsLocal, declaration_at, body_out, IsBlockIn}
+use Rattle.ns_actions.specs.Lawful.{LawfulRun, LawfulControl, FitsSelector, FitsActivation, FitsLocal, declaration_at, body_out, IsBlockOf}
 use Rattle.ns_actions.specs.Spending.{ControlSpends}
 use Rattle.ns_actions.specs.Fitting.{FitsNext, FitsOwnEnvironment, GoesOnAt, PartGoesOnAt, EntersBlock}
 use Rattle.ns_actions.specs.Onward.{reached}
@@ -77,7 +77,7 @@ LocalIsLive code =
 abbrev pub BlockMayBeMade : CodeProgram → Type 0
 BlockMayBeMade code =
     (activation : Activation) (block : ℕ) (progress : Progress) → LawfulRun code progress → FitsActivation progress.world.cells code activation
-    → FitsOwnEnvironment progress.world.cells code activation → IsBlockIn code block activation.body
+    → FitsOwnEnvironment progress.world.cells code activation → IsBlockOf code block activation.body
     → BlockIsLawful progress.world.cells code block activation.env activation.self activation.holder
 
 -- An evaluation enters the block's body.

@@ -13,7 +13,7 @@ use Rattle.ns_world.specs.World.{World, made}
 use Rattle.ns_classes.specs.Nested.{nested_entry}
 use Rattle.ns_find.specs.declared.found.Sending.{Sending}
 use Rattle.ns_find.specs.declared.found.Sending.TheVariants.{Inner}
-use Rattle.ns_find.specs.Belonging.{HasSlot}
+use Rattle.ns_find.specs.Belonging.{IsSlotOf}
 use Rattle.ns_find.specs.Find.{found_from, found_private, super_start}
 use Rattle.ns_actions.specs.Control.{Activation}
 use Rattle.ns_actions.specs.Bodies.{enclosing, side_of_body, side_at}
@@ -73,7 +73,7 @@ EntryIsInside =
 abbrev pub SlotIsInside : Type 0
 SlotIsInside =
     (world : World) (code : CodeProgram) (at holder word : ℕ) → IsLawful world code
-    → HasHolder world.cells (Ref at) holder → HasSlot world.cells code holder word → word < length (open_words_at world.cells at)
+    → HasHolder world.cells (Ref at) holder → IsSlotOf world.cells code holder word → word < length (open_words_at world.cells at)
 
 -- A nested class of a holder has an entry of it.
 abbrev pub NestedHasEntry : Type 0

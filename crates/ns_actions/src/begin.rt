@@ -1,7 +1,7 @@
 //! How a method of the kernel that evaluates blocks begins.
 
 ghost use Rattle.std.specs.Prelude.{◌≡◌, pos};
-ghost use Rattle.ns_kdata.specs.Arguments.{IsThere};
+ghost use Rattle.ns_kdata.specs.Arguments.{CellIsThere};
 ghost use Rattle.ns_kcode.specs.Rows as rows;
 ghost use Rattle.ns_actions.specs.Blocks as spec;
 
@@ -13,7 +13,7 @@ use ns_world::world::World;
 
 /// Whether a value is a Block.
 pub fn is_block(world: &World, value: Value) -> bool
-    requires { IsThere world.now.world.cells value }
+    requires { CellIsThere world.now.world.cells value }
     ensures { result ≡ spec.is_block world.now.world.cells value }
 {
     match shape_of_value(world, value) {
@@ -36,8 +36,8 @@ pub fn is_integer(value: Value) -> bool
 /// Whether the arguments are those that a method asks for: blocks, also those that it won't
 /// evaluate, and for `to:do:` an Integer first. Where they aren't, its send is WrongKind.
 pub fn has_arguments(world: &World, method: KMethod, first: Value, second: Value) -> bool
-    requires first { IsThere world.now.world.cells first }
-    requires second { IsThere world.now.world.cells second }
+    requires first { CellIsThere world.now.world.cells first }
+    requires second { CellIsThere world.now.world.cells second }
     ensures { result ≡ spec.has_arguments world.now.world.cells method first second }
 {
     match method {
@@ -50,8 +50,8 @@ pub fn has_arguments(world: &World, method: KMethod, first: Value, second: Value
 
 /// Whether both are Blocks.
 fn are_blocks(world: &World, first: Value, second: Value) -> bool
-    requires first { IsThere world.now.world.cells first }
-    requires second { IsThere world.now.world.cells second }
+    requires first { CellIsThere world.now.world.cells first }
+    requires second { CellIsThere world.now.world.cells second }
     ensures { result ≡ spec.are_blocks world.now.world.cells first second }
 {
     is_block(world, first) && is_block(world, second)
@@ -60,7 +60,7 @@ fn are_blocks(world: &World, first: Value, second: Value) -> bool
 /// For how many elements `do:` has turns: as many as the array has as it begins. 0 for the other
 /// methods.
 fn turns(world: &World, method: KMethod, receiver: Value) -> u32
-    requires { IsThere world.now.world.cells receiver }
+    requires { CellIsThere world.now.world.cells receiver }
     ensures { result ≡ spec.turns_of world.now.world.cells method receiver }
 {
     match method {
@@ -77,7 +77,7 @@ pub fn beginning(
     first: Value,
     second: Value,
 ) -> KState
-    requires { IsThere world.now.world.cells receiver }
+    requires { CellIsThere world.now.world.cells receiver }
     ensures { result ≡ rows.beginning receiver first second (pos (spec.turns_of world.now.world.cells method receiver)) }
 {
     KState {

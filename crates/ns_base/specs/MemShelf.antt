@@ -44,11 +44,11 @@ StoresOrWants name bytes old new (Ok _) = IsStored name bytes old new
 StoresOrWants name bytes old new (Err fault) = (fault ≡ Memory) × (new.files.items ≡ old.files.items)
 
 -- But for its files and its count of calls, the shelf is as it was, and the call is counted.
-abbrev pub IsCounted : (old new : MemShelf) → Type 0
-IsCounted old new = new ≡ record old { calls = one_more old.calls; files = new.files }
+abbrev pub CallIsCounted : (old new : MemShelf) → Type 0
+CallIsCounted old new = new ≡ record old { calls = one_more old.calls; files = new.files }
 
 -- what a store answers and leaves: `Failed` exactly where the call is listed, which is counted as a fault and changes no file
 abbrev pub Stores : (fails : Bool) → List ℕ → List ℕ → (old new : MemShelf) → Result (Unit {0}) ShelfFault → Type 0
 Stores true name bytes old new result =
     (result ≡ Err Failed) × (new ≡ record old { calls = one_more old.calls; store_faults = one_more old.store_faults })
-Stores false name bytes old new result = StoresOrWants name bytes old new result × IsCounted old new
+Stores false name bytes old new result = StoresOrWants name bytes old new result × CallIsCounted old new

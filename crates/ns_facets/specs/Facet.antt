@@ -6,7 +6,7 @@ use Rattle.ns_world.specs.declared.value.Value.TheVariants as value
 use Rattle.ns_world.specs.declared.value.KClass.TheVariants as class
 use Rattle.ns_world.specs.declared.cell.FacetKind.TheVariants.{Console, Kernel, Mirrors, Board as BoardFacet}
 use Rattle.ns_world.specs.World.{World}
-use Rattle.ns_kdata.specs.Outcome.{Outcome, Answers, unchanged}
+use Rattle.ns_kdata.specs.Outcome.{RowOutcome, Answers, unchanged}
 use Rattle.ns_kdata.specs.Arguments.{argument}
 use Rattle.ns_facets.specs.declared.board.Board.{Board}
 use Rattle.ns_facets.specs.declared.row.FacetRow.{FacetRow}
@@ -16,7 +16,7 @@ use Rattle.ns_facets.specs.Console.{printing}
 use Rattle.ns_facets.specs.Platform.{top_class, granted}
 
 -- the outcome of each row, by its first two arguments
-abbrev pub row_outcome : World → CodeProgram → FacetRow → Value → Value → Board → Outcome
+abbrev pub row_outcome : World → CodeProgram → FacetRow → Value → Value → Board → RowOutcome
 row_outcome world code (row.Top sel) first second board = Answers (top_class world.cells 0 code.classes sel) world
 row_outcome world code row.PlatformConsole first second board = Answers (granted world.cells Console) world
 row_outcome world code row.PlatformKernel first second board = Answers (granted world.cells Kernel) world
@@ -35,7 +35,7 @@ row_board row.BoardPut first second board = board_with board first second
 row_board other first second board = board
 
 -- the outcome of a row with a list of arguments, and the board after it
-abbrev pub facet : World → CodeProgram → FacetRow → List Value → Board → Outcome
+abbrev pub facet : World → CodeProgram → FacetRow → List Value → Board → RowOutcome
 facet world code row args board = row_outcome world code row (argument args 0) (argument args 1) board
 
 abbrev pub board_after : FacetRow → List Value → Board → Board

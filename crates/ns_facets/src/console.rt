@@ -2,7 +2,7 @@
 
 ghost use Rattle.std.specs.Prelude.{◌≡◌, ◌+◌, ◌≤◌, ◌++◌, length};
 ghost use Rattle.ns_world.specs.World.{IsWithin};
-ghost use Rattle.ns_kdata.specs.Arguments.{IsThere, bytes_of};
+ghost use Rattle.ns_kdata.specs.Arguments.{CellIsThere, bytes_of};
 ghost use Rattle.ns_kdata.specs.Outcome.{Gives};
 ghost use Rattle.ns_facets.specs.Console as spec;
 ghost use Rattle.ns_facets.specs.Console.{appended, fits};
@@ -23,7 +23,7 @@ pub fn print(
     tail: &[u8],
 ) -> Result<Value, Fault>
     requires room { world.old.world.limits.out ≤ world.old.out_room }
-    requires there { IsThere world.old.world.cells value }
+    requires there { CellIsThere world.old.world.cells value }
     requires within { IsWithin world.old.world }
     ensures { Gives (spec.printing world.old.world code.now value tail.now) world.old result world.new }
 {
@@ -54,7 +54,7 @@ fn print_bytes(world: &mut World, bytes: &[u8], tail: &[u8]) -> Result<Value, Fa
 /// Prints a String and bytes behind it; any other value is of the wrong kind.
 fn print_text(world: &mut World, text: Value, tail: &[u8]) -> Result<Value, Fault>
     requires room { world.old.world.limits.out ≤ world.old.out_room }
-    requires there { IsThere world.old.world.cells text }
+    requires there { CellIsThere world.old.world.cells text }
     requires within { IsWithin world.old.world }
     ensures { Gives (spec.printed_text world.old.world text tail.now) world.old result world.new }
 {
@@ -90,7 +90,7 @@ fn append(world: &mut World, bytes: &[u8])
 /// Prints a String that fits, by eight bytes while there are so many.
 fn append_text(world: &mut World, text: Value)
     requires room { world.old.world.limits.out ≤ world.old.out_room }
-    requires there { IsThere world.old.world.cells text }
+    requires there { CellIsThere world.old.world.cells text }
     requires fits { length world.old.world.output + length (bytes_of world.old.world.cells text) ≤ world.old.world.limits.out }
     ensures { world.new ≡ appended world.old (bytes_of world.old.world.cells text) }
 {

@@ -3,7 +3,7 @@
 ghost use Rattle.std.specs.Prelude.{◌≡◌, ◌≤◌, All};
 ghost use Rattle.ns_world.specs.World.{IsWithin};
 ghost use Rattle.ns_world.specs.Lawful.{IsLive, IsLawful};
-ghost use Rattle.ns_kdata.specs.Arguments.{IsThere};
+ghost use Rattle.ns_kdata.specs.Arguments.{CellIsThere};
 ghost use Rattle.ns_kdata.specs.Outcome.{Gives};
 ghost use Rattle.ns_facets.specs.Facet as spec;
 ghost use Rattle.std.specs.Prelude.{length};
@@ -59,7 +59,7 @@ pub fn row_outcome(
 ) -> Result<Value, Fault>
     requires within { IsWithin world.old.world }
     requires classes { length code.now.classes ≤ 4096 }
-    requires first { IsThere world.old.world.cells first }
+    requires first { CellIsThere world.old.world.cells first }
     requires room { world.old.world.limits.out ≤ world.old.out_room }
     ensures world { Gives (spec.row_outcome world.old.world code.now row first second board.old) world.old result world.new }
     ensures board { board.new ≡ spec.row_board row first second board.old }

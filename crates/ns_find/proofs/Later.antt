@@ -18,7 +18,7 @@ use Rattle.ns_find.specs.declared.memo.Kept.{Kept}
 use Rattle.ns_find.specs.declared.found.Sending.{Sending}
 use Rattle.ns_find.specs.declared.members.Side.{Side}
 use Rattle.ns_find.specs.Find.{found_from, found_private, is_start}
-use Rattle.ns_find.specs.Memo.{IsRight, AddsNoRow}
+use Rattle.ns_find.specs.Memo.{PlaceIsRight, AddsNoRow}
 use Rattle.ns_find.proofs.Staying.{SameRows, found_stays, private_stays, start_stays}
 
 -- one cell more
@@ -58,7 +58,7 @@ same_rows code old new run = record {
 }
 
 -- a kept lookup stays right
-pub right_stays : (w : World) (code : CodeProgram) (after : Heap) (place : Option Kept) → IsLawful w code → SameRows w.cells after → IsRight w.cells code place → IsRight after code place
+pub right_stays : (w : World) (code : CodeProgram) (after : Heap) (place : Option Kept) → IsLawful w code → SameRows w.cells after → PlaceIsRight w.cells code place → PlaceIsRight after code place
 right_stays w code after None l same r = r
 right_stays w code after (Some kept) l same r =
     (start_stays w.cells after kept.start same r.0, r.1 ∙ sym (found_stays w code after l same kept.start kept.sel.0 kept.kind r.0))
@@ -74,8 +74,8 @@ found_lasts from sel kind code old new run s = found_stays old code new.cells ru
 pub private_lasts : (holder : ℕ) (side : Side) (sel : ℕ) (code : CodeProgram) (old new : World) → RunsOn code old new → is_class (find_cell old.cells holder) ≡ true → found_private new.cells code holder side sel ≡ found_private old.cells code holder side sel
 private_lasts holder side sel code old new run is = private_stays old code new.cells run.before (same_rows code old new run) holder side sel is
 
-pub right_lasts : (place : Option Kept) (code : CodeProgram) (old new : World) → RunsOn code old new → IsRight old.cells code place → IsRight new.cells code place
+pub right_lasts : (place : Option Kept) (code : CodeProgram) (old new : World) → RunsOn code old new → PlaceIsRight old.cells code place → PlaceIsRight new.cells code place
 right_lasts place code old new run r = right_stays old code new.cells place run.before (same_rows code old new run) r
 
-pub all_right_last : (places : List (Option Kept)) (code : CodeProgram) (old new : World) → RunsOn code old new → All (IsRight old.cells code) places → All (IsRight new.cells code) places
+pub all_right_last : (places : List (Option Kept)) (code : CodeProgram) (old new : World) → RunsOn code old new → All (PlaceIsRight old.cells code) places → All (PlaceIsRight new.cells code) places
 all_right_last places code old new run all = λ i d h. right_lasts (get_or places i d) code old new run (all i d h)

@@ -22,7 +22,7 @@ IsInstanceSide InstanceSide = Unit {0}
 IsInstanceSide ClassSide = ⊥
 
 -- A word is that of a slot of a holder's declaration.
-pub record HasSlot (heap : Heap) (code : CodeProgram) (holder word : ℕ) : Type 0 where
+pub record IsSlotOf (heap : Heap) (code : CodeProgram) (holder word : ℕ) : Type 0 where
   pub class : ClassCode
   pub class_is : slice_get code.classes (declaration_of heap holder) ≡ Some class
   pub entry : ℕ
@@ -39,7 +39,7 @@ pub record HasNested (heap : Heap) (code : CodeProgram) (holder decl : ℕ) : Ty
   pub decl_is : nested.class ≡ decl
 
 -- A body is that of a method of a holder's declaration.
-pub record HasMethod (heap : Heap) (code : CodeProgram) (side : Side) (holder body : ℕ) : Type 0 where
+pub record IsMethodOf (heap : Heap) (code : CodeProgram) (side : Side) (holder body : ℕ) : Type 0 where
   pub class : ClassCode
   pub class_is : slice_get code.classes (declaration_of heap holder) ≡ Some class
   pub place : ℕ
@@ -54,9 +54,9 @@ factories_at class factory = if factory then class ∷ [] else []
 -- What is found is a member of the declaration of a holder in a chain, the factory of one of some classes, or
 -- neither has a holder nor is a factory.
 abbrev pub Belongs : Heap → CodeProgram → Side → List ℕ → List ℕ → Found → Type 0
-Belongs heap code side chain factories (Method body holder) = Contains chain holder × HasMethod heap code side holder body
-Belongs heap code side chain factories (Getter holder word) = IsInstanceSide side × Contains chain holder × HasSlot heap code holder word
-Belongs heap code side chain factories (Setter holder word) = IsInstanceSide side × Contains chain holder × HasSlot heap code holder word
+Belongs heap code side chain factories (Method body holder) = Contains chain holder × IsMethodOf heap code side holder body
+Belongs heap code side chain factories (Getter holder word) = IsInstanceSide side × Contains chain holder × IsSlotOf heap code holder word
+Belongs heap code side chain factories (Setter holder word) = IsInstanceSide side × Contains chain holder × IsSlotOf heap code holder word
 Belongs heap code side chain factories (Nested class holder) = IsInstanceSide side × Contains chain holder × HasNested heap code holder class
 Belongs heap code side chain factories (Factory class) = Contains factories class
 Belongs heap code side chain factories other = Unit {0}

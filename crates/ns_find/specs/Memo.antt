@@ -13,13 +13,13 @@ abbrev pub IsEmpty : Option Kept → Type 0
 IsEmpty place = place ≡ None
 
 -- A place keeps nothing, or a lookup from a start of this world, with what it finds.
-abbrev pub IsRight : Heap → CodeProgram → Option Kept → Type 0
-IsRight heap code None = Unit {0}
-IsRight heap code (Some kept) = IsTrue (is_start heap kept.start) × (kept.found ≡ found_from heap code kept.start kept.sel.0 kept.kind)
+abbrev pub PlaceIsRight : Heap → CodeProgram → Option Kept → Type 0
+PlaceIsRight heap code None = Unit {0}
+PlaceIsRight heap code (Some kept) = IsTrue (is_start heap kept.start) × (kept.found ≡ found_from heap code kept.start kept.sel.0 kept.kind)
 
 -- A lookup is kept at some place.
-abbrev pub IsKept : List (Option Kept) → Kept → Type 0
-IsKept places kept = Contains places (Some kept)
+abbrev pub LookupIsKept : List (Option Kept) → Kept → Type 0
+LookupIsKept places kept = Contains places (Some kept)
 
 -- A cell gives Platform no facet and Manifest no class: it is no facet, and no first class of a
 -- declaration with nil as its enclosing object.

@@ -61,7 +61,7 @@ side_number InstanceSide = instance_side
 side_number ClassSide = class_side
 
 -- A class has an initialiser of its declaration, with so many parameters.
-pub record HasInitialiser (heap : Heap) (code : CodeProgram) (class params : ℕ) : Type 0 where
+pub record IsInitialiserOf (heap : Heap) (code : CodeProgram) (class params : ℕ) : Type 0 where
   pub declared : ClassCode
   pub class_is : slice_get code.classes (declaration_of heap class) ≡ Some declared
   pub body : IsBody code declared.init initialiser_kind instance_side (declaration_of heap class) params
@@ -71,7 +71,7 @@ pub record HasInitialiser (heap : Heap) (code : CodeProgram) (class params : ℕ
 abbrev pub TakesArguments : Heap → CodeProgram → Side → ℕ → Found → Type 0
 TakesArguments heap code side sel (Method body holder) =
     IsBody code body method_kind (side_number side) (declaration_of heap holder) (selector_arity code sel)
-TakesArguments heap code side sel (Factory class) = HasInitialiser heap code class (selector_arity code sel)
+TakesArguments heap code side sel (Factory class) = IsInitialiserOf heap code class (selector_arity code sel)
 TakesArguments heap code side sel other = Unit {0}
 
 -- What is found for a selector is named by it, and takes as many arguments as it where the classes are sound.

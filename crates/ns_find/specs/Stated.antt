@@ -15,20 +15,20 @@ use Rattle.ns_find.specs.declared.found.Sending.{Sending}
 use Rattle.ns_find.specs.declared.members.Side.{Side}
 use Rattle.ns_find.specs.Find.{found_from}
 use Rattle.ns_find.specs.Belonging.{Belongs}
-use Rattle.ns_find.specs.Memo.{IsRight, AddsNoRow}
+use Rattle.ns_find.specs.Memo.{PlaceIsRight, AddsNoRow}
 use Rattle.ns_find.specs.Rows.{spelled_row, boolean_texts, integer_texts}
 
 -- A lookup that is kept in a lawful world is right in the cells that a change leaves.
 abbrev pub StaysRight : (Heap → Heap) → Type 0
 StaysRight change =
     (world : World) (code : CodeProgram) (place : Option Kept) → IsLawful world code
-    → IsRight world.cells code place → IsRight (change world.cells) code place
+    → PlaceIsRight world.cells code place → PlaceIsRight (change world.cells) code place
 
 -- So it is where a cell is made, unless this is a facet or the first class of a top-level declaration.
 abbrev pub MakingKeepsRight : Type 0
 MakingKeepsRight =
     (world : World) (code : CodeProgram) (cell : Cell) (place : Option Kept) → IsLawful world code
-    → AddsNoRow world.cells cell → IsRight world.cells code place → IsRight (cell ∷ world.cells) code place
+    → AddsNoRow world.cells cell → PlaceIsRight world.cells code place → PlaceIsRight (cell ∷ world.cells) code place
 
 -- Whatever is found from a start is a member of a side of the holders of a chain, or one of the factories.
 abbrev pub FromBelongs : Heap → CodeProgram → Start → Side → List ℕ → List ℕ → Type 0

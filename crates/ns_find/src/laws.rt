@@ -15,7 +15,7 @@ ghost use Rattle.ns_find.specs.declared.members.Side.TheVariants as side;
 ghost use Rattle.ns_find.specs.Find.{found_from, found_private, CanStart};
 ghost use Rattle.ns_find.specs.Belonging.{Belongs, factories_at};
 ghost use Rattle.ns_find.specs.Named.{FoundBy, FindsBy};
-ghost use Rattle.ns_find.specs.Memo.{IsRight};
+ghost use Rattle.ns_find.specs.Memo.{PlaceIsRight};
 ghost use Rattle.ns_find.specs.Stated.{StaysRight, MakingKeepsRight, FromBelongs, BooleansFind, IntegersFind};
 
 /// A kept lookup stays right whatever is made and written, as long as no facet and no first class
@@ -32,8 +32,8 @@ pub fn lookups_stay()
     ensures starts { (from : Start) → Lasts (CanStart from) }
     ensures found { (from : Start) (sel : ℕ) (kind : Sending) → Unchanged (CanStart from) (λ heap code. found_from heap code from sel kind) }
     ensures private { (holder : ℕ) (side : Side) (sel : ℕ) → Unchanged (IsClassAt holder) (λ heap code. found_private heap code holder side sel) }
-    ensures kept { (place : Option Kept) → Lasts (λ heap code. IsRight heap code place) }
-    ensures memos { (places : List (Option Kept)) → Lasts (λ heap code. All (IsRight heap code) places) }
+    ensures kept { (place : Option Kept) → Lasts (λ heap code. PlaceIsRight heap code place) }
+    ensures memos { (places : List (Option Kept)) → Lasts (λ heap code. All (PlaceIsRight heap code) places) }
 {}
 
 /// What a lookup finds is a member of the declaration of a holder in the chain that it looks

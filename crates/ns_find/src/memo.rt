@@ -3,7 +3,7 @@
 ghost use Rattle.std.specs.Prelude.{◌≡◌, ◌<◌, All, Some, IsTrue, IfOk, IfSome, slice_set};
 ghost use Rattle.ns_world.specs.Lawful.{IsLawful};
 ghost use Rattle.ns_find.specs.Find.{found_from, is_start};
-ghost use Rattle.ns_find.specs.Memo.{IsEmpty, IsRight, IsKept};
+ghost use Rattle.ns_find.specs.Memo.{IsEmpty, PlaceIsRight, LookupIsKept};
 
 use crate::find::find;
 use crate::found::{Found, Sending};
@@ -74,7 +74,7 @@ impl Memo {
     #[inline(always)]
     fn kept(&self, place: usize, start: Start, sel: Sel, kind: Sending) -> Option<Found>
         requires { place < 1024 }
-        ensures { IfSome result (λ found. IsKept self.now (record { start = start; sel = sel; kind = kind; found = found })) }
+        ensures { IfSome result (λ found. LookupIsKept self.now (record { start = start; sel = sel; kind = kind; found = found })) }
     {
         match self.places[place] {
             Some(kept) => answer_of(kept, start, sel, kind),
@@ -104,9 +104,9 @@ pub fn find_kept(
 ) -> Found
     requires lawful { IsLawful world.now.world code.now }
     requires start { IsTrue (is_start world.now.world.cells start) }
-    requires kept { All (IsRight world.now.world.cells code.now) memo.old }
+    requires kept { All (PlaceIsRight world.now.world.cells code.now) memo.old }
     ensures found { result ≡ found_from world.now.world.cells code.now start sel.0 kind }
-    ensures keeps { All (IsRight world.now.world.cells code.now) memo.new }
+    ensures keeps { All (PlaceIsRight world.now.world.cells code.now) memo.new }
 {
     let place = place_of(start, sel, kind);
     match memo.kept(place, start, sel, kind) {

@@ -4,7 +4,7 @@ use Rattle.std.proofs.lemmas.List.{append-nil}
 use Rattle.ns_image.specs.declared.fault.Fault.{Fault}
 use Rattle.ns_image.specs.declared.fault.Fault.TheVariants as fault
 use Rattle.ns_image.specs.Read.{Outcome, got, truncated, bad, Reader, and_then, given, chained}
-use Rattle.ns_image.specs.Reads.{Fails}
+use Rattle.ns_image.specs.Reads.{FailsReading}
 
 -- what was read before, and what is still read
 abbrev pub with_front : {A : Type 0} → List A → Outcome (List A) → Outcome (List A)
@@ -27,8 +27,8 @@ module _ {S A : Type 0} (item : S → Reader A) (next : S → A → S) where
       rw e (sym one ∙ so_far)
 
   -- An item can't be read.
-  pub ends : (e : Fault) (front : List A) (count i : ℕ) (s : S) (bytes : List ℕ) (total : Outcome (List A)) → i < count → Fails (item s bytes) e
-      → with_front front (chained item next (count - i) s bytes) ≡ total → Fails total e
+  pub ends : (e : Fault) (front : List A) (count i : ℕ) (s : S) (bytes : List ℕ) (total : Outcome (List A)) → i < count → FailsReading (item s bytes) e
+      → with_front front (chained item next (count - i) s bytes) ≡ total → FailsReading total e
   unfolding chained
   ends fault.Memory front count i s bytes total lt h so_far = tt
   ends fault.Truncated front count i s bytes total lt h so_far =

@@ -8,18 +8,18 @@ use Rattle.ns_image.specs.declared.fault.Fault.TheVariants.{Truncated, Bad, Memo
 use Rattle.ns_image.specs.Read.{Outcome, got, truncated, bad}
 
 -- The outcome is that fault. Want of memory says nothing of it.
-abbrev pub Fails : {A : Type 0} → Outcome A → Fault → Type 0
-Fails outcome Truncated = outcome ≡ truncated
-Fails outcome (Bad left) = outcome ≡ bad left
-Fails outcome Memory = Unit {0}
+abbrev pub FailsReading : {A : Type 0} → Outcome A → Fault → Type 0
+FailsReading outcome Truncated = outcome ≡ truncated
+FailsReading outcome (Bad left) = outcome ≡ bad left
+FailsReading outcome Memory = Unit {0}
 
 -- The outcome is the value, as it is shown, and the bytes that are left; or the fault.
 abbrev pub ReadsAs : {X A : Type 0} → (X → A) → Outcome A → Result X Fault → List ℕ → Type 0
 ReadsAs shown outcome (Ok x) rest = outcome ≡ got (shown x) rest
-ReadsAs shown outcome (Err fault) rest = Fails outcome fault
+ReadsAs shown outcome (Err fault) rest = FailsReading outcome fault
 
-abbrev pub Reads : {A : Type 0} → Outcome A → Result A Fault → List ℕ → Type 0
-Reads outcome result rest = ReadsAs (λ a. a) outcome result rest
+abbrev pub ReadsBytes : {A : Type 0} → Outcome A → Result A Fault → List ℕ → Type 0
+ReadsBytes outcome result rest = ReadsAs (λ a. a) outcome result rest
 
 -- What reading answers: the code, or that fault. Want of memory says nothing of it.
 abbrev pub ReadingAnswers : Result CodeProgram ImageFault → Result CodeProgram ImageFault → Type 0

@@ -4,7 +4,7 @@ ghost use Rattle.std.specs.Prelude.{IfOk};
 ghost use Rattle.ns_code.specs.Fits.{Fits};
 ghost use Rattle.ns_image.specs.Read.{half};
 ghost use Rattle.ns_image.specs.Reading as spec;
-ghost use Rattle.ns_image.specs.Reads.{ReadingAnswers, Reads, ReadsAs};
+ghost use Rattle.ns_image.specs.Reads.{ReadingAnswers, ReadsBytes, ReadsAs};
 
 use crate::fault::{Fault, ImageFault};
 use crate::read::body::{Body, OldBody};
@@ -100,7 +100,7 @@ fn ended(code: CodeProgram, rest: &[u8]) -> Result<CodeProgram, ImageFault>
 
 #[tactic(auto, unfolding(crate::specs::Reading::program))]
 fn program(alloc: Global, input: &mut Input<'_>) -> Result<CodeProgram, Fault>
-    ensures { Reads (spec.program input.old.rest.now) result input.new.rest.now }
+    ensures { ReadsBytes (spec.program input.old.rest.now) result input.new.rest.now }
 {
     let files = up_to(alloc, input, &FileName, MOST_FILES)?;
     let body = Body { files: files.len() };
@@ -109,7 +109,7 @@ fn program(alloc: Global, input: &mut Input<'_>) -> Result<CodeProgram, Fault>
 
 #[tactic(auto, unfolding(crate::specs::Reading::old_program))]
 fn old_program(alloc: Global, input: &mut Input<'_>) -> Result<CodeProgram, Fault>
-    ensures { Reads (spec.old_program input.old.rest.now) result input.new.rest.now }
+    ensures { ReadsBytes (spec.old_program input.old.rest.now) result input.new.rest.now }
 {
     let files = Items::from_vec(Vec::new(alloc));
     with_files(alloc, input, &OldBody, files)
@@ -123,7 +123,7 @@ fn with_files<B: Format<Value = BodyCode>>(
     body: &B,
     files: Items<Text>,
 ) -> Result<CodeProgram, Fault>
-    ensures { Reads (spec.with_files (B.reader body.now) files input.old.rest.now) result input.new.rest.now }
+    ensures { ReadsBytes (spec.with_files (B.reader body.now) files input.old.rest.now) result input.new.rest.now }
 {
     let names = names(alloc, input)?;
     let texts = texts(alloc, input)?;
@@ -143,7 +143,7 @@ fn with_files<B: Format<Value = BodyCode>>(
     }
 }
 
-/// Reads the classes and the bodies of a version into a program.
+/// ReadsBytes the classes and the bodies of a version into a program.
 #[tactic(auto, unfolding(crate::specs::Reading::with_classes))]
 fn read_classes<B: Format<Value = BodyCode>>(
     alloc: Global,
@@ -159,7 +159,7 @@ fn read_classes<B: Format<Value = BodyCode>>(
 }
 
 fn texts(alloc: Global, input: &mut Input<'_>) -> Result<Items<Text>, Fault>
-    ensures { Reads (spec.texts input.old.rest.now) result input.new.rest.now }
+    ensures { ReadsBytes (spec.texts input.old.rest.now) result input.new.rest.now }
 {
     let count = input.word()?;
     times(alloc, input, &Literal, count)

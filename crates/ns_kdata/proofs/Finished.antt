@@ -10,7 +10,7 @@ use Rattle.ns_world.specs.Cell.{TextCell, cell_size, cell_bytes, text_words}
 use Rattle.ns_world.specs.Heap.{Heap, heap_size, bytes_at}
 use Rattle.ns_world.specs.World.{World, WorldView, IsWithin, made}
 use Rattle.ns_kdata.specs.Outcome.{Gives, making}
-use Rattle.ns_kdata.specs.Arguments.{IsThere, bytes_of}
+use Rattle.ns_kdata.specs.Arguments.{CellIsThere, bytes_of}
 use Rattle.ns_kdata.specs.Texts.{filled, MakesText}
 use Rattle.ns_world.specs.laws.Changing.{found_new}
 use Rattle.std.proofs.lemmas.Bool.{lt-leb}
@@ -77,14 +77,14 @@ new_text_is old mid count to (e, number, room) = tested (nat_le (heap_size old.w
         record { number = number; cells = cells; size = ap (λ cs. length (bytes_at cs to)) cells ∙ newest to number }
 
 -- a String that was there has its bytes, is there, and isn't the new text
-pub text_kept : (old mid : WorldView) (count to : ℕ) (value : Value) → IsThere old.world.cells value → IsNewText old mid count to → bytes_of mid.world.cells value ≡ bytes_of old.world.cells value
+pub text_kept : (old mid : WorldView) (count to : ℕ) (value : Value) → CellIsThere old.world.cells value → IsNewText old mid count to → bytes_of mid.world.cells value ≡ bytes_of old.world.cells value
 text_kept old mid count to value there new = ap (λ cells. bytes_of cells value) new.cells ∙ text_in_more old.world.cells (TextCell (replicate count 0)) value there
 
-pub still_there : (old mid : WorldView) (count to : ℕ) (value : Value) → IsThere old.world.cells value → IsNewText old mid count to → IsThere mid.world.cells value
+pub still_there : (old mid : WorldView) (count to : ℕ) (value : Value) → CellIsThere old.world.cells value → IsNewText old mid count to → CellIsThere mid.world.cells value
 still_there old mid count to value there new =
     let e = new.cells in rw e (there_in_more old.world.cells (TextCell (replicate count 0)) value there)
 
-pub text_apart : (old mid : WorldView) (count to : ℕ) (value : Value) → IsThere old.world.cells value → IsNewText old mid count to → value ≢ Ref to
+pub text_apart : (old mid : WorldView) (count to : ℕ) (value : Value) → CellIsThere old.world.cells value → IsNewText old mid count to → value ≢ Ref to
 text_apart old mid count to value there new = not_next_cell old.world.cells value to there new.number
 
 -- a text that is filled is finished

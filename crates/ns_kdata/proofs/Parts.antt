@@ -10,7 +10,7 @@ use Rattle.ns_world.specs.World.{World, WorldView, IsWithin}
 use Rattle.ns_world.specs.laws.Standing.{stands-within}
 use Rattle.ns_world.specs.laws.Chains.{found_below, found_in_more}
 use Rattle.ns_kdata.specs.declared.arguments.Part.{Part}
-use Rattle.ns_kdata.specs.Arguments.{IsThere, bytes_of}
+use Rattle.ns_kdata.specs.Arguments.{CellIsThere, bytes_of}
 use Rattle.ns_kdata.specs.Texts.{filled, bytes_in}
 use Rattle.ns_kdata.proofs.Writing.{bytes_elsewhere}
 use Rattle.ns_kdata.proofs.Filling.{filled_elsewhere}
@@ -50,7 +50,7 @@ below heap at h = found (find_cell heap at) refl h
     found (Some cell) e s = found_below heap at cell e
 
 -- a value that is there isn't the next cell
-pub not_next_cell : (heap : Heap) (value : Value) (next : ℕ) → IsThere heap value → next ≡ heap_size heap → value ≢ Ref next
+pub not_next_cell : (heap : Heap) (value : Value) (next : ℕ) → CellIsThere heap value → next ≡ heap_size heap → value ≢ Ref next
 not_next_cell heap (Ref at) next there is = λ e. let same : at ≡ next = cc in omega (arith, below heap at there, same, is)
 not_next_cell heap Nil next there is = λ e. cc
 not_next_cell heap True next there is = λ e. cc
@@ -60,7 +60,7 @@ not_next_cell heap (Sym sel) next there is = λ e. cc
 not_next_cell heap (Kernel class) next there is = λ e. cc
 
 -- with one cell more it has the bytes of before, and is there
-pub text_in_more : (heap : Heap) (cell : Cell) (value : Value) → IsThere heap value → bytes_of (cell ∷ heap) value ≡ bytes_of heap value
+pub text_in_more : (heap : Heap) (cell : Cell) (value : Value) → CellIsThere heap value → bytes_of (cell ∷ heap) value ≡ bytes_of heap value
 text_in_more heap cell (Ref at) there = ap (λ o. option_map_or cell_bytes o []) (found_in_more cell heap at (below heap at there))
 text_in_more heap cell Nil there = refl
 text_in_more heap cell True there = refl
@@ -69,7 +69,7 @@ text_in_more heap cell (Int number) there = refl
 text_in_more heap cell (Sym sel) there = refl
 text_in_more heap cell (Kernel class) there = refl
 
-pub there_in_more : (heap : Heap) (cell : Cell) (value : Value) → IsThere heap value → IsThere (cell ∷ heap) value
+pub there_in_more : (heap : Heap) (cell : Cell) (value : Value) → CellIsThere heap value → CellIsThere (cell ∷ heap) value
 there_in_more heap cell (Ref at) there = let e = found_in_more cell heap at (below heap at there) in rw e there
 there_in_more heap cell Nil there = tt
 there_in_more heap cell True there = tt

@@ -16,9 +16,9 @@ use Rattle.ns_kdata.specs.declared.arguments.Part.{Part}
 use Rattle.ns_kdata.specs.Outcome.{wrong_kind, out_of_range}
 
 -- A reference names a cell.
-abbrev pub IsThere : Heap → Value → Type 0
-IsThere heap (Ref at) = IsSome (find_cell heap at)
-IsThere heap value = Unit {0}
+abbrev pub CellIsThere : Heap → Value → Type 0
+CellIsThere heap (Ref at) = IsSome (find_cell heap at)
+CellIsThere heap value = Unit {0}
 
 -- the argument of that place from 0, nil where there is none
 abbrev pub argument : List Value → ℕ → Value

@@ -7,7 +7,7 @@ use Rattle.ns_world.specs.declared.value.KClass.TheVariants.{Object}
 use Rattle.ns_world.specs.World.{World}
 use Rattle.ns_kdata.specs.declared.row.DataRow.{DataRow}
 use Rattle.ns_kdata.specs.declared.row.DataRow.TheVariants as row
-use Rattle.ns_kdata.specs.Outcome.{Outcome, Answers, Fails, unchanged}
+use Rattle.ns_kdata.specs.Outcome.{RowOutcome, Answers, Fails, unchanged}
 use Rattle.ns_kdata.specs.Arguments.{argument}
 use Rattle.ns_world.specs.Booleans.{truth}
 use Rattle.ns_kdata.specs.Texts.{text_size, text_at, text_copy, text_join, text_equal, text_less, text_print}
@@ -16,7 +16,7 @@ use Rattle.ns_kdata.specs.Rows.{conjunction, disjunction, symbol_size, symbol_st
 use Rattle.ns_kdata.specs.Rows.{message_selector, message_arguments}
 
 -- the outcome of each row, by its receiver and its first two arguments
-abbrev pub row_outcome : World → CodeProgram → DataRow → Value → Value → Value → Outcome
+abbrev pub row_outcome : World → CodeProgram → DataRow → Value → Value → Value → RowOutcome
 row_outcome world code row.Identical receiver first second = Answers (truth (same_value receiver first)) world
 row_outcome world code row.Equal receiver first second = Answers (truth (same_value receiver first)) world
 row_outcome world code row.IsNil receiver first second = Answers (truth (is_nil receiver)) world
@@ -49,5 +49,5 @@ row_outcome world code row.MessageSelector receiver first second = Answers (mess
 row_outcome world code row.MessageArguments receiver first second = Answers (message_arguments world.cells receiver) world
 
 -- the outcome of a row with a list of arguments
-abbrev pub datum : World → CodeProgram → DataRow → Value → List Value → Outcome
+abbrev pub datum : World → CodeProgram → DataRow → Value → List Value → RowOutcome
 datum world code row receiver args = row_outcome world code row receiver (argument args 0) (argument args 1)

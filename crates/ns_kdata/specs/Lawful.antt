@@ -6,7 +6,7 @@ use Rattle.ns_world.specs.declared.value.Value.TheVariants.{Nil}
 use Rattle.ns_world.specs.Cell.{Cell, ObjectCell, EnvironmentCell, ArrayCell}
 use Rattle.ns_world.specs.Heap.{Heap}
 use Rattle.ns_world.specs.Lawful.{IsLiveValue, IsLawful}
-use Rattle.ns_kdata.specs.Outcome.{Outcome, Answers, Fails}
+use Rattle.ns_kdata.specs.Outcome.{RowOutcome, Answers, Fails}
 
 -- A new object's entries are nil; the locals of a new environment and the elements of a new array are live.
 abbrev pub MayHold : Heap → CodeProgram → Cell → Type 0
@@ -16,6 +16,6 @@ MayHold heap code (ArrayCell items) = All (IsLiveValue heap code) items
 MayHold heap code cell = Unit {0}
 
 -- The world after an answer is lawful.
-abbrev pub LeavesLawful : CodeProgram → Outcome → Type 0
+abbrev pub LeavesLawful : CodeProgram → RowOutcome → Type 0
 LeavesLawful code (Answers value world) = IsLawful world code
 LeavesLawful code (Fails fault) = Unit {0}

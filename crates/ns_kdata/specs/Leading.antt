@@ -4,16 +4,16 @@ use Rattle.ns_world.specs.declared.cell.NewCell.{NewCell}
 use Rattle.ns_world.specs.declared.cell.NewCell.TheVariants as new
 use Rattle.ns_world.specs.World.{World}
 use Rattle.ns_world.specs.Later.{IsLater}
-use Rattle.ns_kdata.specs.Outcome.{Outcome, Answers, Fails}
+use Rattle.ns_kdata.specs.Outcome.{RowOutcome, Answers, Fails}
 
 -- Something holds of the world after an answer.
-abbrev pub LeadsTo : (World → Type 0) → Outcome → Type 0
-LeadsTo holds (Answers value world) = holds world
-LeadsTo holds (Fails fault) = Unit {0}
+abbrev pub HoldsAfter : (World → Type 0) → RowOutcome → Type 0
+HoldsAfter holds (Answers value world) = holds world
+HoldsAfter holds (Fails fault) = Unit {0}
 
 -- It is later in the run.
-abbrev pub LeadsOn : World → Outcome → Type 0
-LeadsOn world outcome = LeadsTo (IsLater world) outcome
+abbrev pub LeadsOn : World → RowOutcome → Type 0
+LeadsOn world outcome = HoldsAfter (IsLater world) outcome
 
 -- whether a cell is no facet, which the start of a run alone makes, and no block, which code alone makes
 abbrev pub is_common : NewCell → Bool

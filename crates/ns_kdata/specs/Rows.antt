@@ -16,7 +16,7 @@ use Rattle.ns_world.specs.declared.cell.NewCell.TheVariants as new
 use Rattle.ns_world.specs.Cell.{ObjectCell, ArrayCell, TextCell}
 use Rattle.ns_world.specs.Heap.{Heap, no_class}
 use Rattle.ns_world.specs.World.{World, stored}
-use Rattle.ns_kdata.specs.Outcome.{Outcome, Answers, Fails, making, wrong_kind, out_of_range}
+use Rattle.ns_kdata.specs.Outcome.{RowOutcome, Answers, Fails, making, wrong_kind, out_of_range}
 use Rattle.ns_kdata.specs.Arguments.{shape_of_value, items_of, is_message, symbol_text, number_of, place_in}
 use Rattle.ns_world.specs.Booleans.{truth}
 use Rattle.ns_kdata.specs.Texts.{is_before}
@@ -48,33 +48,33 @@ abbrev pub not_understood : Heap → Value → Fault
 not_understood heap message = if is_message heap message then Kind kind.NotUnderstood else wrong_kind
 
 -- `new` of Object class: an object of no declared class
-abbrev pub new_object : World → Outcome
+abbrev pub new_object : World → RowOutcome
 new_object world = making world (ObjectCell no_class [])
 
 -- a new array of so many nils, at most 64,000,000
-abbrev pub array_of_size : World → ℤ → Outcome
+abbrev pub array_of_size : World → ℤ → RowOutcome
 array_of_size world size =
     if int_lt size (pos 0) || int_lt (pos 64000000) size
     then Fails out_of_range
     else making world (ArrayCell (replicate (unsigned_abs size) Nil))
 
 -- `new:` of Array class
-abbrev pub new_array : World → Value → Outcome
+abbrev pub new_array : World → Value → RowOutcome
 new_array world (Int size) = array_of_size world size
 new_array world value = Fails wrong_kind
 
 -- `printString` of nil, of a boolean and of an Integer
-abbrev pub nil_print : World → Outcome
+abbrev pub nil_print : World → RowOutcome
 nil_print world = making world (TextCell (codes "nil"))
 
 abbrev pub boolean_text : Value → List ℕ
 boolean_text True = codes "true"
 boolean_text value = codes "false"
 
-abbrev pub boolean_print : World → Value → Outcome
+abbrev pub boolean_print : World → Value → RowOutcome
 boolean_print world value = making world (TextCell (boolean_text value))
 
-abbrev pub integer_print : World → Value → Outcome
+abbrev pub integer_print : World → Value → RowOutcome
 integer_print world value = making world (TextCell (signed_decimal (number_of value)))
 
 -- `not`
@@ -104,11 +104,11 @@ abbrev pub symbol_size : CodeProgram → Value → Value
 symbol_size code symbol = Int (pos (length (symbol_text code symbol)))
 
 -- `asString`
-abbrev pub symbol_string : World → CodeProgram → Value → Outcome
+abbrev pub symbol_string : World → CodeProgram → Value → RowOutcome
 symbol_string world code symbol = making world (TextCell (symbol_text code symbol))
 
 -- `printString` of a Symbol: its text with `#` before
-abbrev pub symbol_print : World → CodeProgram → Value → Outcome
+abbrev pub symbol_print : World → CodeProgram → Value → RowOutcome
 symbol_print world code symbol = making world (TextCell (codes "#" ++ symbol_text code symbol))
 
 -- `<` of a Symbol
@@ -130,12 +130,12 @@ abbrev pub array_at : Heap → Value → Value → Result Value Fault
 array_at heap array place = item_at_place (items_of heap array) (place_in place (length (items_of heap array)))
 
 -- the value, stored at a place, or the fault of the place
-abbrev pub put_at_place : World → Value → Result ℕ Fault → Value → Outcome
+abbrev pub put_at_place : World → Value → Result ℕ Fault → Value → RowOutcome
 put_at_place world array (Ok place) value = Answers value (stored world array place value)
 put_at_place world array (Err fault) value = Fails fault
 
 -- `at:put:` of an Array
-abbrev pub array_put : World → Value → Value → Value → Outcome
+abbrev pub array_put : World → Value → Value → Value → RowOutcome
 array_put world array place value = put_at_place world array (place_in place (length (items_of world.cells array))) value
 
 -- what a message holds, nil where the cell is another

@@ -13,8 +13,8 @@ use Rattle.ns_kdata.specs.Living.{AnswersLive}
 use Rattle.ns_kdata.specs.Lawful.{MayHold, LeavesLawful}
 
 -- A row in a lawful world answers a live value, where the value that `at:put:` stores is live.
-abbrev pub AnswersAreLive : Type 0
-AnswersAreLive =
+abbrev pub DataIsLive : Type 0
+DataIsLive =
     (world : World) (code : CodeProgram) (row : DataRow) (receiver first second : Value) → IsLawful world code
     → IsLiveValue world.cells code second → AnswersLive code (row_outcome world code row receiver first second)
 

@@ -11,7 +11,7 @@ use Rattle.ns_world.specs.Cell.{TextCell}
 use Rattle.ns_world.specs.Heap.{Heap, heap_size}
 use Rattle.ns_world.specs.World.{World, WorldView, SameRoom, made, byte_written}
 use Rattle.ns_kdata.specs.declared.arguments.Part.{Part}
-use Rattle.ns_kdata.specs.Outcome.{Outcome, Fails, making, wrong_kind}
+use Rattle.ns_kdata.specs.Outcome.{RowOutcome, Fails, making, wrong_kind}
 use Rattle.ns_kdata.specs.Arguments.{is_text, bytes_of, place_in, part_in}
 use Rattle.ns_world.specs.Booleans.{truth}
 use Rattle.ns_base.specs.Quoted.{quoted}
@@ -51,16 +51,16 @@ abbrev pub text_at : Heap → Value → Value → Result Value Fault
 text_at heap text place = byte_at_place (bytes_of heap text) (place_in place (length (bytes_of heap text)))
 
 -- a new text of a part of the bytes, or the fault of the part
-abbrev pub copied : World → List ℕ → Result Part Fault → Outcome
+abbrev pub copied : World → List ℕ → Result Part Fault → RowOutcome
 copied world bytes (Ok part) = making world (TextCell (bytes_in bytes part))
 copied world bytes (Err fault) = Fails fault
 
 -- `copyFrom:to:`
-abbrev pub text_copy : World → Value → Value → Value → Outcome
+abbrev pub text_copy : World → Value → Value → Value → RowOutcome
 text_copy world text first last = copied world (bytes_of world.cells text) (part_in first last (length (bytes_of world.cells text)))
 
 -- `,`
-abbrev pub text_join : World → Value → Value → Outcome
+abbrev pub text_join : World → Value → Value → RowOutcome
 text_join world text other =
     if is_text world.cells other then making world (TextCell (bytes_of world.cells text ++ bytes_of world.cells other)) else Fails wrong_kind
 
@@ -74,5 +74,5 @@ text_less heap text other =
     if is_text heap other then Ok (truth (is_before (bytes_of heap text) (bytes_of heap other))) else Err wrong_kind
 
 -- `printString`
-abbrev pub text_print : World → Value → Outcome
+abbrev pub text_print : World → Value → RowOutcome
 text_print world text = making world (TextCell (quoted (bytes_of world.cells text)))

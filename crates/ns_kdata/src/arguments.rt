@@ -5,7 +5,7 @@ ghost use Rattle.std.specs.List.{slice_index, slice_index_or};
 ghost use Rattle.ns_world.specs.declared.value.Value.TheVariants as value_is;
 ghost use Rattle.ns_world.specs.Head.{head_of_shape};
 ghost use Rattle.ns_kdata.specs.Arguments as spec;
-ghost use Rattle.ns_kdata.specs.Arguments.{IsThere, bytes_of, items_of};
+ghost use Rattle.ns_kdata.specs.Arguments.{CellIsThere, bytes_of, items_of};
 ghost use Rattle.ns_kdata.specs.Outcome as outcome;
 
 use ns_code::program::CodeProgram;
@@ -53,7 +53,7 @@ pub fn out_of_range() -> Fault
 /// refers to none.
 #[inline(always)]
 pub fn shape_of_value(world: &World, value: Value) -> NewCell
-    requires { IsThere world.now.world.cells value }
+    requires { CellIsThere world.now.world.cells value }
     ensures { result ≡ spec.shape_of_value world.now.world.cells value }
 {
     match value {
@@ -66,7 +66,7 @@ pub fn shape_of_value(world: &World, value: Value) -> NewCell
 /// none.
 #[inline(always)]
 fn head_of_value(world: &World, value: Value) -> Head
-    requires { IsThere world.now.world.cells value }
+    requires { CellIsThere world.now.world.cells value }
     ensures { result ≡ head_of_shape (spec.shape_of_value world.now.world.cells value) }
 {
     match value {
@@ -79,7 +79,7 @@ fn head_of_value(world: &World, value: Value) -> Head
 #[inline(always)]
 #[tactic(auto, using(crate::proofs::Heads::text_head))]
 pub fn is_text(world: &World, value: Value) -> bool
-    requires { IsThere world.now.world.cells value }
+    requires { CellIsThere world.now.world.cells value }
     ensures { result ≡ spec.is_text world.now.world.cells value }
 {
     is_text_head(head_of_value(world, value))
@@ -99,7 +99,7 @@ fn is_text_head(head: Head) -> bool
 #[inline(always)]
 #[tactic(auto, using(crate::proofs::Heads::array_head))]
 pub fn is_array(world: &World, value: Value) -> bool
-    requires { IsThere world.now.world.cells value }
+    requires { CellIsThere world.now.world.cells value }
     ensures { result ≡ spec.is_array world.now.world.cells value }
 {
     is_array_head(head_of_value(world, value))
@@ -118,7 +118,7 @@ fn is_array_head(head: Head) -> bool
 /// Whether a value is a Message.
 #[tactic(auto, using(crate::proofs::Heads::message_head))]
 pub fn is_message(world: &World, value: Value) -> bool
-    requires { IsThere world.now.world.cells value }
+    requires { CellIsThere world.now.world.cells value }
     ensures { result ≡ spec.is_message world.now.world.cells value }
 {
     is_message_head(head_of_value(world, value))
@@ -137,7 +137,7 @@ fn is_message_head(head: Head) -> bool
 #[inline(always)]
 #[tactic(auto, using(crate::proofs::Shapes::text_size_told, crate::proofs::Heads::text_size_head))]
 pub fn text_size(world: &World, text: Value) -> u32
-    requires { IsThere world.now.world.cells text }
+    requires { CellIsThere world.now.world.cells text }
     ensures { result ≡ length (bytes_of world.now.world.cells text) }
 {
     text_size_at(head_of_value(world, text))
@@ -180,7 +180,7 @@ pub fn text_row(world: &World, text: Value, row: u32) -> [u8; 8]
 #[inline(always)]
 #[tactic(auto, using(crate::proofs::Shapes::array_size_told, crate::proofs::Heads::array_size_head))]
 pub fn array_size(world: &World, array: Value) -> u32
-    requires { IsThere world.now.world.cells array }
+    requires { CellIsThere world.now.world.cells array }
     ensures { result ≡ length (items_of world.now.world.cells array) }
 {
     array_size_at(head_of_value(world, array))

@@ -1,7 +1,7 @@
 //! The rows of Array but `do:`.
 
 ghost use Rattle.std.specs.Prelude.{◌≡◌, ◌<◌, length, IfSome, Ok};
-ghost use Rattle.ns_kdata.specs.Arguments.{IsThere, items_of, place_in};
+ghost use Rattle.ns_kdata.specs.Arguments.{CellIsThere, items_of, place_in};
 ghost use Rattle.ns_kdata.specs.Outcome.{Gives};
 ghost use Rattle.ns_world.specs.World.{stored};
 ghost use Rattle.ns_kdata.specs.Rows as spec;
@@ -14,7 +14,7 @@ use ns_world::world::World;
 /// `size`.
 #[inline(always)]
 pub fn array_size(world: &World, array: Value) -> Value
-    requires { IsThere world.now.world.cells array }
+    requires { CellIsThere world.now.world.cells array }
     ensures { result ≡ spec.array_size world.now.world.cells array }
 {
     Value::Int(i64::from(items_in(world, array)))
@@ -23,7 +23,7 @@ pub fn array_size(world: &World, array: Value) -> Value
 /// `at:`.
 #[inline(always)]
 pub fn array_at(world: &World, array: Value, place: Value) -> Result<Value, Fault>
-    requires { IsThere world.now.world.cells array }
+    requires { CellIsThere world.now.world.cells array }
     ensures { result ≡ spec.array_at world.now.world.cells array place }
 {
     let place = place_in(place, items_in(world, array))?;
@@ -37,7 +37,7 @@ pub fn array_put(
     place: Value,
     value: Value,
 ) -> Result<Value, Fault>
-    requires { IsThere world.old.world.cells array }
+    requires { CellIsThere world.old.world.cells array }
     ensures { Gives (spec.array_put world.old.world array place value) world.old result world.new }
 {
     let place = place_in(place, items_in(world, array))?;
@@ -48,7 +48,7 @@ pub fn array_put(
 /// The place that an argument names, counted from 0, none where `at:put:` has a fault.
 #[inline(always)]
 pub fn place_at(world: &World, array: Value, place: Value) -> Option<u32>
-    requires { IsThere world.now.world.cells array }
+    requires { CellIsThere world.now.world.cells array }
     ensures place { IfSome result (λ p. place_in place (length (items_of world.now.world.cells array)) ≡ Ok p) }
     ensures below { IfSome result (λ p. p < length (items_of world.now.world.cells array)) }
 {

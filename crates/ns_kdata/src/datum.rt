@@ -3,7 +3,7 @@
 ghost use Rattle.std.specs.Prelude.{◌≤◌, All};
 ghost use Rattle.ns_world.specs.Lawful.{IsLive, IsLawful};
 ghost use Rattle.ns_world.specs.World.{IsWithin};
-ghost use Rattle.ns_kdata.specs.Arguments.{IsThere};
+ghost use Rattle.ns_kdata.specs.Arguments.{CellIsThere};
 ghost use Rattle.ns_kdata.specs.Outcome.{Gives};
 ghost use Rattle.ns_kdata.specs.Datum as spec;
 
@@ -60,8 +60,8 @@ pub fn row_outcome(
     second: Value,
 ) -> Result<Value, Fault>
     requires within { IsWithin world.old.world }
-    requires receiver { IsThere world.old.world.cells receiver }
-    requires first { IsThere world.old.world.cells first }
+    requires receiver { CellIsThere world.old.world.cells receiver }
+    requires first { CellIsThere world.old.world.cells first }
     requires room { world.old.world.limits.cells ≤ world.old.cell_room }
     ensures { Gives (spec.row_outcome world.old.world code.now row receiver first second) world.old result world.new }
 {

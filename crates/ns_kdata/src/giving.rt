@@ -1,7 +1,7 @@
 //! Rows that give a value at once: they only read, and make no cell.
 
 ghost use Rattle.std.specs.Prelude.{◌≡◌, IfSome, Ok};
-ghost use Rattle.ns_kdata.specs.Arguments.{IsThere};
+ghost use Rattle.ns_kdata.specs.Arguments.{CellIsThere};
 ghost use Rattle.ns_kdata.specs.Giving.{GivesAtOnce};
 
 use crate::arrays::{array_at, array_size};
@@ -24,8 +24,8 @@ pub fn value_at_once(
     receiver: Value,
     first: Value,
 ) -> Option<Value>
-    requires receiver { IsThere world.now.world.cells receiver }
-    requires first { IsThere world.now.world.cells first }
+    requires receiver { CellIsThere world.now.world.cells receiver }
+    requires first { CellIsThere world.now.world.cells first }
     ensures { IfSome result (λ value. GivesAtOnce world.now.world.cells code.now row receiver first value) }
 {
     match row {

@@ -6,11 +6,11 @@ ghost use Rattle.ns_world.specs.World.{World};
 ghost use Rattle.ns_kdata.specs.declared.row.DataRow.{DataRow};
 ghost use Rattle.ns_kdata.specs.Datum.{row_outcome};
 ghost use Rattle.ns_kdata.specs.Leading.{LeadsOn};
-ghost use Rattle.ns_kdata.specs.Stated.{AnswersAreLive, RowsKeepLawful, FilledCellsKeepLawful};
+ghost use Rattle.ns_kdata.specs.Stated.{DataIsLive, RowsKeepLawful, FilledCellsKeepLawful};
 
 /// In a lawful world a row's answer is a live value, where the value that `at:put:` stores is one.
 pub fn answers_are_live()
-    ensures { AnswersAreLive }
+    ensures { DataIsLive }
 {}
 
 /// A row leaves a lawful world lawful, where the value that `at:put:` stores is live.

@@ -5,7 +5,7 @@ ghost use Rattle.ns_world.specs.declared.value.Value.TheVariants as value_is;
 ghost use Rattle.ns_world.specs.Cell.{fresh, TextCell};
 ghost use Rattle.ns_world.specs.Heap.{has_superclass, bytes_at};
 ghost use Rattle.ns_world.specs.World.{IsWithin};
-ghost use Rattle.ns_kdata.specs.Arguments.{IsThere, bytes_of};
+ghost use Rattle.ns_kdata.specs.Arguments.{CellIsThere, bytes_of};
 ghost use Rattle.ns_kdata.specs.Outcome.{Gives, making};
 ghost use Rattle.ns_kdata.specs.Texts.{MakesText, filled, bytes_in};
 ghost use Rattle.ns_base.specs.Quoted.{doubled, quoted};
@@ -61,7 +61,7 @@ pub fn make_text(world: &mut World, first: &[u8], second: &[u8]) -> Result<Value
 /// A new text of a part of a String.
 pub fn copy_text(world: &mut World, from: Value, part: Part) -> Result<Value, Fault>
     requires room { world.old.world.limits.cells ≤ world.old.cell_room }
-    requires there { IsThere world.old.world.cells from }
+    requires there { CellIsThere world.old.world.cells from }
     requires inside { part.start + part.count ≤ length (bytes_of world.old.world.cells from) }
     requires within { IsWithin world.old.world }
     ensures { Gives (making world.old.world (TextCell (bytes_in (bytes_of world.old.world.cells from) part))) world.old result world.new }
@@ -74,8 +74,8 @@ pub fn copy_text(world: &mut World, from: Value, part: Part) -> Result<Value, Fa
 /// A new text of the bytes of a String and those of another behind them.
 pub fn join_texts(world: &mut World, one: Value, other: Value) -> Result<Value, Fault>
     requires room { world.old.world.limits.cells ≤ world.old.cell_room }
-    requires one { IsThere world.old.world.cells one }
-    requires other { IsThere world.old.world.cells other }
+    requires one { CellIsThere world.old.world.cells one }
+    requires other { CellIsThere world.old.world.cells other }
     requires within { IsWithin world.old.world }
     ensures { Gives (making world.old.world (TextCell (bytes_of world.old.world.cells one ++ bytes_of world.old.world.cells other)))
         world.old result world.new }
@@ -90,7 +90,7 @@ pub fn join_texts(world: &mut World, one: Value, other: Value) -> Result<Value, 
 
 /// All of a String.
 fn whole(world: &World, text: Value) -> Part
-    requires { IsThere world.now.world.cells text }
+    requires { CellIsThere world.now.world.cells text }
     ensures start { result.start ≡ 0 }
     ensures count { result.count ≡ length (bytes_of world.now.world.cells text) }
     ensures bytes { bytes_in (bytes_of world.now.world.cells text) result ≡ bytes_of world.now.world.cells text }
@@ -104,7 +104,7 @@ fn whole(world: &World, text: Value) -> Part
 /// A new text of a String in quotes, with inner quotes doubled.
 pub fn quote_text(world: &mut World, text: Value) -> Result<Value, Fault>
     requires room { world.old.world.limits.cells ≤ world.old.cell_room }
-    requires there { IsThere world.old.world.cells text }
+    requires there { CellIsThere world.old.world.cells text }
     requires within { IsWithin world.old.world }
     ensures { Gives (making world.old.world (TextCell (quoted (bytes_of world.old.world.cells text)))) world.old result world.new }
 {
@@ -116,7 +116,7 @@ pub fn quote_text(world: &mut World, text: Value) -> Result<Value, Fault>
 
 /// How many bytes a String has in quotes.
 fn quoted_size(world: &World, text: Value) -> u64
-    requires { IsThere world.now.world.cells text }
+    requires { CellIsThere world.now.world.cells text }
     ensures { result ≡ length (quoted (bytes_of world.now.world.cells text)) }
 {
     let mut count: u64 = 2;
@@ -153,7 +153,7 @@ fn put_part(world: &mut World, to: u32, at: u32, from: Value, part: Part)
 fn put_quoted(world: &mut World, to: u32, text: Value)
     requires inside { length (bytes_at world.old.world.cells to) ≡ length (quoted (bytes_of world.old.world.cells text)) }
     requires small { length (bytes_at world.old.world.cells to) < 2 ^ 32 }
-    requires there { IsThere world.old.world.cells text }
+    requires there { CellIsThere world.old.world.cells text }
     requires apart { text ≢ value_is.Ref to }
     ensures { world.new ≡ filled world.old to 0 (quoted (bytes_of world.old.world.cells text)) }
 {

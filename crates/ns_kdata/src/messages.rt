@@ -1,7 +1,7 @@
 //! The rows of Message.
 
 ghost use Rattle.std.specs.Prelude.{◌≡◌};
-ghost use Rattle.ns_kdata.specs.Arguments.{IsThere};
+ghost use Rattle.ns_kdata.specs.Arguments.{CellIsThere};
 ghost use Rattle.ns_kdata.specs.Rows as spec;
 
 use crate::arguments::shape_of_value;
@@ -11,7 +11,7 @@ use ns_world::world::World;
 
 /// `selector`.
 pub fn message_selector(world: &World, message: Value) -> Value
-    requires { IsThere world.now.world.cells message }
+    requires { CellIsThere world.now.world.cells message }
     ensures { result ≡ spec.message_selector world.now.world.cells message }
 {
     match shape_of_value(world, message) {
@@ -22,7 +22,7 @@ pub fn message_selector(world: &World, message: Value) -> Value
 
 /// `arguments`.
 pub fn message_arguments(world: &World, message: Value) -> Value
-    requires { IsThere world.now.world.cells message }
+    requires { CellIsThere world.now.world.cells message }
     ensures { result ≡ spec.message_arguments world.now.world.cells message }
 {
     match shape_of_value(world, message) {

@@ -1,7 +1,7 @@
 //! The rows of all values, and those of the class objects Object and Array.
 
 ghost use Rattle.std.specs.Prelude.{◌≡◌, ◌≤◌};
-ghost use Rattle.ns_kdata.specs.Arguments.{IsThere};
+ghost use Rattle.ns_kdata.specs.Arguments.{CellIsThere};
 ghost use Rattle.ns_kdata.specs.Outcome.{Gives};
 ghost use Rattle.ns_kdata.specs.Rows as spec;
 
@@ -54,7 +54,7 @@ pub fn is_nil(value: Value) -> bool
 
 /// The fault of `doesNotUnderstand:`, which has no answer.
 pub fn not_understood(world: &World, message: Value) -> Fault
-    requires { IsThere world.now.world.cells message }
+    requires { CellIsThere world.now.world.cells message }
     ensures { result ≡ spec.not_understood world.now.world.cells message }
 {
     if is_message(world, message) {

@@ -3,7 +3,7 @@
 ghost use Rattle.std.specs.Prelude.{◌≡◌, ◌≤◌, length, take};
 ghost use Rattle.std.specs.Str.{bytes_eq};
 ghost use Rattle.ns_world.specs.World.{IsWithin};
-ghost use Rattle.ns_kdata.specs.Arguments.{IsThere, bytes_of};
+ghost use Rattle.ns_kdata.specs.Arguments.{CellIsThere, bytes_of};
 ghost use Rattle.ns_kdata.specs.Outcome.{Gives};
 ghost use Rattle.ns_kdata.specs.Texts as spec;
 
@@ -18,7 +18,7 @@ use ns_world::world::World;
 /// `size`.
 #[inline(always)]
 pub fn text_size(world: &World, text: Value) -> Value
-    requires { IsThere world.now.world.cells text }
+    requires { CellIsThere world.now.world.cells text }
     ensures { result ≡ spec.text_size world.now.world.cells text }
 {
     Value::Int(i64::from(bytes_in(world, text)))
@@ -27,7 +27,7 @@ pub fn text_size(world: &World, text: Value) -> Value
 /// `at:`.
 #[inline(always)]
 pub fn text_at(world: &World, text: Value, place: Value) -> Result<Value, Fault>
-    requires { IsThere world.now.world.cells text }
+    requires { CellIsThere world.now.world.cells text }
     ensures { result ≡ spec.text_at world.now.world.cells text place }
 {
     let place = place_in(place, bytes_in(world, text))?;
@@ -37,7 +37,7 @@ pub fn text_at(world: &World, text: Value, place: Value) -> Result<Value, Fault>
 /// `copyFrom:to:`.
 pub fn text_copy(world: &mut World, text: Value, first: Value, last: Value) -> Result<Value, Fault>
     requires room { world.old.world.limits.cells ≤ world.old.cell_room }
-    requires there { IsThere world.old.world.cells text }
+    requires there { CellIsThere world.old.world.cells text }
     requires within { IsWithin world.old.world }
     ensures { Gives (spec.text_copy world.old.world text first last) world.old result world.new }
 {
@@ -48,8 +48,8 @@ pub fn text_copy(world: &mut World, text: Value, first: Value, last: Value) -> R
 /// `,`.
 pub fn text_join(world: &mut World, text: Value, other: Value) -> Result<Value, Fault>
     requires room { world.old.world.limits.cells ≤ world.old.cell_room }
-    requires there { IsThere world.old.world.cells text }
-    requires other { IsThere world.old.world.cells other }
+    requires there { CellIsThere world.old.world.cells text }
+    requires other { CellIsThere world.old.world.cells other }
     requires within { IsWithin world.old.world }
     ensures { Gives (spec.text_join world.old.world text other) world.old result world.new }
 {
@@ -61,8 +61,8 @@ pub fn text_join(world: &mut World, text: Value, other: Value) -> Result<Value, 
 
 /// `=`.
 pub fn text_equal(world: &World, text: Value, other: Value) -> Value
-    requires there { IsThere world.now.world.cells text }
-    requires other { IsThere world.now.world.cells other }
+    requires there { CellIsThere world.now.world.cells text }
+    requires other { CellIsThere world.now.world.cells other }
     ensures { result ≡ spec.text_equal world.now.world.cells text other }
 {
     if !is_text(world, other) {
@@ -74,8 +74,8 @@ pub fn text_equal(world: &World, text: Value, other: Value) -> Value
 /// Whether two Strings have the same bytes.
 #[tactic(auto, using(crate::proofs::Comparing::equal_no, crate::proofs::Comparing::other_size))]
 fn are_equal(world: &World, text: Value, other: Value) -> bool
-    requires there { IsThere world.now.world.cells text }
-    requires other { IsThere world.now.world.cells other }
+    requires there { CellIsThere world.now.world.cells text }
+    requires other { CellIsThere world.now.world.cells other }
     ensures { result ≡ bytes_eq (bytes_of world.now.world.cells text) (bytes_of world.now.world.cells other) }
 {
     let size = bytes_in(world, text);
@@ -93,8 +93,8 @@ fn are_equal(world: &World, text: Value, other: Value) -> bool
 
 /// `<`.
 pub fn text_less(world: &World, text: Value, other: Value) -> Result<Value, Fault>
-    requires there { IsThere world.now.world.cells text }
-    requires other { IsThere world.now.world.cells other }
+    requires there { CellIsThere world.now.world.cells text }
+    requires other { CellIsThere world.now.world.cells other }
     ensures { result ≡ spec.text_less world.now.world.cells text other }
 {
     if !is_text(world, other) {
@@ -105,8 +105,8 @@ pub fn text_less(world: &World, text: Value, other: Value) -> Result<Value, Faul
 
 /// Whether a String comes before another in the order of their bytes.
 fn comes_before(world: &World, text: Value, other: Value) -> bool
-    requires there { IsThere world.now.world.cells text }
-    requires other { IsThere world.now.world.cells other }
+    requires there { CellIsThere world.now.world.cells text }
+    requires other { CellIsThere world.now.world.cells other }
     ensures { result ≡ spec.is_before (bytes_of world.now.world.cells text) (bytes_of world.now.world.cells other) }
 {
     let size = bytes_in(world, text);

@@ -8,7 +8,7 @@ use Rattle.ns_world.specs.World.{World, WorldView, SameRoom}
 use Rattle.ns_kdata.specs.declared.row.DataRow.{DataRow}
 use Rattle.ns_kdata.specs.declared.row.DataRow.TheVariants as row
 use Rattle.ns_kdata.specs.Datum.{datum}
-use Rattle.ns_kdata.specs.Outcome.{Outcome, Answers, Fails, Gives}
+use Rattle.ns_kdata.specs.Outcome.{RowOutcome, Answers, Fails, Gives}
 use Rattle.ns_kdata.specs.Leading.{LeadsOn}
 use Rattle.ns_facets.specs.declared.board.Board.{Board}
 use Rattle.ns_mirror.specs.declared.row.Mirrored.{Mirrored}
@@ -22,7 +22,7 @@ use Rattle.ns_actions.specs.Kernel.{outcome_reached, data_reached}
 use Rattle.ns_kernel_rows.specs.Reaching.{progress_of, answered}
 
 -- an outcome that is given is what the action comes to
-pub outcome_given : (code : CodeProgram) (values : List Value) (outcome : Outcome) (answer : Result Value Fault) (old new : WorldView) (after : Board) (site : Site) (begun : ℕ) → Gives outcome old answer new
+pub outcome_given : (code : CodeProgram) (values : List Value) (outcome : RowOutcome) (answer : Result Value Fault) (old new : WorldView) (after : Board) (site : Site) (begun : ℕ) → Gives outcome old answer new
     → reached_shown code site values (answered answer) (progress_of new after begun) ≡ outcome_reached outcome site (progress_of old after begun)
 outcome_given code values (Answers value world) (Ok answer) old new after site begun g =
     ap (λ (v : Value). gives v (progress_of new after begun)) g.0
@@ -34,13 +34,13 @@ outcome_given code values (Answers value world) (Err found) old new after site b
 outcome_given code values (Fails fault) (Ok answer) old new after site begun g = absurd g
 
 -- and what is reserved stays, and so do the limits
-pub room_kept : (outcome : Outcome) (answer : Result Value Fault) (old new : WorldView) → Gives outcome old answer new → SameRoom old new
+pub room_kept : (outcome : RowOutcome) (answer : Result Value Fault) (old new : WorldView) → Gives outcome old answer new → SameRoom old new
 room_kept (Answers value world) (Ok answer) old new g = g.2
 room_kept (Fails fault) (Err found) old new g = (ap (λ (v : WorldView). v.cell_room) g.1, ap (λ (v : WorldView). v.out_room) g.1)
 room_kept (Answers value world) (Err found) old new g = absurd g
 room_kept (Fails fault) (Ok answer) old new g = absurd g
 
-pub limits_kept : (outcome : Outcome) (answer : Result Value Fault) (old new : WorldView) → Gives outcome old answer new → LeadsOn old.world outcome → new.world.limits ≡ old.world.limits
+pub limits_kept : (outcome : RowOutcome) (answer : Result Value Fault) (old new : WorldView) → Gives outcome old answer new → LeadsOn old.world outcome → new.world.limits ≡ old.world.limits
 limits_kept (Answers value world) (Ok answer) old new g later = ap (λ (w : World). w.limits) g.1 ∙ later.limits
 limits_kept (Fails fault) (Err found) old new g later = ap (λ (v : WorldView). v.world.limits) g.1
 limits_kept (Answers value world) (Err found) old new g later = absurd g

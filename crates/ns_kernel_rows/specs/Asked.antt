@@ -6,13 +6,13 @@ use Rattle.ns_world.specs.World.{WorldView}
 use Rattle.ns_world.specs.Lawful.{IsLawful, IsLiveValue}
 
 -- Memory was reserved for all cells and all output that the limits allow.
-pub record HasRoom (view : WorldView) : Type 0 where
+pub record HasWorldRoom (view : WorldView) : Type 0 where
   pub cells : view.world.limits.cells ≤ view.cell_room
   pub out : view.world.limits.out ≤ view.out_room
 
 -- A lawful world with room, and a receiver and arguments that are live in it.
-pub record IsAsked (code : CodeProgram) (view : WorldView) (receiver : Value) (arguments : List Value) : Type 0 where
+pub record CanBeAsked (code : CodeProgram) (view : WorldView) (receiver : Value) (arguments : List Value) : Type 0 where
   pub lawful : IsLawful view.world code
-  pub room : HasRoom view
+  pub room : HasWorldRoom view
   pub live : IsLiveValue view.world.cells code receiver
   pub all_live : All (IsLiveValue view.world.cells code) arguments

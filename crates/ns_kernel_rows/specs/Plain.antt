@@ -2,7 +2,7 @@
 -- elements of an array that is there.
 use Rattle.ns_world.specs.declared.value.Value.TheVariants.{Ref}
 use Rattle.ns_world.specs.Heap.{Heap}
-use Rattle.ns_kdata.specs.Arguments.{IsThere}
+use Rattle.ns_kdata.specs.Arguments.{CellIsThere}
 use Rattle.ns_actions.specs.declared.control.Given.{Given}
 use Rattle.ns_actions.specs.declared.control.Given.TheVariants as given
 use Rattle.ns_actions.specs.declared.control.Reached.{Reached}
@@ -11,7 +11,7 @@ use Rattle.ns_actions.specs.declared.control.Reached.TheVariants as reached
 abbrev pub IsGivenThere : Heap → Given → Type 0
 IsGivenThere heap given.Listed = Unit {0}
 IsGivenThere heap (given.Message at) = ⊥
-IsGivenThere heap (given.Items at) = IsThere heap (Ref at)
+IsGivenThere heap (given.Items at) = CellIsThere heap (Ref at)
 
 abbrev pub IsOfRow : Heap → Reached → Type 0
 IsOfRow heap (reached.Gives value) = Unit {0}

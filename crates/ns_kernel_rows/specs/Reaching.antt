@@ -24,13 +24,13 @@ progress_of view board begun = record { world = view.world; board = board; begun
 
 -- A call comes to what an action does, with the world and the board that it leaves: at each site, and however
 -- many activations were begun.
-abbrev pub Reaches : CodeProgram → List Value → (Site → Progress → Control) → WorldView → Board → Reached → WorldView → Board → Type 0
-Reaches code values action old before reached new after =
+abbrev pub CallReaches : CodeProgram → List Value → (Site → Progress → Control) → WorldView → Board → Reached → WorldView → Board → Type 0
+CallReaches code values action old before reached new after =
     (site : Site) (begun : ℕ) → reached_shown code site values reached (progress_of new after begun) ≡ action site (progress_of old before begun)
 
 -- The same of a call that neither reads nor changes the board.
 abbrev pub ReachesAlone : CodeProgram → List Value → (Site → Progress → Control) → WorldView → Reached → WorldView → Type 0
-ReachesAlone code values action old reached new = (board : Board) → Reaches code values action old board reached new board
+ReachesAlone code values action old reached new = (board : Board) → CallReaches code values action old board reached new board
 
 -- The same for every code and whatever arguments stand there.
 abbrev pub ReachesAlways : (Site → Progress → Control) → WorldView → Reached → WorldView → Type 0

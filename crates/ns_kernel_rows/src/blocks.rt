@@ -3,7 +3,7 @@
 ghost use Rattle.std.specs.Prelude.{◌≡◌};
 ghost use Rattle.ns_world.specs.declared.value.Value.TheVariants.{Ref};
 ghost use Rattle.ns_world.specs.World.{SameRoom};
-ghost use Rattle.ns_kdata.specs.Arguments.{IsThere};
+ghost use Rattle.ns_kdata.specs.Arguments.{CellIsThere};
 ghost use Rattle.ns_actions.specs.Blocks as spec;
 ghost use Rattle.ns_actions.specs.Bodies as bodies;
 ghost use Rattle.ns_kernel_rows.specs.Plain.{IsOfRow};
@@ -29,9 +29,9 @@ pub fn method_begun(
     first: Value,
     second: Value,
 ) -> Reached
-    requires receiver { IsThere world.old.world.cells receiver }
-    requires first { IsThere world.old.world.cells first }
-    requires second { IsThere world.old.world.cells second }
+    requires receiver { CellIsThere world.old.world.cells receiver }
+    requires first { CellIsThere world.old.world.cells first }
+    requires second { CellIsThere world.old.world.cells second }
     ensures reached { ReachesAlways (spec.method_begun method receiver first second) world.old result world.new }
     ensures limits { world.new.world.limits ≡ world.old.world.limits }
     ensures room { SameRoom world.old world.new }
@@ -50,7 +50,7 @@ pub fn method_begun(
 /// `valueWithArguments:`: WrongKind where the argument is no Array, WrongArity where it has more
 /// than 255 elements, too many for any block.
 pub fn value_with_arguments(world: &World, block: Value, array: Value) -> Reached
-    requires { IsThere world.now.world.cells array }
+    requires { CellIsThere world.now.world.cells array }
     ensures reached { ReachesAlways (spec.value_with_arguments block array) world.now result world.now }
     ensures row { IsOfRow world.now.world.cells result }
 {
@@ -62,7 +62,7 @@ pub fn value_with_arguments(world: &World, block: Value, array: Value) -> Reache
 
 /// The same, by the number of the cell that is to be an Array.
 fn evaluated_with(world: &World, block: Value, at: u32) -> Reached
-    requires { IsThere world.now.world.cells (Ref at) }
+    requires { CellIsThere world.now.world.cells (Ref at) }
     ensures reached { ReachesAlways (spec.value_with_arguments block (Ref at)) world.now result world.now }
     ensures row { IsOfRow world.now.world.cells result }
 {
@@ -80,7 +80,7 @@ fn evaluated_with(world: &World, block: Value, at: u32) -> Reached
 
 /// How many arguments a Block takes.
 pub fn block_arity(world: &World, code: &CodeProgram, block: Value) -> u8
-    requires { IsThere world.now.world.cells block }
+    requires { CellIsThere world.now.world.cells block }
     ensures { result ≡ spec.block_arity code.now world.now.world.cells block }
 {
     match shape_of_value(world, block) {

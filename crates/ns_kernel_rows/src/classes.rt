@@ -6,7 +6,7 @@ ghost use Rattle.ns_world.specs.declared.value.Value.{Value};
 ghost use Rattle.ns_world.specs.World.{SameRoom};
 ghost use Rattle.ns_world.specs.Lawful.{IsLawful, IsLiveValue};
 ghost use Rattle.ns_world.specs.Heap.{Heap};
-ghost use Rattle.ns_kernel_rows.specs.Asked.{HasRoom};
+ghost use Rattle.ns_kernel_rows.specs.Asked.{HasWorldRoom};
 ghost use Rattle.ns_kernel_rows.specs.Plain.{IsOfRow};
 ghost use Rattle.ns_kernel_rows.specs.Reaching.{ReachesAlone, class_answered};
 ghost use Rattle.ns_kernel_rows.specs.Parts.{applied};
@@ -29,7 +29,7 @@ pub fn mixed(world: &mut World, code: &CodeProgram, mixin: Value, over: Value) -
     requires lawful { IsLawful world.old.world code.now }
     requires mixin { IsLiveValue world.old.world.cells code.now mixin }
     requires over { IsLiveValue world.old.world.cells code.now over }
-    requires room { HasRoom world.old }
+    requires room { HasWorldRoom world.old }
     ensures reached { (values : List Value) → ReachesAlone code.now values (applied code.now mixin over) world.old result world.new }
     ensures limits { world.new.world.limits ≡ world.old.world.limits }
     ensures room { SameRoom world.old world.new }

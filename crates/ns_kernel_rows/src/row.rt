@@ -2,13 +2,13 @@
 
 ghost use Rattle.std.specs.Prelude.{◌≡◌, true};
 ghost use Rattle.ns_world.specs.World.{SameRoom};
-ghost use Rattle.ns_kdata.specs.Arguments.{IsThere};
+ghost use Rattle.ns_kdata.specs.Arguments.{CellIsThere};
 ghost use Rattle.ns_world.specs.Heap.{Heap};
 ghost use Rattle.ns_actions.specs.Kernel as spec;
 ghost use Rattle.ns_actions.specs.Suiting.{RowSuits, is_reference};
-ghost use Rattle.ns_kernel_rows.specs.Asked.{IsAsked};
+ghost use Rattle.ns_kernel_rows.specs.Asked.{CanBeAsked};
 ghost use Rattle.ns_kernel_rows.specs.Plain.{IsOfRow};
-ghost use Rattle.ns_kernel_rows.specs.Reaching.{Reaches, ReachesAlone, ReachesAlways, mirror_answered};
+ghost use Rattle.ns_kernel_rows.specs.Reaching.{CallReaches, ReachesAlone, ReachesAlways, mirror_answered};
 ghost use Rattle.ns_kernel_rows.specs.Parts as parts;
 
 use crate::blocks::{block_arity, method_begun, value_with_arguments};
@@ -44,9 +44,9 @@ pub fn row_reached(
     receiver: Value,
     args: &[Value],
 ) -> Reached
-    requires asked { IsAsked code.now world.old receiver args.now }
+    requires asked { CanBeAsked code.now world.old receiver args.now }
     requires suits { RowSuits world.old.world.cells receiver row }
-    ensures reached { Reaches code.now args.now (spec.row_reached code.now row sel receiver args.now) world.old board.old result world.new board.new }
+    ensures reached { CallReaches code.now args.now (spec.row_reached code.now row sel receiver args.now) world.old board.old result world.new board.new }
     ensures limits { world.new.world.limits ≡ world.old.world.limits }
     ensures room { SameRoom world.old world.new }
     ensures row { IsOfRow world.new.world.cells result }
@@ -85,7 +85,7 @@ fn data_reached(
     receiver: Value,
     args: &[Value],
 ) -> Reached
-    requires { IsAsked code.now world.old receiver args.now }
+    requires { CanBeAsked code.now world.old receiver args.now }
     ensures reached { ReachesAlone code.now args.now (spec.data_reached code.now row receiver args.now) world.old result world.new }
     ensures limits { world.new.world.limits ≡ world.old.world.limits }
     ensures room { SameRoom world.old world.new }
@@ -101,7 +101,7 @@ fn data_reached(
 /// The kernel's `doesNotUnderstand:`: the error is named by the selector of its Message; WrongKind
 /// where the argument is none.
 fn message_refused(world: &World, message: Value) -> Reached
-    requires { IsThere world.now.world.cells message }
+    requires { CellIsThere world.now.world.cells message }
     ensures reached { ReachesAlways (parts.refused message) world.now result world.now }
     ensures row { IsOfRow world.now.world.cells result }
 {
@@ -121,8 +121,8 @@ fn facet_reached(
     receiver: Value,
     args: &[Value],
 ) -> Reached
-    requires { IsAsked code.now world.old receiver args.now }
-    ensures reached { Reaches code.now args.now (spec.facet_reached code.now row args.now) world.old board.old result world.new board.new }
+    requires { CanBeAsked code.now world.old receiver args.now }
+    ensures reached { CallReaches code.now args.now (spec.facet_reached code.now row args.now) world.old board.old result world.new board.new }
     ensures limits { world.new.world.limits ≡ world.old.world.limits }
     ensures room { SameRoom world.old world.new }
     ensures row { IsOfRow world.new.world.cells result }
@@ -140,7 +140,7 @@ fn mirror_reached(
     receiver: Value,
     args: &[Value],
 ) -> Reached
-    requires asked { IsAsked code.now world.old receiver args.now }
+    requires asked { CanBeAsked code.now world.old receiver args.now }
     requires cell { is_reference receiver ≡ true }
     ensures reached { ReachesAlone code.now args.now (parts.mirror_reached code.now row receiver args.now) world.old result world.new }
     ensures limits { world.new.world.limits ≡ world.old.world.limits }

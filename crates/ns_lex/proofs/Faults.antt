@@ -12,9 +12,9 @@ use Rattle.ns_lex.specs.Piece.{Text}
 use Rattle.ns_lex.specs.Number.{number, value, greatest}
 use Rattle.ns_lex.specs.declared.piece.Cause.TheVariants as cause
 use Rattle.ns_lex.specs.declared.piece.Piece.TheVariants.{Token}
-use Rattle.ns_lex.specs.Spells.{IsName, IsOperator, Spells}
+use Rattle.ns_lex.specs.Spells.{IsIdentifierText, IsOperator, SpellsToken}
 use Rattle.ns_lex.specs.Gap.{BeginsNoGap}
-use Rattle.ns_lex.specs.Lexes.{Stands, IsDigits, BeginsName, BeginsFraction, BeginsNoFault}
+use Rattle.ns_lex.specs.Lexes.{SpellsInText, IsDigits, BeginsName, BeginsFraction, BeginsNoFault}
 use Rattle.ns_lex.specs.laws.Stands.{stands_spells}
 use Rattle.ns_lex.proofs.Words.{IsToken, run_all, at_end}
 use Rattle.ns_lex.proofs.Singles.{clash, same_first}
@@ -36,7 +36,7 @@ no_gap b y blank remark comment p q cut (inr (inr (s, h, e))) = clash (is_remark
 
 -- ---- a token has a byte
 
-no_empty_name : (s : Text) → IsName s → [] ≡ s → ⊥
+no_empty_name : (s : Text) → IsIdentifierText s → [] ≡ s → ⊥
 no_empty_name [] h e = h
 no_empty_name (b ∷ s) h e = absurd cc
 
@@ -49,7 +49,7 @@ no_empty_end : (n : Text) (c : ℕ) (u : Text) → [] ≡ n ++ c ∷ u → ⊥
 no_empty_end [] c u e = absurd cc
 no_empty_end (b ∷ n) c u e = absurd cc
 
-pub no_empty : (t : Kind) → Spells [] t → ⊥
+pub no_empty : (t : Kind) → SpellsToken [] t → ⊥
 no_empty (k.Ident s) (n, e, r) = no_empty_name s n e
 no_empty (k.Word w) (n, r) = n
 no_empty (k.Key s) ((n, name, cut), e) = no_empty_end n 58 [] (e ∙ cut)
@@ -61,7 +61,7 @@ no_empty (k.Symbol s) x = let f : [] ≡ 35 ∷ s = x.1 in absurd cc
 no_empty _ x = absurd cc
 
 -- the byte that a token begins with
-pub token_first : (b : ℕ) (y : Text) (t : Kind) (m : ℕ) → IsToken (b ∷ y) t m → ((u : Text) × Spells (b ∷ u) t) × (0 < m)
+pub token_first : (b : ℕ) (y : Text) (t : Kind) (m : ℕ) → IsToken (b ∷ y) t m → ((u : Text) × SpellsToken (b ∷ u) t) × (0 < m)
 token_first b y t zero x = absurd (no_empty t (stands_spells [] (b ∷ y) t x.next.0))
 token_first b y t (suc m) x = ((take m y, stands_spells (b ∷ take m y) (drop m y) t x.next.0), omega arith)
 
@@ -120,22 +120,22 @@ number_digits b y t m f d q cut digits = (
 
 -- `#` and quotes begin tokens that stand
 abbrev pub MarkStands : ℕ → Text → Type 0
-MarkStands b y = b ≡ 35 → (p r s : Text) × (b ∷ y ≡ p ++ r) × Spells p (k.Symbol s)
+MarkStands b y = b ≡ 35 → (p r s : Text) × (b ∷ y ≡ p ++ r) × SpellsToken p (k.Symbol s)
 
 abbrev pub QuoteStands : ℕ → Text → Type 0
-QuoteStands b y = b ≡ 39 → (p r s : Text) × (b ∷ y ≡ p ++ r) × Stands p r (k.Str s)
+QuoteStands b y = b ≡ 39 → (p r s : Text) × (b ∷ y ≡ p ++ r) × SpellsInText p r (k.Str s)
 
-by_mark : (b : ℕ) (y : Text) (x : (p r s : Text) × (b ∷ y ≡ p ++ r) × Spells p (k.Symbol s)) → ((p r s : Text) → b ∷ y ≡ p ++ r → Spells p (k.Symbol s) → ⊥) → ⊥
+by_mark : (b : ℕ) (y : Text) (x : (p r s : Text) × (b ∷ y ≡ p ++ r) × SpellsToken p (k.Symbol s)) → ((p r s : Text) → b ∷ y ≡ p ++ r → SpellsToken p (k.Symbol s) → ⊥) → ⊥
 by_mark b y (p, r, s, cut, x) none = none p r s cut x
 
-by_quote : (b : ℕ) (y : Text) (x : (p r s : Text) × (b ∷ y ≡ p ++ r) × Stands p r (k.Str s)) → ((p r s : Text) → b ∷ y ≡ p ++ r → Stands p r (k.Str s) → ⊥) → ⊥
+by_quote : (b : ℕ) (y : Text) (x : (p r s : Text) × (b ∷ y ≡ p ++ r) × SpellsInText p r (k.Str s)) → ((p r s : Text) → b ∷ y ≡ p ++ r → SpellsInText p r (k.Str s) → ⊥) → ⊥
 by_quote b y (p, r, s, cut, x) none = none p r s cut x
 
 -- No fault is named where a token stands.
-pub no_fault : (b : ℕ) (y : Text) (t : Kind) → ((u : Text) × Spells (b ∷ u) t) → (b == 34) ≡ false → is_comment (b ∷ y) ≡ false → NoBadDigits (b ∷ y) → MarkStands b y → QuoteStands b y → BeginsNoFault (b ∷ y)
+pub no_fault : (b : ℕ) (y : Text) (t : Kind) → ((u : Text) × SpellsToken (b ∷ u) t) → (b == 34) ≡ false → is_comment (b ∷ y) ≡ false → NoBadDigits (b ∷ y) → MarkStands b y → QuoteStands b y → BeginsNoFault (b ∷ y)
 no_fault b y t spelled remark comment digits mark quote cause.BadByte n (inl (d, q, cut, h, bad, e)) = (digits d q cut h).0 bad
 no_fault b y t spelled remark comment digits mark quote cause.BadByte n (inr (inl (q, cut, none, e))) = by_mark b y (mark (same_first b 35 y q cut)) none
-no_fault b y t spelled remark comment digits mark quote cause.BadByte n (inr (inr (c, q, cut, nothing, e))) = nothing.0 spelled.0 t (subst (λ i. Spells (i ∷ spelled.0) t) (same_first b c y q cut) spelled.1)
+no_fault b y t spelled remark comment digits mark quote cause.BadByte n (inr (inr (c, q, cut, nothing, e))) = nothing.0 spelled.0 t (subst (λ i. SpellsToken (i ∷ spelled.0) t) (same_first b c y q cut) spelled.1)
 no_fault b y t spelled remark comment digits mark quote cause.BigNumber n (d, q, cut, h, (stop, name, fraction), big, e) = (digits d q cut h).1 stop big
 no_fault b y t spelled remark comment digits mark quote cause.UnclosedComment n ((q, inl e), f) = clash (is_comment (b ∷ y)) comment (ap is_comment e)
 no_fault b y t spelled remark comment digits mark quote cause.UnclosedComment n ((q, inr e), f) = clash (is_remark (b ∷ y)) remark (ap is_remark e)

@@ -13,7 +13,7 @@ use Rattle.ns_lex.specs.declared.bytes.ByteClass.TheVariants as class
 use Rattle.ns_lex.specs.Piece.{Text}
 use Rattle.ns_lex.specs.Number.{number, sized, at_most_greatest, value, greatest}
 use Rattle.ns_lex.specs.declared.piece.Piece.TheVariants.{Token}
-use Rattle.ns_lex.specs.Spells.{Spells}
+use Rattle.ns_lex.specs.Spells.{SpellsToken}
 use Rattle.ns_lex.proofs.Words.{IsToken, NoneLonger, longest_cut, run_of, run_all, moved, length_taken}
 use Rattle.ns_lex.proofs.Singles.{no_name, no_operator, first_not, same_first, no_slot_set, split}
 
@@ -33,7 +33,7 @@ not_byte : (b c : ℕ) (p q : Text) → is_digit b ≡ true → b ∷ p ≡ c �
 not_byte b c p q o e f = let same : b ≡ c = cc in let g : is_digit b ≡ is_digit c = ap is_digit same in absurd cc
 
 -- which tokens such a text spells: numbers, no longer than the run
-digit_spells : (b : ℕ) (p q : Text) (t : Kind) → is_digit b ≡ true → Spells (b ∷ p) t → length (b ∷ p) ≤ prefix_len is_digit ((b ∷ p) ++ q)
+digit_spells : (b : ℕ) (p q : Text) (t : Kind) → is_digit b ≡ true → SpellsToken (b ∷ p) t → length (b ∷ p) ≤ prefix_len is_digit ((b ∷ p) ++ q)
 digit_spells b p q (k.Ident s) h (n, e, r) = absurd (no_name b p s [] (name_of b h) n (e ∙ sym (append-nil s)))
 digit_spells b p q (k.Word w) h (n, r) = absurd (no_name b p (b ∷ p) [] (name_of b h) n (sym (append-nil (b ∷ p))))
 digit_spells b p q (k.Key s) h ((n, name, cut), e) = absurd (no_name b p n (58 ∷ []) (name_of b h) name (e ∙ cut))

@@ -4,8 +4,8 @@ use Rattle.ns_base.specs.Spelling.{goes_on_name}
 use Rattle.ns_tree.specs.declared.token.Kind.{Kind}
 use Rattle.ns_tree.specs.declared.token.Token.{Token}
 use Rattle.ns_lex.specs.Piece.{Text}
-use Rattle.ns_lex.specs.Lexes.{Stands, IsNext, IsFault, Gapped, IsStep, Cuts, Lexes, LexStops}
-use Rattle.ns_lex.specs.Spells.{Spells}
+use Rattle.ns_lex.specs.Lexes.{SpellsInText, IsNext, IsFault, Gapped, IsStep, Cuts, Lexes, LexStops}
+use Rattle.ns_lex.specs.Spells.{SpellsToken}
 use Rattle.ns_lex.specs.declared.piece.Cause.{Cause}
 use Rattle.ns_lex.specs.declared.piece.Cause.TheVariants as cause
 use Rattle.ns_lex.specs.laws.Stands.{stands_spells}
@@ -26,8 +26,8 @@ token_cut w q v r t u (s, inl b) (s', inr l) cut = absurd (l.1 w q (sym cut) b)
 token_cut w q v r t u (s, inr l) (s', inl b) cut = absurd (l.1 v r cut b)
 token_cut w q v r t u (s, inr l) (s', inr l') cut = equal_cut w q v r cut (omega (arith, l.0 v r u cut s', l'.0 w q t (sym cut) s))
 
-one_kind : (w v q r : Text) (t u : Kind) → w ≡ v → Stands w q t → Stands v r u → t ≡ u
-one_kind w v q r t u e s s' = spelled_kind w t (stands_spells w q t s) ∙ sym (spelled_kind w u (subst (λ x. Spells x u) (sym e) (stands_spells v r u s')))
+one_kind : (w v q r : Text) (t u : Kind) → w ≡ v → SpellsInText w q t → SpellsInText v r u → t ≡ u
+one_kind w v q r t u e s s' = spelled_kind w t (stands_spells w q t s) ∙ sym (spelled_kind w u (subst (λ x. SpellsToken x u) (sym e) (stands_spells v r u s')))
 
 -- ---- a step of two cuts
 

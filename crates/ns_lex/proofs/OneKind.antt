@@ -4,7 +4,7 @@ use Rattle.std.proofs.lemmas.Bool.{eqb-true}
 use Rattle.std.proofs.lemmas.Bool.Decides.{nat_tests}
 use Rattle.ns_lex.specs.Number.{value}
 use Rattle.ns_lex.specs.Piece.{Text}
-use Rattle.ns_lex.specs.Spells.{AllOf, IsName, IsOperator, Spells}
+use Rattle.ns_lex.specs.Spells.{AllOf, IsIdentifierText, IsOperator, SpellsToken}
 use Rattle.ns_base.specs.Quoted.{doubled}
 use Rattle.ns_base.specs.Spelling.{is_digit, begins_name, goes_on_name, is_operator_byte}
 use Rattle.ns_lex.specs.Word.{reserved, named}
@@ -66,7 +66,7 @@ kind_of (b ∷ t) = kind_by (begins_name b) (is_operator_byte b) (is_digit b) b 
 starts_in : (b : ℕ) → begins_name b ≡ true → goes_on_name b ≡ true
 starts_in b h = ap (λ v. v || is_digit b) h
 
-pub all_in : (n : Text) → IsName n → AllOf goes_on_name n
+pub all_in : (n : Text) → IsIdentifierText n → AllOf goes_on_name n
 all_in [] h = absurd h
 all_in (b ∷ t) h = (starts_in b h.0, h.1)
 
@@ -83,18 +83,18 @@ part_all [] z h = refl
 part_all (b ∷ n) z h = ap (λ v. if v then b ∷ name_part (n ++ 58 ∷ z) else []) h.0 ∙ ap (λ w. b ∷ w) (part_all n z h.1)
 
 -- a text that begins as a name
-word_kind : (n z : Text) → IsName n → kind_of (n ++ z) ≡ word_by (behind_name (n ++ z)) (n ++ z)
+word_kind : (n z : Text) → IsIdentifierText n → kind_of (n ++ z) ≡ word_by (behind_name (n ++ z)) (n ++ z)
 word_kind [] z h = absurd h
 word_kind (b ∷ n) z h = ap (λ v. kind_by v (is_operator_byte b) (is_digit b) b (n ++ z)) h.0
 
-name_kind : (n : Text) → IsName n → kind_of n ≡ named n (reserved n)
+name_kind : (n : Text) → IsIdentifierText n → kind_of n ≡ named n (reserved n)
 name_kind [] h = absurd h
 name_kind (b ∷ n) h = ap (λ v. kind_by v (is_operator_byte b) (is_digit b) b n) h.0 ∙ ap (λ v. word_by v (b ∷ n)) (behind_alone (b ∷ n) (all_in (b ∷ n) h))
 
-key_kind : (n : Text) → IsName n → kind_of (n ++ 58 ∷ []) ≡ k.Key (n ++ 58 ∷ [])
+key_kind : (n : Text) → IsIdentifierText n → kind_of (n ++ 58 ∷ []) ≡ k.Key (n ++ 58 ∷ [])
 key_kind n h = word_kind n (58 ∷ []) h ∙ ap (λ v. word_by v (n ++ 58 ∷ [])) (behind_all n (58 ∷ []) (all_in n h))
 
-set_key_kind : (n : Text) → IsName n → kind_of (n ++ 58 ∷ 58 ∷ []) ≡ k.SetKey n
+set_key_kind : (n : Text) → IsIdentifierText n → kind_of (n ++ 58 ∷ 58 ∷ []) ≡ k.SetKey n
 set_key_kind n h =
     word_kind n (58 ∷ 58 ∷ []) h ∙ ap (λ v. word_by v (n ++ 58 ∷ 58 ∷ [])) (behind_all n (58 ∷ 58 ∷ []) (all_in n h)) ∙ ap k.SetKey (part_all n (58 ∷ []) (all_in n h))
 
@@ -131,7 +131,7 @@ undouble (b ∷ s) = undouble_by b s (b == 39) refl (undouble s)
 -- ---- each kind
 
 -- The token that a text spells is the one that it can only spell.
-pub spelled_kind : (w : Text) (t : Kind) → Spells w t → t ≡ kind_of w
+pub spelled_kind : (w : Text) (t : Kind) → SpellsToken w t → t ≡ kind_of w
 spelled_kind w (k.Ident s) h = sym (ap kind_of h.1 ∙ name_kind s h.0 ∙ ap (named s) h.2)
 spelled_kind w (k.Word r) h = sym (name_kind w h.0 ∙ ap (named w) h.1)
 spelled_kind w (k.Key s) ((n, name, cut), e) = sym (ap kind_of (e ∙ cut) ∙ key_kind n name ∙ ap k.Key (sym cut))
@@ -152,7 +152,7 @@ spelled_kind w k.Caret h = sym (ap kind_of h)
 spelled_kind w k.Colon h = sym (ap kind_of h)
 spelled_kind w k.SlotSet h = sym (ap kind_of h)
 
-name_some : (w : Text) → IsName w → 0 < length w
+name_some : (w : Text) → IsIdentifierText w → 0 < length w
 name_some [] h = absurd h
 name_some (b ∷ t) h = omega arith
 
@@ -161,7 +161,7 @@ operator_some w (inl h) = h.0
 operator_some w (inr e) = omega (arith, ap length e)
 
 -- no token has an empty text
-pub spelled_some : (w : Text) (t : Kind) → Spells w t → 0 < length w
+pub spelled_some : (w : Text) (t : Kind) → SpellsToken w t → 0 < length w
 spelled_some w (k.Ident s) h = subst (λ v. 0 < length v) (sym h.1) (name_some s h.0)
 spelled_some w (k.Word r) h = name_some w h.0
 spelled_some w (k.Key s) ((n, name, cut), e) = longer n (58 ∷ []) (name_some n name) (e ∙ cut)

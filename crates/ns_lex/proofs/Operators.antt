@@ -13,7 +13,7 @@ use Rattle.ns_lex.specs.declared.bytes.ByteClass.TheVariants as class
 use Rattle.ns_lex.specs.Piece.{Text}
 use Rattle.ns_lex.specs.Operator.{operator, operator_len}
 use Rattle.ns_lex.specs.declared.piece.Piece.TheVariants.{Token}
-use Rattle.ns_lex.specs.Spells.{AllOf, IsName, Spells}
+use Rattle.ns_lex.specs.Spells.{AllOf, IsIdentifierText, SpellsToken}
 use Rattle.ns_lex.specs.Lexes.{BeforeSlotSet}
 use Rattle.ns_lex.proofs.Words.{IsToken, NoneLonger, longest_cut, run_of, run_all, moved, length_taken}
 
@@ -24,7 +24,7 @@ no_name b o h = grind (arith, nat_tests)
 no_digit : (b : ℕ) → is_operator_byte b ≡ true → is_digit b ≡ true → ⊥
 no_digit b o h = grind (arith, nat_tests)
 
-not_name : (b : ℕ) (p n q : Text) → is_operator_byte b ≡ true → IsName n → b ∷ p ≡ n ++ q → ⊥
+not_name : (b : ℕ) (p n q : Text) → is_operator_byte b ≡ true → IsIdentifierText n → b ∷ p ≡ n ++ q → ⊥
 not_name b p [] q o h e = absurd h
 not_name b p (c ∷ n) q o h e = let f : b ≡ c = cc in absurd (no_name b o (ap begins_name f ∙ h.0))
 
@@ -39,7 +39,7 @@ abbrev is_over : Text → Bool
 is_over z = get_or z 0 0 == 60 && get_or z 1 0 == 58
 
 -- which tokens such a text spells: an operator's, and no longer than its run, or `<:`
-operator_spells : (b : ℕ) (p q : Text) (t : Kind) → is_operator_byte b ≡ true → Spells (b ∷ p) t → (length (b ∷ p) ≤ prefix_len is_operator_byte ((b ∷ p) ++ q)) ⊎ (b ∷ p ≡ 60 ∷ 58 ∷ [])
+operator_spells : (b : ℕ) (p q : Text) (t : Kind) → is_operator_byte b ≡ true → SpellsToken (b ∷ p) t → (length (b ∷ p) ≤ prefix_len is_operator_byte ((b ∷ p) ++ q)) ⊎ (b ∷ p ≡ 60 ∷ 58 ∷ [])
 operator_spells b p q (k.Ident s) o (n, e, r) = absurd (not_name b p s [] o n (e ∙ sym (append-nil s)))
 operator_spells b p q (k.Word w) o (n, r) = absurd (no_name b o n.0)
 operator_spells b p q (k.Key s) o ((n, name, cut), e) = absurd (not_name b p n (58 ∷ []) o name (e ∙ cut))

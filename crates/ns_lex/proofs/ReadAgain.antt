@@ -9,7 +9,7 @@ use Rattle.ns_lex.specs.Word.{named}
 use Rattle.ns_lex.specs.Number.{greatest}
 use Rattle.ns_lex.specs.Single.{single}
 use Rattle.ns_lex.specs.declared.piece.Piece.TheVariants.{Token}
-use Rattle.ns_lex.specs.Spells.{Spells}
+use Rattle.ns_lex.specs.Spells.{SpellsToken}
 use Rattle.ns_base.specs.Quoted.{doubled}
 use Rattle.ns_lex.proofs.Blanks.{Ends, blank_ends, refuse}
 use Rattle.ns_lex.proofs.ReadNames.{name_again, key_again, set_again}
@@ -31,7 +31,7 @@ sign_again w kind b z t e h = ap (λ v. next_piece (v ++ b ∷ z)) e ∙ h ∙ a
 
 -- ---- each kind
 
-again : (w : Text) (kind : Kind) (b : ℕ) (z : Text) → Spells w kind → Ends b → next_piece (w ++ b ∷ z) ≡ Token kind (length w)
+again : (w : Text) (kind : Kind) (b : ℕ) (z : Text) → SpellsToken w kind → Ends b → next_piece (w ++ b ∷ z) ≡ Token kind (length w)
 unfolding next_piece single
 again w (k.Ident s) b z (name, e, free) ends = sign_again w (k.Ident s) b z s e (name_again s b z name ends ∙ ap (λ r. Token (named s r) (length s)) free)
 again w (k.Word r) b z (name, is) ends = name_again w b z name ends ∙ ap (λ r. Token (named w r) (length w)) is
@@ -57,5 +57,5 @@ again w k.Colon b z e ends = sign_again w k.Colon b z (58 ∷ []) e (colon_again
 again w k.SlotSet b z e ends = sign_again w k.SlotSet b z (58 ∷ 58 ∷ 61 ∷ []) e refl
 
 -- Before a blank, a text that spells a token is read as that token.
-pub read_again : (w : Text) (kind : Kind) (b : ℕ) (z : Text) → Spells w kind → is_blank b ≡ true → next_piece (w ++ b ∷ z) ≡ Token kind (length w)
+pub read_again : (w : Text) (kind : Kind) (b : ℕ) (z : Text) → SpellsToken w kind → is_blank b ≡ true → next_piece (w ++ b ∷ z) ≡ Token kind (length w)
 read_again w kind b z spelled blank = again w kind b z spelled (blank_ends b blank)

@@ -9,7 +9,7 @@ use Rattle.ns_lex.specs.Piece.{Text}
 use Rattle.ns_lex.specs.Next.{next_piece}
 use Rattle.ns_lex.specs.Word.{word, word_by, name_len, named, reserved}
 use Rattle.ns_lex.specs.declared.piece.Piece.TheVariants.{Token}
-use Rattle.ns_lex.specs.Spells.{IsName}
+use Rattle.ns_lex.specs.Spells.{IsIdentifierText}
 use Rattle.ns_lex.proofs.Words.{name_end, at_end}
 use Rattle.ns_lex.proofs.Blanks.{Ends, refuse, accept, first_behind}
 
@@ -22,7 +22,7 @@ name_remark c h = grind (arith, nat_tests)
 name_bracket : (c : ℕ) → begins_name c ≡ true → (c == 40) ≡ false
 name_bracket c h = grind (arith, nat_tests)
 
-at_name : (n u : Text) → IsName n → next_piece (n ++ u) ≡ word (n ++ u)
+at_name : (n u : Text) → IsIdentifierText n → next_piece (n ++ u) ≡ word (n ++ u)
 unfolding next_piece
 at_name [] u h = absurd h
 at_name (c ∷ n) u h =
@@ -34,7 +34,7 @@ word_is : (z : Text) (n : ℕ) → name_len z ≡ n → word z ≡ word_by (get_
 unfolding word
 word_is z n e = ap (λ m. word_by (get_or z m 0 == 58) (get_or z (m + 1) 0 == 58) (get_or z (m + 2) 0 == 61) m z) e
 
-pub name_again : (n : Text) (b : ℕ) (z : Text) → IsName n → Ends b → next_piece (n ++ b ∷ z) ≡ Token (named n (reserved n)) (length n)
+pub name_again : (n : Text) (b : ℕ) (z : Text) → IsIdentifierText n → Ends b → next_piece (n ++ b ∷ z) ≡ Token (named n (reserved n)) (length n)
 name_again n b z name ends =
     let y : Text = n ++ b ∷ z in
     let i : ℕ = length n in
@@ -42,7 +42,7 @@ name_again n b z name ends =
     ∙ ap (λ v. word_by v (get_or y (i + 1) 0 == 58) (get_or y (i + 2) 0 == 61) i y) (ap (λ c. c == 58) (first_behind n (b ∷ z)) ∙ ends.colon)
     ∙ ap (λ t. Token (named t (reserved t)) i) (take-append_seam n (b ∷ z))
 
-pub key_again : (n : Text) (b : ℕ) (z : Text) → IsName n → Ends b → next_piece (n ++ 58 ∷ b ∷ z) ≡ Token (k.Key (n ++ 58 ∷ [])) (length n + 1)
+pub key_again : (n : Text) (b : ℕ) (z : Text) → IsIdentifierText n → Ends b → next_piece (n ++ 58 ∷ b ∷ z) ≡ Token (k.Key (n ++ 58 ∷ [])) (length n + 1)
 key_again n b z name ends =
     let y : Text = n ++ 58 ∷ b ∷ z in
     let i : ℕ = length n in
@@ -51,7 +51,7 @@ key_again n b z name ends =
     ∙ ap (λ v. word_by true v (get_or y (i + 2) 0 == 61) i y) (ap (λ c. c == 58) (at_end n (58 ∷ b ∷ z) 1) ∙ ends.colon)
     ∙ ap (λ t. Token (k.Key t) (i + 1)) (take-append-add n (58 ∷ b ∷ z) 1)
 
-pub set_again : (n : Text) (b : ℕ) (z : Text) → IsName n → Ends b → next_piece (n ++ 58 ∷ 58 ∷ b ∷ z) ≡ Token (k.SetKey n) (length n + 2)
+pub set_again : (n : Text) (b : ℕ) (z : Text) → IsIdentifierText n → Ends b → next_piece (n ++ 58 ∷ 58 ∷ b ∷ z) ≡ Token (k.SetKey n) (length n + 2)
 set_again n b z name ends =
     let y : Text = n ++ 58 ∷ 58 ∷ b ∷ z in
     let i : ℕ = length n in

@@ -10,7 +10,7 @@ use Rattle.ns_lex.specs.Word.{name_len}
 use Rattle.ns_lex.specs.Quoted.{quoted, quoted_from, closed}
 use Rattle.ns_lex.specs.Symbol.{symbol, symbol_of, selector_len, keys_from}
 use Rattle.ns_lex.specs.declared.piece.Piece.TheVariants.{Token}
-use Rattle.ns_lex.specs.Spells.{AllOf, IsName, IsKeys, IsOperator}
+use Rattle.ns_lex.specs.Spells.{AllOf, IsIdentifierText, IsKeysText, IsOperator}
 use Rattle.ns_base.specs.Quoted.{doubled}
 use Rattle.ns_base.specs.Spelling.{begins_name, goes_on_name, is_operator_byte}
 use Rattle.ns_lex.proofs.Words.{name_end}
@@ -38,7 +38,7 @@ no_keys far at [] b z all ends = refuse (b == 58) _ _ _ ends.colon (refuse (goes
 no_keys far at (c ∷ n) b z all ends = refuse (c == 58) _ _ _ (no_colon c all.0) (accept (goes_on_name c) _ _ _ all.0 (no_keys far (at + 1) n b z all.1 ends))
 
 -- keys are read up to the blank
-keys_again : (far at : ℕ) (s : Text) (ks : List Text) (b : ℕ) (z : Text) → IsKeys s ks → Ends b → keys_from far false at (s ++ b ∷ z) ≡ at + length s
+keys_again : (far at : ℕ) (s : Text) (ks : List Text) (b : ℕ) (z : Text) → IsKeysText s ks → Ends b → keys_from far false at (s ++ b ∷ z) ≡ at + length s
 keys_again far at s [] b z x ends = absurd x
 keys_again far at s (m ∷ []) b z ((n, name, e), f) ends =
     let cut : s ++ b ∷ z ≡ n ++ 58 ∷ b ∷ z = ap (λ w. w ++ b ∷ z) (f ∙ e) ∙ append_assoc n (58 ∷ []) (b ∷ z) in
@@ -56,13 +56,13 @@ named_len : (c : ℕ) (y : Text) (n : ℕ) → begins_name c ≡ true → (if ke
 unfolding selector_len
 named_len c y n h e = refuse (is_operator_byte c) _ _ _ (no_oper c h) (accept (begins_name c) _ _ _ h e)
 
-no_key : (c : ℕ) (n : Text) (b : ℕ) (z : Text) → IsName (c ∷ n) → Ends b → keys_from 0 false 0 (c ∷ (n ++ b ∷ z)) ≡ 0
+no_key : (c : ℕ) (n : Text) (b : ℕ) (z : Text) → IsIdentifierText (c ∷ n) → Ends b → keys_from 0 false 0 (c ∷ (n ++ b ∷ z)) ≡ 0
 no_key c n b z name ends = accept (begins_name c) _ _ _ name.0 (no_keys 0 1 n b z name.1 ends)
 
 not_none : (n : ℕ) → 0 < n → (n == 0) ≡ false
 not_none n h = grind (arith, nat_tests)
 
-keys_len : (c : ℕ) (s : Text) (ks : List Text) (b : ℕ) (z : Text) → IsKeys (c ∷ s) ks → Ends b → selector_len (c ∷ (s ++ b ∷ z)) ≡ length (c ∷ s)
+keys_len : (c : ℕ) (s : Text) (ks : List Text) (b : ℕ) (z : Text) → IsKeysText (c ∷ s) ks → Ends b → selector_len (c ∷ (s ++ b ∷ z)) ≡ length (c ∷ s)
 keys_len c s ks b z x ends =
     let all : keys_from 0 false 0 (c ∷ (s ++ b ∷ z)) ≡ length (c ∷ s) = keys_again 0 0 (c ∷ s) ks b z x ends ∙ omega arith in
     named_len c (s ++ b ∷ z) (length (c ∷ s)) (keys_start c s ks x) (refuse (keys_from 0 false 0 (c ∷ (s ++ b ∷ z)) == 0) _ _ _ (ap (λ n. n == 0) all ∙ not_none (length (c ∷ s)) (omega arith)) all)

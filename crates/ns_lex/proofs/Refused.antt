@@ -18,11 +18,11 @@ use Rattle.ns_lex.specs.Single.{single}
 use Rattle.ns_lex.specs.declared.piece.Piece.TheVariants.{Token, Fault}
 use Rattle.ns_lex.specs.declared.piece.Cause.{Cause}
 use Rattle.ns_lex.specs.declared.piece.Cause.TheVariants as cause
-use Rattle.ns_lex.specs.Spells.{IsName, Spells}
+use Rattle.ns_lex.specs.Spells.{IsIdentifierText, SpellsToken}
 use Rattle.ns_base.specs.Quoted.{doubled}
 use Rattle.ns_base.specs.Spelling.{is_digit, begins_name, is_operator_byte}
 use Rattle.ns_lex.specs.Gap.{IsGapPart, inside}
-use Rattle.ns_lex.specs.Lexes.{Stands, IsDigits, BeginsNothing, IsFault}
+use Rattle.ns_lex.specs.Lexes.{SpellsInText, IsDigits, BeginsNothing, IsFault}
 use Rattle.ns_lex.proofs.Words.{run_of, length_taken, at_end}
 use Rattle.ns_lex.proofs.Singles.{clash, same_first, split, no_name, no_operator}
 use Rattle.ns_lex.proofs.Numbers.{run}
@@ -129,7 +129,7 @@ number_fault b y c n h f =
 found_none : (s : Text) (n : ℕ) → found s n ≡ None → ⊥
 found_none s n e = cc
 
-no_string : (b : ℕ) (y : Text) → quoted_from false [] 1 y ≡ None → (p r s : Text) → b ∷ y ≡ p ++ r → Stands p r (k.Str s) → ⊥
+no_string : (b : ℕ) (y : Text) → quoted_from false [] 1 y ≡ None → (p r s : Text) → b ∷ y ≡ p ++ r → SpellsInText p r (k.Str s) → ⊥
 no_string b y none [] r s cut (e, ended) = absurd cc
 no_string b y none (c ∷ p) r s cut (e, ended) =
     let rest : y ≡ p ++ r = cc in
@@ -157,14 +157,14 @@ empty_of [] h = refl
 empty_of (b ∷ s) h = absurd (omega (arith, h))
 
 no_selector : (s : Text) → IsSelector s → s ≡ [] → ⊥
-no_selector s (inl n) e = subst IsName e n
+no_selector s (inl n) e = subst IsIdentifierText e n
 no_selector s (inr (inl ([], x))) e = x
 no_selector s (inr (inl (m ∷ [], ((n, name, f), g)))) e = no_end n 58 [] (sym e ∙ g ∙ f)
 no_selector s (inr (inl (m ∷ l ∷ ks, ((n, name, f), (u, g, x))))) e = no_end n 58 u (sym e ∙ g ∙ ap (λ w. w ++ u) f ∙ append_assoc n (58 ∷ []) u)
 no_selector s (inr (inr (inl o))) e = absurd (omega (arith, o.0, ap length e))
 no_selector s (inr (inr (inr o))) e = absurd (let f : 60 ∷ 58 ∷ [] ≡ [] = sym o ∙ e in cc)
 
-no_symbol : (b : ℕ) (y : Text) → selector_len y ≡ 0 → (p r s : Text) → b ∷ y ≡ p ++ r → Spells p (k.Symbol s) → ⊥
+no_symbol : (b : ℕ) (y : Text) → selector_len y ≡ 0 → (p r s : Text) → b ∷ y ≡ p ++ r → SpellsToken p (k.Symbol s) → ⊥
 no_symbol b y none [] r s cut x = absurd (let f : [] ≡ 35 ∷ s = x.1 in cc)
 no_symbol b y none (c ∷ p) r s cut x =
     let rest : y ≡ p ++ r = cc in
@@ -211,7 +211,7 @@ record Alone (b : ℕ) : Type 0 where
 not_it : (b c : ℕ) (u q : Text) → (b == c) ≡ false → b ∷ u ≡ c ∷ q → ⊥
 not_it b c u q h e = clash (b == c) h (eq-eqb b c (same_first b c u q e))
 
-spells_nothing : (b : ℕ) (u : Text) (t : Kind) → Alone b → Spells (b ∷ u) t → ⊥
+spells_nothing : (b : ℕ) (u : Text) (t : Kind) → Alone b → SpellsToken (b ∷ u) t → ⊥
 spells_nothing b u (k.Ident s) a (n, e, r) = no_name b u s [] a.strange.name n (e ∙ sym (append-nil s))
 spells_nothing b u (k.Word w) a (n, r) = clash (begins_name b) a.strange.name n.0
 spells_nothing b u (k.Key s) a ((n, name, cut), e) = no_name b u n (58 ∷ []) a.strange.name name (e ∙ cut)

@@ -9,8 +9,8 @@ use Rattle.ns_lex.specs.Piece.{Text}
 use Rattle.ns_lex.specs.Single.{single}
 use Rattle.ns_lex.specs.declared.piece.Piece.{Piece}
 use Rattle.ns_lex.specs.declared.piece.Piece.TheVariants.{Token}
-use Rattle.ns_lex.specs.Spells.{IsName, IsOperator, Spells}
-use Rattle.ns_lex.specs.Lexes.{BeforeSlotSet, Stands}
+use Rattle.ns_lex.specs.Spells.{IsIdentifierText, IsOperator, SpellsToken}
+use Rattle.ns_lex.specs.Lexes.{BeforeSlotSet, SpellsInText}
 use Rattle.ns_lex.proofs.Words.{IsToken, NoneLonger, longest_cut, moved}
 
 -- The byte begins no name, number, operator, string or symbol.
@@ -33,7 +33,7 @@ pub first_not : (test : ℕ → Bool) (b c : ℕ) (p q : Text) → test b ≡ fa
 first_not test b c p q f t e = clash (test b) f (ap test (same_first b c p q e) ∙ t)
 
 -- no name begins with such a byte
-pub no_name : (b : ℕ) (p n q : Text) → begins_name b ≡ false → IsName n → b ∷ p ≡ n ++ q → ⊥
+pub no_name : (b : ℕ) (p n q : Text) → begins_name b ≡ false → IsIdentifierText n → b ∷ p ≡ n ++ q → ⊥
 no_name b p [] q f h e = absurd h
 no_name b p (c ∷ n) q f h e = first_not begins_name b c p (n ++ q) f h.0 e
 
@@ -43,7 +43,7 @@ no_operator b p (c ∷ s) f (inl o) e = first_not is_operator_byte b c p s f o.1
 no_operator b p s f (inr o) e = first_not is_operator_byte b 60 p (58 ∷ []) f refl (e ∙ o)
 
 -- which tokens such a text spells
-apart_spells : (b : ℕ) (p : Text) (t : Kind) → Apart b → Spells (b ∷ p) t → (length (b ∷ p) ≡ 1) ⊎ (b ∷ p ≡ 58 ∷ 58 ∷ 61 ∷ [])
+apart_spells : (b : ℕ) (p : Text) (t : Kind) → Apart b → SpellsToken (b ∷ p) t → (length (b ∷ p) ≡ 1) ⊎ (b ∷ p ≡ 58 ∷ 58 ∷ 61 ∷ [])
 apart_spells b p (k.Ident s) a (n, e, r) = absurd (no_name b p s [] a.name n (e ∙ sym (append-nil s)))
 apart_spells b p (k.Word w) a (n, r) = absurd (clash (begins_name b) a.name n.0)
 apart_spells b p (k.Key s) a ((n, name, cut), e) = absurd (no_name b p n (58 ∷ []) a.name name (e ∙ cut))
@@ -77,14 +77,14 @@ longest_three z a (c ∷ p) r t cut x =
     ]
 
 -- a sign of one byte
-sign : (c : ℕ) (kind : Kind) (z : Text) → Apart c → ((q : Text) → Stands (c ∷ []) q kind) → ((r : Text) → c ∷ z ≡ 58 ∷ 58 ∷ 61 ∷ r → ⊥) → IsToken (c ∷ z) kind 1
+sign : (c : ℕ) (kind : Kind) (z : Text) → Apart c → ((q : Text) → SpellsInText (c ∷ []) q kind) → ((r : Text) → c ∷ z ≡ 58 ∷ 58 ∷ 61 ∷ r → ⊥) → IsToken (c ∷ z) kind 1
 sign c kind z a stands other = record {
   size = omega arith;
   next = (stands z, inr (longest_cut (c ∷ z) 1 (omega arith) (longest_one c z a other), no_slot_set c z 1 a.name));
 }
 
 -- the same at a byte that is it
-sign_at : (b c : ℕ) (kind : Kind) (z : Text) (t : Kind) (m : ℕ) → (b == c) ≡ true → Token kind 1 ≡ Token t m → Apart c → ((q : Text) → Stands (c ∷ []) q kind) → (c ≡ 58 → ⊥) → IsToken (b ∷ z) t m
+sign_at : (b c : ℕ) (kind : Kind) (z : Text) (t : Kind) (m : ℕ) → (b == c) ≡ true → Token kind 1 ≡ Token t m → Apart c → ((q : Text) → SpellsInText (c ∷ []) q kind) → (c ≡ 58 → ⊥) → IsToken (b ∷ z) t m
 sign_at b c kind z t m e f a stands other =
     subst (λ i. IsToken (i ∷ z) t m) (sym (eqb-true b c e)) (moved (c ∷ z) kind t 1 m f (sign c kind z a stands (λ r g. other (same_first c 58 z (58 ∷ 61 ∷ r) g))))
 

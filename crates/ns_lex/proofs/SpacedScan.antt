@@ -8,7 +8,7 @@ use Rattle.ns_lex.specs.Bytes.{is_blank}
 use Rattle.ns_lex.specs.Piece.{Text}
 use Rattle.ns_lex.specs.Scan.{scan_from, before}
 use Rattle.ns_lex.specs.Spaced.{IsSpaced, LexesTo}
-use Rattle.ns_lex.specs.Spells.{AllOf, Spells}
+use Rattle.ns_lex.specs.Spells.{AllOf, SpellsToken}
 use Rattle.ns_lex.proofs.Cutting.{scan_lexes}
 use Rattle.ns_lex.proofs.OneKind.{spelled_some}
 use Rattle.ns_lex.proofs.Blanks.{blank_read}
@@ -26,7 +26,7 @@ blank_goes : (at b : ℕ) (z : Text) → is_blank b ≡ true → scan_from 0 at 
 blank_goes at b z h = gap_goes (b ∷ z) 1 at (omega arith) (sym (blank_read b z h)) (omega arith) (omega arith)
 
 -- behind a token and a blank
-step_goes : (at : ℕ) (w : Text) (kind : Kind) (b : ℕ) (u : Text) → Spells w kind → is_blank b ≡ true
+step_goes : (at : ℕ) (w : Text) (kind : Kind) (b : ℕ) (u : Text) → SpellsToken w kind → is_blank b ≡ true
     → scan_from 0 at (w ++ b ∷ u) ≡ before (record { kind = kind; start = at; «end» = at + length w } ∷ []) (scan_from 0 (at + length w + 1) u)
 step_goes at w kind b u spelled blank =
     let t : Token = record { kind = kind; start = at; «end» = at + length w } in

@@ -8,7 +8,7 @@ use Rattle.ns_lex.specs.declared.piece.Piece.TheVariants as piece
 use Rattle.ns_lex.specs.declared.piece.Cause.{Cause}
 use Rattle.ns_lex.specs.Fault.{fault_at}
 use Rattle.ns_lex.specs.Next.{next_piece}
-use Rattle.ns_lex.specs.Piece.{Moves, Text}
+use Rattle.ns_lex.specs.Piece.{PieceTakes, Text}
 use Rattle.ns_lex.specs.Scan.{Tokens, scan_from, before, InOrder}
 
 -- Skipping bytes is going on behind them.
@@ -55,22 +55,22 @@ before_both ts us (Ok vs) = ap Ok (append_assoc ts us vs)
 before_both ts us (Err e) = refl
 
 -- the loop at a gap
-pub gap_loop : (s z : Text) (at n : ℕ) (p : Piece) (ts : List Token) (whole : Tokens) → at < length s → z ≡ drop at s → p ≡ next_piece z → p ≡ piece.Gap n → Moves (length z) p
+pub gap_loop : (s z : Text) (at n : ℕ) (p : Piece) (ts : List Token) (whole : Tokens) → at < length s → z ≡ drop at s → p ≡ next_piece z → p ≡ piece.Gap n → PieceTakes (length z) p
     → before ts (scan_from 0 at (drop at s)) ≡ whole → length ts ≤ at
     → (before ts (scan_from 0 (at + n) (drop (at + n) s)) ≡ whole) × (at + n ≤ length s) × (length ts ≤ at + n)
 gap_loop s z at n p ts whole h here is gap moves inv count =
-    let m : Moves (length (drop at s)) (piece.Gap n) = subst (λ y. Moves (length y) (piece.Gap n)) here (subst (Moves (length z)) gap moves) in
+    let m : PieceTakes (length (drop at s)) (piece.Gap n) = subst (λ y. PieceTakes (length y) (piece.Gap n)) here (subst (PieceTakes (length z)) gap moves) in
     let e : scan_from 0 at (drop at s) ≡ scan_from 0 (at + n) (drop n (drop at s)) = gap_goes (drop at s) n at (omega (arith, length-drop at s)) (sym gap ∙ is ∙ ap next_piece here) m.0 m.1 in
     (ap (λ z. before ts (scan_from 0 (at + n) z)) (sym (drop-drop n at s)) ∙ ap (before ts) (sym e) ∙ inv, omega (arith, length-drop at s, m.1), omega arith)
 
 -- the loop at a token
-pub token_loop : (s z : Text) (at n : ℕ) (kind : Kind) (p : Piece) (ts us : List Token) (whole : Tokens) → at < length s → z ≡ drop at s → p ≡ next_piece z → p ≡ piece.Token kind n → Moves (length z) p
+pub token_loop : (s z : Text) (at n : ℕ) (kind : Kind) (p : Piece) (ts us : List Token) (whole : Tokens) → at < length s → z ≡ drop at s → p ≡ next_piece z → p ≡ piece.Token kind n → PieceTakes (length z) p
     → us ≡ ts ++ record { kind = kind; start = at; «end» = at + n } ∷ []
     → before ts (scan_from 0 at (drop at s)) ≡ whole → length ts ≤ at
     → (before us (scan_from 0 (at + n) (drop (at + n) s)) ≡ whole) × (at + n ≤ length s) × (length us ≤ at + n)
 token_loop s z at n kind p ts us whole h here is token moves more inv count =
     let t : Token = record { kind = kind; start = at; «end» = at + n } in
-    let m : Moves (length (drop at s)) (piece.Token kind n) = subst (λ y. Moves (length y) (piece.Token kind n)) here (subst (Moves (length z)) token moves) in
+    let m : PieceTakes (length (drop at s)) (piece.Token kind n) = subst (λ y. PieceTakes (length y) (piece.Token kind n)) here (subst (PieceTakes (length z)) token moves) in
     let e : scan_from 0 at (drop at s) ≡ before (t ∷ []) (scan_from 0 (at + n) (drop n (drop at s))) = token_goes (drop at s) kind n at (omega (arith, length-drop at s)) (sym token ∙ is ∙ ap next_piece here) m.0 m.1 in
     let low : 1 ≤ n = m.0 in (
       ap (λ z. before us (scan_from 0 (at + n) z)) (sym (drop-drop n at s)) ∙ ap (λ v. before v (scan_from 0 (at + n) (drop n (drop at s)))) more ∙ before_both ts (t ∷ []) _ ∙ ap (before ts) (sym e) ∙ inv,
@@ -98,5 +98,5 @@ one_more from to more [] t o low some high = (omega (arith, o), some, high)
 one_more from to more (s ∷ ts) t o low some high = (o.0, o.1, one_more s.«end» to more ts t o.2 low some high)
 
 -- A token takes a byte at least.
-pub token_grows : (len at : ℕ) (p : Piece) (kind : Kind) (n : ℕ) → p ≡ piece.Token kind n → Moves len p → at < at + n
-token_grows len at p kind n is moves = let m : Moves len (piece.Token kind n) = subst (Moves len) is moves in omega (arith, m.0)
+pub token_grows : (len at : ℕ) (p : Piece) (kind : Kind) (n : ℕ) → p ≡ piece.Token kind n → PieceTakes len p → at < at + n
+token_grows len at p kind n is moves = let m : PieceTakes len (piece.Token kind n) = subst (PieceTakes len) is moves in omega (arith, m.0)

@@ -10,7 +10,7 @@ use Rattle.ns_lex.specs.Quoted.{quoted, quoted_from, closed}
 use Rattle.ns_lex.specs.declared.piece.Piece.TheVariants.{Token}
 use Rattle.ns_base.specs.Quoted.{doubled}
 use Rattle.ns_base.specs.Spelling.{is_digit, begins_name, is_operator_byte}
-use Rattle.ns_lex.specs.Lexes.{Stands, Longest}
+use Rattle.ns_lex.specs.Lexes.{SpellsInText, Longest}
 use Rattle.ns_lex.proofs.Words.{IsToken, moved, length_taken}
 use Rattle.ns_lex.proofs.Singles.{no_name, no_operator, first_not, same_first, no_slot_set, clash}
 
@@ -134,7 +134,7 @@ pub is_other : ℕ → Bool
 is_other b = not (b == 39)
 
 -- what stands at a quote is a string
-pub at_quote : {G : Type 0} (b : ℕ) (p r : Text) (t : Kind) → b ≡ 39 → Stands (b ∷ p) r t → ((s : Text) → b ∷ p ≡ 39 ∷ (doubled s ++ 39 ∷ []) → get_or r 0 0 ≢ 39 → G) → G
+pub at_quote : {G : Type 0} (b : ℕ) (p r : Text) (t : Kind) → b ≡ 39 → SpellsInText (b ∷ p) r t → ((s : Text) → b ∷ p ≡ 39 ∷ (doubled s ++ 39 ∷ []) → get_or r 0 0 ≢ 39 → G) → G
 unfolding is_other
 at_quote b p r (k.Ident s) h (name, e, f) go = absurd (no_name b p s [] (ap begins_name h) name (e ∙ sym (append-nil s)))
 at_quote b p r (k.Word w) h (name, f) go = absurd (no_name b p (b ∷ p) [] (ap begins_name h) name (sym (append-nil (b ∷ p))))
@@ -157,14 +157,14 @@ found_length b y q e c p r s cut spelled other =
     omega (arith, size, ap length held, length-append (doubled s) (39 ∷ []))
 
 -- the string is the longest token
-longest_string : (b : ℕ) (y : Text) (q : Text × ℕ) → b ≡ 39 → quoted_from false [] 1 y ≡ Some q → (p r : Text) (t : Kind) → b ∷ y ≡ p ++ r → Stands p r t → length p ≤ q.1
+longest_string : (b : ℕ) (y : Text) (q : Text × ℕ) → b ≡ 39 → quoted_from false [] 1 y ≡ Some q → (p r : Text) (t : Kind) → b ∷ y ≡ p ++ r → SpellsInText p r t → length p ≤ q.1
 longest_string b y q h e [] r t cut x = omega arith
 longest_string b y q h e (c ∷ p) r t cut x =
     let same_byte : b ≡ c = same_first b c y (p ++ r) cut in
     at_quote c p r t (sym same_byte ∙ h) x (λ s spelled other. found_length b y q e c p r s cut spelled other)
 
 -- the longest of a text, for the text that is cut off
-longest_of : (z : Text) (n : ℕ) → n ≤ length z → ((p r : Text) (t : Kind) → z ≡ p ++ r → Stands p r t → length p ≤ n) → Longest (take n z) (drop n z)
+longest_of : (z : Text) (n : ℕ) → n ≤ length z → ((p r : Text) (t : Kind) → z ≡ p ++ r → SpellsInText p r t → length p ≤ n) → Longest (take n z) (drop n z)
 longest_of z n fits none p r t cut x =
     let short : length p ≤ n = none p r t (sym (take-append-drop n z) ∙ cut) x in
     omega (arith, length_taken z n fits)

@@ -13,7 +13,7 @@ use Rattle.ns_lex.specs.Operator.{operator_len}
 use Rattle.ns_lex.specs.Symbol.{symbol, selector_len, keys_from}
 use Rattle.ns_lex.specs.declared.piece.Piece.TheVariants.{Token, Fault}
 use Rattle.ns_lex.specs.declared.piece.Cause.TheVariants as cause
-use Rattle.ns_lex.specs.Spells.{AllOf, IsName, IsKeys, IsOperator, Spells}
+use Rattle.ns_lex.specs.Spells.{AllOf, IsIdentifierText, IsKeysText, IsOperator, SpellsToken}
 use Rattle.ns_lex.proofs.Words.{IsToken, NoneLonger, longest_cut, moved, name_run, in_name, is_name, name_short}
 use Rattle.ns_lex.proofs.Singles.{no_name, no_operator, first_not, same_first, no_slot_set, clash}
 use Rattle.ns_lex.proofs.Operators.{operator_longest, operator_stands}
@@ -22,8 +22,8 @@ use Rattle.ns_lex.proofs.Operators.{operator_longest, operator_stands}
 
 -- keys behind the first part of a name, or behind nothing
 abbrev Behind : Bool → Text → Type 0
-Behind false u = (ks : List Text) × IsKeys u ks
-Behind true u = (n v : Text) × AllOf goes_on_name n × (u ≡ n ++ 58 ∷ v) × ((v ≡ []) ⊎ ((ks : List Text) × IsKeys v ks))
+Behind false u = (ks : List Text) × IsKeysText u ks
+Behind true u = (n v : Text) × AllOf goes_on_name n × (u ≡ n ++ 58 ∷ v) × ((v ≡ []) ⊎ ((ks : List Text) × IsKeysText v ks))
 
 record Says (inside : Bool) (at : ℕ) (y : Text) (m : ℕ) : Type 0 where
   text : Text
@@ -49,7 +49,7 @@ name_goes far at b z m h (inr x) = inr (record {
 })
 
 -- a key, and keys behind it
-first_key : (n v : Text) → IsName n → (v ≡ []) ⊎ ((ks : List Text) × IsKeys v ks) → (ks : List Text) × IsKeys (n ++ 58 ∷ v) ks
+first_key : (n v : Text) → IsIdentifierText n → (v ≡ []) ⊎ ((ks : List Text) × IsKeysText v ks) → (ks : List Text) × IsKeysText (n ++ 58 ∷ v) ks
 first_key n v name (inl e) = ((n ++ 58 ∷ []) ∷ [], ((n, name, refl), ap (λ w. n ++ 58 ∷ w) e))
 first_key n v name (inr ([], x)) = absurd x
 first_key n v name (inr (m ∷ ks, x)) = ((n ++ 58 ∷ []) ∷ m ∷ ks, ((n, name, refl), (v, sym (append_assoc n (58 ∷ []) v), x)))
@@ -64,7 +64,7 @@ name_begins far at b z m h (inr x) =
       rest = x.rest;
       cut = ap (λ w. b ∷ w) x.cut;
       place = omega (arith, x.place);
-      keys = (ks.0, subst (λ u. IsKeys (b ∷ u) ks.0) (sym x.keys.3) ks.1);
+      keys = (ks.0, subst (λ u. IsKeysText (b ∷ u) ks.0) (sym x.keys.3) ks.1);
     })
 
 inside_by : (far at b : ℕ) (z : Text) (m : ℕ) (colon name : Bool) → (b == 58) ≡ colon → goes_on_name b ≡ name
@@ -96,7 +96,7 @@ name_then far at (b ∷ n) q h =
     ap (λ v. if v then keys_from (at + 1) false (at + 1) (n ++ 58 ∷ q) else (if goes_on_name b then keys_from far true (at + 1) (n ++ 58 ∷ q) else far)) (no_colon b h.0)
     ∙ ap (λ v. if v then keys_from far true (at + 1) (n ++ 58 ∷ q) else far) h.0 ∙ name_then far (at + 1) n q h.1 ∙ ap (λ i. keys_from i false i q) (omega arith)
 
-pub key_then : (far at : ℕ) (n q : Text) → IsName n → keys_from far false at (n ++ 58 ∷ q) ≡ keys_from (at + length n + 1) false (at + length n + 1) q
+pub key_then : (far at : ℕ) (n q : Text) → IsIdentifierText n → keys_from far false at (n ++ 58 ∷ q) ≡ keys_from (at + length n + 1) false (at + length n + 1) q
 key_then far at [] q h = absurd h
 key_then far at (b ∷ n) q h = ap (λ v. if v then keys_from far true (at + 1) (n ++ 58 ∷ q) else far) h.0 ∙ name_then far (at + 1) n q h.1 ∙ ap (λ i. keys_from i false i q) (omega arith)
 
@@ -112,7 +112,7 @@ keys_far far true at (b ∷ z) h =
 keys_far far false at (b ∷ z) h = if_least (begins_name b) _ _ far (keys_far far true (at + 1) z (omega (arith, h))) (omega arith)
 
 -- behind keys
-keys_reach : (far at : ℕ) (s : Text) (ks : List Text) (q : Text) → IsKeys s ks → at + length s ≤ keys_from far false at (s ++ q)
+keys_reach : (far at : ℕ) (s : Text) (ks : List Text) (q : Text) → IsKeysText s ks → at + length s ≤ keys_from far false at (s ++ q)
 keys_reach far at s [] q x = absurd x
 keys_reach far at s (m ∷ []) q ((n, name, e), f) =
     let g : s ++ q ≡ n ++ 58 ∷ q = ap (λ w. w ++ q) (f ∙ e) ∙ append_assoc n (58 ∷ []) q in
@@ -148,7 +148,7 @@ name_reach far at (b ∷ z) = reach_by far at b z (b == 58) (goes_on_name b) ref
 
 -- what may stand behind `#`
 abbrev pub IsSelector : Text → Type 0
-IsSelector s = IsName s ⊎ ((ks : List Text) × IsKeys s ks) ⊎ IsOperator s
+IsSelector s = IsIdentifierText s ⊎ ((ks : List Text) × IsKeysText s ks) ⊎ IsOperator s
 
 -- a selector that is found
 record IsFound (y : Text) (n : ℕ) : Type 0 where
@@ -162,7 +162,7 @@ keys_found y m (inr x) h =
     let front : take m y ≡ x.text = ap (λ i. take i y) size ∙ ap (take (length x.text)) x.cut ∙ take-append_seam x.text x.rest in
     record {
       fits = omega (arith, size, ap length x.cut, length-append x.text x.rest);
-      form = inr (inl (x.keys.0, subst (λ u. IsKeys u x.keys.0) (sym front) x.keys.1));
+      form = inr (inl (x.keys.0, subst (λ u. IsKeysText u x.keys.0) (sym front) x.keys.1));
     }
 
 found_by : (b : ℕ) (y : Text) (oper starts none : Bool) (n : ℕ) → is_operator_byte b ≡ oper → begins_name b ≡ starts → (keys_from 0 false 0 (b ∷ y) == 0) ≡ none
@@ -197,11 +197,11 @@ name_or_keys b y false m h s (inl low) =
 pub no_oper : (b : ℕ) → begins_name b ≡ true → is_operator_byte b ≡ false
 no_oper b h = grind (arith, nat_tests)
 
-pub name_start : (b : ℕ) (s n u : Text) → IsName n → b ∷ s ≡ n ++ u → begins_name b ≡ true
+pub name_start : (b : ℕ) (s n u : Text) → IsIdentifierText n → b ∷ s ≡ n ++ u → begins_name b ≡ true
 name_start b s [] u h e = absurd h
 name_start b s (c ∷ n) u h e = ap begins_name (same_first b c s (n ++ u) e) ∙ h.0
 
-pub keys_start : (b : ℕ) (s : Text) (ks : List Text) → IsKeys (b ∷ s) ks → begins_name b ≡ true
+pub keys_start : (b : ℕ) (s : Text) (ks : List Text) → IsKeysText (b ∷ s) ks → begins_name b ≡ true
 keys_start b s [] x = absurd x
 keys_start b s (m ∷ []) ((n, name, e), f) = name_start b s n (58 ∷ []) name (f ∙ e)
 keys_start b s (m ∷ l ∷ ks) ((n, name, e), (u, f, x)) = name_start b s n (58 ∷ u) name (f ∙ ap (λ w. w ++ u) e ∙ append_assoc n (58 ∷ []) u)
@@ -222,7 +222,7 @@ oper_first : (b : ℕ) (y : Text) (m : ℕ) → is_operator_byte b ≡ true → 
 unfolding selector_len
 oper_first b y m o low = subst (λ v. m ≤ (if v then operator_len (b ∷ y) else (if begins_name b then (if keys_from 0 false 0 (b ∷ y) == 0 then name_len (b ∷ y) else keys_from 0 false 0 (b ∷ y)) else 0))) (sym o) low
 
-keys_first : (s : Text) (ks : List Text) (q : Text) → IsKeys s ks → length s ≤ selector_len (s ++ q)
+keys_first : (s : Text) (ks : List Text) (q : Text) → IsKeysText s ks → length s ≤ selector_len (s ++ q)
 keys_first [] ks q x = omega arith
 keys_first (b ∷ s) ks q x = name_first b (s ++ q) (length (b ∷ s)) (keys_start b s ks x) (inr (omega (arith, keys_reach 0 0 (b ∷ s) ks q x)))
 
@@ -240,7 +240,7 @@ selector_longest (b ∷ s) q (inr (inr o)) =
 pub is_other : ℕ → Bool
 is_other b = not (b == 35)
 
-pub at_mark : {G : Type 0} (b : ℕ) (p : Text) (t : Kind) → b ≡ 35 → Spells (b ∷ p) t → ((s : Text) → IsSelector s → p ≡ s → G) → G
+pub at_mark : {G : Type 0} (b : ℕ) (p : Text) (t : Kind) → b ≡ 35 → SpellsToken (b ∷ p) t → ((s : Text) → IsSelector s → p ≡ s → G) → G
 unfolding is_other
 at_mark b p (k.Ident s) h (name, e, f) go = absurd (no_name b p s [] (ap begins_name h) name (e ∙ sym (append-nil s)))
 at_mark b p (k.Word w) h (name, f) go = absurd (no_name b p (b ∷ p) [] (ap begins_name h) name (sym (append-nil (b ∷ p))))

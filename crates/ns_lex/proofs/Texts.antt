@@ -12,7 +12,7 @@ use Rattle.ns_tree.specs.Tokens.{kinds}
 use Rattle.ns_tree.specs.Tree as tree
 use Rattle.ns_lex.specs.Lexes.{Cuts}
 use Rattle.ns_lex.specs.Piece.{Text}
-use Rattle.ns_lex.specs.Spells.{AllOf, IsName, IsKey, IsKeys, IsOperator, Spells}
+use Rattle.ns_lex.specs.Spells.{AllOf, IsIdentifierText, IsKeyText, IsKeysText, IsOperator, SpellsToken}
 use Rattle.ns_lex.specs.Word.{reserved}
 use Rattle.ns_lex.specs.laws.Stands.{stands_spells}
 
@@ -26,7 +26,7 @@ all_in_name : (t : Text) → AllOf goes_on_name t → list_all goes_on_name t �
 all_in_name [] h = refl
 all_in_name (b ∷ t) h = both _ _ h.0 (all_in_name t h.1)
 
-name_told : (t : Text) → IsName t → IsTrue (is_identifier t)
+name_told : (t : Text) → IsIdentifierText t → IsTrue (is_identifier t)
 name_told [] h = absurd h
 name_told (b ∷ t) h = both _ _ h.0 (all_in_name t h.1)
 
@@ -50,17 +50,17 @@ not_reserved t x =
 
 -- ---- keys
 
-key_told : (t : Text) → IsKey t → tree.IsKey t
+key_told : (t : Text) → IsKeyText t → tree.IsKey t
 key_told t (n, name, e) = (n, name_told n name, e)
 
 -- one key more
-keys_more : (n t u : Text) → IsKey n → t ≡ n ++ u → tree.IsKeys u → tree.IsKeys t
+keys_more : (n t u : Text) → IsKeyText n → t ≡ n ++ u → tree.IsKeys u → tree.IsKeys t
 keys_more n t u (name, is, e) cut (names, all, some, same) =
     (name ∷ names, both _ _ (name_told name is) all, (λ f. cc (f)), cut ∙ ap (λ w. w ++ u) e ∙ ap (λ w. (name ++ 58 ∷ []) ++ w) same)
 
-keys_told : (t : Text) (ks : List Text) → IsKeys t ks → tree.IsKeys t
+keys_told : (t : Text) (ks : List Text) → IsKeysText t ks → tree.IsKeys t
 keys_told t [] h = absurd h
-keys_told t (n ∷ []) (key, e) = let x : tree.IsKey t = key_told t (subst IsKey (sym e) key) in
+keys_told t (n ∷ []) (key, e) = let x : tree.IsKey t = key_told t (subst IsKeyText (sym e) key) in
     (x.0 ∷ [], both _ _ x.1 refl, (λ f. cc (f)), x.2 ∙ sym (append-nil (x.0 ++ 58 ∷ [])))
 keys_told t (n ∷ m ∷ ns) (key, (u, cut, more)) = keys_more n t u key cut (keys_told u (m ∷ ns) more)
 
@@ -82,13 +82,13 @@ operator_told (b ∷ t) (inr e) = ap is_operator e
 
 -- ---- tokens
 
-symbol_told : (s : Text) → (IsName s ⊎ ((ks : List Text) × IsKeys s ks) ⊎ IsOperator s) → tree.HasText (k.Symbol s)
+symbol_told : (s : Text) → (IsIdentifierText s ⊎ ((ks : List Text) × IsKeysText s ks) ⊎ IsOperator s) → tree.HasText (k.Symbol s)
 symbol_told s (inl h) = inl (name_told s h)
 symbol_told s (inr (inl (ks, h))) = inr (inr (keys_told s ks h))
 symbol_told s (inr (inr h)) = inr (inl (operator_told s h))
 
 -- A token that some text spells has a text.
-pub token_told : (w : Text) (kind : Kind) → Spells w kind → tree.HasText kind
+pub token_told : (w : Text) (kind : Kind) → SpellsToken w kind → tree.HasText kind
 token_told w (k.Ident s) h = (name_told s h.0, not_reserved s h.2)
 token_told w (k.Key s) h = key_told s h.0
 token_told w (k.SetKey s) h = name_told s h.0

@@ -14,8 +14,8 @@ use Rattle.ns_lex.specs.declared.bytes.ByteClass.TheVariants as class
 use Rattle.ns_lex.specs.Piece.{Text}
 use Rattle.ns_lex.specs.Word.{reserved, name_len, word, word_by, named}
 use Rattle.ns_lex.specs.declared.piece.Piece.TheVariants.{Token}
-use Rattle.ns_lex.specs.Spells.{AllOf, IsName, Spells}
-use Rattle.ns_lex.specs.Lexes.{Stands, Longest, BeforeSlotSet, IsNext}
+use Rattle.ns_lex.specs.Spells.{AllOf, IsIdentifierText, SpellsToken}
+use Rattle.ns_lex.specs.Lexes.{SpellsInText, Longest, BeforeSlotSet, IsNext}
 use Rattle.ns_lex.specs.laws.Stands.{stands_spells}
 
 -- a byte that begins a name begins no other token
@@ -32,7 +32,7 @@ run_all p (b ∷ t) z h = ap (λ v. cond v (1 + prefix_len p (t ++ z)) 0) h.0 �
 pub in_name : (b : ℕ) → begins_name b ≡ true → goes_on_name b ≡ true
 in_name b h = ap (λ v. v || is_digit b) h
 
-pub name_run : (n z : Text) → IsName n → name_len (n ++ z) ≡ length n + name_len z
+pub name_run : (n z : Text) → IsIdentifierText n → name_len (n ++ z) ≡ length n + name_len z
 name_run [] z h = absurd h
 name_run (b ∷ n) z h = run_all goes_on_name (b ∷ n) z (in_name b h.0, h.1)
 
@@ -46,22 +46,22 @@ pub data Shape (z : Text) (len : ℕ) : Type 0 where
   two_colons : len ≡ name_len z + 2 → get_or z (name_len z) 0 ≡ 58 → get_or z (name_len z + 1) 0 ≡ 58 → Shape z len
 
 -- a name and a byte that is in none
-pub name_end : (n : Text) (c : ℕ) (z : Text) → IsName n → goes_on_name c ≡ false → name_len (n ++ c ∷ z) ≡ length n
+pub name_end : (n : Text) (c : ℕ) (z : Text) → IsIdentifierText n → goes_on_name c ≡ false → name_len (n ++ c ∷ z) ≡ length n
 name_end n c z h out = omega (arith, name_run n (c ∷ z) h, ap (λ v. cond v (1 + name_len z) 0) out)
 
 pub at_end : (n u : Text) (i : ℕ) → get_or (n ++ u) (length n + i) 0 ≡ get_or u i 0
 at_end [] u i = ap (λ j. get_or u j 0) (omega arith)
 at_end (b ∷ n) u i = ap (λ j. get_or (b ∷ (n ++ u)) j 0) (let e : length (b ∷ n) + i ≡ suc (length n + i) = omega arith in e) ∙ at_end n u i
 
-name_shape : (n z : Text) → IsName n → Shape (n ++ z) (length n)
+name_shape : (n z : Text) → IsIdentifierText n → Shape (n ++ z) (length n)
 name_shape n z h = within (omega (arith, name_run n z h))
 
-key_shape : (n z : Text) → IsName n → Shape (n ++ 58 ∷ z) (length n + 1)
+key_shape : (n z : Text) → IsIdentifierText n → Shape (n ++ 58 ∷ z) (length n + 1)
 key_shape n z h =
     let e : name_len (n ++ 58 ∷ z) ≡ length n = name_end n 58 z h refl in
     one_colon (omega (arith, e)) (ap (λ j. get_or (n ++ 58 ∷ z) j 0) (let f : name_len (n ++ 58 ∷ z) ≡ length n + 0 = omega (arith, e) in f) ∙ at_end n (58 ∷ z) 0)
 
-set_shape : (n z : Text) → IsName n → Shape (n ++ 58 ∷ 58 ∷ z) (length n + 2)
+set_shape : (n z : Text) → IsIdentifierText n → Shape (n ++ 58 ∷ 58 ∷ z) (length n + 2)
 set_shape n z h =
     let e : name_len (n ++ 58 ∷ 58 ∷ z) ≡ length n = name_end n 58 (58 ∷ z) h refl in
     two_colons (omega (arith, e)) (ap (λ j. get_or (n ++ 58 ∷ 58 ∷ z) j 0) (let f : name_len (n ++ 58 ∷ 58 ∷ z) ≡ length n + 0 = omega (arith, e) in f) ∙ at_end n (58 ∷ 58 ∷ z) 0)
@@ -71,7 +71,7 @@ shape_at : (z y : Text) (len n : ℕ) → y ≡ z → n ≡ len → Shape z len 
 shape_at z y len n e f s = subst (λ w. Shape w n) (sym e) (subst (Shape z) (sym f) s)
 
 -- which tokens such a text spells
-name_spells : (b : ℕ) (p q : Text) (t : Kind) → begins_name b ≡ true → Spells (b ∷ p) t → Shape ((b ∷ p) ++ q) (length (b ∷ p))
+name_spells : (b : ℕ) (p q : Text) (t : Kind) → begins_name b ≡ true → SpellsToken (b ∷ p) t → Shape ((b ∷ p) ++ q) (length (b ∷ p))
 name_spells b p q (k.Ident s) h (n, e, r) = shape_at (s ++ q) _ (length s) _ (ap (λ w. w ++ q) e) (ap length e) (name_shape s q n)
 name_spells b p q (k.Word w) h (n, r) = name_shape (b ∷ p) q n
 name_spells b p q (k.Key s) h ((n, name, cut), e) =
@@ -106,7 +106,7 @@ pub record IsToken (z : Text) (t : Kind) (n : ℕ) : Type 0 where
 
 -- no token at the front is longer than n bytes
 abbrev pub NoneLonger : ℕ → Text → Type 0
-NoneLonger n z = (p r : Text) (t : Kind) → z ≡ p ++ r → Spells p t → length p ≤ n
+NoneLonger n z = (p r : Text) (t : Kind) → z ≡ p ++ r → SpellsToken p t → length p ≤ n
 
 -- what the tests on the bytes behind the name say
 pub longest_by : (b : ℕ) (z : Text) (n : ℕ) → begins_name b ≡ true → name_len (b ∷ z) ≤ n → (n < name_len (b ∷ z) + 1 → get_or (b ∷ z) (name_len (b ∷ z)) 0 ≢ 58)
@@ -155,16 +155,16 @@ pub run_of : (p : ℕ → Bool) (z : Text) → AllOf p (take (prefix_len p z) z)
 run_of p [] = tt
 run_of p (b ∷ z) = run_cons p b z (p b) refl (run_of p z)
 
-name_cons : (b : ℕ) (z : Text) → begins_name b ≡ true → IsName (take (1 + name_len z) (b ∷ z))
-name_cons b z h = let f : 1 + name_len z ≡ suc (name_len z) = omega arith in subst (λ m. IsName (take m (b ∷ z))) (sym f) (h, run_of goes_on_name z)
+name_cons : (b : ℕ) (z : Text) → begins_name b ≡ true → IsIdentifierText (take (1 + name_len z) (b ∷ z))
+name_cons b z h = let f : 1 + name_len z ≡ suc (name_len z) = omega arith in subst (λ m. IsIdentifierText (take m (b ∷ z))) (sym f) (h, run_of goes_on_name z)
 
-pub is_name : (b : ℕ) (z : Text) → begins_name b ≡ true → IsName (take (name_len (b ∷ z)) (b ∷ z))
-is_name b z h = subst (λ v. IsName (take (cond v (1 + name_len z) 0) (b ∷ z))) (sym (in_name b h)) (name_cons b z h)
+pub is_name : (b : ℕ) (z : Text) → begins_name b ≡ true → IsIdentifierText (take (name_len (b ∷ z)) (b ∷ z))
+is_name b z h = subst (λ v. IsIdentifierText (take (cond v (1 + name_len z) 0) (b ∷ z))) (sym (in_name b h)) (name_cons b z h)
 
 pub name_short : (z : Text) → name_len z ≤ length z
 name_short z = prefix_len-le-length (is_in class.Name) z
 
-stands_named : (t q : Text) (o : Option Reserved) → reserved t ≡ o → IsName t → Stands t q (named t o)
+stands_named : (t q : Text) (o : Option Reserved) → reserved t ≡ o → IsIdentifierText t → SpellsInText t q (named t o)
 stands_named t q None e n = (n, refl, e)
 stands_named t q (Some w) e n = (n, e)
 
@@ -200,7 +200,7 @@ name_alone b z n h e other =
     record {
       size = fits;
       next = (
-        stands_named (take n (b ∷ z)) (drop n (b ∷ z)) (reserved (take n (b ∷ z))) refl (subst (λ m. IsName (take m (b ∷ z))) (sym e) (is_name b z h)),
+        stands_named (take n (b ∷ z)) (drop n (b ∷ z)) (reserved (take n (b ∷ z))) refl (subst (λ m. IsIdentifierText (take m (b ∷ z))) (sym e) (is_name b z h)),
         inr (longest_cut (b ∷ z) n fits (longest_by b z n h (omega (arith, e)) (λ l. none) (λ l. inl none)), no_slot_set b z n n e (λ x. other x.0)),
       );
     }
@@ -209,7 +209,7 @@ name_alone b z n h e other =
 name_before : (b : ℕ) (z : Text) (n : ℕ) → begins_name b ≡ true → n ≡ name_len (b ∷ z) → at (b ∷ z) n ≡ 58 → at (b ∷ z) (n + 1) ≡ 58 → at (b ∷ z) (n + 2) ≡ 61 → IsToken (b ∷ z) (named (take n (b ∷ z)) (reserved (take n (b ∷ z)))) n
 name_before b z n h e one two three =
     let inside : n + 2 < length (b ∷ z) = within_text (b ∷ z) (n + 2) 60 three in
-    let name : IsName (take n (b ∷ z)) = subst (λ m. IsName (take m (b ∷ z))) (sym e) (is_name b z h) in
+    let name : IsIdentifierText (take n (b ∷ z)) = subst (λ m. IsIdentifierText (take m (b ∷ z))) (sym e) (is_name b z h) in
     record {
       size = omega (arith, inside);
       next = (
@@ -225,7 +225,7 @@ key_token b z n h e one two =
     record {
       size = omega (arith, inside);
       next = (
-        ((take n (b ∷ z), subst (λ m. IsName (take m (b ∷ z))) (sym e) (is_name b z h), take_more (b ∷ z) n 0 inside ∙ ap (λ c. take n (b ∷ z) ++ c ∷ []) one), refl),
+        ((take n (b ∷ z), subst (λ m. IsIdentifierText (take m (b ∷ z))) (sym e) (is_name b z h), take_more (b ∷ z) n 0 inside ∙ ap (λ c. take n (b ∷ z) ++ c ∷ []) one), refl),
         inr (longest_cut (b ∷ z) (n + 1) (omega (arith, inside)) (longest_by b z (n + 1) h (omega (arith, e)) (λ l. absurd (omega (arith, e, l))) (λ l. inr none)), no_slot_set b z n (n + 1) e (λ x. two x.1)),
       );
     }
@@ -236,7 +236,7 @@ set_token b z n h e one two three =
     record {
       size = omega (arith, inside);
       next = (
-        (subst (λ m. IsName (take m (b ∷ z))) (sym e) (is_name b z h), take_two (b ∷ z) n inside one two),
+        (subst (λ m. IsIdentifierText (take m (b ∷ z))) (sym e) (is_name b z h), take_two (b ∷ z) n inside one two),
         inr (longest_cut (b ∷ z) (n + 2) (omega (arith, inside)) (longest_by b z (n + 2) h (omega (arith, e)) (λ l. absurd (omega (arith, e, l))) (λ l. absurd (omega (arith, e, l)))), no_slot_set b z n (n + 2) e (λ x. three x.2)),
       );
     }

@@ -10,25 +10,25 @@ use Rattle.ns_lex.specs.declared.fault.LexFault.{LexFault}
 use Rattle.ns_lex.specs.declared.fault.LexFault.TheVariants as fault
 use Rattle.ns_lex.specs.Piece.{Text}
 use Rattle.ns_lex.specs.Number.{value, greatest}
-use Rattle.ns_lex.specs.Spells.{AllOf, IsName, Spells}
+use Rattle.ns_lex.specs.Spells.{AllOf, IsIdentifierText, SpellsToken}
 use Rattle.ns_lex.specs.Gap.{IsGap, IsGapPart, BeginsNoGap}
 
 -- The text w with q behind it spells the token. A string ends at a quote that no quote follows.
-abbrev pub Stands : Text → Text → Kind → Type 0
-Stands w q (k.Str s) = Spells w (k.Str s) × (slice_index q 0 ≢ 39)
-Stands w q t = Spells w t
+abbrev pub SpellsInText : Text → Text → Kind → Type 0
+SpellsInText w q (k.Str s) = SpellsToken w (k.Str s) × (slice_index q 0 ≢ 39)
+SpellsInText w q t = SpellsToken w t
 
 -- No longer text from the same start spells a token.
 abbrev pub Longest : Text → Text → Type 0
-Longest w q = (p r : Text) (t : Kind) → w ++ q ≡ p ++ r → Stands p r t → length p ≤ length w
+Longest w q = (p r : Text) (t : Kind) → w ++ q ≡ p ++ r → SpellsInText p r t → length p ≤ length w
 
 -- An identifier's text stands directly before `::=`.
 abbrev pub BeforeSlotSet : Text → Text → Type 0
-BeforeSlotSet w q = IsName w × ((r : Text) × (q ≡ 58 ∷ 58 ∷ 61 ∷ r))
+BeforeSlotSet w q = IsIdentifierText w × ((r : Text) × (q ≡ 58 ∷ 58 ∷ 61 ∷ r))
 
 -- The next token of a text is t, spelled by w with q behind it: the longest, but an identifier's text before `::=` is a token.
 abbrev pub IsNext : Text → Text → Kind → Type 0
-IsNext w q t = Stands w q t × (BeforeSlotSet w q ⊎ (Longest w q × ((p r : Text) → w ++ q ≡ p ++ r → BeforeSlotSet p r → ⊥)))
+IsNext w q t = SpellsInText w q t × (BeforeSlotSet w q ⊎ (Longest w q × ((p r : Text) → w ++ q ≡ p ++ r → BeforeSlotSet p r → ⊥)))
 
 -- The text is a run of digits, one at least.
 abbrev pub IsDigits : Text → Type 0
@@ -48,17 +48,17 @@ EndsDigits q = (is_digit (slice_index q 0) ≡ false) × (BeginsName q → ⊥) 
 
 -- The byte begins no token and no gap.
 abbrev pub BeginsNothing : ℕ → Type 0
-BeginsNothing b = ((u : Text) (t : Kind) → Spells (b ∷ u) t → ⊥) × ((u : Text) → IsGapPart (b ∷ u) → ⊥)
+BeginsNothing b = ((u : Text) (t : Kind) → SpellsToken (b ∷ u) t → ⊥) × ((u : Text) → IsGapPart (b ∷ u) → ⊥)
 
 -- The text, which begins with no gap, has a fault of that cause at its byte n.
 abbrev pub IsFault : Text → Cause → ℕ → Type 0
 IsFault z cause.BadByte n =
     ((d q : Text) × (z ≡ d ++ q) × IsDigits d × (BeginsName q ⊎ BeginsFraction q) × (n ≡ length d))
-    ⊎ ((q : Text) × (z ≡ 35 ∷ q) × ((p r s : Text) → z ≡ p ++ r → Spells p (k.Symbol s) → ⊥) × (n ≡ 0))
+    ⊎ ((q : Text) × (z ≡ 35 ∷ q) × ((p r s : Text) → z ≡ p ++ r → SpellsToken p (k.Symbol s) → ⊥) × (n ≡ 0))
     ⊎ ((b : ℕ) × (q : Text) × (z ≡ b ∷ q) × BeginsNothing b × (n ≡ 0))
 IsFault z cause.BigNumber n = (d q : Text) × (z ≡ d ++ q) × IsDigits d × EndsDigits q × (greatest < value d) × (n ≡ 0)
 IsFault z cause.UnclosedComment n = ((q : Text) × ((z ≡ 40 ∷ 42 ∷ q) ⊎ (z ≡ 34 ∷ q))) × (n ≡ 0)
-IsFault z cause.UnclosedString n = ((q : Text) × (z ≡ 39 ∷ q)) × ((p r s : Text) → z ≡ p ++ r → Stands p r (k.Str s) → ⊥) × (n ≡ 0)
+IsFault z cause.UnclosedString n = ((q : Text) × (z ≡ 39 ∷ q)) × ((p r s : Text) → z ≡ p ++ r → SpellsInText p r (k.Str s) → ⊥) × (n ≡ 0)
 
 -- No fault is named for what begins here.
 abbrev pub BeginsNoFault : Text → Type 0

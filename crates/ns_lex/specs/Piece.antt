@@ -7,7 +7,7 @@ abbrev pub Text : Type 0
 Text = List ℕ
 
 -- In a text of that length a part of a gap and a token take at least a byte, and no more than there are.
-abbrev pub Moves : ℕ → Piece → Type 0
-Moves length (Gap n) = (1 ≤ n) × (n ≤ length)
-Moves length (Token kind n) = (1 ≤ n) × (n ≤ length)
-Moves length (Fault cause n) = n ≤ length
+abbrev pub PieceTakes : ℕ → Piece → Type 0
+PieceTakes length (Gap n) = (1 ≤ n) × (n ≤ length)
+PieceTakes length (Token kind n) = (1 ≤ n) × (n ≤ length)
+PieceTakes length (Fault cause n) = n ≤ length

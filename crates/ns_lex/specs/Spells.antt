@@ -14,42 +14,42 @@ AllOf p [] = Unit {0}
 AllOf p (b ∷ t) = (p b ≡ true) × AllOf p t
 
 -- The text is an identifier's: a letter or _, then letters, digits and _.
-abbrev pub IsName : Text → Type 0
-IsName [] = ⊥
-IsName (b ∷ t) = (begins_name b ≡ true) × AllOf goes_on_name t
+abbrev pub IsIdentifierText : Text → Type 0
+IsIdentifierText [] = ⊥
+IsIdentifierText (b ∷ t) = (begins_name b ≡ true) × AllOf goes_on_name t
 
 -- The text is an identifier's and a colon.
-abbrev pub IsKey : Text → Type 0
-IsKey t = (n : Text) × IsName n × (t ≡ n ++ 58 ∷ [])
+abbrev pub IsKeyText : Text → Type 0
+IsKeyText t = (n : Text) × IsIdentifierText n × (t ≡ n ++ 58 ∷ [])
 
 -- The text is one or more keys in a row.
-abbrev pub IsKeys : Text → List Text → Type 0
-IsKeys t [] = ⊥
-IsKeys t (n ∷ []) = IsKey n × (t ≡ n)
-IsKeys t (n ∷ m ∷ ns) = IsKey n × ((u : Text) × (t ≡ n ++ u) × IsKeys u (m ∷ ns))
+abbrev pub IsKeysText : Text → List Text → Type 0
+IsKeysText t [] = ⊥
+IsKeysText t (n ∷ []) = IsKeyText n × (t ≡ n)
+IsKeysText t (n ∷ m ∷ ns) = IsKeyText n × ((u : Text) × (t ≡ n ++ u) × IsKeysText u (m ∷ ns))
 
 -- The text is a run of operator characters, or `<:`.
 abbrev pub IsOperator : Text → Type 0
 IsOperator t = ((0 < length t) × AllOf is_operator_byte t) ⊎ (t ≡ 60 ∷ 58 ∷ [])
 
 -- The text spells the token.
-abbrev pub Spells : Text → Kind → Type 0
-Spells t (k.Ident s) = IsName s × (t ≡ s) × (reserved s ≡ None)
-Spells t (k.Word w) = IsName t × (reserved t ≡ Some w)
-Spells t (k.Key s) = IsKey s × (t ≡ s)
-Spells t (k.SetKey s) = IsName s × (t ≡ s ++ 58 ∷ 58 ∷ [])
-Spells t (k.Oper s) = IsOperator s × (t ≡ s)
-Spells t (k.Number v) = (0 < length t) × AllOf is_digit t × (value t ≡ v) × (v ≤ greatest)
-Spells t (k.Str s) = t ≡ 39 ∷ (doubled s ++ 39 ∷ [])
-Spells t (k.Symbol s) = (IsName s ⊎ ((ks : List Text) × IsKeys s ks) ⊎ IsOperator s) × (t ≡ 35 ∷ s)
-Spells t k.Open = t ≡ 40 ∷ []
-Spells t k.Close = t ≡ 41 ∷ []
-Spells t k.OpenBlock = t ≡ 91 ∷ []
-Spells t k.CloseBlock = t ≡ 93 ∷ []
-Spells t k.OpenTuple = t ≡ 123 ∷ []
-Spells t k.CloseTuple = t ≡ 125 ∷ []
-Spells t k.Stop = t ≡ 46 ∷ []
-Spells t k.Semi = t ≡ 59 ∷ []
-Spells t k.Caret = t ≡ 94 ∷ []
-Spells t k.Colon = t ≡ 58 ∷ []
-Spells t k.SlotSet = t ≡ 58 ∷ 58 ∷ 61 ∷ []
+abbrev pub SpellsToken : Text → Kind → Type 0
+SpellsToken t (k.Ident s) = IsIdentifierText s × (t ≡ s) × (reserved s ≡ None)
+SpellsToken t (k.Word w) = IsIdentifierText t × (reserved t ≡ Some w)
+SpellsToken t (k.Key s) = IsKeyText s × (t ≡ s)
+SpellsToken t (k.SetKey s) = IsIdentifierText s × (t ≡ s ++ 58 ∷ 58 ∷ [])
+SpellsToken t (k.Oper s) = IsOperator s × (t ≡ s)
+SpellsToken t (k.Number v) = (0 < length t) × AllOf is_digit t × (value t ≡ v) × (v ≤ greatest)
+SpellsToken t (k.Str s) = t ≡ 39 ∷ (doubled s ++ 39 ∷ [])
+SpellsToken t (k.Symbol s) = (IsIdentifierText s ⊎ ((ks : List Text) × IsKeysText s ks) ⊎ IsOperator s) × (t ≡ 35 ∷ s)
+SpellsToken t k.Open = t ≡ 40 ∷ []
+SpellsToken t k.Close = t ≡ 41 ∷ []
+SpellsToken t k.OpenBlock = t ≡ 91 ∷ []
+SpellsToken t k.CloseBlock = t ≡ 93 ∷ []
+SpellsToken t k.OpenTuple = t ≡ 123 ∷ []
+SpellsToken t k.CloseTuple = t ≡ 125 ∷ []
+SpellsToken t k.Stop = t ≡ 46 ∷ []
+SpellsToken t k.Semi = t ≡ 59 ∷ []
+SpellsToken t k.Caret = t ≡ 94 ∷ []
+SpellsToken t k.Colon = t ≡ 58 ∷ []
+SpellsToken t k.SlotSet = t ≡ 58 ∷ 58 ∷ 61 ∷ []

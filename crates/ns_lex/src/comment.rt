@@ -2,7 +2,7 @@
 
 ghost use Rattle.std.specs.Prelude.{◌≡◌, ◌≤◌, ◌<◌, ◌+◌, length, IfSome};
 ghost use Rattle.ns_lex.specs.Comment as spec;
-ghost use Rattle.ns_lex.specs.Piece.{Moves};
+ghost use Rattle.ns_lex.specs.Piece.{PieceTakes};
 ghost use Rattle.ns_lex.specs.declared.comment.Last.TheVariants as last;
 
 use crate::bytes::byte;
@@ -65,7 +65,7 @@ fn comment_from(text: &[u8]) -> Option<usize>
 pub fn comment(text: &[u8]) -> Piece
     requires { 1 < length text.now }
     ensures value { result ≡ spec.comment text.now }
-    ensures within { Moves (length text.now) result }
+    ensures within { PieceTakes (length text.now) result }
 {
     match comment_from(&text[2..]) {
         None => Piece::Fault(Cause::UnclosedComment, 0),
@@ -90,7 +90,7 @@ fn remark_len(text: &[u8]) -> usize
 pub fn remark(text: &[u8]) -> Piece
     requires { 0 < length text.now }
     ensures value { result ≡ spec.remark text.now }
-    ensures within { Moves (length text.now) result }
+    ensures within { PieceTakes (length text.now) result }
 {
     let n = remark_len(&text[1..]);
     if byte(text, n + 1) == b'"' {

@@ -7,7 +7,7 @@ ghost use Rattle.ns_lex.specs.Lexes.{LexStops, Lexes};
 ghost use Rattle.ns_lex.specs.Next.{next_piece};
 ghost use Rattle.ns_lex.specs.Scan.{scan};
 ghost use Rattle.ns_lex.specs.Spaced.{IsSpaced, LexesTo};
-ghost use Rattle.ns_lex.specs.Spells.{Spells};
+ghost use Rattle.ns_lex.specs.Spells.{SpellsToken};
 ghost use Rattle.ns_lex.specs.declared.piece.Cause.{Cause};
 ghost use Rattle.ns_lex.specs.declared.piece.Piece.TheVariants as piece;
 ghost use Rattle.ns_tree.specs.Tokens.{kinds};
@@ -28,13 +28,13 @@ pub fn sources_are_cut_one_way()
 
 /// A token that some text spells has a text, and so have the tokens that cut a source.
 pub fn tokens_have_texts()
-    ensures each { (w : List ℕ) (kind : Kind) → Spells w kind → HasText kind }
+    ensures each { (w : List ℕ) (kind : Kind) → SpellsToken w kind → HasText kind }
     ensures all { (source : List ℕ) (tokens : List Token) → Lexes source tokens → AllHaveText (kinds tokens) }
 {}
 
 /// A text that spells a token is read as that token again, where a blank stands behind it.
 pub fn texts_are_read_again()
-    ensures { (w z : List ℕ) (kind : Kind) (b : ℕ) → Spells w kind → is_blank b ≡ true → next_piece (w ++ b ∷ z) ≡ piece.Token kind (length w) }
+    ensures { (w z : List ℕ) (kind : Kind) (b : ℕ) → SpellsToken w kind → is_blank b ≡ true → next_piece (w ++ b ∷ z) ≡ piece.Token kind (length w) }
 {}
 
 /// Texts of tokens, with a blank behind each, are cut into these tokens.

@@ -2,7 +2,7 @@
 
 ghost use Rattle.std.specs.Prelude.{◌≡◌, ◌<◌, length, IfOk};
 ghost use Rattle.ns_lex.specs.Next as spec;
-ghost use Rattle.ns_lex.specs.Piece.{Moves};
+ghost use Rattle.ns_lex.specs.Piece.{PieceTakes};
 
 use crate::bytes::{byte, is_blank};
 use crate::comment::{comment, remark};
@@ -22,7 +22,7 @@ use std::alloc::Global;
 pub fn next_piece(alloc: Global, text: &[u8]) -> Result<Piece, NoMemory>
     requires { 0 < length text.now }
     ensures value { IfOk result (λ p. p ≡ spec.next_piece text.now) }
-    ensures within { IfOk result (Moves (length text.now)) }
+    ensures within { IfOk result (PieceTakes (length text.now)) }
 {
     let b = byte(text, 0);
     if is_blank(b) {

@@ -2,7 +2,7 @@
 
 ghost use Rattle.std.specs.Prelude.{◌≡◌, length, slice_index, true, All};
 ghost use Rattle.ns_base.specs.Spelling.{is_digit};
-ghost use Rattle.ns_lex.specs.Piece.{Moves};
+ghost use Rattle.ns_lex.specs.Piece.{PieceTakes};
 ghost use Rattle.ns_lex.specs.Number as spec;
 
 use crate::bytes::{ByteClass, byte, run};
@@ -34,7 +34,7 @@ fn value(digits: &[u8]) -> Option<u64>
 pub fn number(text: &[u8]) -> Piece
     requires { is_digit (slice_index text.now 0) ≡ true }
     ensures value { result ≡ spec.number text.now }
-    ensures within { Moves (length text.now) result }
+    ensures within { PieceTakes (length text.now) result }
 {
     let n = run(ByteClass::Digit, text);
     if begins_name(byte(text, n)) || (byte(text, n) == b'.' && is_digit(byte(text, n + 1))) {

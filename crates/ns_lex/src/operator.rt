@@ -3,7 +3,7 @@
 ghost use Rattle.std.specs.Prelude.{◌≡◌, ◌≤◌, ◌<◌, length, slice_index, true, IfOk};
 ghost use Rattle.ns_base.specs.Spelling.{is_operator_byte};
 ghost use Rattle.ns_lex.specs.Operator as spec;
-ghost use Rattle.ns_lex.specs.Piece.{Moves};
+ghost use Rattle.ns_lex.specs.Piece.{PieceTakes};
 
 use crate::bytes::{ByteClass, byte, run};
 use crate::piece::Piece;
@@ -31,7 +31,7 @@ pub fn operator_len(text: &[u8]) -> usize
 pub fn operator(alloc: Global, text: &[u8]) -> Result<Piece, NoMemory>
     requires { is_operator_byte (slice_index text.now 0) ≡ true }
     ensures value { IfOk result (λ p. p ≡ spec.operator text.now) }
-    ensures within { IfOk result (Moves (length text.now)) }
+    ensures within { IfOk result (PieceTakes (length text.now)) }
 {
     let n = operator_len(text);
     Ok(Piece::Token(Kind::Oper(Text::of(alloc, &text[..n])?), n))

@@ -1,7 +1,7 @@
 //! Strings.
 
 ghost use Rattle.std.specs.Prelude.{◌≡◌, ◌≤◌, ◌<◌, ◌+◌, length, false, [], IfOk, IfSome};
-ghost use Rattle.ns_lex.specs.Piece.{Moves};
+ghost use Rattle.ns_lex.specs.Piece.{PieceTakes};
 ghost use Rattle.ns_lex.specs.Quoted as spec;
 
 use crate::piece::{Cause, Piece};
@@ -43,7 +43,7 @@ fn quoted_from(alloc: Global, text: &[u8]) -> Result<Option<(Text, usize)>, NoMe
 pub fn quoted(alloc: Global, text: &[u8]) -> Result<Piece, NoMemory>
     requires { 0 < length text.now }
     ensures value { IfOk result (λ p. p ≡ spec.quoted text.now) }
-    ensures within { IfOk result (Moves (length text.now)) }
+    ensures within { IfOk result (PieceTakes (length text.now)) }
 {
     match quoted_from(alloc, &text[1..])? {
         None => Ok(Piece::Fault(Cause::UnclosedString, 0)),

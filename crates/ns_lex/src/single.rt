@@ -1,7 +1,7 @@
 //! Tokens of one spelling.
 
 ghost use Rattle.std.specs.Prelude.{◌≡◌, ◌<◌, length};
-ghost use Rattle.ns_lex.specs.Piece.{Moves};
+ghost use Rattle.ns_lex.specs.Piece.{PieceTakes};
 ghost use Rattle.ns_lex.specs.Single as spec;
 
 use crate::bytes::byte;
@@ -13,7 +13,7 @@ use ns_tree::token::Kind;
 pub fn single(text: &[u8]) -> Piece
     requires { 0 < length text.now }
     ensures value { result ≡ spec.single text.now }
-    ensures within { Moves (length text.now) result }
+    ensures within { PieceTakes (length text.now) result }
 {
     match byte(text, 0) {
         b'(' => Piece::Token(Kind::Open, 1),

@@ -1,7 +1,7 @@
 //! Symbols.
 
 ghost use Rattle.std.specs.Prelude.{◌≡◌, ◌≤◌, ◌<◌, length, false, IfOk};
-ghost use Rattle.ns_lex.specs.Piece.{Moves};
+ghost use Rattle.ns_lex.specs.Piece.{PieceTakes};
 ghost use Rattle.ns_lex.specs.Symbol as spec;
 
 use crate::bytes::{ByteClass, byte, run};
@@ -61,7 +61,7 @@ fn selector_len(text: &[u8]) -> usize
 pub fn symbol(alloc: Global, text: &[u8]) -> Result<Piece, NoMemory>
     requires { 0 < length text.now }
     ensures value { IfOk result (λ p. p ≡ spec.symbol text.now) }
-    ensures within { IfOk result (Moves (length text.now)) }
+    ensures within { IfOk result (PieceTakes (length text.now)) }
 {
     let selector = &text[1..];
     let n = selector_len(selector);

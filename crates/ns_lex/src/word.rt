@@ -2,7 +2,7 @@
 
 ghost use Rattle.std.specs.Prelude.{◌≡◌, length, slice_index, true, IfOk};
 ghost use Rattle.ns_base.specs.Spelling.{begins_name};
-ghost use Rattle.ns_lex.specs.Piece.{Moves};
+ghost use Rattle.ns_lex.specs.Piece.{PieceTakes};
 ghost use Rattle.ns_lex.specs.Word as spec;
 
 use crate::bytes::{ByteClass, byte, run};
@@ -46,7 +46,7 @@ pub fn reserved(name: &[u8]) -> Option<Reserved>
 pub fn word(alloc: Global, text: &[u8]) -> Result<Piece, NoMemory>
     requires { begins_name (slice_index text.now 0) ≡ true }
     ensures value { IfOk result (λ p. p ≡ spec.word text.now) }
-    ensures within { IfOk result (Moves (length text.now)) }
+    ensures within { IfOk result (PieceTakes (length text.now)) }
 {
     let n = run(ByteClass::Name, text);
     if byte(text, n) == b':' && !(byte(text, n + 1) == b':' && byte(text, n + 2) == b'=') {

@@ -13,7 +13,7 @@ use Rattle.ns_code.specs.declared.instruction.Instr.TheVariants as i
 use Rattle.ns_resolved.specs.Program.{Meant, Body, Does, as_method}
 use Rattle.ns_resolved.specs.Tables.{gathered, node_texts, nodes_texts, body_texts, texts_of}
 use Rattle.ns_gen_code.specs.Code.{Line, does, symbol, sends, starts, instr_of, send_instr, places_from, body_lines, bodies_code, code_of}
-use Rattle.ns_machine_moves.specs.Steps.{Step, place_in, placed, literal}
+use Rattle.ns_machine_moves.specs.Steps.{PlacedInstr, place_in, placed, literal}
 use Rattle.ns_link.specs.Shown.{shown}
 use Rattle.ns_link.proofs.Sim.{Texts, split}
 use Rattle.ns_link.proofs.RunOk.{Coded}
@@ -36,21 +36,21 @@ skipped : (number : ℕ) (place : Place) (places : List (ℕ × Place)) (k : ℕ
 skipped number place places k [] h = refl
 skipped number place places k (x ∷ instrs) h =
     ap (λ b. (x, cond b (Some place) (place_in places k)) ∷ placed ((number, place) ∷ places) (k + 1) instrs) (ne_eqb number k (λ e. omega (arith, e, h)))
-    ∙ ap (λ (l : List Step). (x, place_in places k) ∷ l) (skipped number place places (k + 1) instrs (omega (arith, h)))
+    ∙ ap (λ (l : List PlacedInstr). (x, place_in places k) ∷ l) (skipped number place places (k + 1) instrs (omega (arith, h)))
 
 -- an instruction with its place
-found : (x : Instr) (place : Place) (places : List (ℕ × Place)) (n : ℕ) (instrs : List Instr) (lines : List Step) → placed places (n + 1) instrs ≡ lines
+found : (x : Instr) (place : Place) (places : List (ℕ × Place)) (n : ℕ) (instrs : List Instr) (lines : List PlacedInstr) → placed places (n + 1) instrs ≡ lines
     → placed ((n, place) ∷ places) n (x ∷ instrs) ≡ (x, Some place) ∷ lines
 found x place places n instrs lines e =
     ap (λ b. (x, cond b (Some place) (place_in places n)) ∷ placed ((n, place) ∷ places) (n + 1) instrs) (eq-eqb n n refl)
-    ∙ ap (λ (l : List Step). (x, Some place) ∷ l) (skipped n place places (n + 1) instrs (omega arith) ∙ e)
+    ∙ ap (λ (l : List PlacedInstr). (x, Some place) ∷ l) (skipped n place places (n + 1) instrs (omega arith) ∙ e)
 
 -- an instruction without one
-bare : (x : Instr) (more : List Line) (n : ℕ) (instrs : List Instr) (lines : List Step) → placed (places_from (n + 1) more) (n + 1) instrs ≡ lines
+bare : (x : Instr) (more : List Line) (n : ℕ) (instrs : List Instr) (lines : List PlacedInstr) → placed (places_from (n + 1) more) (n + 1) instrs ≡ lines
     → placed (places_from (n + 1) more) n (x ∷ instrs) ≡ (x, None) ∷ lines
 bare x more n instrs lines e =
     ap (λ (o : Option Place). (x, o) ∷ placed (places_from (n + 1) more) (n + 1) instrs) (places_later more (n + 1) n (omega arith))
-    ∙ ap (λ (l : List Step). (x, None) ∷ l) e
+    ∙ ap (λ (l : List PlacedInstr). (x, None) ∷ l) e
 
 placed_shown : (names : List (List ℕ)) (lines : List Line) (n : ℕ) → placed (places_from n lines) n (map (instr_of names) lines) ≡ shown names lines
 placed_shown names [] n = refl
@@ -81,7 +81,7 @@ texts_from code k before (text ∷ after) e l =
 
 -- ---- bodies
 
-abbrev steps_in : Option BodyCode → List Step
+abbrev steps_in : Option BodyCode → List PlacedInstr
 steps_in o = option_map_or (λ (b : BodyCode). placed b.places 0 b.instrs) o ((i.ReturnSelf, None) ∷ [])
 
 abbrev does_in : Option Body → Does

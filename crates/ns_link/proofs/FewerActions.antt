@@ -37,7 +37,7 @@ use Rattle.ns_kcode.specs.Next.{next}
 use Rattle.ns_actions.specs.declared.site.Site.{Site}
 use Rattle.ns_actions.specs.Site.{error}
 use Rattle.ns_actions.specs.Control.{Progress, in_world, Activation, Exit, FromMethod, FromBody, FromClause, Gives, Halts}
-use Rattle.ns_actions.specs.Control.{Control, Now, Enter, Part, Skip, Stop, EnterPart, Waiting, Waits, Finishes, halts, fails, charged, gives}
+use Rattle.ns_actions.specs.Control.{Control, Now, Enter, PartControl, Skip, Stop, EnterPart, Waiting, Waits, Finishes, halts, fails, charged, gives}
 use Rattle.ns_actions.specs.Bodies.{parameters_of, has_environment, first_locals, initialiser_of, clause_of, no_home, opened, is_beside, environment_at}
 use Rattle.ns_actions.specs.Bodies.{local_stored}
 use Rattle.ns_actions.specs.Classes.{newly_kept, kept_or, class_over, head, nested, instance, factory_selector, super_selector}
@@ -167,7 +167,7 @@ module _ (k : ℕ) (code : CodeProgram) where
         site = site;
       }) arguments q refl (λ a ls q. refl)
 
-  either_part : (b : Bool) (x' x y : Part) → x' ≡ part_to k x → cond b x' (part_to k y) ≡ part_to k (cond b x y)
+  either_part : (b : Bool) (x' x y : PartControl) → x' ≡ part_to k x → cond b x' (part_to k y) ≡ part_to k (cond b x y)
   either_part true x' x y e = e
   either_part false x' x y e = refl
 

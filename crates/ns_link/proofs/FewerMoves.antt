@@ -19,7 +19,7 @@ use Rattle.ns_find.specs.declared.found.Sending.TheVariants.{Inner}
 use Rattle.ns_kdata.specs.Arguments.{items_of}
 use Rattle.ns_facets.specs.declared.row.Grants.{Grants}
 use Rattle.ns_actions.specs.Control.{Progress, Activation, After, Gives, Halts, Control, Now, Enter, Evaluate, Begin, Perform, frame_left}
-use Rattle.ns_actions.specs.Control.{Part, Skip, Stop, EnterPart, Waiting, Waits, Finishes, halts}
+use Rattle.ns_actions.specs.Control.{PartControl, Skip, Stop, EnterPart, Waiting, Waits, Finishes, halts}
 use Rattle.ns_actions.specs.Bodies.{locals_with}
 use Rattle.ns_actions.specs.Blocks.{new_cell, method_next}
 use Rattle.ns_world.specs.Booleans.{is_boolean}
@@ -28,7 +28,7 @@ use Rattle.ns_actions.specs.Sends.{Target, To, ToPrivate, ToSuper, to_value, sen
 use Rattle.ns_actions.specs.Start.{start_cells, nothing_done, all_made, start_made}
 use Rattle.ns_kcode.specs.declared.state.KMethod.{KMethod}
 use Rattle.ns_actions.specs.declared.site.Site.{Site}
-use Rattle.ns_machine_moves.specs.Steps.{Step, literal, steps_from}
+use Rattle.ns_machine_moves.specs.Steps.{PlacedInstr, literal, steps_from}
 use Rattle.ns_machine_moves.specs.State.{Leaving, Loud, Silent, Frame, Running, Looping, Sending, Performing, Evaluating}
 use Rattle.ns_machine_moves.specs.State.{Phase, Start, First, Second, Hosted, State, Unbegun, Going, Pends, Ended, Stuck, progress_of, world_of}
 use Rattle.ns_machine_moves.specs.Returns.{delivered, settled, returned, is_home, has_home, unwound, returned_home}
@@ -68,7 +68,7 @@ module _ (k : ℕ) (code : CodeProgram) where
   arrived_to phase (Begin method state site p) frames = refl
   arrived_to phase (Perform receiver sel array site p) frames = refl
 
-  part_arrived_to : (phase : Phase) (part : Part) (frames : List Frame)
+  part_arrived_to : (phase : Phase) (part : PartControl) (frames : List Frame)
       → part_arrived code phase (part_to k part) frames ≡ state_to k (part_arrived code phase part frames)
   part_arrived_to phase (Skip p) frames = refl
   part_arrived_to phase (Stop ending p) frames = refl
@@ -136,17 +136,17 @@ module _ (k : ℕ) (code : CodeProgram) where
   either_keeps true phase p x' y' x y e f = e
   either_keeps false phase p x' y' x y e f = f
 
-  module _ (phase : Phase) (place : Option SourcePlace) (leaving : Leaving) (a : Activation) (ls : List Value) (rest : List Step) (frames : List Frame)
+  module _ (phase : Phase) (place : Option SourcePlace) (leaving : Leaving) (a : Activation) (ls : List Value) (rest : List PlacedInstr) (frames : List Frame)
       (p : Progress) (le : k ≤ p.world.limits.steps) where
     abbrev frame : List Value → List Frame
     frame stack = Running leaving a ls rest stack ∷ frames
 
-    jumps : (landing : List Step) (stack : List Value)
+    jumps : (landing : List PlacedInstr) (stack : List Value)
         → Keeps phase p (jumped phase leaving a ls rest landing stack frames (to_steps k p)) (jumped phase leaving a ls rest landing stack frames p)
     jumps landing stack =
         either_keeps (goes_back rest landing) phase p _ _ _ _ (steps_follow k (state_to k) (ends_in phase) p _ _ le (λ q. refl)) (inl refl)
 
-    jumps_on : (wanted : Bool) (value : Value) (landing : List Step) (stack : List Value)
+    jumps_on : (wanted : Bool) (value : Value) (landing : List PlacedInstr) (stack : List Value)
         → Keeps phase p (jumped_on phase wanted value leaving a ls rest landing stack frames (to_steps k p))
         (jumped_on phase wanted value leaving a ls rest landing stack frames p)
     jumps_on wanted value landing stack =

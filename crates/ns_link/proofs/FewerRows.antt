@@ -26,7 +26,7 @@ use Rattle.ns_kint.specs.Integer.{integer}
 use Rattle.ns_kdata.specs.declared.row.DataRow.{DataRow}
 use Rattle.ns_kdata.specs.declared.row.DataRow.TheVariants as data_row
 use Rattle.ns_kdata.specs.declared.arguments.Part.{Part}
-use Rattle.ns_kdata.specs.Outcome.{Outcome, Answers, Fails, made_as, making, unchanged, wrong_kind, out_of_range}
+use Rattle.ns_kdata.specs.Outcome.{RowOutcome, Answers, Fails, made_as, making, unchanged, wrong_kind, out_of_range}
 use Rattle.ns_kdata.specs.Arguments.{argument, number_of, symbol_text, shape_of_value, is_text, bytes_of, is_array, items_of, place_in, part_in}
 use Rattle.ns_kdata.specs.Texts.{bytes_in, copied, text_at, text_less}
 use Rattle.ns_base.specs.Quoted.{quoted}
@@ -103,7 +103,7 @@ module _ (k : ℕ) where
 
   -- ---- outcomes
 
-  abbrev outcome_to : Outcome → Outcome
+  abbrev outcome_to : RowOutcome → RowOutcome
   outcome_to (Answers value world) = Answers value (world_to k world)
   outcome_to (Fails fault) = Fails fault
 
@@ -128,7 +128,7 @@ module _ (k : ℕ) where
   stored_to world (value.Kernel class) word new = refl
   stored_to world (value.Ref at) word new = refl
 
-  either_to : (b : Bool) (x' x y : Outcome) → x' ≡ outcome_to x → cond b x' (outcome_to y) ≡ outcome_to (cond b x y)
+  either_to : (b : Bool) (x' x y : RowOutcome) → x' ≡ outcome_to x → cond b x' (outcome_to y) ≡ outcome_to (cond b x y)
   either_to true x' x y e = e
   either_to false x' x y e = refl
 
@@ -160,13 +160,13 @@ module _ (k : ℕ) where
   put_to world array (Ok place) new = ap (Answers new) (stored_to world array place new)
   put_to world array (Err fault) new = refl
 
-  pub reached_to : (outcome : Outcome) (site : Site) (p : Progress)
+  pub reached_to : (outcome : RowOutcome) (site : Site) (p : Progress)
       → outcome_reached (outcome_to outcome) site (to_steps k p) ≡ control_to k (outcome_reached outcome site p)
   reached_to (Answers value world) site p = refl
   reached_to (Fails fault) site p = refl
 
   -- an outcome that is the same
-  by : (outcome' outcome : Outcome) (site : Site) (p : Progress) → outcome' ≡ outcome_to outcome
+  by : (outcome' outcome : RowOutcome) (site : Site) (p : Progress) → outcome' ≡ outcome_to outcome
       → outcome_reached outcome' site (to_steps k p) ≡ control_to k (outcome_reached outcome site p)
   by outcome' outcome site p e = ap (λ o. outcome_reached o site (to_steps k p)) e ∙ reached_to outcome site p
 
@@ -249,11 +249,11 @@ module _ (k : ℕ) where
   mirrored_to (Reflects answer world) = Reflects answer (world_to k world)
   mirrored_to (Refuses fault) = Refuses fault
 
-  reflected_to : (outcome : Outcome) → reflected (outcome_to outcome) ≡ mirrored_to (reflected outcome)
+  reflected_to : (outcome : RowOutcome) → reflected (outcome_to outcome) ≡ mirrored_to (reflected outcome)
   reflected_to (Answers value world) = refl
   reflected_to (Fails fault) = refl
 
-  shown_to : (outcome' outcome : Outcome) → outcome' ≡ outcome_to outcome → reflected outcome' ≡ mirrored_to (reflected outcome)
+  shown_to : (outcome' outcome : RowOutcome) → outcome' ≡ outcome_to outcome → reflected outcome' ≡ mirrored_to (reflected outcome)
   shown_to outcome' outcome e = ap reflected e ∙ reflected_to outcome
 
   answers_to : (answer : Mirrored) (world : World) (site : Site) (p : Progress)

@@ -13,7 +13,7 @@ use Rattle.ns_actions.specs.Blocks.{evaluated, method_next, taken}
 use Rattle.ns_actions.specs.Sends.{performed}
 use Rattle.ns_resolved.specs.Program.{Meant}
 use Rattle.ns_resolved.specs.Tables.{gathered, node_texts, nodes_texts}
-use Rattle.ns_model.specs.Outcome.{Outcome, Yields, Returns, Ends, Spent, passed, caught, finish, finish_part, is_home}
+use Rattle.ns_model.specs.Outcome.{Completion, Yields, Returns, Ends, Spent, passed, caught, finish, finish_part, is_home}
 use Rattle.ns_model.specs.Eval.{Call}
 use Rattle.ns_model.specs.Run.{does_at, gone_on, run_part, run}
 use Rattle.ns_gen_code.specs.Code.{body_lines}
@@ -46,7 +46,7 @@ module _ (code : CodeProgram) (phase : Phase) where
   returns_ok FromBody a s h v p fs r = r
   returns_ok (FromClause o g c) a s h v p fs r = r
 
-  finish_ok : (exit : Exit) (a : Activation) (s : State) (fs : List Frame) (o : Outcome Value)
+  finish_ok : (exit : Exit) (a : Activation) (s : State) (fs : List Frame) (o : Completion Value)
       → Lands code phase s (λ v _ p. returned code phase (Loud exit) a v fs p) (Running (Loud exit) a [] [] [] ∷ fs) o
       → Lands code phase s (λ v _ p. delivered code phase v fs p) fs (finish code exit a o)
   finish_ok exit a s fs (Yields v ls p) r = gives code phase s fs [] (body_ended code exit a v p) r
@@ -54,7 +54,7 @@ module _ (code : CodeProgram) (phase : Phase) where
   finish_ok exit a s fs (Ends e p) r = r
   finish_ok exit a s fs Spent r = tt
 
-  finish_part_ok : (a : Activation) (s : State) (fs : List Frame) (o : Outcome Value)
+  finish_part_ok : (a : Activation) (s : State) (fs : List Frame) (o : Completion Value)
       → Lands code phase s (λ v _ p. returned code phase Silent a v fs p) (Running Silent a [] [] [] ∷ fs) o
       → Lands code phase s (λ _ _ p. Going phase fs p) fs (finish_part o)
   finish_part_ok a s fs (Yields v ls p) r = r
@@ -63,7 +63,7 @@ module _ (code : CodeProgram) (phase : Phase) where
   finish_part_ok a s fs Spent r = tt
 
   passed_ok : (named : KMethod) (state : KState) (site : Site) (s : State) (good : Value → List Value → Progress → State) (fs : List Frame)
-      (o : Outcome Value) → Lands code phase s good (Looping named state site ∷ fs) o → Lands code phase s good fs (passed o)
+      (o : Completion Value) → Lands code phase s good (Looping named state site ∷ fs) o → Lands code phase s good fs (passed o)
   passed_ok named state site s good fs (Yields v ls p) r = r
   passed_ok named state site s good fs (Returns h v p) r = r
   passed_ok named state site s good fs (Ends e p) r = r

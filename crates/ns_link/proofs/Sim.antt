@@ -9,14 +9,14 @@ use Rattle.ns_world.specs.declared.value.Value.{Value}
 use Rattle.ns_world.specs.declared.ending.Kind.TheVariants.{DeadReturn}
 use Rattle.ns_find.specs.declared.found.Sending.TheVariants.{Inner}
 use Rattle.ns_actions.specs.Site.{error}
-use Rattle.ns_actions.specs.Control.{Progress, Activation, After, Gives, Halts, Control, Part}
+use Rattle.ns_actions.specs.Control.{Progress, Activation, After, Gives, Halts, Control, PartControl}
 use Rattle.ns_actions.specs.Bodies.{enclosing}
 use Rattle.ns_actions.specs.Blocks.{new_block, new_text, new_array}
 use Rattle.ns_actions.specs.Classes.{super_part, slot_filled}
 use Rattle.ns_actions.specs.Sends.{To, ToPrivate, ToSuper, to_value, sent}
 use Rattle.ns_resolved.specs.Program as m
 use Rattle.ns_resolved.specs.Tables.{sel_of, node_texts, nodes_texts, messages_texts, value_of, step_node, gathered}
-use Rattle.ns_model.specs.Outcome.{Outcome, Yields, bind, settled, back, is_live, going_home}
+use Rattle.ns_model.specs.Outcome.{Completion, Yields, bind, settled, back, is_live, going_home}
 use Rattle.ns_model.specs.Eval.{Call, PartCall, eval, eval_all, eval_messages, locals_begun, slots_filled, each_evaluated, method_steps, block_steps, eval_body}
 use Rattle.ns_gen_code.specs.Code.{Line, does, sends, starts, plain, inner, private_at, super, how_many, node_lines, nodes_lines, messages_lines}
 use Rattle.ns_gen_code.specs.Code.{locals_lines, slots_lines, method_lines, block_lines, expressions_lines, body_lines}
@@ -59,7 +59,7 @@ CallOk code phase call =
     (c : Control) (fs : List Frame) → Lands code phase (arrived code phase c fs) (λ v _ p. delivered code phase v fs p) fs (call c (homes fs))
 
 abbrev pub PartOk : CodeProgram → Phase → PartCall → Type 0
-PartOk code phase part = (c : Part) (fs : List Frame) → Lands code phase (part_arrived code phase c fs) (λ _ _ p. Going phase fs p) fs (part c (homes fs))
+PartOk code phase part = (c : PartControl) (fs : List Frame) → Lands code phase (part_arrived code phase c fs) (λ _ _ p. Going phase fs p) fs (part c (homes fs))
 
 -- the texts from a number on
 abbrev pub Texts : CodeProgram → ℕ → List (List ℕ) → Type 0
@@ -83,7 +83,7 @@ module _ (code : CodeProgram) (phase : Phase) (call : Call) (part : PartCall) (c
   abbrev fr : List Value → List Line → List Value → List Frame
   fr ls rest stack = Running x a ls (shown code.names rest) stack ∷ fs
 
-  abbrev Sim : {A : Type 0} → State → (A → List Value → Progress → State) → Outcome A → Type 0
+  abbrev Sim : {A : Type 0} → State → (A → List Value → Progress → State) → Completion A → Type 0
   Sim s good o = Lands code phase s good (fr [] [] []) o
 
   -- a value on the stack

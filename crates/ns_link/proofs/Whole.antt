@@ -8,7 +8,7 @@ use Rattle.ns_world.specs.declared.value.Value.TheVariants.{Ref}
 use Rattle.ns_actions.specs.Control.{Progress}
 use Rattle.ns_actions.specs.Sends.{sent_plain, site_at, own_sel}
 use Rattle.ns_resolved.specs.Program.{Meant}
-use Rattle.ns_model.specs.Outcome.{Outcome, Yields, Returns, Ends, Spent, bind}
+use Rattle.ns_model.specs.Outcome.{Completion, Yields, Returns, Ends, Spent, bind}
 use Rattle.ns_model.specs.Laws.{IsEnough, GoesHome, ReturnsGoHome}
 use Rattle.ns_model.specs.Run.{fuel_of}
 use Rattle.ns_actions.specs.Start.{manifest, platform, first_class}
@@ -42,14 +42,14 @@ module _ (meant : Meant) (home : ReturnsGoHome meant (code_of meant)) where
   opening_home : (receiver : Value) (own : Own) (values : List Value) (p : Progress) → GoesHome [] (opening meant code receiver own values p)
   opening_home receiver own values p = home (fuel_of p) (sent_plain code receiver (own_sel code own) values (opening_place meant) p) []
 
-  second_ok : (start : Progress) (s : State) (o : Outcome Value) → Lands code Second s (λ v _ p. delivered code Second v [] p) [] o → GoesHome [] o
+  second_ok : (start : Progress) (s : State) (o : Completion Value) → Lands code Second s (λ v _ p. delivered code Second v [] p) [] o → GoesHome [] o
       → IsEnough o → EndsAs code s (concluded start o)
   second_ok start s (Yields v ls p) r g e = record { count = r.count; phase = Second; is = r.is }
   second_ok start s (Returns h v p) r g e = absurd (cc)
   second_ok start s (Ends ending p) r g e = record { count = r.count; phase = Second; is = r.is }
   second_ok start s Spent r g e = absurd e
 
-  first_ok : (n : ℕ) (start : Progress) (s : State) (o : Outcome Value) → steps.opening_place code ≡ opening_place meant
+  first_ok : (n : ℕ) (start : Progress) (s : State) (o : Completion Value) → steps.opening_place code ≡ opening_place meant
       → Lands code (First n) s (λ v _ p. delivered code (First n) v [] p) [] o → GoesHome [] o
       → IsEnough (bind o (λ v ls p. opening meant code v MainArgs (platform ∷ Ref n ∷ []) p))
       → EndsAs code s (concluded start (bind o (λ v ls p. opening meant code v MainArgs (platform ∷ Ref n ∷ []) p)))

@@ -2,7 +2,7 @@
 use Rattle.std.specs.Prelude.{ℕ, Option, Some, None}
 use Rattle.ns_base.specs.declared.limits.Limits.{Limits}
 use Rattle.ns_world.specs.World.{World}
-use Rattle.ns_actions.specs.Control.{Progress, After, Gives, Halts, Control, Now, Enter, Evaluate, Begin, Perform, Part, Skip, Stop, EnterPart}
+use Rattle.ns_actions.specs.Control.{Progress, After, Gives, Halts, Control, Now, Enter, Evaluate, Begin, Perform, PartControl, Skip, Stop, EnterPart}
 use Rattle.ns_actions.specs.Control.{Waiting, Waits, Finishes}
 use Rattle.ns_machine_moves.specs.State.{State, Unbegun, Going, Pends, Ended, Stuck}
 
@@ -41,7 +41,7 @@ control_to steps (Evaluate block arguments site progress) = Evaluate block argum
 control_to steps (Begin method state site progress) = Begin method state site (to_steps steps progress)
 control_to steps (Perform receiver sel array site progress) = Perform receiver sel array site (to_steps steps progress)
 
-abbrev pub part_to : ℕ → Part → Part
+abbrev pub part_to : ℕ → PartControl → PartControl
 part_to steps (Skip progress) = Skip (to_steps steps progress)
 part_to steps (Stop ending progress) = Stop ending (to_steps steps progress)
 part_to steps (EnterPart activation locals progress) = EnterPart activation locals (to_steps steps progress)

@@ -7,7 +7,7 @@ use Rattle.ns_tree.specs.declared.token.Token.{Token}
 use Rattle.ns_tree.specs.Tokens.{kinds}
 use Rattle.ns_lex.specs.Lexes.{Cuts}
 use Rattle.ns_lex.specs.Piece.{Text}
-use Rattle.ns_lex.specs.Spells.{IsName, IsOperator, Spells}
+use Rattle.ns_lex.specs.Spells.{IsIdentifierText, IsOperator, SpellsToken}
 use Rattle.ns_base.specs.Quoted.{doubled}
 use Rattle.ns_lex.specs.laws.Stands.{stands_spells}
 use Rattle.ns_scope.specs.Whole.{text_of, AllWithin}
@@ -24,7 +24,7 @@ doubled_longer [] = omega arith
 doubled_longer (b ∷ t) = omega (arith, doubled_longer t, longer b (doubled t))
 
 -- A token's text is no longer than what spells it.
-text_within : (t : Text) (kind : Kind) → Spells t kind → length (text_of kind) ≤ length t
+text_within : (t : Text) (kind : Kind) → SpellsToken t kind → length (text_of kind) ≤ length t
 text_within t (k.Ident s) h = omega (arith, ap length h.1)
 text_within t (k.Word w) h = omega arith
 text_within t (k.Key s) h = omega (arith, ap length h.1)
@@ -45,7 +45,7 @@ text_within t k.Caret h = omega arith
 text_within t k.Colon h = omega arith
 text_within t k.SlotSet h = omega arith
 
-name_some : (t : Text) → IsName t → 1 ≤ length t
+name_some : (t : Text) → IsIdentifierText t → 1 ≤ length t
 name_some [] h = absurd h
 name_some (b ∷ t) h = omega arith
 
@@ -54,7 +54,7 @@ operator_some t (inl h) = omega (arith, h.0)
 operator_some t (inr h) = omega (arith, ap length h)
 
 -- What spells a token has a byte.
-text_some : (t : Text) (kind : Kind) → Spells t kind → 1 ≤ length t
+text_some : (t : Text) (kind : Kind) → SpellsToken t kind → 1 ≤ length t
 text_some t (k.Ident s) h = omega (arith, name_some s h.0, ap length h.1)
 text_some t (k.Word w) h = name_some t h.0
 text_some t (k.Key s) h = omega (arith, name_some h.0.0 h.0.1, ap length h.0.2 ∙ length-append h.0.0 (58 ∷ []), ap length h.1)

@@ -6,9 +6,9 @@ use Rattle.std.proofs.lemmas.Option.{slice_get-get_or}
 use Rattle.ns_base.specs.Files.{Files}
 use Rattle.ns_base.specs.Shelf.{OnlyRead}
 use Rattle.ns_base.specs.declared.place.Place.{Place}
-use Rattle.ns_load.specs.Answer.{AreRead, AreUnits, IsRead, IsReached, IsSpelling, Tells, TellsFault, TellsFileFault}
+use Rattle.ns_load.specs.Answer.{AreRead, AreUnits, IsRead, IsReached, IsSpelling, AnswerTells, TellsFault, TellsFileFault}
 use Rattle.ns_load.specs.Loaded.{Loading, units, stopped, after, with_file, load_from, library, loaded}
-use Rattle.ns_load.specs.Source.{Reading, spells, refused, read_file}
+use Rattle.ns_load.specs.Source.{FileReading, spells, refused, read_file}
 use Rattle.ns_load.specs.declared.fault.LoadCause.TheVariants.{Missing, TooLong, ReadFault, Spelling}
 use Rattle.ns_load.specs.declared.fault.LoadFault.{LoadFault}
 use Rattle.ns_load.specs.declared.fault.LoadFault.TheVariants.{At, Memory}
@@ -22,7 +22,7 @@ after_both us vs ms ns (units ws os) = cc (append_assoc us vs ws, append_assoc m
 after_both us vs ms ns (stopped fault) = refl
 
 -- One file before files that are units.
-pub after_file : (r : Reading) (l whole rest : Loading) (us : List p.SourceUnit) (ms : List (List Place)) → with_file r l ≡ units us ms
+pub after_file : (r : FileReading) (l whole rest : Loading) (us : List p.SourceUnit) (ms : List (List Place)) → with_file r l ≡ units us ms
     → ((vs : List p.SourceUnit) (ns : List (List Place)) → l ≡ units vs ns → whole ≡ after vs ns rest) → with_file r whole ≡ after us ms rest
 after_file (spells u m) (units vs ns) whole rest us ms e next =
     let eu : u ∷ vs ≡ us = cc (e) in
@@ -140,7 +140,7 @@ next_read k us vs ms ns u m a e r eu em =
 -- What is answered of the library behind the files is told of all.
 pub library_tells : (files : Files) (names : List (List ℕ)) (lib : Bool) (us : List p.SourceUnit) (ms : List (List Place)) (n : ℕ) (result : Result Program LoadFault) → load_from 0 (map files names) ≡ units us ms → n ≡ length names
     → MatchResult result (λ program. after us ms (load_from n (library lib)) ≡ units (map unit_of program.units) program.marks) (λ fault. fault ≢ Memory → after us ms (load_from n (library lib)) ≡ stopped fault)
-    → IfErr result IsSpelling → Tells names lib files result
+    → IfErr result IsSpelling → AnswerTells names lib files result
 library_tells files names lib us ms n (Ok program) e at m s = then_library files names lib us ms e ∙ ap (λ k. after us ms (load_from k (library lib))) (sym at) ∙ m
 library_tells files names lib us ms n (Err fault) e at m s =
     spelled_fault names lib files fault s (λ w. then_library files names lib us ms e ∙ ap (λ k. after us ms (load_from k (library lib))) (sym at) ∙ m w)

@@ -4,21 +4,21 @@ use Rattle.std.specs.Prelude.{All, IfErr, IfOk, IsErrAnd}
 use Rattle.std.proofs.lemmas.Bool.{le-ltb}
 use Rattle.std.proofs.lemmas.List.{length-append}
 use Rattle.ns_base.specs.declared.place.Place.{Place}
-use Rattle.ns_load.specs.Answer.{AreRead, HasRefusedTexts, HasText, HasTexts, IsFaultOfTexts, IsOfTexts, IsSpelling}
+use Rattle.ns_load.specs.Answer.{AreRead, HasRefusedTexts, IsOfSomeText, HasTexts, IsFaultOfTexts, IsOfTexts, IsSpelling}
 use Rattle.ns_load.specs.Loaded.{Loading, units, stopped, after, load_from, file_names, library, loaded_texts, with_file}
-use Rattle.ns_load.specs.Source.{Reading, spells, refused, read, read_bytes, read_file}
+use Rattle.ns_load.specs.Source.{FileReading, spells, refused, read, read_bytes, read_file}
 use Rattle.ns_load.specs.declared.fault.LoadCause.TheVariants.{Missing, TooLong, ReadFault, Spelling}
 use Rattle.ns_load.specs.declared.fault.LoadFault.{LoadFault}
 use Rattle.ns_load.specs.declared.fault.LoadFault.TheVariants.{At, Memory}
 use Rattle.ns_load.specs.declared.read.Source.{Source}
 use Rattle.ns_load.proofs.Loads.{behind_units, stops}
-use Rattle.ns_scope.specs.Whole.{IsFileName, IsWhole}
+use Rattle.ns_scope.specs.Whole.{NamesFile, IsWhole}
 use Rattle.ns_scope.specs.declared.program.Program.{Program}
 use Rattle.ns_tree.specs.Plain as p
 use Rattle.ns_tree.specs.PlainOf.{unit_of}
 
 -- The fault of bytes that were loaded is that of a file that has them.
-pub bytes_fault : (k : ℕ) (bytes : List ℕ) (fault : LoadFault) → (fault ≢ Memory → read_bytes k bytes ≡ refused fault) → HasText k fault
+pub bytes_fault : (k : ℕ) (bytes : List ℕ) (fault : LoadFault) → (fault ≢ Memory → read_bytes k bytes ≡ refused fault) → IsOfSomeText k fault
 bytes_fault k bytes (At Missing file) m = (Some bytes, m (λ e. cc (e)))
 bytes_fault k bytes (At TooLong file) m = (Some bytes, m (λ e. cc (e)))
 bytes_fault k bytes (At ReadFault file) m = (None, tt)
@@ -26,7 +26,7 @@ bytes_fault k bytes (At (Spelling wrong place) file) m = (Some bytes, m (λ e. c
 bytes_fault k bytes Memory m = (None, tt)
 
 pub result_fault : (k : ℕ) (bytes : List ℕ) (result : Result Source LoadFault)
-    → MatchResult result (λ r. read_bytes k bytes ≡ spells (unit_of r.unit) r.marks) (λ fault. fault ≢ Memory → read_bytes k bytes ≡ refused fault) → IfErr result (HasText k)
+    → MatchResult result (λ r. read_bytes k bytes ≡ spells (unit_of r.unit) r.marks) (λ fault. fault ≢ Memory → read_bytes k bytes ≡ refused fault) → IfErr result (IsOfSomeText k)
 result_fault k bytes (Ok source) m = tt
 result_fault k bytes (Err fault) m = bytes_fault k bytes fault m
 
@@ -49,7 +49,7 @@ texts_of k (u ∷ us) (m ∷ ms) h =
     let e : read_file k (Some source) ≡ spells u m = ap (λ b. cond b (refused (At TooLong k)) (read k source)) short ∙ h.0.2 in
     record { texts = Some source ∷ t.texts; count = omega (arith, t.count); load = loaded_so (read_file k (Some source)) e (load_from (k + 1) t.texts) t.load }
   where
-    loaded_so : (r : Reading) → r ≡ spells u m → (l : Loading) → l ≡ units us ms → with_file r l ≡ units (u ∷ us) (m ∷ ms)
+    loaded_so : (r : FileReading) → r ≡ spells u m → (l : Loading) → l ≡ units us ms → with_file r l ≡ units (u ∷ us) (m ∷ ms)
     loaded_so r e l f = rw (e, f) refl
 
 -- ---- a fault
@@ -83,7 +83,7 @@ refused_texts names us ms text fault t l e =
       λ lib. ap (load_from 0) (append_assoc t.texts (text ∷ nones more) (library lib)) ∙ stops t.texts text (nones more ++ library lib) us ms fault t.load (ap (λ n. read_file n text) t.count ∙ e),
     )
 
-pub fault_texts : (names : List (List ℕ)) (k : ℕ) (us : List p.SourceUnit) (ms : List (List Place)) (fault : LoadFault) → AreRead 0 us ms → k ≡ length us → k < length names → HasText k fault → HasRefusedTexts names fault
+pub fault_texts : (names : List (List ℕ)) (k : ℕ) (us : List p.SourceUnit) (ms : List (List Place)) (fault : LoadFault) → AreRead 0 us ms → k ≡ length us → k < length names → IsOfSomeText k fault → HasRefusedTexts names fault
 fault_texts names k us ms (At Missing f) a e l (text, h) = refused_texts names us ms text (At Missing f) (texts_of 0 us ms a) (subst (λ n. n < length names) e l) (subst (λ n. read_file n text ≡ refused (At Missing f)) e h)
 fault_texts names k us ms (At TooLong f) a e l (text, h) = refused_texts names us ms text (At TooLong f) (texts_of 0 us ms a) (subst (λ n. n < length names) e l) (subst (λ n. read_file n text ≡ refused (At TooLong f)) e h)
 fault_texts names k us ms (At ReadFault f) a e l (text, h) = no_texts names (At ReadFault f) (λ texts lib. tt)
@@ -95,11 +95,11 @@ fault_texts names k us ms Memory a e l (text, h) = memory_texts names
 
 -- What is loaded for 1 to 16 names is a whole program.
 abbrev pub LoadedIsWhole : Type 0
-LoadedIsWhole = (program : Program) (names : List (List ℕ)) (lib : Bool) → 1 ≤ length names → length names ≤ 16 → All IsFileName names
+LoadedIsWhole = (program : Program) (names : List (List ℕ)) (lib : Bool) → 1 ≤ length names → length names ≤ 16 → All NamesFile names
     → program.files ≡ file_names names lib → length program.units ≡ length program.files → AreRead 0 (map unit_of program.units) program.marks → IsWhole program
 
 -- What is known of a result, one after another, makes it whole.
-pub result_whole : LoadedIsWhole → (names : List (List ℕ)) (lib : Bool) (files : List (List ℕ)) (result : Result Program LoadFault) → 1 ≤ length names → length names ≤ 16 → All IsFileName names → files ≡ names
+pub result_whole : LoadedIsWhole → (names : List (List ℕ)) (lib : Bool) (files : List (List ℕ)) (result : Result Program LoadFault) → 1 ≤ length names → length names ≤ 16 → All NamesFile names → files ≡ names
     → IfOk result (λ program. program.files ≡ file_names files lib) → IfOk result (λ program. length program.units ≡ length program.files)
     → IfOk result (λ program. AreRead 0 (map unit_of program.units) program.marks) → IfOk result IsWhole
 result_whole whole names lib files (Ok program) some few named same f c r = whole program names lib some few named (f ∙ ap (λ ns. file_names ns lib) same) c r

@@ -17,7 +17,7 @@ use Rattle.ns_load.proofs.Lengths.{cut_count, cut_within}
 use Rattle.ns_parse.specs.Parse.{parse, parse_by}
 use Rattle.ns_parse_tokens.specs.Read.{Outcome}
 use Rattle.ns_parse.specs.laws.SoundFile.{parse_spelled}
-use Rattle.ns_scope.specs.Whole.{most_bytes, AllWithin, ArePlacesOf, IsPlaceOf, IsWholeUnit, AreWholeUnits, IsFileName, IsWhole}
+use Rattle.ns_scope.specs.Whole.{most_bytes, AllWithin, ArePlacesOf, IsPlaceOf, IsWholeUnit, AreWholeUnits, NamesFile, IsWhole}
 use Rattle.ns_scope.specs.declared.program.Program.{Program}
 use Rattle.ns_tree.specs.Deep.{deep}
 use Rattle.ns_tree.specs.Flat.{flat}
@@ -128,15 +128,15 @@ library_is_text : IsUtf8 (codes "lib:Collections")
 unfolding AllBelow128
 library_is_text = IsUtf8-from_ascii (codes "lib:Collections") (ascii (codes "lib:Collections") (search (rules, arith)))
 
-library_is_named : (lib : Bool) → All IsFileName (library_name lib)
-library_is_named true = All-cons IsFileName (codes "lib:Collections") [] (library_is_text, (λ e. cc (e)), omega arith) (All-nil IsFileName)
-library_is_named false = All-nil IsFileName
+library_is_named : (lib : Bool) → All NamesFile (library_name lib)
+library_is_named true = All-cons NamesFile (codes "lib:Collections") [] (library_is_text, (λ e. cc (e)), omega arith) (All-nil NamesFile)
+library_is_named false = All-nil NamesFile
 
 names_longer : (names : List (List ℕ)) (lib : Bool) → (length names ≤ length (file_names names lib)) × (length (file_names names lib) ≤ length names + 1)
 names_longer names true = let e = length-append names (library_name true) in (omega (arith, e), omega (arith, e))
 names_longer names false = let e = length-append names (library_name false) in (omega (arith, e), omega (arith, e))
 
-pub loaded_is_whole : (known : CutsKnown) (program : Program) (names : List (List ℕ)) (lib : Bool) → 1 ≤ length names → length names ≤ 16 → All IsFileName names
+pub loaded_is_whole : (known : CutsKnown) (program : Program) (names : List (List ℕ)) (lib : Bool) → 1 ≤ length names → length names ≤ 16 → All NamesFile names
     → program.files ≡ file_names names lib → length program.units ≡ length program.files → AreRead 0 (map unit_of program.units) program.marks → IsWhole program
 loaded_is_whole known program names lib some few named files count read =
     record {
@@ -144,5 +144,5 @@ loaded_is_whole known program names lib some few named files count read =
       not_many = omega (arith, few, count, ap length files, (names_longer names lib).1);
       units = are_whole known 0 (map unit_of program.units) program.marks read;
       one_name_each = sym count;
-      names = subst (All IsFileName) (sym files) (All-append IsFileName names (library_name lib) named (library_is_named lib));
+      names = subst (All NamesFile) (sym files) (All-append NamesFile names (library_name lib) named (library_is_named lib));
     }

@@ -54,8 +54,8 @@ IsFaultOf k text (At (Spelling wrong place) file) = read_file k text ≡ refused
 IsFaultOf k text Memory = Unit {0}
 
 -- There is a text of which the fault is that of a file.
-abbrev pub HasText : ℕ → LoadFault → Type 0
-HasText k fault = (text : Option (List ℕ)) × IsFaultOf k text fault
+abbrev pub IsOfSomeText : ℕ → LoadFault → Type 0
+IsOfSomeText k fault = (text : Option (List ℕ)) × IsFaultOf k text fault
 
 -- The unit and its places are those of some source, of file k.
 abbrev pub IsRead : ℕ → p.SourceUnit → List Place → Type 0
@@ -81,9 +81,9 @@ TellsFault names lib files (At (Spelling wrong place) k) = loaded names lib file
 TellsFault names lib files Memory = Unit {0}
 
 -- The answer says what the files are loaded as.
-abbrev pub Tells : List (List ℕ) → Bool → Files → Result Program LoadFault → Type 0
-Tells names lib files (Ok program) = loaded names lib files ≡ units (map unit_of program.units) program.marks
-Tells names lib files (Err fault) = TellsFault names lib files fault
+abbrev pub AnswerTells : List (List ℕ) → Bool → Files → Result Program LoadFault → Type 0
+AnswerTells names lib files (Ok program) = loaded names lib files ≡ units (map unit_of program.units) program.marks
+AnswerTells names lib files (Err fault) = TellsFault names lib files fault
 
 -- The fault is that of the first of these texts that is refused. A file that couldn't be read and want of memory say nothing.
 abbrev pub IsFaultOfTexts : List (Option (List ℕ)) → Bool → LoadFault → Type 0

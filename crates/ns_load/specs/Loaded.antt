@@ -3,7 +3,7 @@ use Rattle.std.specs.Prelude.{ℕ, ◌+◌, Bool, true, false, List, [], ◌∷�
 use Rattle.ns_base.specs.Files.{Files}
 use Rattle.ns_base.specs.declared.place.Place.{Place}
 use Rattle.ns_lib.specs.Collections.{collections}
-use Rattle.ns_load.specs.Source.{Reading, spells, refused, read_file}
+use Rattle.ns_load.specs.Source.{FileReading, spells, refused, read_file}
 use Rattle.ns_load.specs.declared.fault.LoadFault.{LoadFault}
 use Rattle.ns_tree.specs.Plain as p
 
@@ -18,7 +18,7 @@ after trees places (units more others) = units (trees ++ more) (places ++ others
 after trees places (stopped fault) = stopped fault
 
 -- a file, and then what else is loaded
-abbrev pub with_file : Reading → Loading → Loading
+abbrev pub with_file : FileReading → Loading → Loading
 with_file (spells unit places) rest = after (unit ∷ []) (places ∷ []) rest
 with_file (refused fault) rest = stopped fault
 

@@ -18,9 +18,9 @@ use Rattle.ns_tree.specs.Tokens.{kinds}
 use Rattle.ns_tree.specs.declared.token.Token.{Token}
 
 -- A file is a unit, with the place of each of its tokens and last that of its end; or it is refused.
-pub data Reading : Type 0 where
-  spells : (unit : p.SourceUnit) (places : List Place) → Reading
-  refused : (fault : LoadFault) → Reading
+pub data FileReading : Type 0 where
+  spells : (unit : p.SourceUnit) (places : List Place) → FileReading
+  refused : (fault : LoadFault) → FileReading
 
 -- the fault of a text that is wrong so at that offset
 abbrev pub wrong : ℕ → List ℕ → SpellingCause → ℕ → LoadFault
@@ -49,28 +49,28 @@ grammatical file source tokens (parsing.TooDeep k) = wrong file source TooDeep (
 grammatical file source tokens (parsing.Syntax k) = wrong file source Syntax (offset_of tokens k (length source))
 grammatical file source tokens parsing.Memory = Memory
 
-abbrev pub parsed : ℕ → List ℕ → List Token → Result p.SourceUnit ParseFault → Reading
+abbrev pub parsed : ℕ → List ℕ → List Token → Result p.SourceUnit ParseFault → FileReading
 parsed file source tokens (Ok unit) = spells unit (marks file source tokens)
 parsed file source tokens (Err fault) = refused (grammatical file source tokens fault)
 
 -- what the tokens of a source are read as
-abbrev pub read_tokens : ℕ → List ℕ → List Token → Reading
+abbrev pub read_tokens : ℕ → List ℕ → List Token → FileReading
 read_tokens file source tokens = parsed file source tokens (parse (kinds tokens))
 
-abbrev pub scanned : ℕ → List ℕ → Tokens → Reading
+abbrev pub scanned : ℕ → List ℕ → Tokens → FileReading
 scanned file source (Ok tokens) = read_tokens file source tokens
 scanned file source (Err fault) = refused (lexical file source fault)
 
 -- what a source of at most 1,048,576 bytes is read as
-abbrev pub read : ℕ → List ℕ → Reading
+abbrev pub read : ℕ → List ℕ → FileReading
 read file source = scanned file source (scan source)
 
 -- what is read where these bytes are there
-abbrev pub read_bytes : ℕ → List ℕ → Reading
+abbrev pub read_bytes : ℕ → List ℕ → FileReading
 read_bytes file source =
     if nat_lt 1048576 (length source) then refused (At TooLong file) else read file source
 
 -- what a file of that number is read as
-abbrev pub read_file : ℕ → Option (List ℕ) → Reading
+abbrev pub read_file : ℕ → Option (List ℕ) → FileReading
 read_file file None = refused (At Missing file)
 read_file file (Some source) = read_bytes file source

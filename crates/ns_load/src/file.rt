@@ -4,7 +4,7 @@ ghost use Rattle.std.specs.Prelude.{◌≡◌, IfOk, IfErr, IsErrOf, IsUtf8, ℕ
 ghost use Rattle.ns_base.specs.Count.{Rose};
 ghost use Rattle.ns_base.specs.Files.{Files};
 ghost use Rattle.ns_base.specs.Shelf.{OnlyRead};
-ghost use Rattle.ns_load.specs.Answer.{HasText, IsOfBytes, IsRead, TellsFile};
+ghost use Rattle.ns_load.specs.Answer.{IsOfSomeText, IsOfBytes, IsRead, TellsFile};
 ghost use Rattle.ns_load.specs.Source as spec;
 ghost use Rattle.ns_load.specs.Stated.{IsReading};
 ghost use Rattle.ns_load.specs.declared.fault.LoadCause.TheVariants.{Missing, ReadFault, TooLong};
@@ -30,7 +30,7 @@ pub fn load_file<S: Shelf>(
     requires { IsUtf8 name.now }
     ensures told { (files : Files) → S.holds shelf.old ≡ Some files → TellsFile file (files name.now) result }
     ensures read { IfOk result (λ source. IsRead file (unit_of source.unit) source.marks) }
-    ensures text { IfErr result (HasText file) }
+    ensures text { IfErr result (IsOfSomeText file) }
 
     ensures only_read { OnlyRead S.holds S.misses S.faults S.store_faults shelf.old shelf.new }
     ensures missing { (k : ℕ) → IsErrOf result (At Missing k) → Rose (S.misses shelf.old) (S.misses shelf.new) }

@@ -4,13 +4,13 @@ ghost use Rattle.std.specs.Prelude.{◌≡◌, ◌≤◌, ◌+◌, ◌++◌, ◌
 ghost use Rattle.ns_base.specs.Count.{Rose};
 ghost use Rattle.ns_base.specs.Files.{Files};
 ghost use Rattle.ns_base.specs.Shelf.{OnlyRead};
-ghost use Rattle.ns_load.specs.Answer.{AreRead, HasRefusedTexts, HasTexts, IsSpelling, Tells, TellsParts};
+ghost use Rattle.ns_load.specs.Answer.{AreRead, HasRefusedTexts, HasTexts, IsSpelling, AnswerTells, TellsParts};
 ghost use Rattle.ns_load.specs.Loaded as spec;
 ghost use Rattle.ns_load.specs.Source as source_lem;
 ghost use Rattle.ns_load.specs.Stated.{IsLoading};
 ghost use Rattle.ns_load.specs.declared.fault.LoadCause.TheVariants.{Missing, ReadFault};
 ghost use Rattle.ns_load.specs.declared.fault.LoadFault.TheVariants.{At};
-ghost use Rattle.ns_scope.specs.Whole.{IsFileName, IsWhole};
+ghost use Rattle.ns_scope.specs.Whole.{NamesFile, IsWhole};
 ghost use Rattle.ns_tree.specs.PlainOf.{unit_of};
 
 use crate::fault::LoadFault;
@@ -37,9 +37,9 @@ pub fn load<S: Shelf>(
 ) -> Result<Program, LoadFault>
     requires some { 1 ≤ length names.now }
     requires few { length names.now ≤ 16 }
-    requires named { All IsFileName names.now }
+    requires named { All NamesFile names.now }
     // Over files that are told, the answer is what they are loaded as.
-    ensures told { (files : Files) → S.holds shelf.old ≡ Some files → Tells names.now lib files result }
+    ensures told { (files : Files) → S.holds shelf.old ≡ Some files → AnswerTells names.now lib files result }
     // Whether or not they are told, there are texts of which it is so, and the program is whole.
     ensures texts { HasTexts names.now lib result }
     ensures whole { IfOk result IsWhole }
@@ -69,7 +69,7 @@ fn load_files<S: Shelf>(
     parts: &mut Parts,
 ) -> Result<(), LoadFault>
     requires few { length names.now ≤ 16 }
-    requires named { All IsFileName names.now }
+    requires named { All NamesFile names.now }
     requires units { parts.old.units.items ≡ [] }
     requires files { parts.old.files.items ≡ [] }
     requires marks { parts.old.marks.items ≡ [] }

@@ -12,7 +12,7 @@ use Rattle.ns_tree.specs.declared.token.Kind.TheVariants as k
 use Rattle.ns_tree.specs.declared.token.Reserved.{Reserved}
 use Rattle.ns_tree.specs.declared.token.Reserved.TheVariants as words
 use Rattle.ns_lex.specs.Piece.{Text}
-use Rattle.ns_lex.specs.Spells.{AllOf, IsName, IsKey, IsKeys, IsOperator, Spells}
+use Rattle.ns_lex.specs.Spells.{AllOf, IsIdentifierText, IsKeyText, IsKeysText, IsOperator, SpellsToken}
 use Rattle.ns_lex.specs.Word.{reserved}
 use Rattle.ns_print.specs.Printed.{spell, word}
 use Rattle.ns_load_laws.proofs.Numerals.{number_spelled}
@@ -27,7 +27,7 @@ in_name : (t : Text) → list_all goes_on_name t ≡ true → AllOf goes_on_name
 in_name [] h = tt
 in_name (b ∷ t) h = let x = parts _ _ h in (x.0, in_name t x.1)
 
-name_of : (t : Text) → IsTrue (is_identifier t) → IsName t
+name_of : (t : Text) → IsTrue (is_identifier t) → IsIdentifierText t
 name_of [] h = absurd cc
 name_of (b ∷ t) h = let x = parts _ _ h in (x.0, in_name t x.1)
 
@@ -50,7 +50,7 @@ not_reserved : (t : Text) → is_reserved t ≡ false → reserved t ≡ None
 not_reserved t x =
     none_of (bytes_eq t (codes "class")) (bytes_eq t (codes "public")) (bytes_eq t (codes "protected")) (bytes_eq t (codes "private")) (bytes_eq t (codes "self")) (bytes_eq t (codes "super")) (bytes_eq t (codes "outer")) (bytes_eq t (codes "true")) (bytes_eq t (codes "false")) (bytes_eq t (codes "nil")) x
 
-word_spelled : (w : Reserved) → Spells (word w) (k.Word w)
+word_spelled : (w : Reserved) → SpellsToken (word w) (k.Word w)
 word_spelled words.Class = (name_of (codes "class") refl, refl)
 word_spelled words.Public = (name_of (codes "public") refl, refl)
 word_spelled words.Protected = (name_of (codes "protected") refl, refl)
@@ -64,18 +64,18 @@ word_spelled words.Nil = (name_of (codes "nil") refl, refl)
 
 -- ---- keys
 
-key_of : (t : Text) → tree.IsKey t → IsKey t
+key_of : (t : Text) → tree.IsKey t → IsKeyText t
 key_of t (n, name, e) = (n, name_of n name, e)
 
 -- one key more
-keys_more : (n t u : Text) → IsKey n → t ≡ n ++ u → ((ks : List Text) × IsKeys u ks) → (ks : List Text) × IsKeys t ks
+keys_more : (n t u : Text) → IsKeyText n → t ≡ n ++ u → ((ks : List Text) × IsKeysText u ks) → (ks : List Text) × IsKeysText t ks
 keys_more n t u key cut ([], x) = absurd x
 keys_more n t u key cut (m ∷ ks, x) = (n ∷ m ∷ ks, (key, (u, cut, x)))
 
 abbrev with_colons : List Text → Text
 with_colons = flat_map (λ name. name ++ 58 ∷ [])
 
-keys_of : (names : List Text) → IsTrue (list_all is_identifier names) → names ≢ [] → (ks : List Text) × IsKeys (with_colons names) ks
+keys_of : (names : List Text) → IsTrue (list_all is_identifier names) → names ≢ [] → (ks : List Text) × IsKeysText (with_colons names) ks
 keys_of [] all some = absurd (some refl)
 keys_of (n ∷ []) all some = ((n ++ 58 ∷ []) ∷ [], ((n, name_of n (parts _ _ all).0, refl), append-nil (n ++ 58 ∷ [])))
 keys_of (n ∷ m ∷ ns) all some =
@@ -97,16 +97,16 @@ operator_of (b ∷ t) h = operator_by b t (list_all is_operator_byte (b ∷ t)) 
 
 -- ---- each kind
 
-keys_spelled : (s : Text) → tree.IsKeys s → (ks : List Text) × IsKeys s ks
-keys_spelled s (names, all, some, e) = let x = keys_of names all some in (x.0, subst (λ t. IsKeys t x.0) (sym e) x.1)
+keys_spelled : (s : Text) → tree.IsKeys s → (ks : List Text) × IsKeysText s ks
+keys_spelled s (names, all, some, e) = let x = keys_of names all some in (x.0, subst (λ t. IsKeysText t x.0) (sym e) x.1)
 
-symbol_of : (s : Text) → tree.HasText (k.Symbol s) → IsName s ⊎ ((ks : List Text) × IsKeys s ks) ⊎ IsOperator s
+symbol_of : (s : Text) → tree.HasText (k.Symbol s) → IsIdentifierText s ⊎ ((ks : List Text) × IsKeysText s ks) ⊎ IsOperator s
 symbol_of s (inl h) = inl (name_of s h)
 symbol_of s (inr (inl h)) = inr (inr (operator_of s h))
 symbol_of s (inr (inr h)) = inr (inl (keys_spelled s h))
 
 -- The canonical text of a token that some text spells spells it.
-pub spelled : (kind : Kind) → tree.HasText kind → Spells (spell kind) kind
+pub spelled : (kind : Kind) → tree.HasText kind → SpellsToken (spell kind) kind
 spelled (k.Ident s) h = (name_of s h.0, refl, not_reserved s h.1)
 spelled (k.Word w) h = word_spelled w
 spelled (k.Key s) h = (key_of s h, refl)

@@ -4,17 +4,17 @@ use Rattle.std.specs.Prelude.{◌↔◌}
 use Rattle.std.proofs.lemmas.Bool.{cases_lt, lt-ltb, le-ltb}
 use Rattle.ns_base.specs.declared.place.Place.{Place}
 use Rattle.ns_load.specs.Loaded.{Loading, units, stopped, load_from, with_file}
-use Rattle.ns_load.specs.Source.{Reading, spells, refused, read, read_file}
+use Rattle.ns_load.specs.Source.{FileReading, spells, refused, read, read_file}
 use Rattle.ns_load.specs.declared.fault.LoadCause.TheVariants.{TooLong}
 use Rattle.ns_load.specs.declared.fault.LoadFault.{LoadFault}
 use Rattle.ns_load.specs.declared.fault.LoadFault.TheVariants.{At}
 use Rattle.ns_load_laws.specs.Loads.{AreSourcesOf, LoadAs, TextReadsAs, Texts}
-use Rattle.ns_load_laws.specs.Reads.{ReadsAs}
+use Rattle.ns_load_laws.specs.Reads.{SourceReadsAs}
 use Rattle.ns_tree.specs.Plain as p
 
 -- What a source is read as is what tokens and grammar say.
 abbrev pub AreRead : Type 0
-AreRead = (file : ℕ) (source : List ℕ) (reading : Reading) → read file source ≡ reading ↔ ReadsAs file source reading
+AreRead = (file : ℕ) (source : List ℕ) (reading : FileReading) → read file source ≡ reading ↔ SourceReadsAs file source reading
 
 -- ---- one text
 
@@ -29,21 +29,21 @@ reads_text file None are = refl
 reads_text file (Some source) are =
     elim (cases_lt 1048576 (length source)) [
       | inl h ↦ inl (h, too_long file source h)
-      | inr h ↦ inr (h, subst (ReadsAs file source) (sym (short file source h)) ((are file source (read file source)).0 refl))
+      | inr h ↦ inr (h, subst (SourceReadsAs file source) (sym (short file source h)) ((are file source (read file source)).0 refl))
     ]
 
-text_is_read : (file : ℕ) (text : Option (List ℕ)) (reading : Reading) → AreRead → TextReadsAs file text reading → read_file file text ≡ reading
+text_is_read : (file : ℕ) (text : Option (List ℕ)) (reading : FileReading) → AreRead → TextReadsAs file text reading → read_file file text ≡ reading
 text_is_read file None reading are h = sym h
 text_is_read file (Some source) reading are (inl h) = too_long file source h.0 ∙ sym h.1
 text_is_read file (Some source) reading are (inr h) = short file source h.0 ∙ (are file source reading).1 h.1
 
-pub text_is : (file : ℕ) (text : Option (List ℕ)) (reading : Reading) → AreRead → read_file file text ≡ reading ↔ TextReadsAs file text reading
+pub text_is : (file : ℕ) (text : Option (List ℕ)) (reading : FileReading) → AreRead → read_file file text ≡ reading ↔ TextReadsAs file text reading
 text_is file text reading are = (λ e. subst (TextReadsAs file text) e (reads_text file text are), text_is_read file text reading are)
 
 -- ---- all texts
 
 -- A text before the others.
-first_loads : (k : ℕ) (text : Option (List ℕ)) (texts : Texts) (reading : Reading) (loading : Loading) → TextReadsAs k text reading → LoadAs (k + 1) texts loading → LoadAs k (text ∷ texts) (with_file reading loading)
+first_loads : (k : ℕ) (text : Option (List ℕ)) (texts : Texts) (reading : FileReading) (loading : Loading) → TextReadsAs k text reading → LoadAs (k + 1) texts loading → LoadAs k (text ∷ texts) (with_file reading loading)
 first_loads k text texts (spells unit places) (units trees others) h x = (h, x)
 first_loads k text texts (spells unit places) (stopped fault) h x =
     let e : k + 1 + length x.before ≡ k + length (text ∷ x.before) = omega arith in

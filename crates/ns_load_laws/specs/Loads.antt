@@ -2,11 +2,11 @@
 use Rattle.std.specs.Prelude.{◌≡◌, ℕ, ◌+◌, ◌<◌, ◌≤◌, ◌⊎◌, List, [], ◌∷◌, ◌++◌, length, Option, Some, None}
 use Rattle.ns_base.specs.declared.place.Place.{Place}
 use Rattle.ns_load.specs.Loaded.{Loading, units, stopped}
-use Rattle.ns_load.specs.Source.{Reading, spells, refused}
+use Rattle.ns_load.specs.Source.{FileReading, spells, refused}
 use Rattle.ns_load.specs.declared.fault.LoadCause.TheVariants.{Missing, TooLong}
 use Rattle.ns_load.specs.declared.fault.LoadFault.{LoadFault}
 use Rattle.ns_load.specs.declared.fault.LoadFault.TheVariants.{At}
-use Rattle.ns_load_laws.specs.Reads.{ReadsAs}
+use Rattle.ns_load_laws.specs.Reads.{SourceReadsAs}
 use Rattle.ns_tree.specs.Plain as p
 
 -- a text, or none, for each file
@@ -14,10 +14,10 @@ abbrev pub Texts : Type 0
 Texts = List (Option (List ℕ))
 
 -- A file that isn't there is missing, one of more than 1,048,576 bytes is too long, and any other is read as its source is.
-abbrev pub TextReadsAs : ℕ → Option (List ℕ) → Reading → Type 0
+abbrev pub TextReadsAs : ℕ → Option (List ℕ) → FileReading → Type 0
 TextReadsAs file None reading = reading ≡ refused (At Missing file)
 TextReadsAs file (Some source) reading =
-    ((1048576 < length source) × (reading ≡ refused (At TooLong file))) ⊎ ((length source ≤ 1048576) × ReadsAs file source reading)
+    ((1048576 < length source) × (reading ≡ refused (At TooLong file))) ⊎ ((length source ≤ 1048576) × SourceReadsAs file source reading)
 
 -- Each text is read as a unit with its places. The first is that of file k.
 abbrev pub AreSourcesOf : ℕ → Texts → List p.SourceUnit → List (List Place) → Type 0

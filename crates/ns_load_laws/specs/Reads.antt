@@ -1,12 +1,12 @@
 -- What the source of a file is read as, by its tokens and the grammar alone.
 use Rattle.std.specs.Prelude.{◌≡◌, ℕ, ◌⊎◌, List, None, Err}
 use Rattle.ns_base.specs.declared.place.Place.{Place}
-use Rattle.ns_parse.specs.Answers.{Answers}
+use Rattle.ns_parse.specs.Answers.{ParsesAs}
 use Rattle.ns_lex.specs.Fault.{fault_at}
 use Rattle.ns_lex.specs.Lexes.{LexStops, Lexes}
 use Rattle.ns_lex.specs.declared.piece.Cause.{Cause}
 use Rattle.ns_load.specs.Place.{marks}
-use Rattle.ns_load.specs.Source.{Reading, spells, refused, lexical, grammatical}
+use Rattle.ns_load.specs.Source.{FileReading, spells, refused, lexical, grammatical}
 use Rattle.ns_load.specs.declared.fault.LoadFault.{LoadFault}
 use Rattle.ns_parse_tokens.specs.declared.fault.ParseFault.{ParseFault}
 use Rattle.ns_tree.specs.Deep.{deep}
@@ -35,10 +35,10 @@ pub record FailsWith (file : ℕ) (source : List ℕ) (fault : LoadFault) : Type
   pub tokens : List Token
   pub found : ParseFault
   pub cut : Lexes source tokens
-  pub answer : Answers (kinds tokens) (Err found)
+  pub answer : ParsesAs (kinds tokens) (Err found)
   pub named : fault ≡ grammatical file source tokens found
 
 -- The source spells a unit with its places; or it is refused where it stops to be cut, or by the grammar.
-abbrev pub ReadsAs : ℕ → List ℕ → Reading → Type 0
-ReadsAs file source (spells unit places) = SpellsWith file source unit places
-ReadsAs file source (refused fault) = StopsWith file source fault ⊎ FailsWith file source fault
+abbrev pub SourceReadsAs : ℕ → List ℕ → FileReading → Type 0
+SourceReadsAs file source (spells unit places) = SpellsWith file source unit places
+SourceReadsAs file source (refused fault) = StopsWith file source fault ⊎ FailsWith file source fault

@@ -4,7 +4,7 @@
 ghost use Rattle.std.specs.Prelude.{◌≡◌, ◌↔◌, ℕ, List, None};
 ghost use Rattle.ns_load_laws.specs.Canonical.{IsParsedTo, IsSourceOf, ScansTo, canonical};
 ghost use Rattle.ns_lex.specs.Spaced.{LexesTo};
-ghost use Rattle.ns_lex.specs.Spells.{Spells};
+ghost use Rattle.ns_lex.specs.Spells.{SpellsToken};
 ghost use Rattle.ns_print.specs.Printed.{printed, spell};
 ghost use Rattle.ns_tree.specs.Deep.{deep};
 ghost use Rattle.ns_tree.specs.Flat.{flat};
@@ -14,7 +14,7 @@ ghost use Rattle.ns_tree.specs.declared.token.Kind.{Kind};
 
 /// A token has a text exactly where its canonical text spells it.
 pub fn kinds_are_spelled()
-    ensures { (kind : Kind) → HasText kind ↔ Spells (spell kind) kind }
+    ensures { (kind : Kind) → HasText kind ↔ SpellsToken (spell kind) kind }
 {
     ns_lex::laws::tokens_have_texts();
 }

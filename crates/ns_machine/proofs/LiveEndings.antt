@@ -9,9 +9,9 @@ use Rattle.ns_actions.specs.Control.{Progress}
 use Rattle.ns_machine_report.specs.Ending.{IsLiveEnding}
 use Rattle.ns_machine_moves.specs.State.{Phase, State, Unbegun, Going, Pends, Ended, Stuck, ending_of, world_of}
 use Rattle.ns_machine_moves.specs.State as state
-use Rattle.ns_machine_moves.specs.Valid.{EndsIn, Valid}
+use Rattle.ns_machine_moves.specs.Valid.{EndIsValid, Valid}
 
-pub live_ending : (code : CodeProgram) (grants : Grants) (ending : Ending) (phase : Phase) (p : Progress) → EndsIn code grants ending phase p
+pub live_ending : (code : CodeProgram) (grants : Grants) (ending : Ending) (phase : Phase) (p : Progress) → EndIsValid code grants ending phase p
     → IsLiveEnding p.world.cells code ending
 live_ending code grants (Done value) state.Start p valid = absurd valid
 live_ending code grants (Done value) (state.First arguments) p valid = absurd valid

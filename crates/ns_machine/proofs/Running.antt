@@ -19,8 +19,8 @@ use Rattle.ns_machine_core.specs.declared.state.Next.{Next}
 use Rattle.ns_machine_core.specs.declared.state.Next.TheVariants as next
 use Rattle.ns_machine_frames.specs.View.{state_shown}
 use Rattle.ns_machine_core.specs.Shown.{phase_shown, shown, progress_in}
-use Rattle.ns_machine_core.specs.Ready.{IsReady}
-use Rattle.ns_machine_core.specs.Standing.{Stays}
+use Rattle.ns_machine_core.specs.Ready.{MachineIsReady}
+use Rattle.ns_machine_core.specs.Standing.{KeepsRooms}
 use Rattle.ns_machine_core.specs.laws.Kept.{ready_lawful, shown_progress}
 use Rattle.ns_machine.specs.Turning.{Ran}
 
@@ -88,7 +88,7 @@ all_taken code onward stay steps old new turned =
 
 -- what a run can't have: it is ready, goes on, and took a step more than the limit
 pub must_end : (code : CodeProgram) (grants : Grants) → MovesGoOnward code → ((s : State) → StaysStill code s) → (old new : Core) (from n : Next) (steps : ℕ)
-    → IsReady code grants old from → IsReady code grants new n → Stays old new → steps ≡ min (old.run.world.world.limits.steps + 1) 18446744073709551615
+    → MachineIsReady code grants old from → MachineIsReady code grants new n → KeepsRooms old new → steps ≡ min (old.run.world.world.limits.steps + 1) 18446744073709551615
     → Turns code steps (shown code old from) (shown code new n) → is_still (shown code new n) ≡ false → ⊥
 must_end code grants onward stay old new from n steps before after stays is (inl turned) going =
     let taken = all_taken code onward stay steps (shown code old from) (shown code new n) turned in

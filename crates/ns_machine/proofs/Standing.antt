@@ -23,7 +23,7 @@ use Rattle.ns_world.specs.declared.ending.Ending.{Ending}
 use Rattle.ns_world.specs.declared.ending.Ending.TheVariants.{Limit}
 use Rattle.ns_world.specs.declared.ending.LimitKind.TheVariants.{Cells}
 use Rattle.std.proofs.Common.{Option, None, Bool, if◌then◌else◌, ◌≤◌, length, append-nil}
-use Rattle.ns_machine_core.specs.Ready.{IsReady}
+use Rattle.ns_machine_core.specs.Ready.{MachineIsReady}
 use Rattle.ns_machine_turns.specs.Turning.{RunsBy}
 use Rattle.ns_base.specs.declared.selector.Sel.{Sel}
 use Rattle.ns_actions.specs.Sends.{site_at}
@@ -35,7 +35,7 @@ use Rattle.ns_machine_plan.specs.Steps.{places_of, no_place}
 use Rattle.ns_machine_core.specs.declared.state.Next.{Next}
 use Rattle.ns_machine_core.specs.Shown.{shown}
 use Rattle.ns_machine.proofs.Opening.{no_place_is}
-use Rattle.ns_machine.specs.Waiting.{SendWaits}
+use Rattle.ns_machine.specs.Waiting.{HostSendWaits}
 use Rattle.ns_machine.specs.declared.stage.Stage.{Stage}
 use Rattle.ns_machine.specs.declared.stage.Stage.TheVariants as stage
 use Rattle.ns_machine.specs.Machine.{stage_shown, stage_after, StandIn, IsMachine}
@@ -43,7 +43,7 @@ use Rattle.ns_machine.specs.Fresh.{IsFresh}
 use Rattle.std.specs.List.{slice_get}
 use Rattle.ns_base.specs.declared.place.Place.{Place as SourcePlace}
 use Rattle.ns_facets.specs.declared.board.Board.{Board}
-use Rattle.ns_find.specs.Memo.{IsRight}
+use Rattle.ns_find.specs.Memo.{PlaceIsRight}
 use Rattle.ns_act.specs.declared.run.Run.{Run}
 use Rattle.ns_machine_moves.specs.Steps.{opening_place}
 use Rattle.ns_machine_moves.specs.WorldStays.{SwapsKeepValid}
@@ -54,7 +54,7 @@ use Rattle.ns_machine_frames.specs.View.{state_shown}
 use Rattle.ns_machine_plan.specs.declared.plan.Plan.{Plan}
 use Rattle.ns_machine_core.specs.declared.own.OwnSends.{OwnSends}
 use Rattle.ns_machine_core.specs.declared.state.Next.TheVariants as next
-use Rattle.ns_machine_core.specs.Standing.{Stays}
+use Rattle.ns_machine_core.specs.Standing.{KeepsRooms}
 
 -- what it has done is what its state has
 pub stage_progress : (code : CodeProgram) (core : Core) (stage : Stage) → progress_of (stage_shown code core stage) ≡ progress_in core
@@ -146,12 +146,12 @@ with_phase core phase = record core { phase = phase }
 -- a machine in which a send waits, which is a valid state
 waiting_machine : (code : CodeProgram) (grants : Grants) (plan : Plan) (old new : Core) (phase : KeptPhase) (own : OwnSends) (before after : Stage)
     → IsMachine code grants plan old own before → Valid code grants (stage_shown code new after) → StandIn code new after → new.run ≡ old.run
-    → Stays (with_phase old phase) new → IsMachine code grants plan new own after
+    → KeepsRooms (with_phase old phase) new → IsMachine code grants plan new own after
 waiting_machine code grants plan old new phase own before after is valid stand run stays = record {
   valid = valid;
   rooms = rooms_stay code (with_phase old phase) new (record { cells = is.rooms.cells; out = is.rooms.out; frames = is.rooms.frames; values = is.rooms.values; evaluations = is.rooms.evaluations; sends = is.rooms.sends }) stays;
   stand = stand;
-  kept = subst (λ (r : Run). All (IsRight r.world.world.cells code) r.memo) (sym run) is.kept;
+  kept = subst (λ (r : Run). All (PlaceIsRight r.world.world.cells code) r.memo) (sym run) is.kept;
   prepared = is.prepared;
   places = stays.places ∙ is.places;
   sends = record {
@@ -165,7 +165,7 @@ waiting_machine code grants plan old new phase own before after is valid stand r
 -- a send of the host that waits has begun
 pub host_shown : (code : CodeProgram) (grants : Grants) (plan : Plan) (core new : Core) (own : OwnSends) (stage : Stage) (next : Next) (receiver : Value) (sel : Sel)
     (arguments : List Value) → IsMachine code grants plan core own stage → MayBegin code receiver sel arguments (stage_shown code core stage)
-    → SendWaits code (with_phase core Hosted) receiver sel (slice_get core.places no_place) arguments new next
+    → HostSendWaits code (with_phase core Hosted) receiver sel (slice_get core.places no_place) arguments new next
     → shown code new next ≡ begun receiver sel arguments (stage_shown code core stage)
 host_shown code grants plan core new own stage next receiver sel arguments is may waits =
     let before = stage_shown code core stage in
@@ -181,7 +181,7 @@ host_shown code grants plan core new own stage next receiver sel arguments is ma
 pub host_machine : (code : CodeProgram) (grants : Grants) (plan : Plan) (core new : Core) (own : OwnSends) (before : Stage) (next : Next) (receiver : Value) (sel : Sel)
     (arguments : List Value) → HostKeepsValid code grants → IsMachine code grants plan core own before
     → MayBegin code receiver sel arguments (stage_shown code core before)
-    → SendWaits code (with_phase core Hosted) receiver sel (slice_get core.places no_place) arguments new next
+    → HostSendWaits code (with_phase core Hosted) receiver sel (slice_get core.places no_place) arguments new next
     → IsMachine code grants plan new own (stage.Begun next)
 host_machine code grants plan core new own before next receiver sel arguments keeps is may waits =
     waiting_machine code grants plan core new Hosted own before (stage.Begun next) is
@@ -193,7 +193,7 @@ host_machine code grants plan core new own before next receiver sel arguments ke
 
 -- a machine that has begun is ready, and runs by its plan
 pub machine_ready : (code : CodeProgram) (grants : Grants) (plan : Plan) (core : Core) (own : OwnSends) (next : Next)
-    → IsMachine code grants plan core own (stage.Begun next) → IsReady code grants core next
+    → IsMachine code grants plan core own (stage.Begun next) → MachineIsReady code grants core next
 machine_ready code grants plan core own next is = record { valid = is.valid; rooms = is.rooms; stand = is.stand; kept = is.kept }
 
 pub machine_runs : (code : CodeProgram) (grants : Grants) (plan : Plan) (core : Core) (own : OwnSends) (next : Next)
@@ -211,7 +211,7 @@ machine_runs code grants plan core own next is = record {
 
 -- it is a machine still where it is ready after a run
 pub machine_on : (code : CodeProgram) (grants : Grants) (plan : Plan) (old new : Core) (own : OwnSends) (from next : Next)
-    → IsMachine code grants plan old own (stage.Begun from) → IsReady code grants new next → Stays old new → IsMachine code grants plan new own (stage.Begun next)
+    → IsMachine code grants plan old own (stage.Begun from) → MachineIsReady code grants new next → KeepsRooms old new → IsMachine code grants plan new own (stage.Begun next)
 machine_on code grants plan old new own from next is ready stays = record {
   valid = ready.valid;
   rooms = ready.rooms;

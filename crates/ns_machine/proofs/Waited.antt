@@ -11,7 +11,7 @@ use Rattle.ns_machine_frames.specs.declared.frame.KeptSite.{KeptSite}
 use Rattle.ns_machine_frames.specs.declared.frame.Pending.TheVariants as pending
 use Rattle.ns_machine_frames.specs.declared.registers.Registers.{Registers}
 use Rattle.ns_machine_frames.specs.declared.stack.Stack.{Stack}
-use Rattle.ns_machine_frames.specs.Room.{AreWithin}
+use Rattle.ns_machine_frames.specs.Room.{FramesFitWithin}
 use Rattle.ns_machine_frames.specs.Stack.{in_use, with_top, IsLaid}
 use Rattle.ns_machine_frames.specs.Standing.{standing, at_next, AreLaid}
 use Rattle.ns_machine_frames.specs.View.{site_shown, frames_shown}
@@ -20,15 +20,15 @@ use Rattle.ns_machine_core.specs.declared.state.Next.TheVariants as next
 use Rattle.ns_machine_core.specs.Shown.{phase_shown, progress_in}
 use Rattle.ns_machine_core.specs.Standing.{AreStanding}
 use Rattle.ns_actions.specs.Bodies.{height_in, greatest_of}
-use Rattle.ns_machine.specs.Waiting.{SendWaits}
+use Rattle.ns_machine.specs.Waiting.{HostSendWaits}
 
 -- without frames none are shown, and those that there are stand wherever their values end
 none_shown : (code : CodeProgram) (places : List SourcePlace) (frames : List Frame) (next : ℕ) (values : List Value) → frames ≡ []
     → frames_shown code places (standing (at_next next frames) values) ≡ []
 none_shown code places frames next values none = ap (λ (f : List Frame). frames_shown code places (standing (at_next next f) values)) none
 
-none_within : (code : CodeProgram) (filled : ℕ) (frames : List Frame) → frames ≡ [] → AreWithin (height_in code) (greatest_of code.bodies) filled frames
-none_within code filled frames none = subst (AreWithin (height_in code) (greatest_of code.bodies) filled) (sym none) tt
+none_within : (code : CodeProgram) (filled : ℕ) (frames : List Frame) → frames ≡ [] → FramesFitWithin (height_in code) (greatest_of code.bodies) filled frames
+none_within code filled frames none = subst (FramesFitWithin (height_in code) (greatest_of code.bodies) filled) (sym none) tt
 
 none_standing : (code : CodeProgram) (stack : Stack) (at : Registers) (top : ℕ) → stack.frames.items ≡ [] → IsLaid stack at → top ≤ at.top
     → AreStanding code stack (with_top top at)
@@ -46,7 +46,7 @@ none_standing code stack at top none laid low = record {
 pub send_waits : (code : CodeProgram) (core : Core) (stack : Stack) (at : Registers) (receiver : Value) (sel : Sel) (site : KeptSite) (place : ℕ) (arguments : List Value)
     → site ≡ record { place = place; class = class_name_of core.run.world.world.cells receiver; sel = sel }
     → stack.frames.items ≡ [] → IsLaid stack at → stack.values.room ≡ core.stack.values.room → stack.frames.room ≡ core.stack.frames.room
-    → SendWaits code core receiver sel (slice_get core.places place) arguments
+    → HostSendWaits code core receiver sel (slice_get core.places place) arguments
     (record core { stack = stack; waiting = pending.Sending receiver sel site 0; arguments = record core.arguments { items = arguments } }) (next.Waits at)
 send_waits code core stack at receiver sel site place arguments site_is none laid values frames = record {
   state =

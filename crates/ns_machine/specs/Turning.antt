@@ -9,8 +9,8 @@ use Rattle.ns_machine_core.specs.declared.state.Core.{Core}
 use Rattle.ns_machine_core.specs.declared.state.Next.{Next}
 use Rattle.ns_machine_core.specs.declared.state.Next.TheVariants as next
 use Rattle.ns_machine_core.specs.Shown.{shown}
-use Rattle.ns_machine_core.specs.Ready.{IsReady}
-use Rattle.ns_machine_core.specs.Standing.{Stays}
+use Rattle.ns_machine_core.specs.Ready.{MachineIsReady}
+use Rattle.ns_machine_core.specs.Standing.{KeepsRooms}
 
 -- So many moves have led to that end.
 pub record Ran (code : CodeProgram) (old : State) (ending : Ending) (new : State) : Type 0 where
@@ -21,5 +21,5 @@ pub record Ran (code : CodeProgram) (old : State) (ending : Ending) (new : State
 -- A machine that was ready has run to that end.
 pub record RunsOut (code : CodeProgram) (old : Core) (from : Next) (new : Core) (ending : Ending) : Type 0 where
   pub ran : Ran code (shown code old from) ending (shown code new next.Ended)
-  pub ready : (grants : Grants) → IsReady code grants old from → IsReady code grants new next.Ended
-  pub stays : Stays old new
+  pub ready : (grants : Grants) → MachineIsReady code grants old from → MachineIsReady code grants new next.Ended
+  pub stays : KeepsRooms old new

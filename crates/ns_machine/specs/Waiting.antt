@@ -9,14 +9,14 @@ use Rattle.ns_machine_moves.specs.State.{Sending, Pends}
 use Rattle.ns_machine_core.specs.declared.state.Core.{Core}
 use Rattle.ns_machine_core.specs.declared.state.Next.{Next}
 use Rattle.ns_machine_core.specs.Shown.{phase_shown, progress_in, shown}
-use Rattle.ns_machine_core.specs.Standing.{StandAt, Stays}
+use Rattle.ns_machine_core.specs.Standing.{StandAt, KeepsRooms}
 
 -- The send waits with its arguments and its site, and nothing else has changed but the frames, of which there are none.
-pub record SendWaits (code : CodeProgram) (old : Core) (receiver : Value) (sel : Sel) (place : Option SourcePlace)
+pub record HostSendWaits (code : CodeProgram) (old : Core) (receiver : Value) (sel : Sel) (place : Option SourcePlace)
     (arguments : List Value) (new : Core) (next : Next)
     : Type 0 where
   pub state : shown code new next ≡
       Pends (phase_shown old.phase) (Sending receiver sel arguments (site_at old.run.world.world.cells place receiver sel)) [] (progress_in old)
   pub stand : StandAt code new next
   pub run : new.run ≡ old.run
-  pub stays : Stays old new
+  pub stays : KeepsRooms old new

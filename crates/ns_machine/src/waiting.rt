@@ -10,7 +10,7 @@ ghost use Rattle.ns_actions.specs.Sends.{own_sel};
 ghost use Rattle.ns_machine_moves.specs.Steps.{opening_place};
 ghost use Rattle.ns_machine_core.specs.Standing.{HasRooms};
 ghost use Rattle.ns_machine_core.specs.Own.{AreOwn};
-ghost use Rattle.ns_machine.specs.Waiting.{SendWaits};
+ghost use Rattle.ns_machine.specs.Waiting.{HostSendWaits};
 
 use ns_base::selector::Sel;
 use ns_code::program::CodeProgram;
@@ -29,7 +29,7 @@ pub fn wait_for_first(code: &CodeProgram, core: &mut Core, own: OwnSends) -> Nex
     requires lawful { IsLawful core.old.run.world.world code.now }
     requires live { IsLiveValue core.old.run.world.world.cells code.now (spec.first_class core.old.run.world.world.cells) }
     requires own { AreOwn code.now core.old.places own }
-    ensures { SendWaits code.now core.old (spec.first_class core.old.run.world.world.cells) (own_sel code.now PackageUsing)
+    ensures { HostSendWaits code.now core.old (spec.first_class core.old.run.world.world.cells) (own_sel code.now PackageUsing)
         (opening_place code.now) (manifest ∷ []) core.new result }
 {
     let receiver = first_class(&mut core.run.world);
@@ -66,7 +66,7 @@ pub fn wait_for_send(
     requires lawful { IsLawful core.old.run.world.world code.now }
     requires live { IsLiveValue core.old.run.world.world.cells code.now receiver }
     requires few { length arguments.now ≤ 255 }
-    ensures { SendWaits code.now core.old receiver sel (slice_get core.old.places place) arguments.now core.new result }
+    ensures { HostSendWaits code.now core.old receiver sel (slice_get core.old.places place) arguments.now core.new result }
 {
     let _code = code;
     let site = site_of(&mut core.run.world, receiver, sel, place);

@@ -8,7 +8,7 @@ use Rattle.ns_world.specs.declared.value.Value.{Value}
 use Rattle.ns_world.specs.declared.value.Value.TheVariants.{Nil, True, False, Int, Sym, Kernel, Ref}
 use Rattle.ns_world.specs.Cell.{Cell, ObjectCell, ClassCell, BlockCell, EnvironmentCell, ArrayCell, TextCell, FacetCell, MirrorCell, MessageCell}
 use Rattle.ns_world.specs.Heap.{find_cell}
-use Rattle.ns_world.specs.Reach.{Reach, all_referred}
+use Rattle.ns_world.specs.Reach.{IsInReach, all_referred}
 use Rattle.ns_world.specs.Starts.{is_receiver_cell}
 use Rattle.ns_world.specs.World.{World}
 use Rattle.ns_world.specs.Lawful.{IsLiveValue}
@@ -35,7 +35,7 @@ receiver_alike pairs one two c e = absurd c
 
 module _ (pairs : Renaming) (code : CodeProgram) (one two : World) (roots others : List Value) (alike : Alike pairs one two roots others) where
   -- the partner of a live root is live
-  partner_lives : (n m : ℕ) → Contains pairs (n, m) → Reach one.cells (all_referred roots) n → is_receiver_cell (find_cell one.cells n) ≡ true → IsLiveValue two.cells code (Ref m)
+  partner_lives : (n m : ℕ) → Contains pairs (n, m) → IsInReach one.cells (all_referred roots) n → is_receiver_cell (find_cell one.cells n) ≡ true → IsLiveValue two.cells code (Ref m)
   partner_lives n m c r e =
       let a = alike.cells n m c r in
       let is : is_receiver_cell (Some a.one) ≡ true = ap is_receiver_cell (sym a.one_is) ∙ e in

@@ -11,13 +11,13 @@ use Rattle.ns_world.specs.declared.cell.FacetKind.TheVariants.{Manifest, Platfor
 use Rattle.ns_world.specs.Cell.{Cell, ObjectCell, ClassCell, BlockCell, EnvironmentCell, ArrayCell, TextCell, FacetCell, MirrorCell, MessageCell}
 use Rattle.ns_world.specs.Heap.{Heap, heap_size, find_cell, is_class, chain_of, chain_at, chain_above, no_class}
 use Rattle.ns_world.specs.Seek.{first_such, is_facet, is_top}
-use Rattle.ns_world.specs.Reach.{Reach, all_referred}
+use Rattle.ns_world.specs.Reach.{IsInReach, all_referred}
 use Rattle.ns_world.specs.World.{World}
 use Rattle.ns_world.specs.Lawful.{IsLawful}
 use Rattle.ns_world.specs.Alike.{Renaming, AlikeValue, AlikeValues, AlikeClass, AlikeNumber, AlikeCell, AlikeHeld, Alike}
 use Rattle.ns_world.specs.laws.Chains.{linked, both_of}
 use Rattle.ns_world.specs.laws.Firsts.{found_past}
-use Rattle.ns_kdata.specs.Arguments.{IsThere}
+use Rattle.ns_kdata.specs.Arguments.{CellIsThere}
 use Rattle.ns_actions.specs.Suiting.{is_reference}
 use Rattle.ns_actions.specs.Bodies.{no_home}
 use Rattle.ns_actions.specs.Control.{Progress}
@@ -86,10 +86,10 @@ module _ (pairs : Renaming) (code : CodeProgram) (one two : World) (roots others
 
   -- ---- the pairing
 
-  below : (n : ℕ) → Reach one.cells (all_referred roots) n → n < heap_size one.cells
+  below : (n : ℕ) → IsInReach one.cells (all_referred roots) n → n < heap_size one.cells
   below n r = there_below one.cells n (reach_there one.cells (all_referred roots) n r)
 
-  below' : (n : ℕ) → Reach two.cells (all_referred others) n → n < heap_size two.cells
+  below' : (n : ℕ) → IsInReach two.cells (all_referred others) n → n < heap_size two.cells
   below' n r = there_below two.cells n (reach_there two.cells (all_referred others) n r)
 
   made_small : (n k : ℕ) → n ≡ heap_size one.cells + k → n < one.limits.cells → n < no_class
@@ -131,7 +131,7 @@ module _ (pairs : Renaming) (code : CodeProgram) (one two : World) (roots others
   abbrev In2 : ℕ → Type 0
   In2 = InReach two.cells (all_referred others)
 
-  pub value_paired : (value other : Value) → AlikeValue pairs value other → In In1 value → In In2 other → IsThere one.cells value → IsThere two.cells other → Paired P value other
+  pub value_paired : (value other : Value) → AlikeValue pairs value other → In In1 value → In In2 other → CellIsThere one.cells value → CellIsThere two.cells other → Paired P value other
   value_paired (Ref n) (Ref m) c i j t t' = Partners n m (Earlier c (i t) (j t'))
   value_paired (Ref n) other c i j t t' = absurd c
   value_paired Nil other c i j t t' = subst (Paired P Nil) c (Same Nil refl)

@@ -17,7 +17,7 @@ use Rattle.ns_world.specs.Cell.{ArrayCell, FacetCell, MirrorCell}
 use Rattle.ns_world.specs.Heap.{Heap, find_cell, chain_of, shape_at, no_class, cell_number, word_of_object}
 use Rattle.ns_world.specs.Starts.{class_name_of}
 use Rattle.ns_world.specs.Layout.{declaration_of}
-use Rattle.ns_kdata.specs.Outcome.{Outcome, Answers, Fails, making, unchanged, wrong_kind}
+use Rattle.ns_kdata.specs.Outcome.{RowOutcome, Answers, Fails, making, unchanged, wrong_kind}
 use Rattle.ns_kdata.specs.Arguments.{argument, items_of, shape_of_value, is_array, is_array_shape}
 use Rattle.ns_world.specs.World.{stored}
 use Rattle.ns_mirror.specs.declared.row.Mirrored.{Mirrored}
@@ -92,7 +92,7 @@ module _ (Pair : ℕ → ℕ → Type 0) (first second : Progress) (pairing : Is
     ReflectedPaired (Refuses f) (Reflects answer' world') = ⊥
     ReflectedPaired (Refuses f) (Refuses f') = f ≡ f'
 
-    outcome_reflected : (outcome outcome' : Outcome) → OutcomePaired Pair first second pairing one two a outcome outcome' → ReflectedPaired (reflected outcome) (reflected outcome')
+    outcome_reflected : (outcome outcome' : RowOutcome) → OutcomePaired Pair first second pairing one two a outcome outcome' → ReflectedPaired (reflected outcome) (reflected outcome')
     outcome_reflected (Answers value world) (Answers value' world') o = o
     outcome_reflected (Fails f) (Fails f') o = o
     outcome_reflected (Answers value world) (Fails f') o = absurd o

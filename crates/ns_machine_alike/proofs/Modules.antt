@@ -15,7 +15,7 @@ use Rattle.ns_world.specs.declared.cell.FacetKind.TheVariants as facet
 use Rattle.ns_world.specs.Cell.{Cell, ObjectCell, ClassCell, BlockCell, EnvironmentCell, ArrayCell, TextCell, FacetCell, MirrorCell, MessageCell}
 use Rattle.ns_world.specs.Heap.{Heap, heap_size, find_cell}
 use Rattle.ns_world.specs.Seek.{first_such, earlier_or, is_top, is_nil}
-use Rattle.ns_world.specs.Reach.{Reach, IsRoot, IsHeld, held}
+use Rattle.ns_world.specs.Reach.{IsInReach, IsRoot, IsHeld, held}
 use Rattle.ns_world.specs.World.{World}
 use Rattle.ns_world.specs.Lawful.{HasEnclosing, ClassIsLawful, IsLawful}
 use Rattle.ns_world.specs.Alike.{Renaming}
@@ -242,7 +242,7 @@ no_element : (n k : ℕ) → Contains [] k → k ≡ n
 no_element n k (i, inside, is) = absurd (omega (arith, inside))
 
 -- a module reaches itself alone
-alone : (heap : Heap) (n decl k : ℕ) → find_cell heap n ≡ Some (module_cell decl) → Reach heap (n ∷ []) k → k ≡ n
+alone : (heap : Heap) (n decl k : ℕ) → find_cell heap n ≡ Some (module_cell decl) → IsInReach heap (n ∷ []) k → k ≡ n
 alone heap n decl k e (IsRoot number among some) = one_root n k among
 alone heap n decl k e (IsHeld from number cell before is among some) =
     let same : from ≡ n = alone heap n decl from e before in
@@ -254,10 +254,10 @@ module _ (decl n m : ℕ) (first second : State) (is : find_cell (world_of first
   abbrev pairs : Renaming
   pairs = (n, m) ∷ []
 
-  root : Reach (world_of first).cells (n ∷ []) n
+  root : IsInReach (world_of first).cells (n ∷ []) n
   root = IsRoot n (zero, omega arith, refl) (subst IsSome (sym is) refl)
 
-  root' : Reach (world_of second).cells (m ∷ []) m
+  root' : IsInReach (world_of second).cells (m ∷ []) m
   root' = IsRoot m (zero, omega arith, refl) (subst IsSome (sym is') refl)
 
   modules_alike : StatesAlike pairs (Ref n ∷ []) (Ref m ∷ []) first second
@@ -324,7 +324,7 @@ touches number decl idle start after same roots is stays =
     let here : find_cell (world_of start).cells number ≡ Some (module_cell decl) = ap (λ (w : World). find_cell w.cells number) world ∙ is in
     record {
       cells = λ other cell apart e.
-          stays.untouched other cell (λ r. apart (alone (world_of start).cells number decl other here (subst (λ ns. Reach (world_of start).cells ns other) roots r)))
+          stays.untouched other cell (λ r. apart (alone (world_of start).cells number decl other here (subst (λ ns. IsInReach (world_of start).cells ns other) roots r)))
           (ap (λ (w : World). find_cell w.cells other) world ∙ e);
       output = stays.silent (subst (LacksFacet facet.Console (world_of start).cells) (sym roots) (lacks facet.Console (world_of start).cells number decl here)) ∙ ap (λ (w : World). w.output) world;
       board = stays.board (subst (LacksFacet facet.Board (world_of start).cells) (sym roots) (lacks facet.Board (world_of start).cells number decl here)) ∙ ap (λ (p : Progress). p.board) same;

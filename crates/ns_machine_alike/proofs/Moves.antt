@@ -18,13 +18,13 @@ use Rattle.ns_kdata.specs.Arguments.{items_of}
 use Rattle.ns_find.specs.declared.found.Sending.TheVariants.{Inner}
 use Rattle.ns_actions.specs.declared.site.Site.{Site}
 use Rattle.ns_actions.specs.Site.{error}
-use Rattle.ns_actions.specs.Control.{Progress, Activation, Control, Now, Enter, Evaluate, Begin, Perform, Part, Skip, Stop, EnterPart, Waiting, Waits, Finishes, charged}
+use Rattle.ns_actions.specs.Control.{Progress, Activation, Control, Now, Enter, Evaluate, Begin, Perform, PartControl, Skip, Stop, EnterPart, Waiting, Waits, Finishes, charged}
 use Rattle.ns_actions.specs.Bodies.{no_home, enclosing, local_at}
 use Rattle.ns_actions.specs.Blocks.{new_text, new_block, new_array, evaluated, method_next}
 use Rattle.ns_actions.specs.Classes.{super_part, slot_filled}
 use Rattle.ns_actions.specs.Sends.{Target, To, ToPrivate, ToSuper, to_value, sent, site_at}
 use Rattle.ns_machine_moves.specs.State.{Leaving, Frame, Running, Looping, Pending, Sending, Performing, Evaluating, Phase, Hosted, State, Going, Pends, Ended, Stuck}
-use Rattle.ns_machine_moves.specs.Steps.{Step, steps_of, steps_from, literal}
+use Rattle.ns_machine_moves.specs.Steps.{PlacedInstr, steps_of, steps_from, literal}
 use Rattle.ns_machine_moves.specs.Operands.{on_top}
 use Rattle.ns_machine_moves.specs.Returns.{settled, returned, returned_home}
 use Rattle.ns_machine_moves.specs.Arrivals.{arrived, part_arrived, acted_on}
@@ -78,7 +78,7 @@ module _ (Pair : ℕ → ℕ → Type 0) (first second : Progress) (pairing : Is
     )
     arrived_paired control control' frames frames' c all = absurd c
 
-    part_arrived_paired : (part part' : Part) (frames frames' : List Frame) → PartPaired Pair first second part part' → FramesPaired Pair first second frames frames' → StatePaired Pair first second (part_arrived code Hosted part frames) (part_arrived code Hosted part' frames')
+    part_arrived_paired : (part part' : PartControl) (frames frames' : List Frame) → PartPaired Pair first second part part' → FramesPaired Pair first second frames frames' → StatePaired Pair first second (part_arrived code Hosted part frames) (part_arrived code Hosted part' frames')
     part_arrived_paired (Skip one) (Skip two) frames frames' p all = (tt, all, p)
     part_arrived_paired (Stop ending one) (Stop ending' two) frames frames' p all = (p.0, tt, p.1)
     part_arrived_paired (EnterPart activation locals one) (EnterPart activation' locals' two) frames frames' p all = (tt, ((tt, tt, p.0, p.1, ap (steps_of code) p.0.body, tt), all), p.2)
@@ -109,7 +109,7 @@ module _ (Pair : ℕ → ℕ → Type 0) (first second : Progress) (pairing : Is
 
     -- ---- instructions
 
-    module _ (leaving leaving' : Leaving) (activation activation' : Activation) (locals locals' : List Value) (rest : List Step) (frames frames' : List Frame) (one two : Progress) (a : Abreast Pair first second one two)
+    module _ (leaving leaving' : Leaving) (activation activation' : Activation) (locals locals' : List Value) (rest : List PlacedInstr) (frames frames' : List Frame) (one two : Progress) (a : Abreast Pair first second one two)
         (l : LeavingPaired Pair first second leaving leaving') (b : LeavingHome Pair first second leaving activation.home activation'.home) (p : ActivationPaired Pair first second activation activation') (own : AllPaired Pair locals locals')
         (below_paired : FramesPaired Pair first second frames frames') (small : SmallHome leaving activation.home × SmallHomes frames) (small' : SmallHome leaving' activation'.home × SmallHomes frames') where
       -- the frames with these operands
@@ -119,7 +119,7 @@ module _ (Pair : ℕ → ℕ → Type 0) (first second : Progress) (pairing : Is
       on_paired : (stack stack' : List Value) → AllPaired Pair stack stack' → StatePaired Pair first second (on_with Hosted leaving activation locals rest stack frames one) (on_with Hosted leaving' activation' locals' rest stack' frames' two)
       on_paired stack stack' all = (tt, frame_paired stack stack' all, a)
 
-      jumped_paired : (landing : List Step) (stack stack' : List Value) → AllPaired Pair stack stack' → StatePaired Pair first second (jumped Hosted leaving activation locals rest landing stack frames one) (jumped Hosted leaving' activation' locals' rest landing stack' frames' two)
+      jumped_paired : (landing : List PlacedInstr) (stack stack' : List Value) → AllPaired Pair stack stack' → StatePaired Pair first second (jumped Hosted leaving activation locals rest landing stack frames one) (jumped Hosted leaving' activation' locals' rest landing stack' frames' two)
       jumped_paired landing stack stack' all =
           cond_so (StatePaired Pair first second) (goes_back rest landing) (goes_back rest landing)
           (charged (λ ending progress. Ended ending Hosted progress) Steps (stepped one.world) one (Going Hosted (Running leaving activation locals landing stack ∷ frames))) (Going Hosted (Running leaving activation locals landing stack ∷ frames) one)
@@ -133,7 +133,7 @@ module _ (Pair : ℕ → ℕ → Type 0) (first second : Progress) (pairing : Is
       same_test true value value' (Partners n m q) = (refl, refl)
       same_test false value value' (Partners n m q) = (refl, refl)
 
-      jumped_on_paired : (wanted : Bool) (value value' : Value) (landing : List Step) (stack stack' : List Value) → Paired Pair value value' → AllPaired Pair stack stack'
+      jumped_on_paired : (wanted : Bool) (value value' : Value) (landing : List PlacedInstr) (stack stack' : List Value) → Paired Pair value value' → AllPaired Pair stack stack'
           → StatePaired Pair first second (jumped_on Hosted wanted value leaving activation locals rest landing stack frames one) (jumped_on Hosted wanted value' leaving' activation' locals' rest landing stack' frames' two)
       jumped_on_paired wanted value value' landing stack stack' v all =
           let tests = same_test wanted value value' v in
@@ -260,7 +260,7 @@ module _ (Pair : ℕ → ℕ → Type 0) (first second : Progress) (pairing : Is
     going_paired (Running leaving activation locals rest stack ∷ frames) (Running leaving' activation' locals' rest' stack' ∷ frames') one two f a all small small' =
         subst (λ r. StatePaired Pair first second (move code (Going Hosted (Running leaving activation locals rest stack ∷ frames) one)) (move code (Going Hosted (Running leaving' activation' locals' r stack' ∷ frames') two))) all.0.4 (by rest f)
       where
-        by : (r : List Step) → StepFinds (Going Hosted (Running leaving activation locals r stack ∷ frames) one)
+        by : (r : List PlacedInstr) → StepFinds (Going Hosted (Running leaving activation locals r stack ∷ frames) one)
             → StatePaired Pair first second (move code (Going Hosted (Running leaving activation locals r stack ∷ frames) one)) (move code (Going Hosted (Running leaving' activation' locals' r stack' ∷ frames') two))
         by [] g = a
         by (step ∷ r) g =

@@ -7,7 +7,7 @@ use Rattle.ns_facets.specs.declared.row.Grants.{Grants}
 use Rattle.ns_world.specs.declared.value.Value.{Value}
 use Rattle.ns_world.specs.declared.value.Value.TheVariants.{Nil, True, False, Int, Sym, Kernel, Ref}
 use Rattle.ns_world.specs.Heap.{Heap, heap_size, find_cell, no_class}
-use Rattle.ns_world.specs.Reach.{Reach, referred, all_referred}
+use Rattle.ns_world.specs.Reach.{IsInReach, referred, all_referred}
 use Rattle.ns_world.specs.Alike.{Renaming, AlikeValue, AlikeValues}
 use Rattle.ns_actions.specs.Suiting.{is_reference}
 use Rattle.ns_machine_moves.specs.State.{State, is_idle, progress_of, world_of}
@@ -58,16 +58,16 @@ module _ (pairs : Renaming) (firsts seconds values others : List Value) (first s
   abbrev two : Heap
   two = (world_of second).cells
 
-  into : (number : ℕ) → Reach one (all_referred values) number → Reach one (all_referred firsts) number
-  into number r = subst (λ ns. Reach one ns number) (sym e) r
+  into : (number : ℕ) → IsInReach one (all_referred values) number → IsInReach one (all_referred firsts) number
+  into number r = subst (λ ns. IsInReach one ns number) (sym e) r
 
   same_cells : AlikeValues pairs values others → StatesAlike pairs values others first second
   same_cells roots = (
     record {
       once_first = alike.0.once_first;
       once_second = alike.0.once_second;
-      onto = λ number r. let on = alike.0.onto number (into number r) in (on.0, on.1, subst (λ ns. Reach two ns on.0) f on.2);
-      back = λ other r. let on = alike.0.back other (subst (λ ns. Reach two ns other) (sym f) r) in (on.0, on.1, subst (λ ns. Reach one ns on.0) e on.2);
+      onto = λ number r. let on = alike.0.onto number (into number r) in (on.0, on.1, subst (λ ns. IsInReach two ns on.0) f on.2);
+      back = λ other r. let on = alike.0.back other (subst (λ ns. IsInReach two ns other) (sym f) r) in (on.0, on.1, subst (λ ns. IsInReach one ns on.0) e on.2);
       cells = λ number other c r. alike.0.cells number other c (into number r);
       roots = roots;
       steps = alike.0.steps;
@@ -92,13 +92,13 @@ boards_differ pairs firsts seconds first second lacks alike = (alike, λ number 
 -- ---- what alike roots reach
 
 module _ (code : CodeProgram) (grants grants' : Grants) (pairs : Renaming) (firsts seconds values others : List Value) (first second : State) (valid : Valid code grants first) (valid' : Valid code grants' second) (idle : is_idle first ≡ true)
-    (idle' : is_idle second ≡ true) (alike : StatesAlike pairs firsts seconds first second) (roots : AlikeValues pairs values others) (reached : (number : ℕ) → Contains (all_referred values) number → Reach (world_of first).cells (all_referred firsts) number)
+    (idle' : is_idle second ≡ true) (alike : StatesAlike pairs firsts seconds first second) (roots : AlikeValues pairs values others) (reached : (number : ℕ) → Contains (all_referred values) number → IsInReach (world_of first).cells (all_referred firsts) number)
   where
     abbrev Q : ℕ → ℕ → Type 0
     Q = SendPair pairs (world_of first) (world_of second) (all_referred firsts) (all_referred seconds)
 
     abbrev Reached : ℕ → Type 0
-    Reached = Reach (world_of first).cells (all_referred firsts)
+    Reached = IsInReach (world_of first).cells (all_referred firsts)
 
     idle_first : IdleWorld code grants (progress_of first)
     idle_first = idle_world code grants first valid idle
@@ -122,7 +122,7 @@ module _ (code : CodeProgram) (grants grants' : Grants) (pairs : Renaming) (firs
     value_on (Ref n) (Ref m) c r =
         let on = alike.0.onto n r in
         let same : on.0 ≡ m = first_once pairs n on.0 m alike.0.once_first on.1 c in
-        Partners n m (Earlier c r (subst (Reach (world_of second).cells (all_referred seconds)) same on.2))
+        Partners n m (Earlier c r (subst (IsInReach (world_of second).cells (all_referred seconds)) same on.2))
     value_on (Ref n) other c r = absurd c
     value_on Nil other c r = subst (Paired Q Nil) c (Same Nil refl)
     value_on True other c r = subst (Paired Q True) c (Same True refl)
@@ -146,13 +146,13 @@ module _ (code : CodeProgram) (grants grants' : Grants) (pairs : Renaming) (firs
     earlier n m (Made k e e' less) some = absurd (let b = there_below (world_of first).cells n some in omega (arith, b, e))
     earlier n m (NoClass e e') some = absurd (let b = there_below (world_of first).cells n some in omega (arith, b, e, small))
 
-    forth : (n : ℕ) → Reach (world_of first).cells (all_referred values) n → (m : ℕ) × Q n m × Reach (world_of second).cells (all_referred others) m
+    forth : (n : ℕ) → IsInReach (world_of first).cells (all_referred values) n → (m : ℕ) × Q n m × IsInReach (world_of second).cells (all_referred others) m
     forth n r = reach_forth Q (progress_of first) (progress_of second) pairing (world_of first).cells (world_of second).cells heaps small small' values others paired n r
 
-    back : (m : ℕ) → Reach (world_of second).cells (all_referred others) m → (n : ℕ) × Q n m × Reach (world_of first).cells (all_referred values) n
+    back : (m : ℕ) → IsInReach (world_of second).cells (all_referred others) m → (n : ℕ) × Q n m × IsInReach (world_of first).cells (all_referred values) n
     back m r = reach_back Q (progress_of first) (progress_of second) pairing (world_of first).cells (world_of second).cells heaps small small' values others paired m r
 
-    known : (n : ℕ) → Reach (world_of first).cells (all_referred values) n → Reached n
+    known : (n : ℕ) → IsInReach (world_of first).cells (all_referred values) n → Reached n
     known n r = let f = forth n r in (earlier n f.0 f.1 (reach_there (world_of first).cells (all_referred values) n r)).1
 
     from_reached : StatesAlike pairs values others first second

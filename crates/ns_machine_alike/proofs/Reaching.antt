@@ -8,7 +8,7 @@ use Rattle.ns_world.specs.declared.cell.FacetKind.TheVariants.{Manifest, Platfor
 use Rattle.ns_world.specs.Cell.{Cell, ObjectCell, ClassCell, BlockCell, EnvironmentCell, ArrayCell, TextCell, FacetCell, MirrorCell, MessageCell}
 use Rattle.ns_world.specs.Heap.{Heap, heap_size, find_cell, no_class}
 use Rattle.ns_world.specs.Seek.{first_such, is_facet, is_top}
-use Rattle.ns_world.specs.Reach.{Reach, IsRoot, IsHeld, held, all_referred}
+use Rattle.ns_world.specs.Reach.{IsInReach, IsRoot, IsHeld, held, all_referred}
 use Rattle.ns_actions.specs.Suiting.{is_reference}
 use Rattle.ns_actions.specs.Control.{Progress}
 use Rattle.ns_machine_reach.specs.Within.{In, AllIn, NumberIn, CellIn}
@@ -206,7 +206,7 @@ module _ (Pair : ℕ → ℕ → Type 0) (first second : Progress) (pairing : Is
         (back_values Pair first second (Among (all_referred roots)) roots others paired (all_in_from (Among (all_referred roots)) roots (each_has (Among (all_referred roots)) (all_referred roots) (λ n d. inl d))))) c)
 
     -- each cell that is reached has a partner that is
-    pub reach_forth : (n : ℕ) → Reach heap (all_referred roots) n → (m : ℕ) × Pair n m × Reach other (all_referred others) m
+    pub reach_forth : (n : ℕ) → IsInReach heap (all_referred roots) n → (m : ℕ) × Pair n m × IsInReach other (all_referred others) m
     reach_forth n (IsRoot number among some) =
         let r = root_forth number among some in (r.0, r.1, IsRoot r.0 r.2 (there_forth number r.0 r.1 some))
     reach_forth n (IsHeld from number cell before is among some) =
@@ -215,7 +215,7 @@ module _ (Pair : ℕ → ℕ → Type 0) (first second : Progress) (pairing : Is
         let r = held_forth cell both.cell' number both.paired among some in
         (r.0, r.1, IsHeld below.0 r.0 both.cell' below.2 both.is r.2 (there_forth number r.0 r.1 some))
 
-    pub reach_back : (m : ℕ) → Reach other (all_referred others) m → (n : ℕ) × Pair n m × Reach heap (all_referred roots) n
+    pub reach_back : (m : ℕ) → IsInReach other (all_referred others) m → (n : ℕ) × Pair n m × IsInReach heap (all_referred roots) n
     reach_back m (IsRoot number among some) =
         let r = root_back number among some in (r.0, r.1, IsRoot r.0 r.2 (there_back r.0 number r.1 some))
     reach_back m (IsHeld from number cell' before is among some) =

@@ -17,7 +17,7 @@ use Rattle.ns_world.specs.Cell.{Cell, ObjectCell, ArrayCell, TextCell}
 use Rattle.ns_world.specs.Heap.{Heap, heap_size, no_class}
 use Rattle.ns_world.specs.World.{World, made, stored}
 use Rattle.ns_world.specs.Booleans.{truth}
-use Rattle.ns_kdata.specs.Outcome.{Outcome, Answers, Fails, making, made_as, unchanged, wrong_kind, out_of_range}
+use Rattle.ns_kdata.specs.Outcome.{RowOutcome, Answers, Fails, making, made_as, unchanged, wrong_kind, out_of_range}
 use Rattle.ns_kdata.specs.declared.arguments.Part.{Part}
 use Rattle.ns_kdata.specs.Arguments.{argument, items_of, shape_of_value, is_text, is_text_shape, is_message, is_message_shape, bytes_of, symbol_text, number_of, place_in, part_in}
 use Rattle.ns_kdata.specs.Rows as rows
@@ -249,7 +249,7 @@ module _ (Pair : ℕ → ℕ → Type 0) (first second : Progress) (pairing : Is
   -- ---- outcomes
 
   module _ (one two : Progress) (a : Abreast Pair first second one two) where
-    abbrev pub OutcomePaired : Outcome → Outcome → Type 0
+    abbrev pub OutcomePaired : RowOutcome → RowOutcome → Type 0
     OutcomePaired (Answers value world) (Answers value' world') = Paired Pair value value' × Abreast Pair first second (in_world one world) (in_world two world')
     OutcomePaired (Answers value world) (Fails f') = ⊥
     OutcomePaired (Fails f) (Answers value' world') = ⊥
@@ -404,7 +404,7 @@ module _ (Pair : ℕ → ℕ → Type 0) (first second : Progress) (pairing : Is
 
     -- ---- where control goes
 
-    pub outcome_paired : (outcome outcome' : Outcome) (site site' : Site) → OutcomePaired outcome outcome' → site ≡ site' → ControlPaired Pair first second (kernel.outcome_reached outcome site one) (kernel.outcome_reached outcome' site' two)
+    pub outcome_paired : (outcome outcome' : RowOutcome) (site site' : Site) → OutcomePaired outcome outcome' → site ≡ site' → ControlPaired Pair first second (kernel.outcome_reached outcome site one) (kernel.outcome_reached outcome' site' two)
     outcome_paired (Answers value world) (Answers value' world') site site' o e = o
     outcome_paired (Fails f) (Fails f') site site' o e = (same_fault Pair f f' site site' o e, a)
     outcome_paired (Answers value world) (Fails f') site site' o e = absurd o

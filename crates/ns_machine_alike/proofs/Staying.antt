@@ -16,11 +16,11 @@ use Rattle.ns_world.specs.declared.ending.LimitKind.TheVariants.{Steps, Cells, D
 use Rattle.ns_world.specs.Cell.{Cell, ObjectCell, ClassCell, BlockCell, EnvironmentCell, ArrayCell, TextCell, FacetCell, MirrorCell, MessageCell}
 use Rattle.ns_world.specs.Heap.{Heap, heap_size, find_cell, no_class}
 use Rattle.ns_world.specs.Seek.{first_such, is_facet, is_top}
-use Rattle.ns_world.specs.Reach.{Reach, all_referred}
+use Rattle.ns_world.specs.Reach.{IsInReach, all_referred}
 use Rattle.ns_world.specs.World.{World}
 use Rattle.ns_world.specs.Lawful.{IsLawful}
 use Rattle.ns_world.specs.Alike.{Renaming, AlikeValue, AlikeValues, AlikeClass, AlikeNumber, AlikeCell, AlikeHeld, AlikePairs, Alike}
-use Rattle.ns_kdata.specs.Arguments.{IsThere}
+use Rattle.ns_kdata.specs.Arguments.{CellIsThere}
 use Rattle.ns_actions.specs.Suiting.{is_reference}
 use Rattle.ns_actions.specs.Control.{Progress, Activation}
 use Rattle.ns_actions.specs.Bodies.{enclosing}
@@ -35,7 +35,7 @@ use Rattle.ns_machine_moves.specs.Standing.{ValidFindsAsked, MovesKeepValid}
 use Rattle.ns_machine_moves.specs.Stated.{MovesAdd, StaysStill}
 use Rattle.ns_machine_moves.specs.WorldAsks.{InstrAsks, FindsAsked}
 use Rattle.ns_machine_moves.specs.Beginning.{HostKeepsValid}
-use Rattle.ns_machine_moves.specs.Valid.{WorldIsValid, EndingIsValid, EndsIn, Valid}
+use Rattle.ns_machine_moves.specs.Valid.{WorldIsValid, EndingIsValid, EndIsValid, Valid}
 use Rattle.ns_machine_reach.specs.Within.{IsGranted, In, AllIn}
 use Rattle.ns_machine_reach.specs.Reached.{InReach}
 use Rattle.ns_machine_alike.specs.Paired.{IsPairing, Paired, Partners, Same, AllPaired, NumberPaired, FacetPaired, CellPaired, EndingPaired, PhasePaired, Abreast, StatePaired}
@@ -123,7 +123,7 @@ module _ (Pair : ℕ → ℕ → Type 0) (first second : Progress) (pairing : Is
 -- ---- valid states that a send of a host leads to
 
 -- its world is valid
-hosted_end : (code : CodeProgram) (grants : Grants) (ending : Ending) (now : Progress) → EndsIn code grants ending Hosted now → WorldIsValid code (standing_cells code grants) now × EndingIsValid code ending now
+hosted_end : (code : CodeProgram) (grants : Grants) (ending : Ending) (now : Progress) → EndIsValid code grants ending Hosted now → WorldIsValid code (standing_cells code grants) now × EndingIsValid code ending now
 hosted_end code grants (Done value) now v = v
 hosted_end code grants (Error error) now v = v
 hosted_end code grants (Limit Steps) now v = v
@@ -144,9 +144,9 @@ done_there code (Done value) now v = (live_there now.world.cells code value v.0.
 done_there code (Error error) now v = tt
 done_there code (Limit limit) now v = tt
 
-hosted_ended : (code : CodeProgram) (grants : Grants) (ending : Ending) (phase : Phase) (now : Progress) → phase ≡ Hosted → EndsIn code grants ending phase now → HostedWorld code grants (Ended ending phase now)
+hosted_ended : (code : CodeProgram) (grants : Grants) (ending : Ending) (phase : Phase) (now : Progress) → phase ≡ Hosted → EndIsValid code grants ending phase now → HostedWorld code grants (Ended ending phase now)
 hosted_ended code grants ending phase now e v =
-    let both = hosted_end code grants ending now (subst (λ f. EndsIn code grants ending f now) e v) in
+    let both = hosted_end code grants ending now (subst (λ f. EndIsValid code grants ending f now) e v) in
     record { world = both.0; done = done_there code ending now both.1 }
 
 phase_is : (Pair : ℕ → ℕ → Type 0) (first second : Progress) (phase phase' : Phase) → PhasePaired Pair first second phase phase' → (phase ≡ Hosted) × (phase' ≡ Hosted)
@@ -192,7 +192,7 @@ module _ (code : CodeProgram) (grants grants' : Grants) (pairs : Renaming) (firs
         subst (λ j. Contains after (j, m)) (sym e) (subst (λ j. Contains after (heap_size (world_of first).cells + k, j)) (sym e') c)
     renamed n m (NoClass e e') s = absurd (let t = there_below heap n s in omega (arith, t, e, small))
 
-    value_alike : (value value' : Value) → Paired P value value' → IsThere heap value → AlikeValue after value value'
+    value_alike : (value value' : Value) → Paired P value value' → CellIsThere heap value → AlikeValue after value value'
     value_alike value value' (Partners n m q) t = renamed n m q t
     value_alike value value' (Same same e) t = by same e
       where
@@ -285,8 +285,8 @@ module _ (code : CodeProgram) (grants grants' : Grants) (pairs : Renaming) (firs
     -- ---- roots
 
     -- the roots at the start are renamed by what was reached then
-    start_value : (value value' : Value) → AlikeValue pairs value value' → In (InReach (world_of first).cells (all_referred firsts)) value → In (InReach (world_of second).cells (all_referred seconds)) value' → IsThere (world_of first).cells value
-        → IsThere (world_of second).cells value' → AlikeValue after value value'
+    start_value : (value value' : Value) → AlikeValue pairs value value' → In (InReach (world_of first).cells (all_referred firsts)) value → In (InReach (world_of second).cells (all_referred seconds)) value' → CellIsThere (world_of first).cells value
+        → CellIsThere (world_of second).cells value' → AlikeValue after value value'
     start_value (Ref n) (Ref m) c i j t t' = on.earlier n m c (i t) (j t')
     start_value (Ref n) value' c i j t t' = absurd c
     start_value Nil value' c i j t t' = c
@@ -325,20 +325,20 @@ module _ (code : CodeProgram) (grants grants' : Grants) (pairs : Renaming) (firs
     roots_paired : AllPaired P (firsts ++ done_values one) (seconds ++ done_values two)
     roots_paired = all_append P firsts (done_values one) seconds (done_values two) roots_start (done_paired one two p)
 
-    forth : (n : ℕ) → Reach heap (all_referred (firsts ++ done_values one)) n → (m : ℕ) × P n m × Reach other (all_referred (seconds ++ done_values two)) m
+    forth : (n : ℕ) → IsInReach heap (all_referred (firsts ++ done_values one)) n → (m : ℕ) × P n m × IsInReach other (all_referred (seconds ++ done_values two)) m
     forth n r = reach_forth P (progress_of first) (progress_of second) pairing heap other a.heaps small small' (firsts ++ done_values one) (seconds ++ done_values two) roots_paired n r
 
-    back : (m : ℕ) → Reach other (all_referred (seconds ++ done_values two)) m → (n : ℕ) × P n m × Reach heap (all_referred (firsts ++ done_values one)) n
+    back : (m : ℕ) → IsInReach other (all_referred (seconds ++ done_values two)) m → (n : ℕ) × P n m × IsInReach heap (all_referred (firsts ++ done_values one)) n
     back m r = reach_back P (progress_of first) (progress_of second) pairing heap other a.heaps small small' (firsts ++ done_values one) (seconds ++ done_values two) roots_paired m r
 
     -- a cell that is reached and its partner
-    onto : (n : ℕ) → Reach heap (all_referred (firsts ++ done_values one)) n → (m : ℕ) × Contains after (n, m) × Reach other (all_referred (seconds ++ done_values two)) m
+    onto : (n : ℕ) → IsInReach heap (all_referred (firsts ++ done_values one)) n → (m : ℕ) × Contains after (n, m) × IsInReach other (all_referred (seconds ++ done_values two)) m
     onto n r = let f = forth n r in (f.0, renamed n f.0 f.1 (reach_there heap (all_referred (firsts ++ done_values one)) n r), f.2)
 
-    backed : (m : ℕ) → Reach other (all_referred (seconds ++ done_values two)) m → (n : ℕ) × Contains after (n, m) × Reach heap (all_referred (firsts ++ done_values one)) n
+    backed : (m : ℕ) → IsInReach other (all_referred (seconds ++ done_values two)) m → (n : ℕ) × Contains after (n, m) × IsInReach heap (all_referred (firsts ++ done_values one)) n
     backed m r = let f = back m r in (f.0, renamed f.0 m f.1 (reach_there heap (all_referred (firsts ++ done_values one)) f.0 f.2), f.2)
 
-    cells : (n m : ℕ) → Contains after (n, m) → Reach heap (all_referred (firsts ++ done_values one)) n → AlikePairs after heap other n m
+    cells : (n m : ℕ) → Contains after (n, m) → IsInReach heap (all_referred (firsts ++ done_values one)) n → AlikePairs after heap other n m
     cells n m c r =
         let f = forth n r in
         let s = reach_there heap (all_referred (firsts ++ done_values one)) n r in

@@ -13,19 +13,19 @@ use Rattle.ns_world.specs.declared.value.Value.TheVariants.{Nil, True, False, In
 use Rattle.ns_world.specs.Cell.{Cell, ObjectCell, ClassCell, BlockCell, EnvironmentCell, ArrayCell, TextCell, FacetCell, MirrorCell, MessageCell}
 use Rattle.ns_world.specs.Heap.{Heap, heap_size, find_cell, is_class, is_superclass, no_class}
 use Rattle.ns_world.specs.Seek.{first_such, earlier_or}
-use Rattle.ns_world.specs.Reach.{Reach, IsRoot, IsHeld, held}
+use Rattle.ns_world.specs.Reach.{IsInReach, IsRoot, IsHeld, held}
 use Rattle.ns_world.specs.World.{World}
 use Rattle.ns_world.specs.Lawful.{IsLive, IsLiveValue, is_environment, IsEnvironmentOrNil, class_of_object, HasHolder, HasEnclosing, ClassIsLawful, FitsBody, environment_in, FitsEnvironment, BlockIsLawful, HasArguments, MessageIsLawful, CellIsLawful, IsLawful}
 use Rattle.ns_world.specs.laws.Changing.{found_new, found_old}
 use Rattle.ns_world.specs.laws.Chains.{found_below, linked}
-use Rattle.ns_kdata.specs.Arguments.{IsThere}
+use Rattle.ns_kdata.specs.Arguments.{CellIsThere}
 use Rattle.ns_machine_reach.specs.Within.{CellIn}
 use Rattle.ns_machine_reach.specs.Reached.{InReach}
 use Rattle.ns_machine_reach.specs.laws.Holding.{AllHave, each_has, cell_from}
 
 -- ---- what is reached is there
 
-pub reach_there : (heap : Heap) (roots : List ℕ) (n : ℕ) → Reach heap roots n → IsSome (find_cell heap n)
+pub reach_there : (heap : Heap) (roots : List ℕ) (n : ℕ) → IsInReach heap roots n → IsSome (find_cell heap n)
 reach_there heap roots n (IsRoot number among some) = some
 reach_there heap roots n (IsHeld from number cell before is among some) = some
 
@@ -40,7 +40,7 @@ no_class_out : (heap : Heap) (roots : List ℕ) → heap_size heap ≤ no_class 
 no_class_out heap roots small some = absurd (omega (arith, there_below heap no_class some))
 
 -- what a reached cell holds is reached, as far as it is there
-pub reach_cell : (heap : Heap) (roots : List ℕ) (n : ℕ) (cell : Cell) → heap_size heap ≤ no_class → Reach heap roots n → find_cell heap n ≡ Some cell → CellIn (InReach heap roots) heap cell
+pub reach_cell : (heap : Heap) (roots : List ℕ) (n : ℕ) (cell : Cell) → heap_size heap ≤ no_class → IsInReach heap roots n → find_cell heap n ≡ Some cell → CellIn (InReach heap roots) heap cell
 reach_cell heap roots n cell small reached e =
     cell_from (InReach heap roots) heap cell (no_class_out heap roots small) (each_has (InReach heap roots) (held heap cell) (λ m among some. IsHeld n m cell reached e among some))
 
@@ -51,7 +51,7 @@ roots_reached heap roots = each_has (InReach heap roots) roots (λ m among some.
 
 abbrev pub AllThere : Heap → List Value → Type 0
 AllThere heap [] = Unit {0}
-AllThere heap (value ∷ values) = IsThere heap value × AllThere heap values
+AllThere heap (value ∷ values) = CellIsThere heap value × AllThere heap values
 
 -- a class is there, or it is no class
 abbrev pub ClassThere : Heap → ℕ → Type 0
@@ -59,16 +59,16 @@ ClassThere heap class = IsSome (find_cell heap class) ⊎ (class ≡ no_class)
 
 abbrev pub CellThere : Heap → Cell → Type 0
 CellThere heap (ObjectCell class entries) = ClassThere heap class × AllThere heap entries
-CellThere heap (ClassCell decl base encl holder over) = IsThere heap encl × IsThere heap holder × IsThere heap over
-CellThere heap (BlockCell body env home receiver holder) = IsThere heap env × IsThere heap receiver × ClassThere heap holder
-CellThere heap (EnvironmentCell parent locals) = IsThere heap parent × AllThere heap locals
+CellThere heap (ClassCell decl base encl holder over) = CellIsThere heap encl × CellIsThere heap holder × CellIsThere heap over
+CellThere heap (BlockCell body env home receiver holder) = CellIsThere heap env × CellIsThere heap receiver × ClassThere heap holder
+CellThere heap (EnvironmentCell parent locals) = CellIsThere heap parent × AllThere heap locals
 CellThere heap (ArrayCell items) = AllThere heap items
 CellThere heap (TextCell bytes) = Unit {0}
 CellThere heap (FacetCell kind) = Unit {0}
-CellThere heap (MirrorCell mirrored) = IsThere heap mirrored
-CellThere heap (MessageCell sel args) = IsThere heap args
+CellThere heap (MirrorCell mirrored) = CellIsThere heap mirrored
+CellThere heap (MessageCell sel args) = CellIsThere heap args
 
-pub live_there : (heap : Heap) (code : CodeProgram) (value : Value) → IsLive heap code value → IsThere heap value
+pub live_there : (heap : Heap) (code : CodeProgram) (value : Value) → IsLive heap code value → CellIsThere heap value
 live_there heap code (Ref at) h = h
 live_there heap code Nil h = tt
 live_there heap code True h = tt
@@ -105,7 +105,7 @@ environment_there heap at e = by (find_cell heap at) e
     by None e = absurd (cc (e))
     by (Some cell) e = refl
 
-environment_or_nil : (heap : Heap) (env : Value) → IsEnvironmentOrNil heap env → IsThere heap env
+environment_or_nil : (heap : Heap) (env : Value) → IsEnvironmentOrNil heap env → CellIsThere heap env
 environment_or_nil heap (Ref at) h = environment_there heap at h
 environment_or_nil heap Nil h = tt
 environment_or_nil heap True h = tt
@@ -114,7 +114,7 @@ environment_or_nil heap (Int number) h = tt
 environment_or_nil heap (Sym sel) h = tt
 environment_or_nil heap (Kernel class) h = tt
 
-holder_there : (heap : Heap) (value : Value) (holder : ℕ) → HasHolder heap value holder → IsThere heap value
+holder_there : (heap : Heap) (value : Value) (holder : ℕ) → HasHolder heap value holder → CellIsThere heap value
 holder_there heap (Ref at) holder h = object_there heap at h.1
 holder_there heap Nil holder h = tt
 holder_there heap True holder h = tt
@@ -123,8 +123,8 @@ holder_there heap (Int number) holder h = tt
 holder_there heap (Sym sel) holder h = tt
 holder_there heap (Kernel class) holder h = tt
 
-enclosing_there : (heap : Heap) (code : CodeProgram) (outer : Option ℕ) (encl holder : Value) → HasEnclosing heap code outer encl holder → IsThere heap encl × IsThere heap holder
-enclosing_there heap code None encl holder h = (subst (IsThere heap) (sym h.0) tt, subst (IsThere heap) (sym h.1) tt)
+enclosing_there : (heap : Heap) (code : CodeProgram) (outer : Option ℕ) (encl holder : Value) → HasEnclosing heap code outer encl holder → CellIsThere heap encl × CellIsThere heap holder
+enclosing_there heap code None encl holder h = (subst (CellIsThere heap) (sym h.0) tt, subst (CellIsThere heap) (sym h.1) tt)
 enclosing_there heap code (Some outer) encl (Ref holder) h = (holder_there heap encl holder h.0, class_there heap holder h.1)
 enclosing_there heap code (Some outer) encl Nil h = absurd h
 enclosing_there heap code (Some outer) encl True h = absurd h
@@ -133,7 +133,7 @@ enclosing_there heap code (Some outer) encl (Int number) h = absurd h
 enclosing_there heap code (Some outer) encl (Sym sel) h = absurd h
 enclosing_there heap code (Some outer) encl (Kernel class) h = absurd h
 
-superclass_there : (heap : Heap) (over : Value) → is_superclass heap over ≡ true → IsThere heap over
+superclass_there : (heap : Heap) (over : Value) → is_superclass heap over ≡ true → CellIsThere heap over
 superclass_there heap (Ref class) e = class_there heap class e
 superclass_there heap Nil e = tt
 superclass_there heap True e = tt
@@ -154,7 +154,7 @@ body_side code number body fits e =
     has.side
 
 body_self_there : (heap : Heap) (code : CodeProgram) (number : ℕ) (body : BodyCode) (self : Value) (holder : ℕ) → Fits code → slice_get code.bodies number ≡ Some body → FitsBody heap code body self holder
-    → IsThere heap self × IsSome (find_cell heap holder)
+    → CellIsThere heap self × IsSome (find_cell heap holder)
 body_self_there heap code number body (Ref at) holder fits e f = (sided body.side refl (body_side code number body fits e), class_there heap holder f.0)
   where
     sided : (side : ℕ) → body.side ≡ side → side ≤ 1 → IsSome (find_cell heap at)
@@ -168,8 +168,8 @@ body_self_there heap code number body (Int n) holder fits e f = absurd f
 body_self_there heap code number body (Sym sel) holder fits e f = absurd f
 body_self_there heap code number body (Kernel class) holder fits e f = absurd f
 
-body_env_there : (depth : ℕ) (heap : Heap) (code : CodeProgram) (parent : Option ℕ) (env : Value) → FitsEnvironment depth heap code parent env → IsThere heap env
-body_env_there depth heap code None env f = subst (IsThere heap) (sym f) tt
+body_env_there : (depth : ℕ) (heap : Heap) (code : CodeProgram) (parent : Option ℕ) (env : Value) → FitsEnvironment depth heap code parent env → CellIsThere heap env
+body_env_there depth heap code None env f = subst (CellIsThere heap) (sym f) tt
 body_env_there zero heap code (Some body) env f = absurd f
 body_env_there (suc depth) heap code (Some body) (Ref at) f = by (find_cell heap at) f.1
   where
@@ -183,16 +183,16 @@ body_env_there (suc depth) heap code (Some body) (Int n) f = tt
 body_env_there (suc depth) heap code (Some body) (Sym sel) f = tt
 body_env_there (suc depth) heap code (Some body) (Kernel class) f = tt
 
-block_there : (heap : Heap) (code : CodeProgram) (number : ℕ) (env receiver : Value) (holder : ℕ) → Fits code → BlockIsLawful heap code number env receiver holder → IsThere heap env × IsThere heap receiver × ClassThere heap holder
+block_there : (heap : Heap) (code : CodeProgram) (number : ℕ) (env receiver : Value) (holder : ℕ) → Fits code → BlockIsLawful heap code number env receiver holder → CellIsThere heap env × CellIsThere heap receiver × ClassThere heap holder
 block_there heap code number env receiver holder fits block = by (slice_get code.bodies number) refl block.declared
   where
-    by : (o : Option BodyCode) → slice_get code.bodies number ≡ o → IsSome o → IsThere heap env × IsThere heap receiver × ClassThere heap holder
+    by : (o : Option BodyCode) → slice_get code.bodies number ≡ o → IsSome o → CellIsThere heap env × CellIsThere heap receiver × ClassThere heap holder
     by None e s = absurd (cc (s))
     by (Some body) e s =
         let self = body_self_there heap code number body receiver holder fits e (block.fits body e) in
         (body_env_there (number + 1) heap code body.parent env (block.environment body e), self.0, inl self.1)
 
-message_there : (heap : Heap) (code : CodeProgram) (sel : Sel) (args : Value) → MessageIsLawful heap code sel args → IsThere heap args
+message_there : (heap : Heap) (code : CodeProgram) (sel : Sel) (args : Value) → MessageIsLawful heap code sel args → CellIsThere heap args
 message_there heap code sel (Ref at) h = by (find_cell heap at) h.1
   where
     by : (o : Option Cell) → HasArguments code sel o → IsSome o
@@ -218,7 +218,7 @@ cell_there world code number (ClassCell decl base encl holder over) lawful e =
     let around = by (slice_get code.classes decl) refl l in
     (around.0, around.1, superclass_there world.cells over (linked world.cells number decl base encl holder over lawful.ordered e).superclass)
   where
-    by : (o : Option ClassCode) → slice_get code.classes decl ≡ o → ClassIsLawful world.cells code number decl base encl holder → IsThere world.cells encl × IsThere world.cells holder
+    by : (o : Option ClassCode) → slice_get code.classes decl ≡ o → ClassIsLawful world.cells code number decl base encl holder → CellIsThere world.cells encl × CellIsThere world.cells holder
     by None q l = absurd (let s : is_some (slice_get code.classes decl) ≡ true = l.declared in let n : is_some (slice_get code.classes decl) ≡ false = ap is_some q in cc)
     by (Some class) q l = enclosing_there world.cells code class.outer encl holder (l.enclosing class q)
 cell_there world code number (BlockCell body env home receiver holder) lawful e = block_there world.cells code body env receiver holder lawful.fits (lawful.cells number (BlockCell body env home receiver holder) e)

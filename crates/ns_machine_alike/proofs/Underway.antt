@@ -14,7 +14,7 @@ use Rattle.ns_machine_moves.specs.Starts.{begun}
 use Rattle.ns_machine_moves.specs.Stated.{MovesAdd, TurnsLeaveOne}
 use Rattle.ns_machine_alike.specs.Renamed.{renamed_on}
 use Rattle.ns_machine_alike.specs.Isolated.{MaybeEndingAlike, RunsAlike, SendsAreAlike, RenamingsGoOn}
-use Rattle.ns_machine_alike.specs.Underway.{TurnsLead, Underway, TurnsAreAlike, TurnsComeToTheSame, TurnsGoOnAlike}
+use Rattle.ns_machine_alike.specs.Underway.{TurnsLead, SendIsUnderway, TurnsAreAlike, TurnsComeToTheSame, TurnsGoOnAlike}
 use Rattle.ns_machine_alike.proofs.Charging.{same_lt}
 use Rattle.ns_machine_alike.proofs.Beginning.{may_begin_too}
 
@@ -156,5 +156,5 @@ turns_alike code grants grants' comes only pairs receiver other sel arguments ot
 
 pub turns_go_on : (code : CodeProgram) (grants : Grants) → ((grants' : Grants) → TurnsComeToTheSame code grants grants') → TurnsGoOnAlike code grants
 turns_go_on code grants comes steps old new turn receiver sel arguments turns idle under =
-    let on : Underway code grants receiver sel arguments idle (steps ∷ turns) new = record { valid = under.valid; may = under.may; leads = (old, under.leads, turn) } in
+    let on : SendIsUnderway code grants receiver sel arguments idle (steps ∷ turns) new = record { valid = under.valid; may = under.may; leads = (old, under.leads, turn) } in
     (on, λ grants'. comes grants' receiver sel arguments (steps ∷ turns) idle new on)

@@ -10,7 +10,7 @@ use Rattle.ns_world.specs.declared.ending.Ending.{Ending}
 use Rattle.ns_world.specs.declared.ending.Ending.TheVariants.{Done, Error, Limit}
 use Rattle.ns_world.specs.Cell.{FacetCell}
 use Rattle.ns_world.specs.Heap.{Heap, heap_size, find_cell, no_class}
-use Rattle.ns_world.specs.Reach.{Reach, all_referred}
+use Rattle.ns_world.specs.Reach.{IsInReach, all_referred}
 use Rattle.ns_world.specs.World.{World}
 use Rattle.ns_world.specs.Alike.{Renaming, AlikeValue, Alike}
 use Rattle.ns_machine_alike.specs.Renamed.{renamed_on}
@@ -26,7 +26,7 @@ use Rattle.ns_machine_moves.specs.Beginning.{MayBegin}
 -- The cells that are paired in two sends from alike worlds, from the start on: what the renaming pairs in the two reaches, the number of no class, and
 -- each cell that the first send makes with the one that the second makes, as far behind the cells that were there.
 pub data SendPair (pairs : Renaming) (one two : World) (firsts seconds : List ℕ) (n m : ℕ) : Type 0 where
-  Earlier : Contains pairs (n, m) → Reach one.cells firsts n → Reach two.cells seconds m → SendPair pairs one two firsts seconds n m
+  Earlier : Contains pairs (n, m) → IsInReach one.cells firsts n → IsInReach two.cells seconds m → SendPair pairs one two firsts seconds n m
   Made : (k : ℕ) → n ≡ heap_size one.cells + k → m ≡ heap_size two.cells + k → n < one.limits.cells → SendPair pairs one two firsts seconds n m
   NoClass : n ≡ no_class → m ≡ no_class → SendPair pairs one two firsts seconds n m
 
@@ -35,7 +35,7 @@ pub data SendPair (pairs : Renaming) (one two : World) (firsts seconds : List �
 pub record RenamesOn (pairs after : Renaming) (one two : World) (firsts seconds : List ℕ) (now : Heap) : Type 0 where
   pub once_first : AllPairs (λ p q. p.0 ≢ q.0) after
   pub once_second : AllPairs (λ p q. p.1 ≢ q.1) after
-  pub earlier : (n m : ℕ) → Contains pairs (n, m) → Reach one.cells firsts n → Reach two.cells seconds m → Contains after (n, m)
+  pub earlier : (n m : ℕ) → Contains pairs (n, m) → IsInReach one.cells firsts n → IsInReach two.cells seconds m → Contains after (n, m)
   pub made : (k : ℕ) → IsSome (find_cell now (heap_size one.cells + k)) → Contains after (heap_size one.cells + k, heap_size two.cells + k)
 
 -- ---- what is alike
@@ -43,7 +43,7 @@ pub record RenamesOn (pairs after : Renaming) (one two : World) (firsts seconds 
 -- Where a Board is reached, two runs have the same board.
 abbrev pub BoardsAlike : List Value → State → State → Type 0
 BoardsAlike firsts one two =
-    (number : ℕ) → Reach (world_of one).cells (all_referred firsts) number → find_cell (world_of one).cells number ≡ Some (FacetCell Board)
+    (number : ℕ) → IsInReach (world_of one).cells (all_referred firsts) number → find_cell (world_of one).cells number ≡ Some (FacetCell Board)
     → (progress_of one).board ≡ (progress_of two).board
 
 -- Two states are alike from these roots on: their worlds are, and so are their boards as far as they are in reach.

@@ -16,7 +16,7 @@ use Rattle.ns_kcode.specs.declared.state.KState.{KState}
 use Rattle.ns_actions.specs.Suiting.{is_reference}
 use Rattle.ns_actions.specs.Bodies.{no_home}
 use Rattle.ns_actions.specs.Control.{Progress, Activation, Exit, FromMethod, FromBody, FromClause, After, Gives, Halts, Control, Now, Enter, Evaluate}
-use Rattle.ns_actions.specs.Control.{Begin, Perform, Part, Skip, Stop, EnterPart, Waiting, Waits, Finishes}
+use Rattle.ns_actions.specs.Control.{Begin, Perform, PartControl, Skip, Stop, EnterPart, Waiting, Waits, Finishes}
 use Rattle.ns_machine_moves.specs.State.{Leaving, Loud, Silent, Frame, Running, Looping, Pending, Sending, Performing, Evaluating, Phase}
 use Rattle.ns_machine_moves.specs.State.{Hosted, State, Going, Pends, Ended, Stuck}
 use Rattle.ns_machine_reach.specs.Within.{IsGranted}
@@ -217,7 +217,7 @@ module _ (Pair : ℕ → ℕ → Type 0) (first second : Progress) where
       Paired Pair receiver receiver' × (sel ≡ sel') × Pair array array' × (site ≡ site') × Abreast progress progress'
   ControlPaired control other = ⊥
 
-  abbrev pub PartPaired : Part → Part → Type 0
+  abbrev pub PartPaired : PartControl → PartControl → Type 0
   PartPaired (Skip progress) (Skip progress') = Abreast progress progress'
   PartPaired (Stop ending progress) (Stop ending' progress') = EndingPaired Pair ending ending' × Abreast progress progress'
   PartPaired (EnterPart activation locals progress) (EnterPart activation' locals' progress') =

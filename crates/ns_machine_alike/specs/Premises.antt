@@ -4,7 +4,7 @@ use Rattle.ns_code.specs.declared.program.CodeProgram.{CodeProgram}
 use Rattle.ns_facets.specs.declared.row.Grants.{Grants}
 use Rattle.ns_world.specs.declared.value.Value.{Value}
 use Rattle.ns_world.specs.declared.cell.FacetKind.TheVariants.{Board}
-use Rattle.ns_world.specs.Reach.{Reach, all_referred}
+use Rattle.ns_world.specs.Reach.{IsInReach, all_referred}
 use Rattle.ns_world.specs.Alike.{Renaming, AlikeValues, Alike}
 use Rattle.ns_actions.specs.Suiting.{is_reference}
 use Rattle.ns_machine_moves.specs.State.{State, is_idle, world_of}
@@ -42,5 +42,5 @@ ReachedValuesAreAlike code grants grants' =
     (pairs : Renaming) (firsts seconds values others : List Value) (first second : State)
     → Valid code grants first → Valid code grants' second → IsTrue (is_idle first) → IsTrue (is_idle second)
     → StatesAlike pairs firsts seconds first second → AlikeValues pairs values others
-    → ((number : ℕ) → Contains (all_referred values) number → Reach (world_of first).cells (all_referred firsts) number)
+    → ((number : ℕ) → Contains (all_referred values) number → IsInReach (world_of first).cells (all_referred firsts) number)
     → StatesAlike pairs values others first second

@@ -20,7 +20,7 @@ TurnsLead code [] old new = old ≡ new
 TurnsLead code (steps ∷ earlier) old new = (between : State) × TurnsLead code earlier old between × Turns code steps between new
 
 -- A send of a host is under way: it was begun where a valid state was idle, and turns of these sizes, the last one first, led here.
-pub record Underway (code : CodeProgram) (grants : Grants) (receiver : Value) (sel : Sel) (arguments : List Value) (idle : State) (turns : List ℕ) (now : State) : Type 0 where
+pub record SendIsUnderway (code : CodeProgram) (grants : Grants) (receiver : Value) (sel : Sel) (arguments : List Value) (idle : State) (turns : List ℕ) (now : State) : Type 0 where
   pub valid : Valid code grants idle
   pub may : MayBegin code receiver sel arguments idle
   pub leads : TurnsLead code turns (begun receiver sel arguments idle) now
@@ -31,7 +31,7 @@ pub record Underway (code : CodeProgram) (grants : Grants) (receiver : Value) (s
 abbrev pub TurnsAreAlike : CodeProgram → Grants → Grants → Type 0
 TurnsAreAlike code grants grants' =
     (pairs : Renaming) (receiver other : Value) (sel : Sel) (arguments others : List Value) (turns : List ℕ) (first second one two : State)
-    → Underway code grants receiver sel arguments first turns one → Underway code grants' other sel others second turns two
+    → SendIsUnderway code grants receiver sel arguments first turns one → SendIsUnderway code grants' other sel others second turns two
     → StatesAlike pairs (receiver ∷ arguments) (other ∷ others) first second
     → RunsAlike pairs (receiver ∷ arguments) (other ∷ others) first second one two
 
@@ -41,14 +41,14 @@ TurnsToTheSame code grants receiver sel arguments first turns one =
     (pairs : Renaming) (other : Value) (others : List Value) (second : State)
     → Valid code grants second → IsTrue (is_idle second)
     → StatesAlike pairs (receiver ∷ arguments) (other ∷ others) first second
-    → (two : State) × Underway code grants other sel others second turns two
+    → (two : State) × SendIsUnderway code grants other sel others second turns two
     × RunsAlike pairs (receiver ∷ arguments) (other ∷ others) first second one two
 
 -- So it is with all turns of each send.
 abbrev pub TurnsComeToTheSame : CodeProgram → Grants → Grants → Type 0
 TurnsComeToTheSame code grants grants' =
     (receiver : Value) (sel : Sel) (arguments : List Value) (turns : List ℕ) (first one : State)
-    → Underway code grants receiver sel arguments first turns one
+    → SendIsUnderway code grants receiver sel arguments first turns one
     → TurnsToTheSame code grants' receiver sel arguments first turns one
 
 -- ---- one turn more
@@ -57,8 +57,8 @@ TurnsComeToTheSame code grants grants' =
 abbrev pub GoesOnAlike : CodeProgram → Grants → ℕ → State → State → Type 0
 GoesOnAlike code grants steps old new =
     (receiver : Value) (sel : Sel) (arguments : List Value) (turns : List ℕ) (idle : State)
-    → Underway code grants receiver sel arguments idle turns old
-    → Underway code grants receiver sel arguments idle (steps ∷ turns) new
+    → SendIsUnderway code grants receiver sel arguments idle turns old
+    → SendIsUnderway code grants receiver sel arguments idle (steps ∷ turns) new
     × ((grants' : Grants) → TurnsToTheSame code grants' receiver sel arguments idle (steps ∷ turns) new)
 
 -- So each turn goes.

@@ -21,7 +21,7 @@ use Rattle.ns_machine_frames.specs.declared.stack.Stack.{Stack}
 use Rattle.ns_machine_frames.specs.Row.{ValueRow}
 use Rattle.ns_machine_frames.specs.Standing.{Stood, Runs, Loops, at_next}
 use Rattle.ns_machine_frames.specs.Stack.{in_use, stood, with_top, IsLaid, IsEntered}
-use Rattle.ns_machine_frames.specs.Room.{AreWithin, EnteringKeeps}
+use Rattle.ns_machine_frames.specs.Room.{FramesFitWithin, EnteringKeeps}
 use Rattle.ns_machine_frames.specs.Calls.{leaving_of, arguments_of, locals_for, frame_for}
 use Rattle.ns_machine_frames.specs.Arriving.{BodiesBegin}
 use Rattle.ns_machine_frames.specs.View.{site_shown, frames_shown}
@@ -49,8 +49,8 @@ method_begins code core at to stack looping can is laid frames values room = rec
   state = ap (λ (s : List Stood). Going (phase_shown core.phase) (frames_shown code core.places s) (progress_in core)) is;
   stand = record {
     laid = laid;
-    within = subst (λ (all : List Frame). AreWithin (height_in code) (greatest_of code.bodies) (length stack.values.items) all) (sym frames)
-        (subst (λ (v : ValueRow). AreWithin (height_in code) (greatest_of code.bodies) (length v.items) (Looping looping ∷ at_next at.next core.stack.frames.items)) (sym values)
+    within = subst (λ (all : List Frame). FramesFitWithin (height_in code) (greatest_of code.bodies) (length stack.values.items) all) (sym frames)
+        (subst (λ (v : ValueRow). FramesFitWithin (height_in code) (greatest_of code.bodies) (length v.items) (Looping looping ∷ at_next at.next core.stack.frames.items)) (sym values)
         (let low = can.begins.waits.filled in
         let high = can.reach in
         let same = bound_next (greatest_of code.bodies) at.next core.stack.frames.items in

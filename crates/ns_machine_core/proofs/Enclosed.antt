@@ -25,7 +25,7 @@ use Rattle.ns_machine_frames.specs.View.{frames_shown, site_shown}
 use Rattle.ns_machine_core.specs.declared.state.Core.{Core}
 use Rattle.ns_machine_core.specs.declared.state.Next.TheVariants as next
 use Rattle.ns_machine_core.specs.Shown.{phase_shown, progress_in}
-use Rattle.ns_machine_core.specs.Doing.{done, FindsIn, CanDo, running_of, Pushed, Does}
+use Rattle.ns_machine_core.specs.Doing.{done, FindsWhatItTakes, CanDo, running_of, Pushed, IsDone}
 use Rattle.ns_machine_core.specs.laws.Pushed.{top_stands}
 use Rattle.ns_machine_core.proofs.Pushed.{push_does}
 use Rattle.ns_machine_core.specs.laws.Finds.{finds_in}
@@ -39,7 +39,7 @@ pub declared_there : (code : CodeProgram) (core : Core) (at : Registers) (level 
     → core.stack.frames.items ≡ Running running ∷ below core.stack.frames.items → IsSome (declaration_at code (running_of running.activation).body level)
 declared_there code core at level running can top = by_body (slice_get code.bodies running.activation.body) refl finds.fits.there
   where
-    finds : FindsIn code core.places (instr.PushOuter level) (record running { next = at.next }) (locals_in (stood core.stack at)) (operands_in (stood core.stack at))
+    finds : FindsWhatItTakes code core.places (instr.PushOuter level) (record running { next = at.next }) (locals_in (stood core.stack at)) (operands_in (stood core.stack at))
         (progress_in core)
     finds = finds_in code core at (instr.PushOuter level) running can top
 
@@ -50,7 +50,7 @@ declared_there code core at level running can top = by_body (slice_get code.bodi
 pub outer_pushed : (code : CodeProgram) (old new : Core) (at to : Registers) (level : ℕ) (running : RunningFrame) (around : Surrounding) (place : Option SourcePlace)
     → CanDo code old at (instr.PushOuter level) → old.stack.frames.items ≡ Running running ∷ below old.stack.frames.items
     → ((site : Site) → place_of around ≡ enclosing old.run.world.world.cells (activation_at site (running_of running.activation)) level)
-    → Pushed code old at around.object new to → Does code (instr.PushOuter level) place old at new (next.On to)
+    → Pushed code old at around.object new to → IsDone code (instr.PushOuter level) place old at new (next.On to)
 outer_pushed code old new at to level running around place can top is pushed =
     push_does code old new at to (instr.PushOuter level) place around.object can pushed by_stood
   where

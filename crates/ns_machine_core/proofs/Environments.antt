@@ -17,7 +17,7 @@ use Rattle.ns_actions.specs.Control.{Activation}
 use Rattle.ns_actions.specs.Bodies.{has_environment, locals_of, environment_out, parent_in, is_beside}
 use Rattle.ns_actions.specs.Fitting.{environment_body, locals_beside}
 use Rattle.ns_machine_moves.specs.laws.Levels.{around_is}
-use Rattle.ns_act.specs.Locals.{HasEnvironments, HasLocal}
+use Rattle.ns_act.specs.Locals.{HasEnvironments, LocalIsReadable}
 
 -- ---- one environment
 
@@ -162,7 +162,7 @@ module _ (heap : Heap) (code : CodeProgram) (activation : Activation) (index : �
   away (suc hops) fits named beside = outer_away hops (has_environment code activation.body) fits named
 
   pub local_outside : (hops : ℕ) → FitsEnvironment (activation.body + 1) heap code (environment_body code activation.body) activation.env
-      → NamesLocal code activation.body hops index → HasLocal heap code activation hops index
+      → NamesLocal code activation.body hops index → LocalIsReadable heap code activation hops index
   local_outside hops fits named = record { way = λ beside. (away hops fits named beside).0; inside = λ beside. (away hops fits named beside).1 }
 
 -- one of a body without an environment is among those beside it

@@ -19,10 +19,10 @@ use Rattle.ns_verify.specs.Uses.{IsUsable}
 use Rattle.ns_actions.specs.Control.{Progress}
 use Rattle.ns_machine_moves.specs.State as state
 use Rattle.ns_machine_moves.specs.State.{Phase, Going}
-use Rattle.ns_machine_moves.specs.Steps.{Step, placed, steps_of, steps_from}
+use Rattle.ns_machine_moves.specs.Steps.{PlacedInstr, placed, steps_of, steps_from}
 use Rattle.ns_machine_moves.specs.Move.{move}
 use Rattle.ns_machine_moves.specs.Standing.{ValidFindsAsked}
-use Rattle.ns_machine_moves.specs.WorldAsks.{FindsAsked, RunsOn}
+use Rattle.ns_machine_moves.specs.WorldAsks.{FindsAsked, InstructionRunsOn}
 use Rattle.ns_machine_moves.specs.ValidFrames.{Nothing, next_number, height_of, StandsBefore, RunningIsValid}
 use Rattle.ns_machine_moves.specs.Valid.{WorldIsValid, Valid}
 use Rattle.ns_machine_moves.specs.laws.Steps.{placed_length, placed_at}
@@ -37,7 +37,7 @@ use Rattle.ns_machine_core.specs.declared.state.Core.{Core}
 use Rattle.ns_machine_core.specs.declared.state.Next.TheVariants.{On}
 use Rattle.ns_machine_core.specs.Shown.{phase_shown, progress_in, shown}
 use Rattle.ns_actions.specs.Bodies.{height_in}
-use Rattle.ns_machine_core.specs.Doing.{done, FindsIn, Finds}
+use Rattle.ns_machine_core.specs.Doing.{done, FindsWhatItTakes, Finds}
 use Rattle.ns_machine_core.specs.Moving.{HasNextStep}
 
 -- ---- lists of steps
@@ -94,18 +94,18 @@ module _ (code : CodeProgram) (known : CodeKnown code) (grants : Grants) (places
     step_there = let m = many in let low = inside in
         let e = slice_get-get_or (steps_of code running.activation.body) next (i.Pop, None) (omega (arith, m, low)) in rw e refl
 
-    module _ (step : Step) (is : slice_get (steps_of code running.activation.body) next ≡ Some step) where
+    module _ (step : PlacedInstr) (is : slice_get (steps_of code running.activation.body) next ≡ Some step) where
       instr_is : slice_get b.instrs next ≡ Some step.0
-      instr_is = (placed_at b.places 0 next b.instrs step (ap (λ (l : List Step). slice_get l next) (sym steps_are) ∙ is)).0
+      instr_is = (placed_at b.places 0 next b.instrs step (ap (λ (l : List PlacedInstr). slice_get l next) (sym steps_are) ∙ is)).0
 
       on : steps_from code running.activation.body next ≡ step ∷ steps_from code running.activation.body (next + 1)
       on =
           let same : suc next ≡ next + 1 = omega arith in
           drop_there next (steps_of code running.activation.body) step is ∙ ap (λ (k : ℕ). step ∷ steps_from code running.activation.body k) same
 
-      asked : RunsOn code step (leaving_shown running.leaving running.activation) (activation_shown places running.activation) p
+      asked : InstructionRunsOn code step (leaving_shown running.leaving running.activation) (activation_shown places running.activation) p
       asked = subst
-          (λ (rest : List Step). FindsAsked code (Going phase (state.Running (leaving_shown running.leaving running.activation)
+          (λ (rest : List PlacedInstr). FindsAsked code (Going phase (state.Running (leaving_shown running.leaving running.activation)
           (activation_shown places running.activation) locals rest stack ∷ frames_shown code places others) p))
           on (known.asks grants (Going phase (frames_shown code places (Runs (record running { next = next }) locals stack ∷ others)) p) valid)
 
@@ -130,7 +130,7 @@ module _ (code : CodeProgram) (known : CodeKnown code) (grants : Grants) (places
           let c = count in let h = height_is next step.0 instr_is in let t = height_there in
           omega (arith, c, h, t, after, within)
 
-      pub finds : FindsIn code places step.0 (record running { next = next + 1 }) locals stack p
+      pub finds : FindsWhatItTakes code places step.0 (record running { next = next + 1 }) locals stack p
       finds = record {
         enough = enough;
         room = room;
@@ -162,7 +162,7 @@ module _ (code : CodeProgram) (known : CodeKnown code) (grants : Grants) (places
       pub moves : move code (Going phase (frames_shown code places (Runs (record running { next = next }) locals stack ∷ others)) p)
           ≡ done code places phase step.0 step.1 (Runs (record running { next = next + 1 }) locals stack ∷ others) p
       moves = ap
-          (λ (rest : List Step). move code (Going phase (state.Running (leaving_shown running.leaving running.activation)
+          (λ (rest : List PlacedInstr). move code (Going phase (state.Running (leaving_shown running.leaving running.activation)
           (activation_shown places running.activation) locals rest stack ∷ frames_shown code places others) p)) on
 
 -- ---- the machine

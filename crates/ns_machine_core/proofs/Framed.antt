@@ -18,7 +18,7 @@ use Rattle.ns_verify.specs.Places.{height_before, HeightsAgree}
 use Rattle.ns_actions.specs.Control.{Progress}
 use Rattle.ns_machine_moves.specs.State as state
 use Rattle.ns_machine_moves.specs.State.{Phase, Going, Pending, Pends}
-use Rattle.ns_machine_moves.specs.Steps.{Step, steps_from}
+use Rattle.ns_machine_moves.specs.Steps.{PlacedInstr, steps_from}
 use Rattle.ns_machine_moves.specs.ValidFrames.{Awaited, Nothing, SendValue, BlockValue, PartEnd, is_send, WaitsBehind, FrameIsValid, FramesAreValid, awaited_below, awaited_for, next_number}
 use Rattle.ns_actions.specs.Fitting.{kind_of}
 use Rattle.ns_machine_moves.specs.Valid.{Valid}
@@ -106,7 +106,7 @@ module _ (code : CodeProgram) (known : HeightsKnown code) (sound : IsSound code)
     room_for true stood valid = room_for_block stood valid
     room_for false stood valid = room_for_send stood valid
 
-    room_below : (leaving : Leaving) (activation : Activation) (locals stack : List Value) (rest : List Step) (stood : List Stood) → answers leaving ≡ true
+    room_below : (leaving : Leaving) (activation : Activation) (locals stack : List Value) (rest : List PlacedInstr) (stood : List Stood) → answers leaving ≡ true
         → FramesAreValid code p (awaited_below code (state.Running (leaving_shown leaving activation) (activation_shown places activation) locals rest stack))
         (frames_shown code places stood) → HasRoomOnTop code stood
     room_below Method activation locals stack rest stood e valid = room_for (kind_of code activation.body == block_kind) stood valid

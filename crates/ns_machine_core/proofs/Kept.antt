@@ -4,9 +4,9 @@ use Rattle.ns_code.specs.declared.program.CodeProgram.{CodeProgram}
 use Rattle.ns_facets.specs.declared.row.Grants.{Grants}
 use Rattle.ns_world.specs.Later.{IsLater, Lasts}
 use Rattle.ns_find.specs.declared.memo.Kept.{Kept}
-use Rattle.ns_find.specs.Memo.{IsRight}
+use Rattle.ns_find.specs.Memo.{PlaceIsRight}
 use Rattle.ns_machine_moves.specs.State.{State, progress_of}
-use Rattle.ns_machine_moves.specs.Steps.{Step}
+use Rattle.ns_machine_moves.specs.Steps.{PlacedInstr}
 use Rattle.ns_machine_moves.specs.Move.{moves}
 use Rattle.ns_machine_moves.specs.Onward.{MovesGoOnward}
 use Rattle.ns_machine_moves.specs.Standing.{MovesKeepValid}
@@ -18,19 +18,19 @@ use Rattle.ns_machine_core.specs.declared.state.Next.{Next}
 use Rattle.ns_machine_core.specs.declared.state.Next.TheVariants as next
 use Rattle.ns_machine_frames.specs.Stack.{in_use, stood}
 use Rattle.ns_machine_core.specs.Shown.{phase_shown, progress_in, shown}
-use Rattle.ns_machine_core.specs.Doing.{CanDo, Does}
+use Rattle.ns_machine_core.specs.Doing.{CanDo, IsDone}
 use Rattle.ns_machine_core.specs.Moving.{behind, IsNextStep}
 use Rattle.ns_machine_core.specs.Passing.{Passes, DoesTwice, MovesTwice}
-use Rattle.ns_machine_core.specs.Ready.{IsReady, Moves}
-use Rattle.ns_machine_core.specs.Standing.{StandAt, Stays, KeepsRightIn}
+use Rattle.ns_machine_core.specs.Ready.{MachineIsReady, MakesMove}
+use Rattle.ns_machine_core.specs.Standing.{StandAt, KeepsRooms, KeepsRightIn}
 use Rattle.ns_machine_core.proofs.Framed.{HeightsKnown, valid_framed, framed_behind}
 use Rattle.ns_machine_core.specs.laws.Kept.{shown_progress, ready_lawful, rooms_stay}
 
 -- so many moves leave a machine ready whose memory is as it was
 module _ (keeps : (code : CodeProgram) (grants : Grants) → MovesKeepValid code grants) (onward : (code : CodeProgram) → MovesGoOnward code)
-    (memos : (places : List (Option Kept)) → Lasts (λ heap code. All (IsRight heap code) places)) where
-  ready_after : (count : ℕ) (code : CodeProgram) (grants : Grants) (old new : Core) (from n : Next) → IsReady code grants old from
-      → shown code new n ≡ moves code count (shown code old from) → StandAt code new n → Stays old new → KeepsRightIn code old new → IsReady code grants new n
+    (memos : (places : List (Option Kept)) → Lasts (λ heap code. All (PlaceIsRight heap code) places)) where
+  ready_after : (count : ℕ) (code : CodeProgram) (grants : Grants) (old new : Core) (from n : Next) → MachineIsReady code grants old from
+      → shown code new n ≡ moves code count (shown code old from) → StandAt code new n → KeepsRooms old new → KeepsRightIn code old new → MachineIsReady code grants new n
   ready_after count code grants old new from n ready state stand stays kept =
       let after : Valid code grants (shown code new n) = subst (Valid code grants) (sym state) (keeps code grants count (shown code old from) ready.valid) in
       let on = onward code count (shown code old from) in
@@ -49,15 +49,15 @@ module _ (keeps : (code : CodeProgram) (grants : Grants) → MovesKeepValid code
             kept;
       }
 
-  pub keeps_ready : (code : CodeProgram) (grants : Grants) (old new : Core) (from n : Next) → IsReady code grants old from → Moves code old from new n
-      → IsReady code grants new n
+  pub keeps_ready : (code : CodeProgram) (grants : Grants) (old new : Core) (from n : Next) → MachineIsReady code grants old from → MakesMove code old from new n
+      → MachineIsReady code grants new n
   keeps_ready code grants old new from n ready moved = ready_after 1 code grants old new from n ready moved.state moved.stand moved.stays moved.kept
 
-  pub passing_keeps_ready : (code : CodeProgram) (grants : Grants) (old new : Core) (from n : Next) → IsReady code grants old from
-      → MovesTwice code old from new n → IsReady code grants new n
+  pub passing_keeps_ready : (code : CodeProgram) (grants : Grants) (old new : Core) (from n : Next) → MachineIsReady code grants old from
+      → MovesTwice code old from new n → MachineIsReady code grants new n
   passing_keeps_ready code grants old new from n ready passed = ready_after 2 code grants old new from n ready passed.state passed.stand passed.stays passed.kept
 
-pub can_be_done : ((code : CodeProgram) → HeightsKnown code) → (code : CodeProgram) (grants : Grants) (core : Core) (at : Registers) (step : Step) → IsReady code grants core (next.On at)
+pub can_be_done : ((code : CodeProgram) → HeightsKnown code) → (code : CodeProgram) (grants : Grants) (core : Core) (at : Registers) (step : PlacedInstr) → MachineIsReady code grants core (next.On at)
     → IsNextStep code core at step → CanDo code core (behind at) step.0
 can_be_done known code grants core at step ready is = record {
   stands = record {
@@ -79,8 +79,8 @@ can_be_done known code grants core at step ready is = record {
       (valid_framed code (known code) grants core.places (phase_shown core.phase) (stood core.stack at) (progress_in core) ready.valid);
 }
 
-pub done_moves : (code : CodeProgram) (old new : Core) (at : Registers) (n : Next) (step : Step) → IsNextStep code old at step
-    → Does code step.0 step.1 old (behind at) new n → Moves code old (next.On at) new n
+pub done_moves : (code : CodeProgram) (old new : Core) (at : Registers) (n : Next) (step : PlacedInstr) → IsNextStep code old at step
+    → IsDone code step.0 step.1 old (behind at) new n → MakesMove code old (next.On at) new n
 done_moves code old new at n step is does = record {
   state = does.state ∙ sym is.moves;
   stand = does.stand;
@@ -88,6 +88,6 @@ done_moves code old new at n step is does = record {
   kept = does.kept;
 }
 
-pub done_passes : (code : CodeProgram) (old new : Core) (at : Registers) (n : Next) (step : Step) → IsNextStep code old at step
+pub done_passes : (code : CodeProgram) (old new : Core) (at : Registers) (n : Next) (step : PlacedInstr) → IsNextStep code old at step
     → DoesTwice code step.0 step.1 old (behind at) new n → MovesTwice code old (next.On at) new n
 done_passes code old new at n step is passed = subst (λ (between : State). Passes code between old new n) (sym is.moves) passed

@@ -28,7 +28,7 @@ use Rattle.ns_machine_core.specs.declared.on_top.OnTop.{OnTop}
 use Rattle.ns_machine_core.specs.declared.state.Core.{Core}
 use Rattle.ns_machine_core.specs.declared.state.Next.TheVariants as next
 use Rattle.ns_machine_core.specs.Shown.{phase_shown, progress_in}
-use Rattle.ns_machine_core.specs.Doing.{done, FindsIn, Finds, CanDo, running_of, Does}
+use Rattle.ns_machine_core.specs.Doing.{done, FindsWhatItTakes, Finds, CanDo, running_of, IsDone}
 use Rattle.ns_machine_core.specs.Locals.{LocalIsThere}
 use Rattle.ns_machine_core.specs.Straight.{IsOnTop}
 use Rattle.ns_machine_core.specs.laws.Straight.{top_is}
@@ -45,7 +45,7 @@ there_in : (code : CodeProgram) (core : Core) (at : Registers) (instr : Instr) (
     → LocalIsThere code core.stack at core.run.world.world.cells (running_of running.activation) hops index
 there_in code core at instr hops index running can top names = by_body (slice_get code.bodies running.activation.body) refl finds.fits.there
   where
-    finds : FindsIn code core.places instr (record running { next = at.next }) (locals_in (stood core.stack at)) (operands_in (stood core.stack at)) (progress_in core)
+    finds : FindsWhatItTakes code core.places instr (record running { next = at.next }) (locals_in (stood core.stack at)) (operands_in (stood core.stack at)) (progress_in core)
     finds = finds_in code core at instr running can top
 
     by_body : (o : Option BodyCode) → slice_get code.bodies running.activation.body ≡ o → IsSome o
@@ -98,7 +98,7 @@ pub outside_stored : (code : CodeProgram) (core : Core) (world : WorldView) (at 
     → ((site : Site) → is_beside code (activation_at site (running_of running.activation)) hops ≡ false)
     → ((site : Site) (rest : Progress) → in_world rest world.world
     ≡ local_stored code (activation_at site (running_of running.activation)) hops index value (in_world rest core.run.world.world))
-    → SameRest core.run.world world → Does code (instr.StoreLocal hops index) source core at (in_other core world) (next.On at)
+    → SameRest core.run.world world → IsDone code (instr.StoreLocal hops index) source core at (in_other core world) (next.On at)
 outside_stored code core world at hops index running value source can top is_top beside is rest = record {
   state = ap (λ (p : Progress). Going (phase_shown core.phase) (frames_shown code core.places (stood core.stack at)) p)
       (is (site_shown core.places running.activation.site) (progress_in core))

@@ -22,12 +22,12 @@ use Rattle.ns_machine_frames.specs.declared.frame.RunningFrame.{RunningFrame}
 use Rattle.ns_machine_frames.specs.declared.registers.Registers.{Registers}
 use Rattle.ns_machine_frames.specs.Standing.{Stood, Runs, Loops, pushed_all, below}
 use Rattle.ns_machine_frames.specs.Stack.{stood, with_top}
-use Rattle.ns_machine_frames.specs.Stated.{AreTaken}
+use Rattle.ns_machine_frames.specs.Stated.{ComeOffAgain}
 use Rattle.ns_machine_frames.specs.View.{site_shown, frames_shown}
 use Rattle.ns_machine_core.specs.declared.state.Core.{Core}
 use Rattle.ns_machine_core.specs.declared.state.Next.{Next}
 use Rattle.ns_machine_core.specs.Shown.{phase_shown, progress_in}
-use Rattle.ns_machine_core.specs.Doing.{done, Finds, CanDo, running_of, IsSettled, Does}
+use Rattle.ns_machine_core.specs.Doing.{done, Finds, CanDo, running_of, IsSettled, IsDone}
 use Rattle.ns_machine_core.specs.laws.Pushed.{top_stands}
 use Rattle.ns_machine_core.specs.laws.Worlds.{in_other}
 
@@ -36,7 +36,7 @@ pub settled_does : (code : CodeProgram) (old new : Core) (world : WorldView) (at
     (answer : Result Value Fault) (next : Next) → CanDo code old at instr → SameRest old.run.world world → IsSettled code (in_other old world) to site answer new next
     → settled code (phase_shown old.phase) (answer_shown (site_shown old.places site) answer (in_world (progress_in old) world.world)) (frames_shown code old.places (stood old.stack to))
     ≡ done code old.places (phase_shown old.phase) instr place (stood old.stack at) (progress_in old)
-    → Does code instr place old at new next
+    → IsDone code instr place old at new next
 settled_does code old new world at to instr place site answer next can rest is leads = record {
   state = is.state ∙ leads;
   stand = is.stand;
@@ -59,7 +59,7 @@ pub block_done : (code : CodeProgram) (old new : Core) (world : WorldView) (at :
     → ((site : Site) (rest : Progress) → answer_shown site answer (in_world rest world.world)
     ≡ new_block (activation_at site (running_of running.activation)) body (in_world rest old.run.world.world))
     → SameRest old.run.world world → IsSettled code (in_other old world) at running.activation.site answer new next
-    → Does code (instr.PushBlock body) place old at new next
+    → IsDone code (instr.PushBlock body) place old at new next
 block_done code old new world at body place running answer next can top makes rest is =
     settled_does code old new world at at (instr.PushBlock body) place running.activation.site answer next can rest is
     (ap (λ after. settled code (phase_shown old.phase) after (frames_shown code old.places (stood old.stack at)))
@@ -82,7 +82,7 @@ pub text_done : (code : CodeProgram) (old new : Core) (world : WorldView) (at : 
     (answer : Result Value Fault) (next : Next) → CanDo code old at (instr.PushText text)
     → ((site : Site) (rest : Progress) → answer_shown site answer (in_world rest world.world) ≡ new_text (literal code text) (in_world rest old.run.world.world))
     → SameRest old.run.world world → IsSettled code (in_other old world) at own answer new next
-    → Does code (instr.PushText text) place old at new next
+    → IsDone code (instr.PushText text) place old at new next
 text_done code old new world at text place own answer next can makes rest is =
     settled_does code old new world at at (instr.PushText text) place own answer next can rest is
     (ap (λ after. settled code (phase_shown old.phase) after (frames_shown code old.places (stood old.stack at))) (makes (site_shown old.places own) (progress_in old))
@@ -95,12 +95,12 @@ text_done code old new world at text place own answer next can makes rest is =
     by_stood (Loops frame ∷ s) finds = absurd finds
     by_stood (Runs frame locals stack ∷ s) finds = refl
 
-pub array_done : ((missing : State) → AreTaken missing) → (code : CodeProgram) (old new : Core) (world : WorldView) (at : Registers) (count : ℕ) (place : Option SourcePlace)
+pub array_done : ((missing : State) → ComeOffAgain missing) → (code : CodeProgram) (old new : Core) (world : WorldView) (at : Registers) (count : ℕ) (place : Option SourcePlace)
     (own : KeptSite) (items : List Value) (answer : Result Value Fault) (next : Next) → CanDo code old at (instr.MakeArray count)
     → stood old.stack at ≡ pushed_all items (stood old.stack (with_top (at.top - count) at)) → length items ≡ count
     → ((site : Site) (rest : Progress) → answer_shown site answer (in_world rest world.world) ≡ new_array items (in_world rest old.run.world.world))
     → SameRest old.run.world world → IsSettled code (in_other old world) (with_top (at.top - count) at) own answer new next
-    → Does code (instr.MakeArray count) place old at new next
+    → IsDone code (instr.MakeArray count) place old at new next
 array_done taken code old new world at count place own items answer next can is_under many makes rest is =
     settled_does code old new world at (with_top (at.top - count) at) (instr.MakeArray count) place own answer next can rest is
     (ap (λ after. settled code (phase_shown old.phase) after (frames_shown code old.places under)) (makes (site_shown old.places own) (progress_in old))

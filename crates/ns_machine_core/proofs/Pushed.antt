@@ -14,14 +14,14 @@ use Rattle.ns_machine_frames.specs.declared.registers.Registers.{Registers}
 use Rattle.ns_machine_frames.specs.declared.stack.Stack.{Stack}
 use Rattle.ns_machine_frames.specs.Standing.{Stood, Runs, Loops, pushed, below}
 use Rattle.ns_machine_frames.specs.Stack.{stood, put_at, IsLaid}
-use Rattle.ns_machine_frames.specs.Room.{AreWithin}
+use Rattle.ns_machine_frames.specs.Room.{FramesFitWithin}
 use Rattle.ns_machine_frames.specs.View.{frames_shown}
 use Rattle.ns_machine_core.specs.declared.state.Core.{Core}
 use Rattle.ns_machine_core.specs.declared.state.Next.TheVariants as next
 use Rattle.ns_machine_core.specs.Shown.{phase_shown, progress_in, shown}
 use Rattle.ns_machine_core.specs.Standing.{AreStanding}
 use Rattle.ns_actions.specs.Bodies.{height_in, greatest_of}
-use Rattle.ns_machine_core.specs.Doing.{done, Finds, CanDo, Pushed, Does}
+use Rattle.ns_machine_core.specs.Doing.{done, Finds, CanDo, Pushed, IsDone}
 use Rattle.ns_machine_core.specs.laws.Pushed.{stack_stays, top_stands}
 
 pub value_pushed : (code : CodeProgram) (core : Core) (at to : Registers) (stack : Stack) (value : Value) → AreStanding code core.stack at
@@ -31,8 +31,8 @@ value_pushed code core at to stack value stands is laid write = record {
   stood = is;
   stands = record {
     laid = laid;
-    within = subst (λ (s : Stack). AreWithin (height_in code) (greatest_of code.bodies) (length s.values.items) s.frames.items) (sym write)
-        (subst (λ (n : ℕ). AreWithin (height_in code) (greatest_of code.bodies) n core.stack.frames.items)
+    within = subst (λ (s : Stack). FramesFitWithin (height_in code) (greatest_of code.bodies) (length s.values.items) s.frames.items) (sym write)
+        (subst (λ (n : ℕ). FramesFitWithin (height_in code) (greatest_of code.bodies) n core.stack.frames.items)
         (sym (length-set core.stack.values.items at.top value)) stands.within);
   };
   frames = ap (λ (s : Stack). s.frames) write;
@@ -51,7 +51,7 @@ Pushes code core at instr place value =
     ≡ done code core.places (phase_shown core.phase) instr place (Runs frame locals stack ∷ others) (progress_in core)
 
 pub push_does : (code : CodeProgram) (old new : Core) (at to : Registers) (instr : Instr) (place : Option SourcePlace) (value : Value) → CanDo code old at instr
-    → Pushed code old at value new to → Pushes code old at instr place value → Does code instr place old at new (next.On to)
+    → Pushed code old at value new to → Pushes code old at instr place value → IsDone code instr place old at new (next.On to)
 push_does code old new at to instr place value can is pushes = record {
   state = pushed_state ∙ by_stood (stood old.stack at) refl can.finds;
   stand = is.stands;
@@ -70,28 +70,28 @@ push_does code old new at to instr place value can is pushes = record {
     by_stood (Runs frame locals stack ∷ s) e finds = pushes frame locals stack s e
 
 pub nil_done : (code : CodeProgram) (old new : Core) (at to : Registers) (place : Option SourcePlace) → CanDo code old at instr.PushNil
-    → Pushed code old at Nil new to → Does code instr.PushNil place old at new (next.On to)
+    → Pushed code old at Nil new to → IsDone code instr.PushNil place old at new (next.On to)
 nil_done code old new at to place can is = push_does code old new at to instr.PushNil place Nil can is (λ frame locals stack others e. refl)
 
 pub true_done : (code : CodeProgram) (old new : Core) (at to : Registers) (place : Option SourcePlace) → CanDo code old at instr.PushTrue
-    → Pushed code old at True new to → Does code instr.PushTrue place old at new (next.On to)
+    → Pushed code old at True new to → IsDone code instr.PushTrue place old at new (next.On to)
 true_done code old new at to place can is = push_does code old new at to instr.PushTrue place True can is (λ frame locals stack others e. refl)
 
 pub false_done : (code : CodeProgram) (old new : Core) (at to : Registers) (place : Option SourcePlace) → CanDo code old at instr.PushFalse
-    → Pushed code old at False new to → Does code instr.PushFalse place old at new (next.On to)
+    → Pushed code old at False new to → IsDone code instr.PushFalse place old at new (next.On to)
 false_done code old new at to place can is = push_does code old new at to instr.PushFalse place False can is (λ frame locals stack others e. refl)
 
 pub int_done : (code : CodeProgram) (old new : Core) (at to : Registers) (number : ℤ) (place : Option SourcePlace) → CanDo code old at (instr.PushInt number)
-    → Pushed code old at (Int number) new to → Does code (instr.PushInt number) place old at new (next.On to)
+    → Pushed code old at (Int number) new to → IsDone code (instr.PushInt number) place old at new (next.On to)
 int_done code old new at to number place can is = push_does code old new at to (instr.PushInt number) place (Int number) can is (λ frame locals stack others e. refl)
 
 pub sym_done : (code : CodeProgram) (old new : Core) (at to : Registers) (sel : Sel) (place : Option SourcePlace) → CanDo code old at (instr.PushSym sel)
-    → Pushed code old at (Sym sel) new to → Does code (instr.PushSym sel) place old at new (next.On to)
+    → Pushed code old at (Sym sel) new to → IsDone code (instr.PushSym sel) place old at new (next.On to)
 sym_done code old new at to sel place can is = push_does code old new at to (instr.PushSym sel) place (Sym sel) can is (λ frame locals stack others e. refl)
 
 pub self_done : (code : CodeProgram) (old new : Core) (at to : Registers) (running : RunningFrame) (place : Option SourcePlace) → CanDo code old at instr.PushSelf
     → old.stack.frames.items ≡ Running running ∷ below old.stack.frames.items
-    → Pushed code old at running.activation.me new to → Does code instr.PushSelf place old at new (next.On to)
+    → Pushed code old at running.activation.me new to → IsDone code instr.PushSelf place old at new (next.On to)
 self_done code old new at to running place can top is =
     push_does code old new at to instr.PushSelf place running.activation.me can is
     (λ frame locals stack others e.

@@ -24,7 +24,7 @@ use Rattle.ns_machine_frames.specs.View.{frames_shown, site_shown}
 use Rattle.ns_machine_core.specs.declared.state.Core.{Core}
 use Rattle.ns_machine_core.specs.declared.state.Next.TheVariants as next
 use Rattle.ns_machine_core.specs.Shown.{phase_shown, progress_in}
-use Rattle.ns_machine_core.specs.Doing.{done, Finds, CanDo, running_of, Does}
+use Rattle.ns_machine_core.specs.Doing.{done, Finds, CanDo, running_of, IsDone}
 use Rattle.ns_machine_core.specs.laws.Pushed.{top_stands}
 use Rattle.ns_machine_core.specs.laws.Worlds.{in_other}
 use Rattle.ns_machine_core.specs.laws.Finds.{finds_in, fits_anywhere}
@@ -56,7 +56,7 @@ pub slot_done : (code : CodeProgram) (core : Core) (world : WorldView) (at to : 
     → stood core.stack at ≡ pushed value (stood core.stack to) → IsLaid core.stack to
     → ((site : Site) (rest : Progress) → in_world rest world.world
     ≡ slot_filled code (activation_at site (running_of running.activation)) slot value (in_world rest core.run.world.world))
-    → SameRest core.run.world world → Does code (instr.StoreSlot slot) place core at (in_other core world) (next.On to)
+    → SameRest core.run.world world → IsDone code (instr.StoreSlot slot) place core at (in_other core world) (next.On to)
 slot_done code core world at to slot place running value can top under laid filled rest = record {
   state = ap (λ (p : Progress). Going (phase_shown core.phase) (frames_shown code core.places (stood core.stack to)) p)
       (filled (site_shown core.places running.activation.site) (progress_in core))

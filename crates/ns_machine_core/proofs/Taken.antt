@@ -12,7 +12,7 @@ use Rattle.ns_machine_frames.specs.View.{frames_shown}
 use Rattle.ns_machine_core.specs.declared.state.Core.{Core}
 use Rattle.ns_machine_core.specs.declared.state.Next.TheVariants as next
 use Rattle.ns_machine_core.specs.Shown.{phase_shown, progress_in}
-use Rattle.ns_machine_core.specs.Doing.{done, Finds, CanDo, Pushed, Does}
+use Rattle.ns_machine_core.specs.Doing.{done, Finds, CanDo, Pushed, IsDone}
 use Rattle.ns_machine_frames.specs.declared.frame.RunningFrame.{RunningFrame}
 use Rattle.ns_machine_frames.specs.Stated.{IsPicked}
 use Rattle.ns_world.specs.declared.value.Value.TheVariants.{Nil}
@@ -21,7 +21,7 @@ use Rattle.ns_machine_core.specs.laws.Pushed.{stack_stays}
 use Rattle.ns_machine_core.proofs.Pushed.{push_does}
 
 pub pop_done : (code : CodeProgram) (core : Core) (at to : Registers) (value : Value) (place : Option SourcePlace) → CanDo code core at instr.Pop
-    → stood core.stack at ≡ pushed value (stood core.stack to) → IsLaid core.stack to → Does code instr.Pop place core at core (next.On to)
+    → stood core.stack at ≡ pushed value (stood core.stack to) → IsLaid core.stack to → IsDone code instr.Pop place core at core (next.On to)
 pop_done code core at to value place can is laid = record {
   state = sym (ap (λ (s : List Stood). done code core.places (phase_shown core.phase) instr.Pop place s (progress_in core)) is
       ∙ by_stood (stood core.stack to) (subst (λ (s : List Stood). Finds code core.places instr.Pop s (progress_in core)) is can.finds));
@@ -39,7 +39,7 @@ pop_done code core at to value place can is laid = record {
 
 pub pick_done : ((missing : State) → IsPicked missing) → (code : CodeProgram) (old new : Core) (at to : Registers) (number : ℕ) (place : Option SourcePlace)
     → CanDo code old at (instr.Pick number) → Pushed code old at (slice_index_or (operands_in (stood old.stack at)) number Nil) new to
-    → Does code (instr.Pick number) place old at new (next.On to)
+    → IsDone code (instr.Pick number) place old at new (next.On to)
 pick_done picks code old new at to number place can is =
     push_does code old new at to (instr.Pick number) place (slice_index_or (operands_in (stood old.stack at)) number Nil) can is by_stood
   where

@@ -19,7 +19,7 @@ use Rattle.ns_machine_frames.specs.View.{site_shown}
 use Rattle.ns_machine_core.specs.declared.state.Core.{Core}
 use Rattle.ns_machine_core.specs.Doing.{CanDo, running_of}
 use Rattle.ns_machine_core.specs.Shown.{progress_in}
-use Rattle.ns_machine_core.specs.Tried.{IsUntouched}
+use Rattle.ns_machine_core.specs.Tried.{OnlyLookupsChanged}
 use Rattle.ns_machine_core.specs.laws.Worlds.{in_other}
 
 -- a run that ends at the limit has charged nothing
@@ -38,7 +38,7 @@ pub block_unmade : (code : CodeProgram) (core : Core) (world : WorldView) (at : 
     → CanDo code core at (instr.PushBlock body)
     → ((site : Site) (rest : Progress) → answer_shown site (Err fault) (in_world rest world.world)
     ≡ new_block (activation_at site (running_of running.activation)) body (in_world rest core.run.world.world))
-    → SameRest core.run.world world → IsUntouched code core (in_other core world)
+    → SameRest core.run.world world → OnlyLookupsChanged code core (in_other core world)
 block_unmade code core world at body running fault can makes rest =
     let site = site_shown core.places running.activation.site in
     let activation = activation_at site (running_of running.activation) in

@@ -14,13 +14,13 @@ use Rattle.ns_machine_frames.specs.declared.calls.BodyShape.{BodyShape}
 use Rattle.ns_machine_frames.specs.declared.calls.Call.{Call}
 use Rattle.ns_machine_frames.specs.declared.registers.Registers.{Registers}
 use Rattle.ns_machine_frames.specs.Calls.{arguments_for, arguments_of, FitsCall}
-use Rattle.ns_machine_frames.specs.Room.{AreWithin, bound}
-use Rattle.ns_machine_frames.specs.Stack.{stood, with_top, MayBegin}
+use Rattle.ns_machine_frames.specs.Room.{FramesFitWithin, bound}
+use Rattle.ns_machine_frames.specs.Stack.{stood, with_top, FramesCanBegin}
 use Rattle.ns_machine_frames.specs.View.{site_shown, frames_shown}
 use Rattle.ns_machine_core.specs.declared.state.Core.{Core}
 use Rattle.ns_machine_core.specs.declared.state.Next.{Next}
 use Rattle.ns_machine_core.specs.Shown.{progress_in, phase_shown, shown}
-use Rattle.ns_machine_core.specs.Standing.{StandAt, Stays}
+use Rattle.ns_machine_core.specs.Standing.{StandAt, KeepsRooms}
 use Rattle.ns_actions.specs.Bodies.{height_in, greatest_of}
 
 -- what code says of a body
@@ -38,8 +38,8 @@ reached_at code core site values reached = reached_shown code (site_shown core.p
 
 -- A frame can begin at a floor, and the frames below it reach no further than they may.
 pub record CanBegin (code : CodeProgram) (core : Core) (at : Registers) (floor first : ℕ) : Type 0 where
-  pub begins : MayBegin core.stack at floor
-  pub within : AreWithin (height_in code) (greatest_of code.bodies) (length core.stack.values.items) core.stack.frames.items
+  pub begins : FramesCanBegin core.stack at floor
+  pub within : FramesFitWithin (height_in code) (greatest_of code.bodies) (length core.stack.values.items) core.stack.frames.items
   pub reach : first ≤ bound (greatest_of code.bodies) core.stack.frames.items
 
 -- A body that was reached can be entered on the arguments of a call; a clause has none.
@@ -54,4 +54,4 @@ pub record Arrives (code : CodeProgram) (old : Core) (at : Registers) (floor : �
   pub state : shown code new next ≡ arrived code (phase_shown old.phase) control (frames_shown code old.places (stood old.stack (with_top floor at)))
   pub stand : StandAt code new next
   pub run : new.run ≡ old.run
-  pub stays : Stays old new
+  pub stays : KeepsRooms old new

@@ -34,7 +34,7 @@ use Rattle.ns_machine_core.specs.declared.state.Core.{Core}
 use Rattle.ns_machine_core.specs.declared.state.Next.{Next}
 use Rattle.ns_machine_core.specs.Shown.{phase_shown, progress_in, shown}
 use Rattle.ns_machine_core.specs.Framed.{AreFramed}
-use Rattle.ns_machine_core.specs.Standing.{AreStanding, Stands, StandAt, Stays, KeepsRightIn}
+use Rattle.ns_machine_core.specs.Standing.{AreStanding, HasStandingFrames, StandAt, KeepsRooms, KeepsRightIn}
 use Rattle.ns_actions.specs.Bodies.{height_in}
 
 -- what an instruction does in a run whose topmost frame stands behind it
@@ -47,7 +47,7 @@ done code places phase instr place (Runs frame locals stack ∷ stood) progress 
 
 -- An instruction, behind which a body stands, finds the operands that it takes, room for those that it leaves, its target, and
 -- what it asks of the world, which is lawful.
-pub record FindsIn (code : CodeProgram) (places : List SourcePlace) (instr : Instr) (frame : RunningFrame)
+pub record FindsWhatItTakes (code : CodeProgram) (places : List SourcePlace) (instr : Instr) (frame : RunningFrame)
     (locals stack : List Value) (progress : Progress) : Type 0 where
   pub enough : takes instr ≤ length stack
   pub room : goes_on instr ≡ true → length stack - takes instr + leaves instr ≤ height_in code frame.activation.body
@@ -70,11 +70,11 @@ pub record FindsIn (code : CodeProgram) (places : List SourcePlace) (instr : Ins
 abbrev pub Finds : CodeProgram → List SourcePlace → Instr → List Stood → Progress → Type 0
 Finds code places instr [] progress = ⊥
 Finds code places instr (Loops frame ∷ stood) progress = ⊥
-Finds code places instr (Runs frame locals stack ∷ stood) progress = FindsIn code places instr frame locals stack progress
+Finds code places instr (Runs frame locals stack ∷ stood) progress = FindsWhatItTakes code places instr frame locals stack progress
 
 -- A machine that stands behind an instruction can do it; the lookups that it keeps are right, and answers have room.
 pub record CanDo (code : CodeProgram) (core : Core) (at : Registers) (instr : Instr) : Type 0 where
-  pub stands : Stands code core at
+  pub stands : HasStandingFrames code core at
   pub kept : KeepsRightIn code core core
   pub finds : Finds code core.places instr (stood core.stack at) (progress_in core)
   pub framed : AreFramed code (stood core.stack at) (progress_in core)
@@ -97,7 +97,7 @@ pub record Pushed (code : CodeProgram) (old : Core) (at : Registers) (value : Va
   pub frames : new.stack.frames ≡ old.stack.frames
   pub run : new.run ≡ old.run
   pub phase : new.phase ≡ old.phase
-  pub stays : Stays old new
+  pub stays : KeepsRooms old new
 
 -- What an action has given comes to the topmost frame, which is a body's, or a fault at the site ends the run.
 pub record IsSettled (code : CodeProgram) (old : Core) (at : Registers) (site : KeptSite) (answer : Result Value Fault) (new : Core) (next : Next)
@@ -107,11 +107,11 @@ pub record IsSettled (code : CodeProgram) (old : Core) (at : Registers) (site : 
       (frames_shown code old.places (stood old.stack at))
   pub stand : StandAt code new next
   pub run : new.run ≡ old.run
-  pub stays : Stays old new
+  pub stays : KeepsRooms old new
 
 -- The instruction is done: the state is the one that it leads to, and the machine's memory stays as it should.
-pub record Does (code : CodeProgram) (instr : Instr) (place : Option SourcePlace) (old : Core) (at : Registers) (new : Core) (next : Next) : Type 0 where
+pub record IsDone (code : CodeProgram) (instr : Instr) (place : Option SourcePlace) (old : Core) (at : Registers) (new : Core) (next : Next) : Type 0 where
   pub state : shown code new next ≡ done code old.places (phase_shown old.phase) instr place (stood old.stack at) (progress_in old)
   pub stand : StandAt code new next
-  pub stays : Stays old new
+  pub stays : KeepsRooms old new
   pub kept : KeepsRightIn code old new

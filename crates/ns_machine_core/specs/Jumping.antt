@@ -18,7 +18,7 @@ use Rattle.ns_machine_frames.specs.View.{site_shown, leaving_shown, activation_s
 use Rattle.ns_machine_core.specs.declared.state.Core.{Core}
 use Rattle.ns_machine_core.specs.declared.state.Next.{Next}
 use Rattle.ns_machine_core.specs.Shown.{phase_shown, progress_in, shown}
-use Rattle.ns_machine_core.specs.Standing.{AreStanding, StandAt, Stays}
+use Rattle.ns_machine_core.specs.Standing.{AreStanding, StandAt, KeepsRooms}
 
 -- The topmost frame is a body's, which stands behind one of its instructions, and the target is one of them.
 abbrev pub HasTarget : CodeProgram → ℕ → List Stood → Type 0
@@ -45,7 +45,7 @@ pub record Jumps (code : CodeProgram) (old : Core) (at : Registers) (target : �
   pub state : shown code new next ≡ jump_taken code old.places (phase_shown old.phase) target (stood old.stack at) (progress_in old)
   pub stand : StandAt code new next
   pub memo : new.run.memo ≡ old.run.memo
-  pub stays : Stays old new
+  pub stays : KeepsRooms old new
 
 -- A run ends since a jump found no boolean, at the site of the topmost frame, which is a body's.
 abbrev pub EndsWithoutBoolean : List SourcePlace → List Frame → Ending → Type 0

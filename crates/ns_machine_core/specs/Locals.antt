@@ -5,7 +5,7 @@ use Rattle.ns_world.specs.Heap.{Heap}
 use Rattle.ns_actions.specs.Bodies.{is_beside}
 use Rattle.ns_act.specs.declared.running.Running.{Running}
 use Rattle.ns_act.specs.Running.{code_of}
-use Rattle.ns_act.specs.Locals.{HasLocal}
+use Rattle.ns_act.specs.Locals.{LocalIsReadable}
 use Rattle.ns_machine_frames.specs.declared.registers.Registers.{Registers}
 use Rattle.ns_machine_frames.specs.declared.stack.Stack.{Stack}
 use Rattle.ns_machine_frames.specs.Standing.{locals_in}
@@ -15,4 +15,4 @@ use Rattle.ns_machine_frames.specs.Stack.{stood, IsLaid}
 pub record LocalIsThere (code : CodeProgram) (stack : Stack) (at : Registers) (heap : Heap) (here : Running) (hops index : ℕ) : Type 0 where
   pub laid : IsLaid stack at
   pub beside : is_beside code (code_of here) hops ≡ true → index < length (locals_in (stood stack at))
-  pub outside : HasLocal heap code (code_of here) hops index
+  pub outside : LocalIsReadable heap code (code_of here) hops index

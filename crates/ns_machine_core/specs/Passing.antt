@@ -5,7 +5,7 @@ use Rattle.ns_code.specs.declared.program.CodeProgram.{CodeProgram}
 use Rattle.ns_code.specs.declared.instruction.Instr.{Instr}
 use Rattle.ns_facets.specs.declared.row.Grants.{Grants}
 use Rattle.ns_machine_moves.specs.State.{State}
-use Rattle.ns_machine_moves.specs.Steps.{Step}
+use Rattle.ns_machine_moves.specs.Steps.{PlacedInstr}
 use Rattle.ns_machine_moves.specs.Move.{move}
 use Rattle.ns_machine_moves.specs.Turn.{is_still}
 use Rattle.ns_machine_moves.specs.Charging.{will_charge}
@@ -16,9 +16,9 @@ use Rattle.ns_machine_core.specs.declared.state.Next.{Next}
 use Rattle.ns_machine_core.specs.declared.state.Next.TheVariants.{On}
 use Rattle.ns_machine_core.specs.Doing.{done}
 use Rattle.ns_machine_core.specs.Moving.{behind, IsNextStep}
-use Rattle.ns_machine_core.specs.Ready.{IsReady}
+use Rattle.ns_machine_core.specs.Ready.{MachineIsReady}
 use Rattle.ns_machine_core.specs.Shown.{phase_shown, progress_in, shown}
-use Rattle.ns_machine_core.specs.Standing.{StandAt, Stays, KeepsRightIn}
+use Rattle.ns_machine_core.specs.Standing.{StandAt, KeepsRooms, KeepsRightIn}
 
 -- The state that it shows is the one to which a state between moves, which goes on and charges nothing by that; the memory is as
 -- it was.
@@ -27,7 +27,7 @@ pub record Passes (code : CodeProgram) (between : State) (old new : Core) (next 
   pub goes : is_still between ≡ false
   pub free : will_charge code between ≡ false
   pub stand : StandAt code new next
-  pub stays : Stays old new
+  pub stays : KeepsRooms old new
   pub kept : KeepsRightIn code old new
 
 -- The instruction is done, and the move after it.
@@ -42,10 +42,10 @@ MovesTwice code old from new next = Passes code (move code (shown code old from)
 -- Two moves leave the machine ready.
 abbrev pub PassingKeepsReady : CodeProgram → Grants → Type 0
 PassingKeepsReady code grants =
-    (old new : Core) (from next : Next) → IsReady code grants old from → MovesTwice code old from new next → IsReady code grants new next
+    (old new : Core) (from next : Next) → MachineIsReady code grants old from → MovesTwice code old from new next → MachineIsReady code grants new next
 
 -- An instruction that is done behind the next step, with the move after it, is two moves.
 abbrev pub DoneIsPassed : CodeProgram → Type 0
 DoneIsPassed code =
-    (old new : Core) (at : Registers) (next : Next) (step : Step) → IsNextStep code old at step
+    (old new : Core) (at : Registers) (next : Next) (step : PlacedInstr) → IsNextStep code old at step
     → DoesTwice code step.0 step.1 old (behind at) new next → MovesTwice code old (On at) new next

@@ -2,8 +2,8 @@
 use Rattle.std.specs.Prelude.{◌≡◌, ℕ, ◌+◌, ◌*◌, ◌≤◌, List, [], ◌∷◌, length, max, All}
 use Rattle.ns_code.specs.declared.program.CodeProgram.{CodeProgram}
 use Rattle.ns_code.specs.Selector.{text_arity}
-use Rattle.ns_find.specs.Memo.{IsRight}
-use Rattle.ns_act.specs.Room.{HasRoom, SameRest}
+use Rattle.ns_find.specs.Memo.{PlaceIsRight}
+use Rattle.ns_act.specs.Room.{HasCellRoom, SameRest}
 use Rattle.ns_machine_frames.specs.declared.registers.Registers.{Registers}
 use Rattle.ns_machine_frames.specs.declared.stack.Stack.{Stack}
 use Rattle.ns_base.specs.declared.selector.Sel.{Sel}
@@ -11,7 +11,7 @@ use Rattle.ns_machine_frames.specs.declared.frame.KeptSite.{KeptSite}
 use Rattle.ns_machine_frames.specs.declared.frame.Pending.{Pending}
 use Rattle.ns_machine_frames.specs.declared.frame.Pending.TheVariants as pending
 use Rattle.ns_machine_frames.specs.Stack.{IsLaid, with_top}
-use Rattle.ns_machine_frames.specs.Room.{AreWithin, bound}
+use Rattle.ns_machine_frames.specs.Room.{FramesFitWithin, bound}
 use Rattle.ns_machine_core.specs.declared.state.Core.{Core}
 use Rattle.ns_machine_core.specs.declared.state.Next.{Next}
 use Rattle.ns_machine_core.specs.declared.state.Next.TheVariants as next
@@ -25,7 +25,7 @@ most_arguments (name ∷ names) = max (text_arity name) (most_arguments names)
 -- Memory was taken for all cells, all output, and as many frames as the limit on depth allows, with their values and one more,
 -- which the block of a method of the kernel gets or a send gives; and for the arguments of a send or an evaluation that waits.
 pub record HasRooms (code : CodeProgram) (core : Core) : Type 0 where
-  pub cells : HasRoom core.run.world
+  pub cells : HasCellRoom core.run.world
   pub out : core.run.world.world.limits.out ≤ core.run.world.out_room
   pub frames : core.run.world.world.limits.depth ≤ core.stack.frames.room
   pub values : core.run.world.world.limits.depth * greatest_of code.bodies + 1 ≤ core.stack.values.room
@@ -35,10 +35,10 @@ pub record HasRooms (code : CodeProgram) (core : Core) : Type 0 where
 -- Frames stand on one another, and each has its part of the values.
 pub record AreStanding (code : CodeProgram) (stack : Stack) (at : Registers) : Type 0 where
   pub laid : IsLaid stack at
-  pub within : AreWithin (height_in code) (greatest_of code.bodies) (length stack.values.items) stack.frames.items
+  pub within : FramesFitWithin (height_in code) (greatest_of code.bodies) (length stack.values.items) stack.frames.items
 
 -- There is room, and the frames stand.
-pub record Stands (code : CodeProgram) (core : Core) (at : Registers) : Type 0 where
+pub record HasStandingFrames (code : CodeProgram) (core : Core) (at : Registers) : Type 0 where
   pub rooms : HasRooms code core
   pub frames : AreStanding code core.stack at
 
@@ -69,7 +69,7 @@ StandAt code core (next.Waits at) = AreStanding code core.stack at × Wait code 
 StandAt code core next.Ended = Unit {0}
 
 -- What an action leaves of a machine: as much room, the same limits and the places of sites.
-pub record Stays (old new : Core) : Type 0 where
+pub record KeepsRooms (old new : Core) : Type 0 where
   pub world : SameRest old.run.world new.run.world
   pub values : new.stack.values.room ≡ old.stack.values.room
   pub frames : new.stack.frames.room ≡ old.stack.frames.room
@@ -78,4 +78,4 @@ pub record Stays (old new : Core) : Type 0 where
 
 -- The lookups that a machine keeps are right in the world of another, which it was before.
 abbrev pub KeepsRightIn : CodeProgram → Core → Core → Type 0
-KeepsRightIn code old new = All (IsRight old.run.world.world.cells code) new.run.memo
+KeepsRightIn code old new = All (PlaceIsRight old.run.world.world.cells code) new.run.memo

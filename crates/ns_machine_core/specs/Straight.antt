@@ -11,32 +11,32 @@ use Rattle.ns_machine_frames.specs.declared.registers.Registers.{Registers}
 use Rattle.ns_machine_core.specs.declared.on_top.OnTop.{OnTop}
 use Rattle.ns_machine_core.specs.declared.state.Core.{Core}
 use Rattle.ns_machine_core.specs.declared.state.Next.TheVariants.{On}
-use Rattle.ns_machine_core.specs.Doing.{Does}
+use Rattle.ns_machine_core.specs.Doing.{IsDone}
 
 -- The topmost frame is one of that body.
-abbrev pub RunsBody : ℕ → List Frame → Type 0
-RunsBody body [] = ⊥
-RunsBody body (Running frame ∷ frames) = frame.activation.body ≡ body
-RunsBody body (Looping frame ∷ frames) = ⊥
+abbrev pub TopRunsBody : ℕ → List Frame → Type 0
+TopRunsBody body [] = ⊥
+TopRunsBody body (Running frame ∷ frames) = frame.activation.body ≡ body
+TopRunsBody body (Looping frame ∷ frames) = ⊥
 
 -- It is that body, and it is known whether its locals stand in an environment.
 pub record IsOnTop (code : CodeProgram) (top : OnTop) (frames : List Frame) : Type 0 where
-  pub runs : RunsBody top.body frames
+  pub runs : TopRunsBody top.body frames
   pub environment : top.environment ≡ has_environment code top.body
 
 -- That body still runs on top, and so many steps were charged.
 pub record StaysIn (body charged : ℕ) (old new : Core) : Type 0 where
-  pub runs : RunsBody body new.stack.frames.items
+  pub runs : TopRunsBody body new.stack.frames.items
   pub steps : new.run.world.world.steps ≡ old.run.world.world.steps + charged
 
 -- So it is with the body that runs on top, whichever it is.
 abbrev pub StaysOnTop : ℕ → Core → Core → Type 0
-StaysOnTop charged old new = (body : ℕ) → RunsBody body old.stack.frames.items → StaysIn body charged old new
+StaysOnTop charged old new = (body : ℕ) → TopRunsBody body old.stack.frames.items → StaysIn body charged old new
 
 -- The instruction is done, so many steps were charged, and the body that runs goes straight on at those registers.
 pub record GoesStraight (code : CodeProgram) (charged : ℕ) (instr : Instr) (place : Option SourcePlace) (old : Core) (at : Registers)
     (new : Core) (to : Registers) : Type 0 where
-  pub does : Does code instr place old at new (On to)
+  pub does : IsDone code instr place old at new (On to)
   pub stays : StaysOnTop charged old new
 
 -- whether an instruction is plain: it neither sends nor jumps nor ends a body, and makes nothing but a block

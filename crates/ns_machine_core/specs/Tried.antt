@@ -9,20 +9,20 @@ use Rattle.ns_machine_core.specs.declared.led.Led.TheVariants.{Straight, Charged
 use Rattle.ns_machine_core.specs.declared.state.Core.{Core}
 use Rattle.ns_machine_core.specs.declared.state.Next.TheVariants.{On}
 use Rattle.ns_machine_core.specs.Standing.{KeepsRightIn}
-use Rattle.ns_machine_core.specs.Doing.{Does}
+use Rattle.ns_machine_core.specs.Doing.{IsDone}
 use Rattle.ns_machine_core.specs.Jumping.{Jumps}
 use Rattle.ns_machine_core.specs.Passing.{DoesTwice}
 use Rattle.ns_machine_core.specs.Straight.{GoesStraight, StaysOnTop}
 
 -- Nothing has changed but the lookups that are kept, which are right.
-pub record IsUntouched (code : CodeProgram) (old new : Core) : Type 0 where
+pub record OnlyLookupsChanged (code : CodeProgram) (old new : Core) : Type 0 where
   pub same : new ≡ record old { run = record old.run { memo = new.run.memo } }
   pub kept : KeepsRightIn code old new
 
 -- The instruction is done, and the topmost frame goes on at those registers; or nothing is.
 abbrev pub DoesOrNot : CodeProgram → Instr → Option SourcePlace → Core → Registers → Core → Option Registers → Type 0
-DoesOrNot code instr place old at new (Some to) = Does code instr place old at new (On to)
-DoesOrNot code instr place old at new None = IsUntouched code old new
+DoesOrNot code instr place old at new (Some to) = IsDone code instr place old at new (On to)
+DoesOrNot code instr place old at new None = OnlyLookupsChanged code old new
 
 -- where a step leads that goes straight on, if it was done, one that does so with one step charged, and one that goes on with the
 -- topmost frame
@@ -39,12 +39,12 @@ led_on (Some to) = OnTop to
 led_on None = Nowhere
 
 -- The instruction is done, and leads there, or the move after it does; or nothing is.
-abbrev pub Leads : CodeProgram → Instr → Option SourcePlace → Core → Registers → Core → Led → Type 0
-Leads code instr place old at new (Straight to) = GoesStraight code 0 instr place old at new to
-Leads code instr place old at new (Charged to) = GoesStraight code 1 instr place old at new to
-Leads code instr place old at new (OnTop to) = Does code instr place old at new (On to)
-Leads code instr place old at new (Answered to) = DoesTwice code instr place old at new (On to)
-Leads code instr place old at new Nowhere = IsUntouched code old new
+abbrev pub LeadsOrChangesNothing : CodeProgram → Instr → Option SourcePlace → Core → Registers → Core → Led → Type 0
+LeadsOrChangesNothing code instr place old at new (Straight to) = GoesStraight code 0 instr place old at new to
+LeadsOrChangesNothing code instr place old at new (Charged to) = GoesStraight code 1 instr place old at new to
+LeadsOrChangesNothing code instr place old at new (OnTop to) = IsDone code instr place old at new (On to)
+LeadsOrChangesNothing code instr place old at new (Answered to) = DoesTwice code instr place old at new (On to)
+LeadsOrChangesNothing code instr place old at new Nowhere = OnlyLookupsChanged code old new
 
 -- The jump was taken, and leads there: straight on where nothing has changed, or a step was charged. Or it wasn't, and nothing has
 -- changed.

@@ -3,7 +3,7 @@
 ghost use Rattle.std.specs.Prelude.{Option};
 ghost use Rattle.ns_base.specs.declared.place.Place.{Place as SourcePlace};
 ghost use Rattle.ns_code.specs.declared.instruction.Instr.TheVariants as instr;
-ghost use Rattle.ns_machine_core.specs.Doing.{CanDo, Does, IsRunning};
+ghost use Rattle.ns_machine_core.specs.Doing.{CanDo, IsDone, IsRunning};
 ghost use Rattle.ns_machine_core.specs.Jumping.{CanJump, Jumps, EndsWithoutBoolean};
 
 use crate::settling::{ending_at, running};
@@ -52,7 +52,7 @@ fn no_boolean(stack: &Stack, places: &Items<Place>) -> Ending
 #[inline(always)]
 pub fn jump(code: &CodeProgram, core: &mut Core, at: Registers, target: u32) -> Next
     requires { CanDo code.now core.old at (instr.Jump target) }
-    ensures { (place : Option SourcePlace) → Does code.now (instr.Jump target) place core.old at core.new result }
+    ensures { (place : Option SourcePlace) → IsDone code.now (instr.Jump target) place core.old at core.new result }
 {
     take(code, core, at, target)
 }
@@ -62,7 +62,7 @@ pub fn jump(code: &CodeProgram, core: &mut Core, at: Registers, target: u32) -> 
 #[tactic(auto, using(crate::specs::laws::Pushed::runs, crate::specs::laws::Taken::some_operand))]
 pub fn jump_false(code: &CodeProgram, core: &mut Core, at: Registers, target: u32) -> Next
     requires { CanDo code.now core.old at (instr.JumpFalse target) }
-    ensures { (place : Option SourcePlace) → Does code.now (instr.JumpFalse target) place core.old at core.new result }
+    ensures { (place : Option SourcePlace) → IsDone code.now (instr.JumpFalse target) place core.old at core.new result }
 {
     let (value, below) = core.stack.pop(at);
     match value {
@@ -80,7 +80,7 @@ pub fn jump_false(code: &CodeProgram, core: &mut Core, at: Registers, target: u3
 #[tactic(auto, using(crate::specs::laws::Pushed::runs, crate::specs::laws::Taken::some_operand))]
 pub fn jump_true(code: &CodeProgram, core: &mut Core, at: Registers, target: u32) -> Next
     requires { CanDo code.now core.old at (instr.JumpTrue target) }
-    ensures { (place : Option SourcePlace) → Does code.now (instr.JumpTrue target) place core.old at core.new result }
+    ensures { (place : Option SourcePlace) → IsDone code.now (instr.JumpTrue target) place core.old at core.new result }
 {
     let (value, below) = core.stack.pop(at);
     match value {

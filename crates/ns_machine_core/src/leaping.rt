@@ -6,7 +6,7 @@ ghost use Rattle.ns_base.specs.declared.place.Place.{Place as SourcePlace};
 ghost use Rattle.ns_code.specs.declared.instruction.Instr.TheVariants as instr;
 ghost use Rattle.ns_machine_core.specs.Doing.{CanDo};
 ghost use Rattle.ns_machine_core.specs.Jumping.{CanJump};
-ghost use Rattle.ns_machine_core.specs.Tried.{Leads, JumpLeads};
+ghost use Rattle.ns_machine_core.specs.Tried.{LeadsOrChangesNothing, JumpLeads};
 
 use crate::led::Led;
 use crate::state::Core;
@@ -39,7 +39,7 @@ fn take(code: &CodeProgram, core: &mut Core, at: Registers, target: u32) -> Led
 #[tactic(auto, using(crate::specs::laws::Straight::same_straight, crate::specs::laws::Straight::charged_straight))]
 pub fn jump(code: &CodeProgram, core: &mut Core, at: Registers, target: u32) -> Led
     requires { CanDo code.now core.old at (instr.Jump target) }
-    ensures { (place : Option SourcePlace) → Leads code.now (instr.Jump target) place core.old at core.new result }
+    ensures { (place : Option SourcePlace) → LeadsOrChangesNothing code.now (instr.Jump target) place core.old at core.new result }
 {
     match take(code, core, at, target) {
         Led::Straight(to) => Led::Straight(to),
@@ -55,7 +55,7 @@ pub fn jump(code: &CodeProgram, core: &mut Core, at: Registers, target: u32) -> 
 #[tactic(auto, using(crate::specs::laws::Taken::some_operand, crate::specs::laws::Straight::same_straight, crate::specs::laws::Straight::charged_straight))]
 pub fn jump_false(code: &CodeProgram, core: &mut Core, at: Registers, target: u32) -> Led
     requires { CanDo code.now core.old at (instr.JumpFalse target) }
-    ensures { (place : Option SourcePlace) → Leads code.now (instr.JumpFalse target) place core.old at core.new result }
+    ensures { (place : Option SourcePlace) → LeadsOrChangesNothing code.now (instr.JumpFalse target) place core.old at core.new result }
 {
     let (value, below) = core.stack.pop(at);
     match value {
@@ -76,7 +76,7 @@ pub fn jump_false(code: &CodeProgram, core: &mut Core, at: Registers, target: u3
 #[tactic(auto, using(crate::specs::laws::Taken::some_operand, crate::specs::laws::Straight::same_straight, crate::specs::laws::Straight::charged_straight))]
 pub fn jump_true(code: &CodeProgram, core: &mut Core, at: Registers, target: u32) -> Led
     requires { CanDo code.now core.old at (instr.JumpTrue target) }
-    ensures { (place : Option SourcePlace) → Leads code.now (instr.JumpTrue target) place core.old at core.new result }
+    ensures { (place : Option SourcePlace) → LeadsOrChangesNothing code.now (instr.JumpTrue target) place core.old at core.new result }
 {
     let (value, below) = core.stack.pop(at);
     match value {

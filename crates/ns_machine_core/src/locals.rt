@@ -10,7 +10,7 @@ ghost use Rattle.ns_act.specs.Locals.{HasEnvironments, environments_out};
 ghost use Rattle.ns_machine_frames.specs.Standing.{locals_in};
 ghost use Rattle.ns_machine_frames.specs.Stack.{stood};
 ghost use Rattle.ns_machine_core.specs.declared.state.Next.TheVariants as next;
-ghost use Rattle.ns_machine_core.specs.Doing.{CanDo, Does};
+ghost use Rattle.ns_machine_core.specs.Doing.{CanDo, IsDone};
 ghost use Rattle.ns_machine_core.specs.Locals.{LocalIsThere};
 ghost use Rattle.ns_machine_core.specs.Straight.{IsOnTop};
 
@@ -89,7 +89,7 @@ pub fn push_local(
     index: u8,
 ) -> Registers
     requires { CanDo code.now core.old at (instr.PushLocal hops index) }
-    ensures { (place : Option SourcePlace) → Does code.now (instr.PushLocal hops index) place core.old at core.new (next.On result) }
+    ensures { (place : Option SourcePlace) → IsDone code.now (instr.PushLocal hops index) place core.old at core.new (next.On result) }
 {
     let top = on_top(code, &core.stack);
     push_local_of(code, core, at, top, hops, index)
@@ -108,7 +108,7 @@ pub fn push_local_of(
 ) -> Registers
     requires can { CanDo code.now core.old at (instr.PushLocal hops index) }
     requires top { IsOnTop code.now top core.old.stack.frames.items }
-    ensures { (place : Option SourcePlace) → Does code.now (instr.PushLocal hops index) place core.old at core.new (next.On result) }
+    ensures { (place : Option SourcePlace) → IsDone code.now (instr.PushLocal hops index) place core.old at core.new (next.On result) }
 {
     let here = running_code(running(&mut core.stack).activation);
     let value = local(
@@ -135,7 +135,7 @@ pub fn store_local(
     index: u8,
 ) -> Registers
     requires { CanDo code.now core.old at (instr.StoreLocal hops index) }
-    ensures { (place : Option SourcePlace) → Does code.now (instr.StoreLocal hops index) place core.old at core.new (next.On result) }
+    ensures { (place : Option SourcePlace) → IsDone code.now (instr.StoreLocal hops index) place core.old at core.new (next.On result) }
 {
     let top = on_top(code, &core.stack);
     store_local_of(code, core, at, top, hops, index)
@@ -154,7 +154,7 @@ pub fn store_local_of(
 ) -> Registers
     requires can { CanDo code.now core.old at (instr.StoreLocal hops index) }
     requires top { IsOnTop code.now top core.old.stack.frames.items }
-    ensures { (place : Option SourcePlace) → Does code.now (instr.StoreLocal hops index) place core.old at core.new (next.On result) }
+    ensures { (place : Option SourcePlace) → IsDone code.now (instr.StoreLocal hops index) place core.old at core.new (next.On result) }
 {
     let here = running_code(running(&mut core.stack).activation);
     let value = core.stack.operand(at, 0);

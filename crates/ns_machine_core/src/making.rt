@@ -4,7 +4,7 @@ ghost use Rattle.std.specs.Prelude.{◌≡◌, Option};
 ghost use Rattle.ns_base.specs.declared.place.Place.{Place as SourcePlace};
 ghost use Rattle.ns_code.specs.declared.instruction.Instr.TheVariants as instr;
 ghost use Rattle.ns_machine_moves.specs.Steps as steps;
-ghost use Rattle.ns_machine_core.specs.Doing.{CanDo, Does};
+ghost use Rattle.ns_machine_core.specs.Doing.{CanDo, IsDone};
 
 use crate::settling::{running, running_code, settle};
 use crate::state::{Core, Next};
@@ -18,7 +18,7 @@ use ns_machine_frames::registers::Registers;
 #[tactic(auto, using(crate::specs::laws::Pushed::one_more, crate::specs::laws::Pushed::runs, crate::proofs::Made::block_done))]
 pub fn push_block(code: &CodeProgram, core: &mut Core, at: Registers, body: u32) -> Next
     requires { CanDo code.now core.old at (instr.PushBlock body) }
-    ensures { (place : Option SourcePlace) → Does code.now (instr.PushBlock body) place core.old at core.new result }
+    ensures { (place : Option SourcePlace) → IsDone code.now (instr.PushBlock body) place core.old at core.new result }
 {
     let activation = running(&mut core.stack).activation;
     let answer = new_block(&mut core.run.world, running_code(activation), body);
@@ -41,7 +41,7 @@ fn literal(code: &CodeProgram, text: u32) -> &[u8]
 #[tactic(auto, using(crate::specs::laws::Pushed::one_more, crate::specs::laws::Pushed::runs, crate::proofs::Made::text_done))]
 pub fn push_text(code: &CodeProgram, core: &mut Core, at: Registers, text: u32) -> Next
     requires { CanDo code.now core.old at (instr.PushText text) }
-    ensures { (place : Option SourcePlace) → Does code.now (instr.PushText text) place core.old at core.new result }
+    ensures { (place : Option SourcePlace) → IsDone code.now (instr.PushText text) place core.old at core.new result }
 {
     let site = running(&mut core.stack).activation.site;
     let answer = new_text(&mut core.run.world, literal(code, text));
@@ -53,7 +53,7 @@ pub fn push_text(code: &CodeProgram, core: &mut Core, at: Registers, text: u32) 
 #[tactic(auto, using(crate::specs::laws::Pushed::one_more, crate::specs::laws::Pushed::runs, crate::specs::laws::Taken::some_operand, crate::proofs::Made::array_done))]
 pub fn make_array(code: &CodeProgram, core: &mut Core, at: Registers, count: u8) -> Next
     requires { CanDo code.now core.old at (instr.MakeArray count) }
-    ensures { (place : Option SourcePlace) → Does code.now (instr.MakeArray count) place core.old at core.new result }
+    ensures { (place : Option SourcePlace) → IsDone code.now (instr.MakeArray count) place core.old at core.new result }
 {
     operands_are_taken();
     let site = running(&mut core.stack).activation.site;

@@ -4,7 +4,7 @@ ghost use Rattle.std.specs.Prelude.{Option};
 ghost use Rattle.ns_base.specs.declared.place.Place.{Place as SourcePlace};
 ghost use Rattle.ns_code.specs.declared.instruction.Instr.TheVariants as instr;
 ghost use Rattle.ns_machine_core.specs.declared.state.Next.TheVariants as next;
-ghost use Rattle.ns_machine_core.specs.Doing.{CanDo, Does};
+ghost use Rattle.ns_machine_core.specs.Doing.{CanDo, IsDone};
 
 use crate::settling::{push, running, running_code};
 use crate::state::Core;
@@ -19,7 +19,7 @@ use ns_world::value::Value;
 #[tactic(auto, using(crate::specs::laws::Pushed::one_more, crate::proofs::Pushed::nil_done))]
 pub fn push_nil(code: &CodeProgram, core: &mut Core, at: Registers) -> Registers
     requires { CanDo code.now core.old at instr.PushNil }
-    ensures { (place : Option SourcePlace) → Does code.now instr.PushNil place core.old at core.new (next.On result) }
+    ensures { (place : Option SourcePlace) → IsDone code.now instr.PushNil place core.old at core.new (next.On result) }
 {
     push(code, core, at, Value::Nil)
 }
@@ -29,7 +29,7 @@ pub fn push_nil(code: &CodeProgram, core: &mut Core, at: Registers) -> Registers
 #[tactic(auto, using(crate::specs::laws::Pushed::one_more, crate::proofs::Pushed::true_done))]
 pub fn push_true(code: &CodeProgram, core: &mut Core, at: Registers) -> Registers
     requires { CanDo code.now core.old at instr.PushTrue }
-    ensures { (place : Option SourcePlace) → Does code.now instr.PushTrue place core.old at core.new (next.On result) }
+    ensures { (place : Option SourcePlace) → IsDone code.now instr.PushTrue place core.old at core.new (next.On result) }
 {
     push(code, core, at, Value::True)
 }
@@ -39,7 +39,7 @@ pub fn push_true(code: &CodeProgram, core: &mut Core, at: Registers) -> Register
 #[tactic(auto, using(crate::specs::laws::Pushed::one_more, crate::proofs::Pushed::false_done))]
 pub fn push_false(code: &CodeProgram, core: &mut Core, at: Registers) -> Registers
     requires { CanDo code.now core.old at instr.PushFalse }
-    ensures { (place : Option SourcePlace) → Does code.now instr.PushFalse place core.old at core.new (next.On result) }
+    ensures { (place : Option SourcePlace) → IsDone code.now instr.PushFalse place core.old at core.new (next.On result) }
 {
     push(code, core, at, Value::False)
 }
@@ -49,7 +49,7 @@ pub fn push_false(code: &CodeProgram, core: &mut Core, at: Registers) -> Registe
 #[tactic(auto, using(crate::specs::laws::Pushed::one_more, crate::proofs::Pushed::int_done))]
 pub fn push_int(code: &CodeProgram, core: &mut Core, at: Registers, number: i64) -> Registers
     requires { CanDo code.now core.old at (instr.PushInt number) }
-    ensures { (place : Option SourcePlace) → Does code.now (instr.PushInt number) place core.old at core.new (next.On result) }
+    ensures { (place : Option SourcePlace) → IsDone code.now (instr.PushInt number) place core.old at core.new (next.On result) }
 {
     push(code, core, at, Value::Int(number))
 }
@@ -59,7 +59,7 @@ pub fn push_int(code: &CodeProgram, core: &mut Core, at: Registers, number: i64)
 #[tactic(auto, using(crate::specs::laws::Pushed::one_more, crate::proofs::Pushed::sym_done))]
 pub fn push_sym(code: &CodeProgram, core: &mut Core, at: Registers, sel: Sel) -> Registers
     requires { CanDo code.now core.old at (instr.PushSym sel) }
-    ensures { (place : Option SourcePlace) → Does code.now (instr.PushSym sel) place core.old at core.new (next.On result) }
+    ensures { (place : Option SourcePlace) → IsDone code.now (instr.PushSym sel) place core.old at core.new (next.On result) }
 {
     push(code, core, at, Value::Sym(sel))
 }
@@ -69,7 +69,7 @@ pub fn push_sym(code: &CodeProgram, core: &mut Core, at: Registers, sel: Sel) ->
 #[tactic(auto, using(crate::specs::laws::Pushed::one_more, crate::specs::laws::Pushed::runs, crate::proofs::Pushed::self_done))]
 pub fn push_self(code: &CodeProgram, core: &mut Core, at: Registers) -> Registers
     requires { CanDo code.now core.old at instr.PushSelf }
-    ensures { (place : Option SourcePlace) → Does code.now instr.PushSelf place core.old at core.new (next.On result) }
+    ensures { (place : Option SourcePlace) → IsDone code.now instr.PushSelf place core.old at core.new (next.On result) }
 {
     let me = running(&mut core.stack).activation.me;
     push(code, core, at, me)
@@ -80,7 +80,7 @@ pub fn push_self(code: &CodeProgram, core: &mut Core, at: Registers) -> Register
 #[tactic(auto, using(crate::specs::laws::Pushed::one_more, crate::specs::laws::Pushed::runs, crate::specs::laws::Finds::fits_anywhere, crate::proofs::Enclosed::lawful_there, crate::proofs::Enclosed::declared_there))]
 pub fn push_outer(code: &CodeProgram, core: &mut Core, at: Registers, level: u8) -> Registers
     requires { CanDo code.now core.old at (instr.PushOuter level) }
-    ensures { (place : Option SourcePlace) → Does code.now (instr.PushOuter level) place core.old at core.new (next.On result) }
+    ensures { (place : Option SourcePlace) → IsDone code.now (instr.PushOuter level) place core.old at core.new (next.On result) }
 {
     let here = running_code(running(&mut core.stack).activation);
     let around = enclosing(&mut core.run.world, code, here, level);

@@ -4,7 +4,7 @@ ghost use Rattle.std.specs.Prelude.{Option};
 ghost use Rattle.ns_base.specs.declared.place.Place.{Place as SourcePlace};
 ghost use Rattle.ns_code.specs.declared.instruction.Instr.TheVariants as instr;
 ghost use Rattle.ns_machine_core.specs.declared.state.Next.TheVariants as next;
-ghost use Rattle.ns_machine_core.specs.Doing.{CanDo, Does};
+ghost use Rattle.ns_machine_core.specs.Doing.{CanDo, IsDone};
 
 use crate::settling::push;
 use crate::state::Core;
@@ -17,7 +17,7 @@ use ns_machine_frames::registers::Registers;
 #[tactic(auto, using(crate::specs::laws::Taken::some_operand, crate::proofs::Taken::pop_done))]
 pub fn pop(code: &CodeProgram, core: &mut Core, at: Registers) -> Registers
     requires { CanDo code.now core.old at instr.Pop }
-    ensures { (place : Option SourcePlace) → Does code.now instr.Pop place core.old at core.new (next.On result) }
+    ensures { (place : Option SourcePlace) → IsDone code.now instr.Pop place core.old at core.new (next.On result) }
 {
     let _code = code;
     core.stack.pop(at).1
@@ -28,7 +28,7 @@ pub fn pop(code: &CodeProgram, core: &mut Core, at: Registers) -> Registers
 #[tactic(auto, using(crate::specs::laws::Taken::some_operand, crate::specs::laws::Pushed::one_more, crate::proofs::Taken::pick_done))]
 pub fn pick(code: &CodeProgram, core: &mut Core, at: Registers, number: u8) -> Registers
     requires { CanDo code.now core.old at (instr.Pick number) }
-    ensures { (place : Option SourcePlace) → Does code.now (instr.Pick number) place core.old at core.new (next.On result) }
+    ensures { (place : Option SourcePlace) → IsDone code.now (instr.Pick number) place core.old at core.new (next.On result) }
 {
     operands_are_taken();
     let value = core.stack.operand(at, u32::from(number));

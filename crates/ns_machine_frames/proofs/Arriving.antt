@@ -25,7 +25,7 @@ use Rattle.ns_machine_frames.specs.declared.calls.Call.{Call}
 use Rattle.ns_machine_frames.specs.Standing.{Stood}
 use Rattle.ns_machine_frames.specs.Calls.{leaving_of, activation_of, arguments_for, begun_locals}
 use Rattle.ns_machine_frames.specs.View.{site_shown, leaving_shown, activation_shown, frames_shown}
-use Rattle.ns_machine_frames.specs.Arriving.{FitsBody, with_body}
+use Rattle.ns_machine_frames.specs.Arriving.{IsShapeOf, with_body}
 
 -- what its value is for
 exit_kept : (exit : ExitKind) (entered : Entered) (site : KeptSite) → leaving_shown (leaving_of exit) (activation_of entered site) ≡ Loud (exit_shown exit entered.me entered.holder)
@@ -34,7 +34,7 @@ exit_kept exit.Body entered site = refl
 exit_kept (exit.Clause class) entered site = refl
 
 -- its locals
-locals_kept : (code : CodeProgram) (heap : Heap) (shape : BodyShape) (entered : Entered) (values there : List Value) → FitsBody code entered.body shape
+locals_kept : (code : CodeProgram) (heap : Heap) (shape : BodyShape) (entered : Entered) (values there : List Value) → IsShapeOf code entered.body shape
     → arguments_for there entered.given ≡ given_values heap values entered.given
     → begun_locals shape entered.given there ≡ locals_shown code heap values entered
 locals_kept code heap shape entered values there fits same =
@@ -45,7 +45,7 @@ locals_kept code heap shape entered values there fits same =
 
 -- a body that is entered, by the end that is kept of it
 stands_as : (code : CodeProgram) (places : List SourcePlace) (phase : Phase) (shape : BodyShape) (call : Call) (entered : Entered) (leaving : state.Leaving)
-    (values there : List Value) (stood : List Stood) (progress : Progress) → FitsBody code entered.body shape
+    (values there : List Value) (stood : List Stood) (progress : Progress) → IsShapeOf code entered.body shape
     → leaving_shown call.leaving (activation_of entered call.site) ≡ leaving
     → arguments_for there entered.given ≡ given_values progress.world.cells values entered.given
     → Going phase (state.Running leaving (activation_shown places (activation_of entered call.site)) (locals_shown code progress.world.cells values entered)
@@ -60,7 +60,7 @@ stands_as code places phase shape call entered leaving values there stood progre
     (sym left)
 
 pub body_begins : (code : CodeProgram) (places : List SourcePlace) (phase : Phase) (shape : BodyShape) (call : Call) (exit : ExitKind) (entered : Entered)
-    (values there : List Value) (stood : List Stood) (progress : Progress) → FitsBody code entered.body shape → call.leaving ≡ leaving_of exit
+    (values there : List Value) (stood : List Stood) (progress : Progress) → IsShapeOf code entered.body shape → call.leaving ≡ leaving_of exit
     → arguments_for there entered.given ≡ given_values progress.world.cells (passed exit values) entered.given
     → arrived code phase (reached_shown code (site_shown places call.site) values (reached.Enters exit entered) progress) (frames_shown code places stood)
     ≡ Going phase (frames_shown code places (with_body shape call entered there stood)) progress
@@ -69,7 +69,7 @@ body_begins code places phase shape call exit entered values there stood progres
     (ap (λ (end : Leaving). leaving_shown end (activation_of entered call.site)) left ∙ exit_kept exit entered call.site) same
 
 pub part_begins : (code : CodeProgram) (places : List SourcePlace) (phase : Phase) (shape : BodyShape) (call : Call) (entered : Entered)
-    (values there : List Value) (stood : List Stood) (progress : Progress) → FitsBody code entered.body shape → call.leaving ≡ Part
+    (values there : List Value) (stood : List Stood) (progress : Progress) → IsShapeOf code entered.body shape → call.leaving ≡ Part
     → arguments_for there entered.given ≡ given_values progress.world.cells values entered.given
     → part_arrived code phase (part_shown code (site_shown places call.site) values (part.Enters entered) progress) (frames_shown code places stood)
     ≡ Going phase (frames_shown code places (with_body shape call entered there stood)) progress

@@ -12,20 +12,20 @@ use Rattle.ns_machine_frames.specs.declared.stack.Stack.{Stack}
 use Rattle.ns_machine_frames.specs.Standing.{standing, AreLaid, operands_in, below, at_next, in_state}
 use Rattle.ns_machine_frames.specs.Stack.{in_use, stood, IsLaid, IsEntered}
 use Rattle.ns_machine_frames.specs.Leaving.{with_answer}
-use Rattle.ns_machine_frames.specs.Room.{bound, AreWithin}
+use Rattle.ns_machine_frames.specs.Room.{bound, FramesFitWithin}
 use Rattle.ns_machine_frames.specs.laws.Room.{bound_next, bound_is, within_more, within_below, within_next, within_answer}
 
-within_state : (height : ℕ → ℕ) (greatest filled : ℕ) (state : KState) (frames : List Frame) → AreWithin height greatest filled frames
-    → AreWithin height greatest filled (in_state state frames)
+within_state : (height : ℕ → ℕ) (greatest filled : ℕ) (state : KState) (frames : List Frame) → FramesFitWithin height greatest filled frames
+    → FramesFitWithin height greatest filled (in_state state frames)
 within_state height greatest filled state [] within = within
 within_state height greatest filled state (Running frame ∷ frames) within = within
 within_state height greatest filled state (Looping frame ∷ frames) within = within
 
 pub others_keep : (height : ℕ → ℕ) (greatest filled more next : ℕ) (state : KState) (value : Value) (frames : List Frame) → filled ≤ more
-    → AreWithin height greatest filled frames
-    → AreWithin height greatest more frames × AreWithin height greatest filled (below frames)
-    × AreWithin height greatest filled (at_next next frames) × AreWithin height greatest filled (in_state state frames)
-    × AreWithin height greatest filled (with_answer value frames)
+    → FramesFitWithin height greatest filled frames
+    → FramesFitWithin height greatest more frames × FramesFitWithin height greatest filled (below frames)
+    × FramesFitWithin height greatest filled (at_next next frames) × FramesFitWithin height greatest filled (in_state state frames)
+    × FramesFitWithin height greatest filled (with_answer value frames)
 others_keep height greatest filled more next state value frames le within = (
   within_more height greatest filled more frames le within,
   within_below height greatest filled frames within,
@@ -54,29 +54,29 @@ top_is stack at frame frames laid is =
     ∙ (operands_end at.next frame frames (in_use stack at) used ∙ size)
 
 pub one_more_fits : (height : ℕ → ℕ) (greatest : ℕ) (stack : Stack) (at : Registers) (frame : RunningFrame) (frames : List Frame) → IsLaid stack at
-    → AreWithin height greatest (length stack.values.items) stack.frames.items → stack.frames.items ≡ Running frame ∷ frames
+    → FramesFitWithin height greatest (length stack.values.items) stack.frames.items → stack.frames.items ≡ Running frame ∷ frames
     → length (operands_in (stood stack at)) < height frame.activation.body → at.top < length stack.values.items
 one_more_fits height greatest stack at frame frames laid within is few =
-    let here : AreWithin height greatest (length stack.values.items) (Running frame ∷ frames) =
-    subst (λ (kept : List Frame). AreWithin height greatest (length stack.values.items) kept) is within in
+    let here : FramesFitWithin height greatest (length stack.values.items) (Running frame ∷ frames) =
+    subst (λ (kept : List Frame). FramesFitWithin height greatest (length stack.values.items) kept) is within in
     omega (arith, here.0, few, top_is stack at frame frames laid is)
 
 pub top_within : (height : ℕ → ℕ) (greatest : ℕ) (stack : Stack) (at : Registers) (frame : RunningFrame) (frames : List Frame) → IsLaid stack at
-    → AreWithin height greatest (length stack.values.items) stack.frames.items → stack.frames.items ≡ Running frame ∷ frames
+    → FramesFitWithin height greatest (length stack.values.items) stack.frames.items → stack.frames.items ≡ Running frame ∷ frames
     → length (operands_in (stood stack at)) ≤ height frame.activation.body → at.top ≤ bound greatest stack.frames.items
 top_within height greatest stack at frame frames laid within is few =
-    let here : AreWithin height greatest (length stack.values.items) (Running frame ∷ frames) =
-    subst (λ (kept : List Frame). AreWithin height greatest (length stack.values.items) kept) is within in
+    let here : FramesFitWithin height greatest (length stack.values.items) (Running frame ∷ frames) =
+    subst (λ (kept : List Frame). FramesFitWithin height greatest (length stack.values.items) kept) is within in
     subst (λ (kept : List Frame). at.top ≤ bound greatest kept) (sym is) (omega (arith, here.1, few, top_is stack at frame frames laid is))
 
 -- ---- a frame that begins
 
 pub entering_keeps : (height : ℕ → ℕ) (greatest : ℕ) (old new : Stack) (at to : Registers) (frame : RunningFrame) (locals : List Value) (most : ℕ)
-    → IsEntered old at new to frame locals most → AreWithin height greatest (length old.values.items) old.frames.items
+    → IsEntered old at new to frame locals most → FramesFitWithin height greatest (length old.values.items) old.frames.items
     → height frame.activation.body ≤ most → frame.base ≤ bound greatest old.frames.items → frame.operands + most ≤ frame.base + greatest
-    → AreWithin height greatest (length new.values.items) new.frames.items
+    → FramesFitWithin height greatest (length new.values.items) new.frames.items
 entering_keeps height greatest old new at to frame locals most entered within low base small =
-    subst (λ (kept : List Frame). AreWithin height greatest (length new.values.items) kept) (sym entered.frames) (
+    subst (λ (kept : List Frame). FramesFitWithin height greatest (length new.values.items) kept) (sym entered.frames) (
       omega (arith, entered.filled, low),
       omega (arith, low, base, small, bound_next greatest at.next old.frames.items),
       within_next height greatest (length new.values.items) at.next old.frames.items

@@ -23,7 +23,7 @@ use Rattle.ns_machine_frames.specs.Calls.{leaving_of, arguments_for, begun_local
 use Rattle.ns_machine_frames.specs.View.{site_shown, frames_shown}
 
 -- A shape is that of a body of the code.
-pub record FitsBody (code : CodeProgram) (body : ℕ) (shape : BodyShape) : Type 0 where
+pub record IsShapeOf (code : CodeProgram) (body : ℕ) (shape : BodyShape) : Type 0 where
   pub params : shape.params ≡ parameters_of code body
   pub locals : shape.locals ≡ locals_of code body
   pub environment : shape.environment ≡ has_environment code body
@@ -36,7 +36,7 @@ with_body shape call entered values stood = Runs (frame_for shape call entered) 
 abbrev pub BodiesBegin : CodeProgram → List SourcePlace → Phase → Type 0
 BodiesBegin code places phase =
     (shape : BodyShape) (call : Call) (exit : Exit) (entered : Entered) (values there : List Value) (stood : List Stood) (progress : Progress)
-    → FitsBody code entered.body shape → call.leaving ≡ leaving_of exit
+    → IsShapeOf code entered.body shape → call.leaving ≡ leaving_of exit
     → arguments_for there entered.given ≡ given_values progress.world.cells (passed exit values) entered.given
     → arrived code phase (reached_shown code (site_shown places call.site) values (reached.Enters exit entered) progress) (frames_shown code places stood)
     ≡ Going phase (frames_shown code places (with_body shape call entered there stood)) progress
@@ -45,7 +45,7 @@ BodiesBegin code places phase =
 abbrev pub PartsBegin : CodeProgram → List SourcePlace → Phase → Type 0
 PartsBegin code places phase =
     (shape : BodyShape) (call : Call) (entered : Entered) (values there : List Value) (stood : List Stood) (progress : Progress)
-    → FitsBody code entered.body shape → call.leaving ≡ Part
+    → IsShapeOf code entered.body shape → call.leaving ≡ Part
     → arguments_for there entered.given ≡ given_values progress.world.cells values entered.given
     → part_arrived code phase (part_shown code (site_shown places call.site) values (part.Enters entered) progress) (frames_shown code places stood)
     ≡ Going phase (frames_shown code places (with_body shape call entered there stood)) progress

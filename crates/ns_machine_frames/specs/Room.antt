@@ -22,32 +22,32 @@ bound greatest [] = 0
 bound greatest (frame ∷ frames) = greatest + bound greatest frames
 
 -- Each frame reaches no further than the values that are filled, and than so much for it and for each frame below it.
-abbrev pub AreWithin : (ℕ → ℕ) → ℕ → ℕ → List Frame → Type 0
-AreWithin height greatest filled [] = Unit {0}
-AreWithin height greatest filled (frame ∷ frames) =
-    (reach height frame ≤ filled) × (reach height frame ≤ bound greatest (frame ∷ frames)) × AreWithin height greatest filled frames
+abbrev pub FramesFitWithin : (ℕ → ℕ) → ℕ → ℕ → List Frame → Type 0
+FramesFitWithin height greatest filled [] = Unit {0}
+FramesFitWithin height greatest filled (frame ∷ frames) =
+    (reach height frame ≤ filled) × (reach height frame ≤ bound greatest (frame ∷ frames)) × FramesFitWithin height greatest filled frames
 
 -- A body that runs on top with fewer operands than it has at most has a place for one more.
 abbrev pub OneMoreFits : (ℕ → ℕ) → ℕ → Type 0
 OneMoreFits height greatest =
     (stack : Stack) (at : Registers) (frame : RunningFrame) (frames : List Frame) → IsLaid stack at
-    → AreWithin height greatest (length stack.values.items) stack.frames.items → stack.frames.items ≡ Running frame ∷ frames
+    → FramesFitWithin height greatest (length stack.values.items) stack.frames.items → stack.frames.items ≡ Running frame ∷ frames
     → length (operands_in (stood stack at)) < height frame.activation.body → at.top < length stack.values.items
 
 -- With no more operands than it has at most, its values end within what is reached.
 abbrev pub TopIsWithin : (ℕ → ℕ) → ℕ → Type 0
 TopIsWithin height greatest =
     (stack : Stack) (at : Registers) (frame : RunningFrame) (frames : List Frame) → IsLaid stack at
-    → AreWithin height greatest (length stack.values.items) stack.frames.items → stack.frames.items ≡ Running frame ∷ frames
+    → FramesFitWithin height greatest (length stack.values.items) stack.frames.items → stack.frames.items ≡ Running frame ∷ frames
     → length (operands_in (stood stack at)) ≤ height frame.activation.body → at.top ≤ bound greatest stack.frames.items
 
 -- A frame that begins within what the others reach, and is no greater than the greatest, keeps this.
 abbrev pub EnteringKeeps : (ℕ → ℕ) → ℕ → Type 0
 EnteringKeeps height greatest =
     (old new : Stack) (at to : Registers) (frame : RunningFrame) (locals : List Value) (most : ℕ) → IsEntered old at new to frame locals most
-    → AreWithin height greatest (length old.values.items) old.frames.items → height frame.activation.body ≤ most
+    → FramesFitWithin height greatest (length old.values.items) old.frames.items → height frame.activation.body ≤ most
     → frame.base ≤ bound greatest old.frames.items → frame.operands + most ≤ frame.base + greatest
-    → AreWithin height greatest (length new.values.items) new.frames.items
+    → FramesFitWithin height greatest (length new.values.items) new.frames.items
 
 -- There is room for such a frame under the limit on depth.
 abbrev pub DepthGivesRoom : ℕ → Type 0
@@ -58,7 +58,7 @@ DepthGivesRoom greatest =
 -- More values that are filled, fewer frames, and what changes in the topmost keep it.
 abbrev pub OthersKeep : (ℕ → ℕ) → ℕ → Type 0
 OthersKeep height greatest =
-    (filled more next : ℕ) (state : KState) (value : Value) (frames : List Frame) → filled ≤ more → AreWithin height greatest filled frames
-    → AreWithin height greatest more frames × AreWithin height greatest filled (below frames)
-    × AreWithin height greatest filled (at_next next frames) × AreWithin height greatest filled (in_state state frames)
-    × AreWithin height greatest filled (with_answer value frames)
+    (filled more next : ℕ) (state : KState) (value : Value) (frames : List Frame) → filled ≤ more → FramesFitWithin height greatest filled frames
+    → FramesFitWithin height greatest more frames × FramesFitWithin height greatest filled (below frames)
+    × FramesFitWithin height greatest filled (at_next next frames) × FramesFitWithin height greatest filled (in_state state frames)
+    × FramesFitWithin height greatest filled (with_answer value frames)

@@ -55,7 +55,7 @@ pub record KeepsRoom (old new : Stack) : Type 0 where
 -- ---- entering
 
 -- Frames can begin at a floor: where the values of the frames below are to end they do, and there is room for one frame more.
-pub record MayBegin (stack : Stack) (at : Registers) (floor : ℕ) : Type 0 where
+pub record FramesCanBegin (stack : Stack) (at : Registers) (floor : ℕ) : Type 0 where
   pub laid : IsLaid stack at
   pub waits : IsLaid stack (with_top floor at)
   pub low : floor ≤ at.top

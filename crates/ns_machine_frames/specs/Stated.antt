@@ -17,8 +17,8 @@ use Rattle.ns_machine_frames.specs.View.{frames_shown}
 -- ---- operands
 
 -- The operands that were put on others are those that are taken off.
-abbrev pub AreTaken : State → Type 0
-AreTaken missing =
+abbrev pub ComeOffAgain : State → Type 0
+ComeOffAgain missing =
     (values stack : List Value) (go : List Value → List Value → State)
     → taken_off missing (length values) [] (reverse values ++ stack) go ≡ go values stack
 
@@ -31,8 +31,8 @@ IsPicked missing =
 -- ---- returns
 
 -- A value that is delivered to frames comes to the topmost of those that stand.
-abbrev pub IsDelivered : CodeProgram → List SourcePlace → Phase → Type 0
-IsDelivered code places phase =
+abbrev pub ValueIsDelivered : CodeProgram → List SourcePlace → Phase → Type 0
+ValueIsDelivered code places phase =
     (value : Value) (one : Stood) (stood : List Stood) (progress : Progress)
     → returns.delivered code phase value (frames_shown code places (one ∷ stood)) progress
     ≡ Going phase (frames_shown code places (delivered value (one ∷ stood))) progress

@@ -1,7 +1,7 @@
 //! Entering the body that an action reached, by the shape that code gives it.
 
 ghost use Rattle.std.specs.Prelude.{◌+◌, ◌≤◌, [], ◌∷◌, ◌≡◌};
-ghost use Rattle.ns_machine_frames.specs.Stack.{MayBegin, IsEntered};
+ghost use Rattle.ns_machine_frames.specs.Stack.{FramesCanBegin, IsEntered};
 ghost use Rattle.ns_machine_frames.specs.Calls.{leaving_of, activation_of, locals_of, nils, locals_for, bare_frame, frame_from, frame_for, FitsCall, FitsArguments, FitsOne};
 
 use crate::frame::{Activation, KeptSite, Layout, Leaving};
@@ -41,7 +41,7 @@ impl Stack {
         entered: Entered,
         shape: BodyShape,
     ) -> Registers
-        requires begins { MayBegin self.old at call.floor }
+        requires begins { FramesCanBegin self.old at call.floor }
         requires fits { FitsCall shape call entered.given self.old at }
         ensures { IsEntered self.old at self.new result (frame_for shape call entered) (locals_for shape call entered.given self.old at) shape.height }
     {
@@ -71,7 +71,7 @@ impl Stack {
         activation: Activation,
         height: u32,
     ) -> Registers
-        requires begins { MayBegin self.old at call.floor }
+        requires begins { FramesCanBegin self.old at call.floor }
         requires enough { call.floor + height ≤ self.old.values.room }
         ensures { IsEntered self.old at self.new result (bare_frame call activation height) [] height }
     {
@@ -97,7 +97,7 @@ impl Stack {
         activation: Activation,
         shape: BodyShape,
     ) -> Registers
-        requires begins { MayBegin self.old at call.floor }
+        requires begins { FramesCanBegin self.old at call.floor }
         requires fits { FitsArguments shape call self.old at }
         ensures { IsEntered self.old at self.new result (frame_from call.first call activation shape) (locals_of call shape self.old at) shape.height }
     {
@@ -121,7 +121,7 @@ impl Stack {
         activation: Activation,
         shape: BodyShape,
     ) -> Registers
-        requires begins { MayBegin self.old at call.floor }
+        requires begins { FramesCanBegin self.old at call.floor }
         requires fits { FitsOne shape call self.old }
         ensures { IsEntered self.old at self.new result (frame_from call.floor call activation shape) (value ∷ nils shape) shape.height }
     {

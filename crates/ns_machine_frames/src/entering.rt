@@ -3,7 +3,7 @@
 ghost use Rattle.std.specs.Prelude.{◌≡◌, ◌+◌, ◌<◌, ◌≤◌, ◌∷◌, ◌++◌, length};
 ghost use Rattle.ns_machine_frames.specs.declared.frame.Frame.TheVariants.{Looping};
 ghost use Rattle.ns_machine_frames.specs.Standing.{Loops, at_next, pushed_all};
-ghost use Rattle.ns_machine_frames.specs.Stack.{in_use, stood, with_top, IsLaid, KeepsRoom, MayBegin, FitsLayout, entered_frame, locals_at, IsEntered};
+ghost use Rattle.ns_machine_frames.specs.Stack.{in_use, stood, with_top, IsLaid, KeepsRoom, FramesCanBegin, FitsLayout, entered_frame, locals_at, IsEntered};
 
 use crate::frame::{Activation, Frame, Layout, Leaving, LoopingFrame, RunningFrame};
 use crate::registers::Registers;
@@ -56,7 +56,7 @@ impl Stack {
         activation: Activation,
         layout: Layout,
     ) -> Registers
-        requires begins { MayBegin self.old at layout.floor }
+        requires begins { FramesCanBegin self.old at layout.floor }
         requires fits { FitsLayout layout at.top self.old.values.room }
         ensures { IsEntered self.old at self.new result (entered_frame leaving activation layout) (locals_at self.old at layout) layout.height }
     {
@@ -84,7 +84,7 @@ impl Stack {
     /// Begins a method of the kernel. What stands above its floor is no longer the caller's.
     #[inline(always)]
     pub fn begin(&mut self, at: Registers, looping: LoopingFrame) -> Registers
-        requires { MayBegin self.old at looping.floor }
+        requires { FramesCanBegin self.old at looping.floor }
         ensures stood { stood self.new result ≡ Loops looping ∷ stood self.old (with_top looping.floor at) }
         ensures laid { IsLaid self.new result }
         ensures frames { self.new.frames.items ≡ Looping looping ∷ at_next at.next self.old.frames.items }

@@ -7,19 +7,19 @@ ghost use Rattle.ns_code.specs.declared.program.CodeProgram.{CodeProgram};
 ghost use Rattle.ns_machine_moves.specs.State.{Phase, State};
 ghost use Rattle.ns_machine_frames.specs.Room.{OneMoreFits, TopIsWithin, EnteringKeeps, DepthGivesRoom, OthersKeep};
 ghost use Rattle.ns_machine_frames.specs.Arriving.{BodiesBegin, PartsBegin, MethodsBegin};
-ghost use Rattle.ns_machine_frames.specs.Stated.{AreTaken, IsPicked, IsDelivered, FindsHome, Unwinds};
+ghost use Rattle.ns_machine_frames.specs.Stated.{ComeOffAgain, IsPicked, ValueIsDelivered, FindsHome, Unwinds};
 
 /// The operands that `Stack::operands`, `pop` and `operand` give are those that an instruction takes off or picks.
 #[tactic(auto, using(crate::proofs::Operands::taken_is, crate::proofs::Operands::picked_is))]
 pub fn operands_are_taken()
-    ensures taken { (missing : State) → AreTaken missing }
+    ensures taken { (missing : State) → ComeOffAgain missing }
     ensures picked { (missing : State) → IsPicked missing }
 {}
 
 /// What `Stack::deliver` leaves is what a value that is delivered leads to.
 #[tactic(auto, using(crate::proofs::Returning::delivered_is))]
 pub fn values_are_delivered()
-    ensures { (code : CodeProgram) (places : List SourcePlace) (phase : Phase) → IsDelivered code places phase }
+    ensures { (code : CodeProgram) (places : List SourcePlace) (phase : Phase) → ValueIsDelivered code places phase }
 {}
 
 /// A home is there exactly where `Stack::frames_to` finds it, and what `Stack::unwind` leaves is what a return to it is

@@ -27,7 +27,7 @@ use Rattle.ns_actions.specs.Lawful.{FitsSelector}
 use Rattle.ns_actions.specs.laws.Sites.{site_fits}
 use Rattle.ns_machine_moves.specs.State.{Sending, Start, First, Second, Hosted, State, Unbegun, Going, Pends, Ended, Stuck, progress_of}
 use Rattle.ns_machine_moves.specs.Starts.{unbegun}
-use Rattle.ns_machine_moves.specs.Valid.{BeginsWith, WorldIsValid, fitting, array_behind, is_no_facet, blocks_have_homes, EndsIn, Valid}
+use Rattle.ns_machine_moves.specs.Valid.{BeginsWith, WorldIsValid, fitting, array_behind, is_no_facet, blocks_have_homes, EndIsValid, Valid}
 use Rattle.ns_machine_moves.specs.Beginning.{NewIsValid, MayBegin, HostKeepsValid}
 use Rattle.ns_machine_moves.proofs.WorldCells.{both_of, first_of, second_of}
 use Rattle.ns_machine_moves.proofs.BeginsCells.{IsClean, MayStart, made_all, AllMayStart, may_start_on, last_of, MadeAll, all_made_all, sizes_add}
@@ -188,7 +188,7 @@ module _ (code : CodeProgram) (grants : Grants) where
       } in
       let fits : WorldIsValid code (fitting q.world.limits.cells 0 standing) q
       = subst (λ n. WorldIsValid code (fitting n 0 standing) q) (sym m.room_is) (clean_world first q sound m.clean begins) in
-      subst (λ (e : Ending). EndsIn code grants e Start q) (sym m.ending_is) fits
+      subst (λ (e : Ending). EndIsValid code grants e Start q) (sym m.ending_is) fits
 
   pub new_valid : (IsSound code → has_sound_classes code ≡ true) → (IsSound code → are_parents_earlier 0 code.bodies ≡ true) → NewIsValid code grants
   new_valid classes parents limits arguments sound fits range =

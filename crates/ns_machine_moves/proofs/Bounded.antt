@@ -14,7 +14,7 @@ use Rattle.ns_facets.specs.declared.row.Grants.{Grants}
 use Rattle.ns_actions.specs.Control.{Progress, Activation}
 use Rattle.ns_actions.specs.Lawful.{FitsActivation}
 use Rattle.ns_machine_moves.specs.State.{Leaving, Frame, Running, Looping, Unbegun, Going, Pends, Ended, Stuck}
-use Rattle.ns_machine_moves.specs.Steps.{Step, steps_of}
+use Rattle.ns_machine_moves.specs.Steps.{PlacedInstr, steps_of}
 use Rattle.ns_machine_moves.specs.Left.{longest, weight, frame_left, frames_left}
 use Rattle.ns_machine_moves.specs.ValidFrames.{Awaited, Nothing, awaited_below, awaited_for, next_number, RunningIsValid, FramesAreValid}
 use Rattle.ns_machine_moves.specs.laws.Frames.{first_valid, others_valid}
@@ -39,7 +39,7 @@ holder_below heap code a fits = of_body (slice_get code.bodies a.body) refl fits
     of_body (Some b) e there = fitted_below heap code b a.self a.holder (fits.fits b e)
 
 module _ (code : CodeProgram) (p : Progress) (cells : ℕ) (few : heap_size p.world.cells ≤ cells) where
-  running_bounded : (awaited : Awaited) (leaving : Leaving) (a : Activation) (ls : List Value) (rest : List Step) (stack : List Value)
+  running_bounded : (awaited : Awaited) (leaving : Leaving) (a : Activation) (ls : List Value) (rest : List PlacedInstr) (stack : List Value)
       → RunningIsValid code p awaited leaving a ls rest stack
       → frame_left (longest code.bodies) (Running leaving a ls rest stack) ≤ 1 + longest code.bodies * weight (longest code.bodies) cells
   running_bounded awaited leaving a ls rest stack here =

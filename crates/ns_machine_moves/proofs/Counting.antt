@@ -24,7 +24,7 @@ use Rattle.ns_kcode.specs.Next.{next}
 use Rattle.ns_actions.specs.declared.site.Site.{Site}
 use Rattle.ns_actions.specs.Site.{error}
 use Rattle.ns_actions.specs.Control.{Progress, in_world, Activation, FromMethod, FromBody, FromClause, After, Gives, Halts, Control, Now, Enter, frame_left}
-use Rattle.ns_actions.specs.Control.{Evaluate, Begin, Perform, Part, Skip, Stop, EnterPart, Waiting, Waits, Finishes, charged, halts}
+use Rattle.ns_actions.specs.Control.{Evaluate, Begin, Perform, PartControl, Skip, Stop, EnterPart, Waiting, Waits, Finishes, charged, halts}
 use Rattle.ns_actions.specs.Blocks.{evaluated, method_next, new_text, new_block, new_array}
 use Rattle.ns_world.specs.Booleans.{is_boolean}
 use Rattle.ns_actions.specs.Classes.{super_part, body_ended}
@@ -37,7 +37,7 @@ use Rattle.ns_actions.specs.laws.Counting.{made_counts, step_charged}
 use Rattle.ns_actions.specs.laws.Spending.{answered_spends, action_spends}
 use Rattle.ns_machine_moves.specs.State.{Leaving, Loud, Silent, Frame, Running, Looping, Sending, Performing, Evaluating, Phase, Start, First, Second, Hosted}
 use Rattle.ns_machine_moves.specs.State.{State, Unbegun, Going, Pends, Ended, Stuck}
-use Rattle.ns_machine_moves.specs.Steps.{Step, steps_of, steps_from, literal}
+use Rattle.ns_machine_moves.specs.Steps.{PlacedInstr, steps_of, steps_from, literal}
 use Rattle.ns_machine_moves.specs.Returns.{concluded, delivered, settled, returned, is_home, has_home, unwound, returned_home}
 use Rattle.ns_machine_moves.specs.Arrivals.{arrived, part_arrived, acted_on}
 use Rattle.ns_machine_moves.specs.Jumps.{goes_back, jumped, takes_jump, jumped_on}
@@ -45,7 +45,7 @@ use Rattle.ns_machine_moves.specs.Instructions.{executed}
 use Rattle.ns_machine_moves.specs.Move.{move}
 use Rattle.ns_machine_moves.specs.ValidFrames.{homes_fall}
 use Rattle.ns_machine_moves.specs.Starts.{unbegun}
-use Rattle.ns_machine_moves.specs.Counted.{NewIsCounted, StartKeepsCount, AreCounted, FramesAreCounted, MovesKeepCount}
+use Rattle.ns_machine_moves.specs.Counted.{NewIsCounted, StartKeepsCount, DepthIsCounted, FramesAreCounted, MovesKeepCount}
 use Rattle.ns_machine_moves.specs.laws.Operands.{on_top_all, taken_all, picked_all}
 
 -- ---- homes
@@ -86,7 +86,7 @@ falls_below bound (Running Silent a ls rest stack) frames f = f
 falls_below bound (Looping method state site) frames f = f
 
 -- the locals, the rest and the operands of a frame don't count
-falls_same : (bound : ℕ) (leaving : Leaving) (a : Activation) (ls ls' : List Value) (rest rest' : List Step) (stack stack' : List Value) (frames : List Frame)
+falls_same : (bound : ℕ) (leaving : Leaving) (a : Activation) (ls ls' : List Value) (rest rest' : List PlacedInstr) (stack stack' : List Value) (frames : List Frame)
     → homes_fall bound (Running leaving a ls rest stack ∷ frames) ≡ true → homes_fall bound (Running leaving a ls' rest' stack' ∷ frames) ≡ true
 falls_same bound (Loud FromMethod) a ls ls' rest rest' stack stack' frames f = f
 falls_same bound (Loud FromBody) a ls ls' rest rest' stack stack' frames f = f
@@ -96,37 +96,37 @@ falls_same bound Silent a ls ls' rest rest' stack stack' frames f = f
 -- ---- frames
 
 -- the run has done more, but as many frames stand
-pub still_counted : (frames : List Frame) (old new : Progress) → new.world.depth ≡ old.world.depth → new.begun ≡ old.begun → AreCounted frames old
-    → AreCounted frames new
+pub still_counted : (frames : List Frame) (old new : Progress) → new.world.depth ≡ old.world.depth → new.begun ≡ old.begun → DepthIsCounted frames old
+    → DepthIsCounted frames new
 still_counted frames old new d b c = record { depth = d ∙ c.depth; homes = ap (λ bound. homes_fall bound frames) b ∙ c.homes }
 
 less : (frame : Frame) (frames : List Frame) (old new : Progress) → new.world.depth ≡ old.world.depth - 1 → new.begun ≡ old.begun
-    → AreCounted (frame ∷ frames) old
-    → AreCounted frames new
+    → DepthIsCounted (frame ∷ frames) old
+    → DepthIsCounted frames new
 less frame frames old new d b c =
     let one : length (frame ∷ frames) ≡ length frames + 1 = omega arith in
     record { depth = omega (arith, d, c.depth, one); homes = ap (λ bound. homes_fall bound frames) b ∙ falls_below old.begun frame frames c.homes }
 
-changed : (leaving : Leaving) (a : Activation) (ls ls' : List Value) (rest rest' : List Step) (stack stack' : List Value) (frames : List Frame) (p : Progress)
-    → AreCounted (Running leaving a ls rest stack ∷ frames) p → AreCounted (Running leaving a ls' rest' stack' ∷ frames) p
+changed : (leaving : Leaving) (a : Activation) (ls ls' : List Value) (rest rest' : List PlacedInstr) (stack stack' : List Value) (frames : List Frame) (p : Progress)
+    → DepthIsCounted (Running leaving a ls rest stack ∷ frames) p → DepthIsCounted (Running leaving a ls' rest' stack' ∷ frames) p
 changed leaving a ls ls' rest rest' stack stack' frames p c =
     record { depth = c.depth; homes = falls_same p.begun leaving a ls ls' rest rest' stack stack' frames c.homes }
 
 -- ---- a value comes to where it goes
 
-concluded_counted : (code : CodeProgram) (phase : Phase) (v : Value) (p : Progress) → AreCounted [] p → FramesAreCounted (concluded code phase v p)
+concluded_counted : (code : CodeProgram) (phase : Phase) (v : Value) (p : Progress) → DepthIsCounted [] p → FramesAreCounted (concluded code phase v p)
 concluded_counted code Start v p c = tt
 concluded_counted code (First arguments) v p c = c
 concluded_counted code Second v p c = tt
 concluded_counted code Hosted v p c = tt
 
-delivered_counted : (code : CodeProgram) (phase : Phase) (v : Value) (frames : List Frame) (p : Progress) → AreCounted frames p
+delivered_counted : (code : CodeProgram) (phase : Phase) (v : Value) (frames : List Frame) (p : Progress) → DepthIsCounted frames p
     → FramesAreCounted (delivered code phase v frames p)
 delivered_counted code phase v [] p c = concluded_counted code phase v p c
 delivered_counted code phase v (Running leaving a ls rest stack ∷ frames) p c = changed leaving a ls ls rest rest stack (v ∷ stack) frames p c
 delivered_counted code phase v (Looping method state site ∷ frames) p c = record { depth = c.depth; homes = c.homes }
 
-cell_counted : (code : CodeProgram) (phase : Phase) (after : After) (frames : List Frame) (p : Progress) → CellSpends p after → AreCounted frames p
+cell_counted : (code : CodeProgram) (phase : Phase) (after : After) (frames : List Frame) (p : Progress) → CellSpends p after → DepthIsCounted frames p
     → FramesAreCounted (settled code phase after frames)
 cell_counted code phase (Gives v q) frames p s c =
     let d : q.world.depth ≡ p.world.depth = omega (arith, s.depth) in
@@ -135,16 +135,16 @@ cell_counted code phase (Gives v q) frames p s c =
 cell_counted code phase (Halts ending q) frames p s c = tt
 
 end_counted : (code : CodeProgram) (phase : Phase) (after : After) (frame : Frame) (frames : List Frame) (p : Progress) → EndSpends p after
-    → AreCounted (frame ∷ frames) p
+    → DepthIsCounted (frame ∷ frames) p
     → FramesAreCounted (settled code phase after frames)
 end_counted code phase (Gives v q) frame frames p s c = delivered_counted code phase v frames q (less frame frames p q s.depth s.begun c)
 end_counted code phase (Halts ending q) frame frames p s c = tt
 
-unwound_counted : (code : CodeProgram) (phase : Phase) (home : ℕ) (v : Value) (frames : List Frame) (p : Progress) → AreCounted frames p
+unwound_counted : (code : CodeProgram) (phase : Phase) (home : ℕ) (v : Value) (frames : List Frame) (p : Progress) → DepthIsCounted frames p
     → FramesAreCounted (unwound code phase home v frames p)
 unwound_counted code phase home v [] p c = tt
 unwound_counted code phase home v (frame ∷ frames) p c =
-    let down : AreCounted frames (frame_left p) = less frame frames p (frame_left p) refl refl c in
+    let down : DepthIsCounted frames (frame_left p) = less frame frames p (frame_left p) refl refl c in
     tested (is_home home frame) (delivered_counted code phase v frames (frame_left p) down) (unwound_counted code phase home v frames (frame_left p) down)
   where
     tested : (b : Bool) → FramesAreCounted (delivered code phase v frames (frame_left p)) → FramesAreCounted (unwound code phase home v frames (frame_left p))
@@ -155,10 +155,10 @@ unwound_counted code phase home v (frame ∷ frames) p c =
 -- ---- where control goes
 
 entered : (frame : Frame) (frames : List Frame) (p q : Progress) → q.world.depth ≡ p.world.depth + 1 → homes_fall q.begun (frame ∷ frames) ≡ true
-    → AreCounted frames p → AreCounted (frame ∷ frames) q
+    → DepthIsCounted frames p → DepthIsCounted (frame ∷ frames) q
 entered frame frames p q d homes c = record { depth = omega (arith, d, c.depth); homes = homes }
 
-same_homes : (frames : List Frame) (p q : Progress) → q.begun ≡ p.begun + 0 → AreCounted frames p → homes_fall q.begun frames ≡ true
+same_homes : (frames : List Frame) (p q : Progress) → q.begun ≡ p.begun + 0 → DepthIsCounted frames p → homes_fall q.begun frames ≡ true
 same_homes frames p q b c = let e : q.begun ≡ p.begun = omega (arith, b) in ap (λ bound. homes_fall bound frames) e ∙ c.homes
 
 next_home : (home begun now : ℕ) (frames : List Frame) → now ≡ begun + 1 → home ≡ begun → homes_fall begun frames ≡ true
@@ -168,7 +168,7 @@ next_home home begun now frames b e f =
     and_both (nat_lt home now) (homes_fall home frames) under (ap (λ bound. homes_fall bound frames) e ∙ f)
 
 pub arrived_counted : (code : CodeProgram) (phase : Phase) (steps : ℕ) (c : Control) (frames : List Frame) (p : Progress) → ControlSpends steps p c
-    → AreCounted frames p
+    → DepthIsCounted frames p
     → FramesAreCounted (arrived code phase c frames)
 arrived_counted code phase steps (Now (Gives v q)) frames p s c =
     let d : q.world.depth ≡ p.world.depth = omega (arith, s.depth) in
@@ -192,7 +192,7 @@ arrived_counted code phase steps (Perform receiver sel array site q) frames p s 
     let b : q.begun ≡ p.begun = omega (arith, s.begun) in
     still_counted frames p q d b c
 
-part_counted : (code : CodeProgram) (phase : Phase) (part : Part) (frames : List Frame) (p : Progress) → PartSpends p part → AreCounted frames p
+part_counted : (code : CodeProgram) (phase : Phase) (part : PartControl) (frames : List Frame) (p : Progress) → PartSpends p part → DepthIsCounted frames p
     → FramesAreCounted (part_arrived code phase part frames)
 part_counted code phase (Skip q) frames p s c =
     let d : q.world.depth ≡ p.world.depth = omega (arith, s.depth) in
@@ -204,7 +204,7 @@ part_counted code phase (EnterPart a ls q) frames p s c =
 
 waiting_counted : (code : CodeProgram) (phase : Phase) (method : KMethod) (site : Site) (steps : ℕ) (w : Waiting) (frame : Frame) (frames : List Frame)
     (p : Progress)
-    → homes_fall p.begun (frame ∷ frames) ≡ homes_fall p.begun frames → WaitingSpends steps p w → AreCounted (frame ∷ frames) p
+    → homes_fall p.begun (frame ∷ frames) ≡ homes_fall p.begun frames → WaitingSpends steps p w → DepthIsCounted (frame ∷ frames) p
     → FramesAreCounted (acted_on code phase method site w frames)
 waiting_counted code phase method site steps (Waits block arguments state q) frame frames p same s c =
     let d : q.world.depth ≡ p.world.depth = omega (arith, s.depth) in
@@ -216,11 +216,11 @@ waiting_counted code phase method site steps (Finishes (Halts ending q)) frame f
 
 -- ---- instructions
 
-module _ (code : CodeProgram) (phase : Phase) (leaving : Leaving) (a : Activation) (ls : List Value) (instr : Step) (rest : List Step) (first : List Value)
+module _ (code : CodeProgram) (phase : Phase) (leaving : Leaving) (a : Activation) (ls : List Value) (instr : PlacedInstr) (rest : List PlacedInstr) (first : List Value)
     (frames : List Frame)
-    (p : Progress) (counted : AreCounted (Running leaving a ls (instr ∷ rest) first ∷ frames) p) where
+    (p : Progress) (counted : DepthIsCounted (Running leaving a ls (instr ∷ rest) first ∷ frames) p) where
   -- the frame that runs, with other operands
-  with : (stack : List Value) → AreCounted (Running leaving a ls rest stack ∷ frames) p
+  with : (stack : List Value) → DepthIsCounted (Running leaving a ls rest stack ∷ frames) p
   with stack = changed leaving a ls ls (instr ∷ rest) rest first stack frames p counted
 
   sends : (target : Target) (sel : Sel) (vs : List Value) (place : Option SourcePlace) (below : List Value)
@@ -243,13 +243,13 @@ module _ (code : CodeProgram) (phase : Phase) (leaving : Leaving) (a : Activatio
       tested true = unwound_counted code phase a.home v (Running leaving a ls rest below ∷ frames) p (with below)
       tested false = tt
 
-  jumps : (landing : List Step) (stack : List Value) → FramesAreCounted (jumped phase leaving a ls rest landing stack frames p)
+  jumps : (landing : List PlacedInstr) (stack : List Value) → FramesAreCounted (jumped phase leaving a ls rest landing stack frames p)
   jumps landing stack = tested (goes_back rest landing)
     where
       go : Progress → State
       go = Going phase (Running leaving a ls landing stack ∷ frames)
 
-      lands : AreCounted (Running leaving a ls landing stack ∷ frames) p
+      lands : DepthIsCounted (Running leaving a ls landing stack ∷ frames) p
       lands = changed leaving a ls ls (instr ∷ rest) landing first stack frames p counted
 
       tested : (b : Bool) → FramesAreCounted (cond b (charged (λ ending q. Ended ending phase q) Steps (stepped p.world) p go) (go p))
@@ -260,7 +260,7 @@ module _ (code : CodeProgram) (phase : Phase) (leaving : Leaving) (a : Activatio
           still_counted (Running leaving a ls landing stack ∷ frames) p (in_world p world) d refl lands)
       tested false = lands
 
-  jumps_on : (wanted : Bool) (v : Value) (landing : List Step) (stack : List Value)
+  jumps_on : (wanted : Bool) (v : Value) (landing : List PlacedInstr) (stack : List Value)
       → FramesAreCounted (jumped_on phase wanted v leaving a ls rest landing stack frames p)
   jumps_on wanted v landing stack = tested (is_boolean v) (takes_jump wanted v)
     where
@@ -328,7 +328,7 @@ module _ (code : CodeProgram) (phase : Phase) (leaving : Leaving) (a : Activatio
 
 answer_counted : (code : CodeProgram) (phase : Phase) (member : Found) (sel : Sel) (receiver : Value) (vs : List Value) (site : Site) (frames : List Frame)
     (p : Progress)
-    → AreCounted frames p → FramesAreCounted
+    → DepthIsCounted frames p → FramesAreCounted
     (arrived code phase (charged halts Steps (stepped p.world) p (answered_by code member sel receiver vs site)) frames)
 answer_counted code phase member sel receiver vs site frames p c =
     charged_all (λ k. FramesAreCounted (arrived code phase k frames)) halts Steps (stepped p.world) p (answered_by code member sel receiver vs site) tt

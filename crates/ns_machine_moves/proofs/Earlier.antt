@@ -15,7 +15,7 @@ use Rattle.ns_world.specs.World.{made, entered}
 use Rattle.ns_world.specs.Layout.{declaration_of}
 use Rattle.ns_world.specs.laws.Chains.{both_of, class_below}
 use Rattle.ns_actions.specs.Site.{error}
-use Rattle.ns_actions.specs.Control.{Progress, in_world, Activation, Part, Skip, Stop, EnterPart, charged}
+use Rattle.ns_actions.specs.Control.{Progress, in_world, Activation, PartControl, Skip, Stop, EnterPart, charged}
 use Rattle.ns_actions.specs.Bodies.{initialiser_of, no_home, has_environment, first_locals, opened}
 use Rattle.ns_actions.specs.Classes.{factory_selector, super_selector, declared_part, object_part, part_of, super_part}
 use Rattle.ns_actions.specs.laws.Onward.{charged_all}
@@ -48,7 +48,7 @@ over_below (cell ∷ earlier) n over o e =
 -- ---- parts
 
 -- a body that is entered has a holder before that one
-abbrev pub EntersEarlier : ℕ → Part → Type 0
+abbrev pub EntersEarlier : ℕ → PartControl → Type 0
 EntersEarlier holder (Skip p) = Unit {0}
 EntersEarlier holder (Stop ending p) = Unit {0}
 EntersEarlier holder (EnterPart a ls p) = a.holder < holder

@@ -9,7 +9,7 @@ use Rattle.ns_machine_moves.specs.State.{State, Unbegun, Going, Pends, Ended, St
 use Rattle.ns_machine_moves.specs.Move.{move}
 use Rattle.ns_machine_moves.specs.Turn.{is_still}
 use Rattle.ns_machine_moves.specs.Charging.{will_charge}
-use Rattle.ns_machine_moves.specs.Charges.{Took, TakesAsTold}
+use Rattle.ns_machine_moves.specs.Charges.{MoveTook, TakesAsTold}
 use Rattle.ns_machine_moves.specs.Onward.{MovesGoOnward}
 use Rattle.ns_machine_moves.specs.Standing.{MovesKeepValid}
 use Rattle.ns_machine_moves.specs.Valid.{Valid}
@@ -94,7 +94,7 @@ lowered code grants known state valid still =
         let at = at_limits in
         omega (arith, most, m, at)
 
-    tested : (b : Bool) → will_charge code state ≡ b → Took b (progress_of state) after → run_left code after < run_left code state
+    tested : (b : Bool) → will_charge code state ≡ b → MoveTook b (progress_of state) after → run_left code after < run_left code state
     tested true e (inl one) = fewer_steps (is_still after) refl one
     tested true e (inr none) =
         let rests = still_left code after (limited_still after none.ended) in

@@ -15,7 +15,7 @@ use Rattle.ns_kcode.specs.declared.state.KAction.{KAction}
 use Rattle.ns_kcode.specs.declared.state.KAction.TheVariants as action
 use Rattle.ns_actions.specs.declared.site.Site.{Site}
 use Rattle.ns_actions.specs.Control.{Progress, Activation, Exit, FromMethod, FromBody, FromClause, Gives, Halts, Control, Now, Enter, Evaluate, Begin, Perform}
-use Rattle.ns_actions.specs.Control.{Part, Skip, Stop, EnterPart, Waiting, Waits, Finishes, charged}
+use Rattle.ns_actions.specs.Control.{PartControl, Skip, Stop, EnterPart, Waiting, Waits, Finishes, charged}
 use Rattle.ns_actions.specs.Bodies.{no_home}
 use Rattle.ns_actions.specs.Blocks.{item_at, listed, waiting, acted}
 use Rattle.ns_actions.specs.Lawful.{LawfulRun, LawfulControl, LawfulPart, LawfulWaiting}
@@ -201,7 +201,7 @@ module _ (known : Known) (code : CodeProgram) (sound : IsSound code) (phase : Ph
 
   -- ---- superclass parts
 
-  pub part_stands : (site : Site) (part : Part) → FramesAreValid code p PartEnd frames → FitsSite code site → LawfulPart code part → FitsNextPart code part
+  pub part_stands : (site : Site) (part : PartControl) → FramesAreValid code p PartEnd frames → FitsSite code site → LawfulPart code part → FitsNextPart code part
       → EntersPart code part → PartGoesOnAt site part → IsLater p.world (part_reached part).world → PartSpends p part
       → FramesStand code (part_arrived code phase part frames)
   part_stands site (Skip q) valid named after fits enters' at later s =

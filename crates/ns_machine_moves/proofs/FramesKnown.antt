@@ -28,7 +28,7 @@ use Rattle.ns_actions.specs.Bodies.{no_home, enclosing, local_at, local_stored}
 use Rattle.ns_actions.specs.Classes.{super_part, body_ended, slot_filled}
 use Rattle.ns_actions.specs.Blocks.{block_body_in, new_text, new_array, new_block, evaluated, method_next}
 use Rattle.ns_actions.specs.Sends.{Target, receiver_of, site_at, sent, sent_from}
-use Rattle.ns_actions.specs.Lawful.{LawfulRun, LawfulAfter, LawfulControl, LawfulPart, LawfulWaiting, LiveState, FitsActivation, FitsTarget, FitsSelector, FitsExit, FitsSlot, FitsLocal, declaration_at, body_out, IsBlockIn}
+use Rattle.ns_actions.specs.Lawful.{LawfulRun, LawfulAfter, LawfulControl, LawfulPart, LawfulWaiting, LiveState, FitsActivation, FitsTarget, FitsSelector, FitsExit, FitsSlot, FitsLocal, declaration_at, body_out, IsBlockOf}
 use Rattle.ns_actions.specs.Actions.{Action, progress_after}
 use Rattle.ns_actions.specs.Spending.{Spends, ControlSpends}
 use Rattle.ns_actions.specs.Fitting.{FitsMethod, FitsNext, FitsOwnEnvironment, FitsSite, GoesOnAt, PartGoesOnAt, EntersBlock, home_in, Asks, HandsOn}
@@ -138,7 +138,7 @@ pub record NamesKnown : Type 0 where
       → FitsLocal progress.world.cells code activation hops → All (IsLiveValue progress.world.cells code) locals
       → IsLiveValue progress.world.cells code (local_at progress.world.cells code activation locals hops place)
   pub block_lawful : (code : CodeProgram) (activation : Activation) (block : ℕ) (progress : Progress) → LawfulRun code progress
-      → FitsActivation progress.world.cells code activation → FitsOwnEnvironment progress.world.cells code activation → IsBlockIn code block activation.body
+      → FitsActivation progress.world.cells code activation → FitsOwnEnvironment progress.world.cells code activation → IsBlockOf code block activation.body
       → BlockIsLawful progress.world.cells code block activation.env activation.self activation.holder
 
 -- The machine's own selectors are selectors.

@@ -14,7 +14,7 @@ use Rattle.ns_actions.specs.Control.{Progress, Activation, FromMethod, FromBody,
 use Rattle.ns_actions.specs.Bodies.{no_home}
 use Rattle.ns_actions.specs.Fitting.{FitsMethod, kind_of, environment_body}
 use Rattle.ns_machine_moves.specs.State.{Leaving, Loud, Silent, Frame, Running, Looping}
-use Rattle.ns_machine_moves.specs.Steps.{Step}
+use Rattle.ns_machine_moves.specs.Steps.{PlacedInstr}
 use Rattle.ns_machine_moves.specs.ValidFrames.{Awaited, Nothing, SendValue, BlockValue, PartEnd, awaited_below, is_in_method, has_home_of}
 use Rattle.ns_machine_moves.specs.ValidFrames.{FitsLeaving, RunningIsValid, LoopingIsValid, FrameIsValid, FramesAreValid}
 use Rattle.ns_machine_moves.proofs.FramesKnown.{Known}
@@ -75,7 +75,7 @@ module _ (known : Known) (code : CodeProgram) (old new : Progress) (onto : Onto 
   leaving_lasts (Loud (FromClause object holder class)) a fits =
       (known.lasting.exits (FromClause object holder class) code old.world new.world onto.run fits.0, fits.1, fits.2, fits.3)
 
-  pub running_lasts : (awaited : Awaited) (leaving : Leaving) (a : Activation) (ls : List Value) (rest : List Step) (stack : List Value)
+  pub running_lasts : (awaited : Awaited) (leaving : Leaving) (a : Activation) (ls : List Value) (rest : List PlacedInstr) (stack : List Value)
       → RunningIsValid code old awaited leaving a ls rest stack → RunningIsValid code new awaited leaving a ls rest stack
   running_lasts awaited leaving a ls rest stack valid = record {
     fits = known.lasting.activations a code old.world new.world onto.run valid.fits;

@@ -21,7 +21,7 @@ use Rattle.ns_actions.specs.Actions.{Evaluates, Continues}
 use Rattle.ns_actions.specs.Spending.{action_steps}
 use Rattle.ns_facets.specs.declared.row.Grants.{Grants}
 use Rattle.ns_machine_moves.specs.State.{Leaving, Frame, Running, Looping, Sending, Performing, Evaluating, Phase, State, Unbegun, Going, Pends, Ended, Stuck}
-use Rattle.ns_machine_moves.specs.Steps.{Step}
+use Rattle.ns_machine_moves.specs.Steps.{PlacedInstr}
 use Rattle.ns_machine_moves.specs.Arrivals.{arrived}
 use Rattle.ns_machine_moves.specs.Move.{move}
 use Rattle.ns_machine_moves.specs.ValidFrames.{Nothing, SendValue, awaited_below, RunningIsValid, FramesAreValid}
@@ -51,7 +51,7 @@ module _ (known : Known) (code : CodeProgram) (grants : Grants) where
       there (Some b) e some goes = goes b e
       there None e some goes = absurd (cc)
 
-  running_stands : (phase : Phase) (leaving : Leaving) (a : Activation) (ls : List Value) (step : Step) (rest : List Step) (stack : List Value) (frames : List Frame)
+  running_stands : (phase : Phase) (leaving : Leaving) (a : Activation) (ls : List Value) (step : PlacedInstr) (rest : List PlacedInstr) (stack : List Value) (frames : List Frame)
       (p : Progress) → GoesOn code grants phase (Running leaving a ls (step ∷ rest) stack ∷ frames) p → EndsWell code phase p
       → RunningIsValid code p Nothing leaving a ls (step ∷ rest) stack
       → FramesAreValid code p (awaited_below code (Running leaving a ls (step ∷ rest) stack)) frames

@@ -25,7 +25,7 @@ use Rattle.ns_actions.specs.Start.{standing_cells, size_of_cells, platform}
 use Rattle.ns_machine_moves.specs.State.{Frame, Phase, Start, First, Second, Hosted}
 use Rattle.ns_machine_moves.specs.Steps.{placed, place_in, super_place_or, super_place, opening_place}
 use Rattle.ns_actions.specs.Sends.{own_sel}
-use Rattle.ns_machine_moves.specs.Valid.{BeginsWith, array_behind, HasArguments, GoesOn}
+use Rattle.ns_machine_moves.specs.Valid.{BeginsWith, array_behind, HasArgumentCells, GoesOn}
 use Rattle.ns_machine_moves.proofs.FramesKnown.{Known}
 use Rattle.ns_machine_moves.proofs.FramesLast.{value_lasts}
 use Rattle.ns_machine_moves.proofs.FramesReturn.{EndsWell, all_more}
@@ -160,7 +160,7 @@ size_joined (cell ∷ first) second = let ih = size_joined first second in omega
 
 -- the array of the arguments is live
 arguments_live : (code : CodeProgram) (grants : Grants) (heap : Heap) (arguments : ℕ) → BeginsWith (standing_cells code grants) heap
-    → HasArguments code grants arguments heap → IsLiveValue heap code (Ref arguments)
+    → HasArgumentCells code grants arguments heap → IsLiveValue heap code (Ref arguments)
 arguments_live code grants heap arguments begins has =
     let first = standing_cells code grants in
     let cells = reverse heap in

@@ -23,7 +23,7 @@ use Rattle.ns_actions.specs.Onward.{after_reached}
 use Rattle.ns_actions.specs.Actions.{EndsBody}
 use Rattle.ns_actions.specs.Spending.{CellSpends, EndSpends}
 use Rattle.ns_machine_moves.specs.State.{Leaving, Loud, Silent, Frame, Running, Looping, Phase, Ended}
-use Rattle.ns_machine_moves.specs.Steps.{Step}
+use Rattle.ns_machine_moves.specs.Steps.{PlacedInstr}
 use Rattle.ns_machine_moves.specs.Returns.{concluded, delivered, settled, returned, ends_at, has_home, unwound, returned_home}
 use Rattle.ns_machine_moves.specs.ValidFrames.{Awaited, Nothing, SendValue, BlockValue, PartEnd, awaited_below, next_number, StandsBefore, Stands}
 use Rattle.ns_actions.specs.Fitting.{kind_of, counts_fit}
@@ -43,7 +43,7 @@ is_value BlockValue = true
 is_value PartEnd = false
 
 -- below a frame whose end gives a value, one is waited for
-pub loud_below : (code : CodeProgram) (exit : Exit) (a : Activation) (ls : List Value) (rest : List Step) (stack : List Value)
+pub loud_below : (code : CodeProgram) (exit : Exit) (a : Activation) (ls : List Value) (rest : List PlacedInstr) (stack : List Value)
     → is_value (awaited_below code (Running (Loud exit) a ls rest stack)) ≡ true
 loud_below code exit a ls rest stack = either (kind_of code a.body == block_kind)
   where
@@ -52,7 +52,7 @@ loud_below code exit a ls rest stack = either (kind_of code a.body == block_kind
     either false = refl
 
 -- what a frame is left with doesn't change what the one below waits for
-pub same_below : (code : CodeProgram) (leaving : Leaving) (a : Activation) (ls ls' : List Value) (rest rest' : List Step) (stack stack' : List Value)
+pub same_below : (code : CodeProgram) (leaving : Leaving) (a : Activation) (ls ls' : List Value) (rest rest' : List PlacedInstr) (stack stack' : List Value)
     → awaited_below code (Running leaving a ls rest stack) ≡ awaited_below code (Running leaving a ls' rest' stack')
 same_below code Silent a ls ls' rest rest' stack stack' = refl
 same_below code (Loud exit) a ls ls' rest rest' stack stack' = refl
@@ -120,7 +120,7 @@ module _ (known : Known) (code : CodeProgram) (sound : IsSound code) where
   value_stands number b e BlockValue at count is s = value_comes known.sound code number b sound e at count s
   value_stands number b e PartEnd at count is s = absurd (cc)
 
-  pub received : (p : Progress) (awaited : Awaited) (leaving : Leaving) (a : Activation) (ls : List Value) (rest : List Step) (stack : List Value) (v : Value)
+  pub received : (p : Progress) (awaited : Awaited) (leaving : Leaving) (a : Activation) (ls : List Value) (rest : List PlacedInstr) (stack : List Value) (v : Value)
       → is_value awaited ≡ true → IsLiveValue p.world.cells code v → RunningIsValid code p awaited leaving a ls rest stack
       → RunningIsValid code p Nothing leaving a ls rest (v ∷ stack)
   received p awaited leaving a ls rest stack v is live valid = record {
@@ -212,7 +212,7 @@ module _ (known : Known) (code : CodeProgram) (sound : IsSound code) where
   exit_fits heap FromBody a fits = tt
   exit_fits heap (FromClause object holder class) a fits = fits.0
 
-  pub returned_stands : (phase : Phase) (leaving : Leaving) (a : Activation) (ls : List Value) (rest : List Step) (stack : List Value) (v : Value) (frames : List Frame)
+  pub returned_stands : (phase : Phase) (leaving : Leaving) (a : Activation) (ls : List Value) (rest : List PlacedInstr) (stack : List Value) (v : Value) (frames : List Frame)
       (p : Progress) → LawfulRun code p → EndsWell code phase p → FitsLeaving p.world.cells code leaving a → IsLiveValue p.world.cells code v
       → FramesAreValid code p (awaited_below code (Running leaving a ls rest stack)) frames → FramesStand code (returned code phase leaving a v frames p)
   returned_stands phase (Loud exit) a ls rest stack v frames p lawful ends leaves live valid =

@@ -12,7 +12,7 @@ use Rattle.ns_code.specs.Table.{takes, leaves, goes_on, target}
 use Rattle.ns_verify.specs.Heights.{heights}
 use Rattle.ns_verify.specs.Verify.{IsSound}
 use Rattle.ns_verify.specs.Places.{height_before}
-use Rattle.ns_machine_moves.specs.Steps.{Step, place_in, placed, steps_of, steps_from}
+use Rattle.ns_machine_moves.specs.Steps.{PlacedInstr, place_in, placed, steps_of, steps_from}
 use Rattle.ns_machine_moves.specs.ValidFrames.{is_send, is_super_part, next_number, height_of}
 use Rattle.ns_machine_moves.specs.ValidFrames.{StandsBefore, WaitsBehind}
 use Rattle.ns_machine_moves.proofs.FramesKnown.{SoundKnown}
@@ -28,7 +28,7 @@ dropped_at (suc k) [] x rest e = absurd (cc)
 dropped_at (suc k) (y ∷ ys) x rest e = dropped_at k ys x rest e
 
 -- The next step of a body: its instruction, its place, and what is left behind it.
-pub record IsNext (code : CodeProgram) (number : ℕ) (body : BodyCode) (step : Step) (rest : List Step) : Type 0 where
+pub record IsNext (code : CodeProgram) (number : ℕ) (body : BodyCode) (step : PlacedInstr) (rest : List PlacedInstr) : Type 0 where
   pub at : ℕ
   pub before : next_number code number (step ∷ rest) ≡ at
   pub instr : slice_get body.instrs at ≡ Some step.0
@@ -36,14 +36,14 @@ pub record IsNext (code : CodeProgram) (number : ℕ) (body : BodyCode) (step : 
   pub behind : next_number code number rest ≡ suc at
   pub left : rest ≡ steps_from code number (next_number code number rest)
 
-pub next_is : (code : CodeProgram) (number : ℕ) (body : BodyCode) (step : Step) (rest : List Step) → slice_get code.bodies number ≡ Some body
+pub next_is : (code : CodeProgram) (number : ℕ) (body : BodyCode) (step : PlacedInstr) (rest : List PlacedInstr) → slice_get code.bodies number ≡ Some body
     → step ∷ rest ≡ steps_from code number (next_number code number (step ∷ rest)) → IsNext code number body step rest
 next_is code number body step rest there inside =
-    let all : List Step = steps_of code number in
+    let all : List PlacedInstr = steps_of code number in
     let at : ℕ = next_number code number (step ∷ rest) in
     let here = dropped_at at all step rest (sym inside) in
     let steps : steps_of code number ≡ placed body.places 0 body.instrs = ap (λ o. option_map_or (λ (b : BodyCode). placed b.places 0 b.instrs) o ((i.ReturnSelf, None) ∷ [])) there in
-    let own = placed_at body.places 0 at body.instrs step (ap (λ (l : List Step). slice_get l at) (sym steps) ∙ here.0) in
+    let own = placed_at body.places 0 at body.instrs step (ap (λ (l : List PlacedInstr). slice_get l at) (sym steps) ∙ here.0) in
     let zero_at : 0 + at ≡ at = omega arith in
     let count : length (step ∷ rest) ≡ length all - at = ap length inside ∙ length-drop at all in
     let one : length (step ∷ rest) ≡ length rest + 1 = omega arith in

@@ -2,7 +2,7 @@
 use Rattle.std.proofs.Common.{◌≡◌, ℕ, List, ◌∷◌, Some, slice_get}
 use Rattle.ns_code.specs.declared.instruction.Instr.TheVariants as i
 use Rattle.ns_verify.specs.Uses.{IsUsable, IsSendOf}
-use Rattle.ns_machine_moves.specs.WorldAsks.{TakesArguments, CanLeave, InstrAsks, RunsOn as StepRunsOn}
+use Rattle.ns_machine_moves.specs.WorldAsks.{SelectorTakes, CanLeave, InstrAsks, InstructionRunsOn as StepRunsOn}
 use Rattle.ns_machine_moves.proofs.InstrHomes.{block_home_there}
 use Rattle.ns_machine_moves.specs.laws.Levels.{level_there}
 use Rattle.ns_machine_moves.proofs.InstrFacts.{is_selector, block_in}
@@ -16,15 +16,15 @@ use Rattle.ns_verify.specs.Verify.{IsSound}
 use Rattle.ns_actions.specs.Control.{Progress, Activation}
 use Rattle.ns_actions.specs.Lawful.{LawfulRun}
 use Rattle.ns_machine_moves.specs.State.{Leaving, Loud, Silent, Frame, Running, Phase}
-use Rattle.ns_machine_moves.specs.Steps.{Step}
+use Rattle.ns_machine_moves.specs.Steps.{PlacedInstr}
 use Rattle.ns_machine_moves.specs.ValidFrames.{Nothing, awaited_below, FitsLeaving, RunningIsValid, FramesAreValid}
 use Rattle.ns_machine_moves.proofs.FramesKnown.{Known}
 use Rattle.ns_machine_moves.proofs.FramesStanding.{IsNext}
 use Rattle.ns_machine_moves.proofs.FramesReturn.{EndsWell, exit_fits}
 use Rattle.ns_machine_moves.proofs.InstrFrame.{next, uses, named as frame_named, local_there as frame_local_there, has_slot as frame_has_slot}
 
-module _ (known : Known) (code : CodeProgram) (sound : IsSound code) (phase : Phase) (leaving : Leaving) (a : Activation) (ls : List Value) (step : Step)
-    (rest : List Step) (first : List Value) (frames : List Frame) (p : Progress) (lawful : LawfulRun code p) (ends : EndsWell code phase p) (b : BodyCode)
+module _ (known : Known) (code : CodeProgram) (sound : IsSound code) (phase : Phase) (leaving : Leaving) (a : Activation) (ls : List Value) (step : PlacedInstr)
+    (rest : List PlacedInstr) (first : List Value) (frames : List Frame) (p : Progress) (lawful : LawfulRun code p) (ends : EndsWell code phase p) (b : BodyCode)
     (there : slice_get code.bodies a.body ≡ Some b) (valid : RunningIsValid code p Nothing leaving a ls (step ∷ rest) first)
     (below : FramesAreValid code p (awaited_below code (Running leaving a ls (step ∷ rest) first)) frames) where
   abbrev here : IsNext code a.body b step rest
@@ -33,7 +33,7 @@ module _ (known : Known) (code : CodeProgram) (sound : IsSound code) (phase : Ph
   relies : (which : Instr) → slice_get b.instrs here.at ≡ Some which → IsUsable code a.body b here.at which
   relies which is = uses known code sound phase leaving a ls step rest first frames p lawful ends b there valid below which is
 
-  takes_arguments : (sel : Sel) (argc : ℕ) → IsSendOf code sel argc → TakesArguments code sel argc
+  takes_arguments : (sel : Sel) (argc : ℕ) → IsSendOf code sel argc → SelectorTakes code sel argc
   takes_arguments sel argc send = record { selector = is_selector code sel.0 send.0; arity = send.1 }
 
   can_leave : (l : Leaving) → FitsLeaving p.world.cells code l a → CanLeave p.world.cells code l

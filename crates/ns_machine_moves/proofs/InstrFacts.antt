@@ -14,7 +14,7 @@ use Rattle.ns_world.specs.Lawful.{parent_of}
 use Rattle.ns_verify.specs.Verify.{IsSound}
 use Rattle.ns_verify.specs.Chains.{around, body_around, body_at}
 use Rattle.ns_verify.specs.Uses.{HasBlock, StandsInside}
-use Rattle.ns_actions.specs.Lawful.{body_out, IsBlockIn}
+use Rattle.ns_actions.specs.Lawful.{body_out, IsBlockOf}
 use Rattle.ns_machine_moves.specs.Steps.{place_in}
 use Rattle.ns_machine_moves.proofs.FramesKnown.{SoundKnown}
 use Rattle.ns_machine_moves.specs.laws.Levels.{around_is}
@@ -68,10 +68,10 @@ out_there code number hops out e = rw (out_is code number hops out e) refl
 -- ---- blocks
 
 pub block_in : (known : SoundKnown) (code : CodeProgram) (number block : ℕ) (body : BodyCode) → IsSound code → slice_get code.bodies number ≡ Some body
-    → HasBlock code number block → IsBlockIn code block number
+    → HasBlock code number block → IsBlockOf code block number
 block_in known code number block body sound there (inner, inner_is, kind, parent) = inside ((known.stands code block inner sound inner_is).block kind)
   where
-    inside : StandsInside code block inner → IsBlockIn code block number
+    inside : StandsInside code block inner → IsBlockOf code block number
     inside (outer, holder, is, below, holder_is, class, side, env) =
         let both : Some number ≡ Some outer = sym parent ∙ is in
         let same : number ≡ outer = cc in

@@ -43,7 +43,7 @@ use Rattle.ns_actions.specs.Lawful.{LawfulRun, FitsTarget, FitsSelector, FitsSlo
 use Rattle.ns_actions.specs.Sends.{Target, To, ToPrivate, ToSuper, to_value, receiver_of, sent}
 use Rattle.ns_actions.specs.Actions.{Sends, BeginsPart, MakesText, MakesArray, MakesBlock, FillsSlot, StoresLocal}
 use Rattle.ns_machine_moves.specs.State.{Leaving, Loud, Silent, Frame, Running, Phase, State, Going, Ended, Stuck}
-use Rattle.ns_machine_moves.specs.Steps.{Step, place_in, steps_from, literal}
+use Rattle.ns_machine_moves.specs.Steps.{PlacedInstr, place_in, steps_from, literal}
 use Rattle.ns_machine_moves.specs.Returns.{settled, returned, has_home, unwound, returned_home}
 use Rattle.ns_machine_moves.specs.Arrivals.{arrived, part_arrived}
 use Rattle.ns_machine_moves.specs.Jumps.{goes_back, jumped, takes_jump, jumped_on}
@@ -62,8 +62,8 @@ block_leaves (Loud FromBody) kind ends is = refl
 block_leaves (Loud (FromClause object holder class)) kind ends is = let q : 1 ≡ 3 = sym is ∙ eqb-true kind clause_kind ends in absurd (omega (arith, q))
 block_leaves Silent kind ends is = let q : 1 ≡ 2 = sym is ∙ eqb-true kind initialiser_kind ends in absurd (omega (arith, q))
 
-module _ (known : Known) (code : CodeProgram) (sound : IsSound code) (phase : Phase) (leaving : Leaving) (a : Activation) (ls : List Value) (step : Step)
-    (rest : List Step) (first : List Value) (frames : List Frame) (p : Progress) (lawful : LawfulRun code p) (ends : EndsWell code phase p) (b : BodyCode)
+module _ (known : Known) (code : CodeProgram) (sound : IsSound code) (phase : Phase) (leaving : Leaving) (a : Activation) (ls : List Value) (step : PlacedInstr)
+    (rest : List PlacedInstr) (first : List Value) (frames : List Frame) (p : Progress) (lawful : LawfulRun code p) (ends : EndsWell code phase p) (b : BodyCode)
     (there : slice_get code.bodies a.body ≡ Some b) (valid : RunningIsValid code p Nothing leaving a ls (step ∷ rest) first)
     (below : FramesAreValid code p (awaited_below code (Running leaving a ls (step ∷ rest) first)) frames) where
   pub next : IsNext code a.body b step rest
@@ -80,7 +80,7 @@ module _ (known : Known) (code : CodeProgram) (sound : IsSound code) (phase : Ph
   takes_enough which is = enough known.sound code a.body b sound there next.at which (length first) is count
 
   -- the frame with other locals, operands and another rest of its body
-  frame_with : (q : Progress) → Onto code p q → (ls' : List Value) → length ls' ≡ length ls → All (IsLiveValue q.world.cells code) ls' → (rest' : List Step)
+  frame_with : (q : Progress) → Onto code p q → (ls' : List Value) → length ls' ≡ length ls → All (IsLiveValue q.world.cells code) ls' → (rest' : List PlacedInstr)
       → rest' ≡ steps_from code a.body (next_number code a.body rest') → (stack : List Value) → All (IsLiveValue q.world.cells code) stack → (w : Awaited)
       → Stands b w (next_number code a.body rest') (length stack) → FramesAreValid code q w (Running leaving a ls' rest' stack ∷ frames)
   frame_with q onto ls' many live rest' inside stack alive w stands =
@@ -178,7 +178,7 @@ module _ (known : Known) (code : CodeProgram) (sound : IsSound code) (phase : Ph
       → FramesStand code (jumped phase leaving a ls rest (steps_from code a.body to) stack frames p)
   jumps which is to leads stack alive left = tested (goes_back rest landing)
     where
-      landing : List Step
+      landing : List PlacedInstr
       landing = steps_from code a.body to
 
       c : length first ≡ height_of b next.at

@@ -25,13 +25,13 @@ use Rattle.ns_kcode.specs.Next.{next}
 use Rattle.ns_kdata.specs.Arguments.{shape_of_value}
 use Rattle.ns_actions.specs.declared.site.Site.{Site}
 use Rattle.ns_actions.specs.Site.{error}
-use Rattle.ns_actions.specs.Control.{Progress, in_world, Activation, FromBody, After, Gives, Halts, Control, Enter, Part, Skip, Stop, EnterPart, charged, halts, fails, frame_left}
+use Rattle.ns_actions.specs.Control.{Progress, in_world, Activation, FromBody, After, Gives, Halts, Control, Enter, PartControl, Skip, Stop, EnterPart, charged, halts, fails, frame_left}
 use Rattle.ns_actions.specs.Bodies.{parameters_of, opened}
 use Rattle.ns_actions.specs.Blocks.{block_body_in, block_entered, acted, new_text, new_block, new_array}
 use Rattle.ns_actions.specs.Classes.{super_part, body_ended}
 use Rattle.ns_machine_moves.specs.State.{Leaving, Loud, Silent, Frame, Running, Looping, Sending, Performing, Evaluating, Phase, Start, First, Second, Hosted}
 use Rattle.ns_machine_moves.specs.State.{State, Unbegun, Going, Pends, Ended, Stuck}
-use Rattle.ns_machine_moves.specs.Steps.{Step, steps_of, steps_from, literal}
+use Rattle.ns_machine_moves.specs.Steps.{PlacedInstr, steps_of, steps_from, literal}
 use Rattle.ns_machine_moves.specs.Returns.{concluded, delivered, settled, returned, is_home, has_home, unwound, returned_home}
 use Rattle.ns_machine_moves.specs.Arrivals.{arrived, part_arrived, acted_on}
 use Rattle.ns_machine_moves.specs.Operands.{on_top}
@@ -93,8 +93,8 @@ home_left most code phase a v frames p = tested (has_home a.home frames) (unwoun
 
 -- ---- instructions
 
-module _ (code : CodeProgram) (some : 1 ≤ longest code.bodies) (phase : Phase) (leaving : Leaving) (a : Activation) (ls : List Value) (step : Step)
-    (rest : List Step) (frames : List Frame) (p : Progress) (ordered : is_ordered p.world.cells ≡ true) where
+module _ (code : CodeProgram) (some : 1 ≤ longest code.bodies) (phase : Phase) (leaving : Leaving) (a : Activation) (ls : List Value) (step : PlacedInstr)
+    (rest : List PlacedInstr) (frames : List Frame) (p : Progress) (ordered : is_ordered p.world.cells ≡ true) where
   -- less is left than before the step
   abbrev Lower : State → Type 0
   Lower s =
@@ -126,7 +126,7 @@ module _ (code : CodeProgram) (some : 1 ≤ longest code.bodies) (phase : Phase)
 
   -- ---- jumps
 
-  lands : (landing : List Step) (stack : List Value) → goes_back rest landing ≡ false
+  lands : (landing : List PlacedInstr) (stack : List Value) → goes_back rest landing ≡ false
       → Lower (Going phase (Running leaving a ls landing stack ∷ frames) p)
   lands landing stack forward =
       let w = weight_some (longest code.bodies) a.holder in
@@ -135,7 +135,7 @@ module _ (code : CodeProgram) (some : 1 ≤ longest code.bodies) (phase : Phase)
       weigh_less (weight (longest code.bodies) a.holder) (length landing) (length rest) w few in
       omega (arith, less)
 
-  jumps : (landing : List Step) (stack : List Value) → goes_back rest landing ≡ false → Lower (jumped phase leaving a ls rest landing stack frames p)
+  jumps : (landing : List PlacedInstr) (stack : List Value) → goes_back rest landing ≡ false → Lower (jumped phase leaving a ls rest landing stack frames p)
   jumps landing stack forward = tested (goes_back rest landing) forward (lands landing stack forward)
     where
       tested : (b : Bool) → b ≡ false → Lower (Going phase (Running leaving a ls landing stack ∷ frames) p)
@@ -144,7 +144,7 @@ module _ (code : CodeProgram) (some : 1 ≤ longest code.bodies) (phase : Phase)
       tested true e low = absurd (cc)
       tested false e low = low
 
-  jumps_on : (wanted : Bool) (v : Value) (landing : List Step) (stack : List Value) → jump_charges wanted (v ∷ stack) rest landing ≡ false
+  jumps_on : (wanted : Bool) (v : Value) (landing : List PlacedInstr) (stack : List Value) → jump_charges wanted (v ∷ stack) rest landing ≡ false
       → Lower (jumped_on phase wanted v leaving a ls rest landing stack frames p)
   jumps_on true value.True landing stack e = jumps landing stack e
   jumps_on true value.False landing stack e = on ls stack p
@@ -161,14 +161,14 @@ module _ (code : CodeProgram) (some : 1 ≤ longest code.bodies) (phase : Phase)
   jumps_on false (value.Kernel class) landing stack e = omega arith
   jumps_on false (value.Ref cell) landing stack e = omega arith
 
-  jumps_top : (wanted : Bool) (landing : List Step) (stack : List Value) → jump_charges wanted stack rest landing ≡ false
+  jumps_top : (wanted : Bool) (landing : List PlacedInstr) (stack : List Value) → jump_charges wanted stack rest landing ≡ false
       → Lower (on_top (Stuck p) stack λ v below. jumped_on phase wanted v leaving a ls rest landing below frames p)
   jumps_top wanted landing [] e = stuck
   jumps_top wanted landing (v ∷ below) e = jumps_on wanted v landing below e
 
   -- ---- superclass parts
 
-  parts : (part : Part) (stack : List Value) → EntersEarlier a.holder part → Lower (part_arrived code phase part (Running leaving a ls rest stack ∷ frames))
+  parts : (part : PartControl) (stack : List Value) → EntersEarlier a.holder part → Lower (part_arrived code phase part (Running leaving a ls rest stack ∷ frames))
   parts (Skip q) stack earlier = on ls stack q
   parts (Stop ending q) stack earlier = omega arith
   parts (EnterPart inner locals q) stack earlier =
@@ -256,7 +256,7 @@ entered_lower most code phase (new.Message sel args) arguments site frames p e =
 -- ---- moves
 
 -- a body that stands before an instruction has one
-longest_some : (code : CodeProgram) (p : Progress) (leaving : Leaving) (a : Activation) (ls : List Value) (rest : List Step) (stack : List Value)
+longest_some : (code : CodeProgram) (p : Progress) (leaving : Leaving) (a : Activation) (ls : List Value) (rest : List PlacedInstr) (stack : List Value)
     → RunningIsValid code p Nothing leaving a ls rest stack → 1 ≤ longest code.bodies
 longest_some code p leaving a ls rest stack here = of_body (slice_get code.bodies a.body) refl here.fits.there
   where

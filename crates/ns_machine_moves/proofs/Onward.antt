@@ -19,7 +19,7 @@ use Rattle.ns_find.specs.Find.{found_from}
 use Rattle.ns_kdata.specs.Arguments.{items_of}
 use Rattle.ns_actions.specs.declared.site.Site.{Site}
 use Rattle.ns_actions.specs.Site.{error}
-use Rattle.ns_actions.specs.Control.{Progress, Activation, After, Control, Part, charged, frame_left}
+use Rattle.ns_actions.specs.Control.{Progress, Activation, After, Control, PartControl, charged, frame_left}
 use Rattle.ns_actions.specs.Blocks.{new_cell, evaluated, method_next}
 use Rattle.ns_world.specs.Booleans.{is_boolean}
 use Rattle.ns_actions.specs.Classes.{super_part, body_ended, kept_by}
@@ -32,7 +32,7 @@ use Rattle.ns_actions.specs.laws.LawfulValues.{local_onward}
 use Rattle.ns_actions.specs.laws.SendsOnward.{sent_onward, stepped_onward}
 use Rattle.ns_machine_moves.specs.State.{Leaving, Loud, Silent, Frame, Running, Looping, Sending, Performing, Evaluating, Phase, State, Unbegun}
 use Rattle.ns_machine_moves.specs.State.{Going as Goes, Pends, Ended, Stuck, progress_of}
-use Rattle.ns_machine_moves.specs.Steps.{Step, steps_from, literal}
+use Rattle.ns_machine_moves.specs.Steps.{PlacedInstr, steps_from, literal}
 use Rattle.ns_machine_moves.specs.Returns.{delivered, settled, returned, is_home, has_home, unwound, returned_home}
 use Rattle.ns_machine_moves.specs.Arrivals.{arrived, part_arrived, acted_on}
 use Rattle.ns_machine_moves.specs.Jumps.{goes_back, jumped, takes_jump, jumped_on}
@@ -77,7 +77,7 @@ unwound_onward code phase home answer (frame ∷ frames) p =
 
 -- ---- instructions
 
-module _ (code : CodeProgram) (phase : Phase) (leaving : Leaving) (a : Activation) (ls : List Value) (rest : List Step) (frames : List Frame)
+module _ (code : CodeProgram) (phase : Phase) (leaving : Leaving) (a : Activation) (ls : List Value) (rest : List PlacedInstr) (frames : List Frame)
     (p : Progress) where
   abbrev Onward : State → Type 0
   Onward s = GoesOnward p (progress_of s)
@@ -101,7 +101,7 @@ module _ (code : CodeProgram) (phase : Phase) (leaving : Leaving) (a : Activatio
 
   begins_part : (vs : List Value) (others : List Frame) → Onward (part_arrived code phase (super_part code a vs p) others)
   begins_part vs others =
-      let part : Part = super_part code a vs p in
+      let part : PartControl = super_part code a vs p in
       at_state p (part_arrived code phase part others) (part_reached part) (part_arrived_at code phase part others)
       (of_going [] p (part_reached part) (super_onward [] code a vs p))
 
@@ -116,7 +116,7 @@ module _ (code : CodeProgram) (phase : Phase) (leaving : Leaving) (a : Activatio
       tested true = unwound_onward code phase a.home answer others p
       tested false = stays p
 
-  jumps : (landing : List Step) (stack : List Value) → Onward (jumped phase leaving a ls rest landing stack frames p)
+  jumps : (landing : List PlacedInstr) (stack : List Value) → Onward (jumped phase leaving a ls rest landing stack frames p)
   jumps landing stack = tested (goes_back rest landing)
     where
       go : Progress → State
@@ -128,7 +128,7 @@ module _ (code : CodeProgram) (phase : Phase) (leaving : Leaving) (a : Activatio
           (λ world e. record { later = later_stepped p.world world e; begun = omega arith })
       tested false = stays p
 
-  jumps_on : (wanted : Bool) (v : Value) (landing : List Step) (stack : List Value) → Onward (jumped_on phase wanted v leaving a ls rest landing stack frames p)
+  jumps_on : (wanted : Bool) (v : Value) (landing : List PlacedInstr) (stack : List Value) → Onward (jumped_on phase wanted v leaving a ls rest landing stack frames p)
   jumps_on wanted v landing stack = tested (is_boolean v) (takes_jump wanted v)
     where
       tested : (b c : Bool)

@@ -15,7 +15,7 @@ use Rattle.ns_world.specs.laws.Chains.{found_below, found_in_more}
 use Rattle.ns_facets.specs.declared.row.Grants.{Grants}
 use Rattle.ns_facets.specs.Platform.{cell_value}
 use Rattle.ns_actions.specs.Start.{standing_cells, size_of_cells, manifest, platform, first_class}
-use Rattle.ns_machine_moves.specs.Valid.{BeginsWith, HasArguments, array_behind}
+use Rattle.ns_machine_moves.specs.Valid.{BeginsWith, HasArgumentCells, array_behind}
 use Rattle.ns_machine_moves.proofs.BeginsCells.{newest_found, sizes_add}
 
 -- ---- the cell that stands so many words behind the first
@@ -98,7 +98,7 @@ array_at number at (MirrorCell mirrored ∷ cells) e = absurd (cc)
 array_at number at (MessageCell sel args ∷ cells) e = absurd (cc)
 
 pub array_live : (code : CodeProgram) (grants : Grants) (arguments : ℕ) (heap : Heap) → BeginsWith (standing_cells code grants) heap
-    → HasArguments code grants arguments heap → IsLiveValue heap code (Ref arguments)
+    → HasArgumentCells code grants arguments heap → IsLiveValue heap code (Ref arguments)
 array_live code grants arguments heap b has =
     let standing : List Cell = standing_cells code grants in
     let a = array_at (size_of_cells standing) arguments (drop (length standing) (reverse heap)) has in

@@ -12,7 +12,7 @@ use Rattle.ns_actions.specs.Start.{standing_cells}
 use Rattle.ns_machine_moves.specs.State.{Frame, Running, Looping, Phase, Start, First, Second, Hosted, Unbegun, Going}
 use Rattle.ns_machine_moves.specs.State.{Pends, Ended, Stuck, with_board}
 use Rattle.ns_machine_moves.specs.ValidFrames.{Awaited, Nothing, SendValue, BlockValue, PartEnd, awaited_below, awaited_for, FrameIsValid, FramesAreValid}
-use Rattle.ns_machine_moves.specs.Valid.{WorldIsValid, GoesOn, EndsIn}
+use Rattle.ns_machine_moves.specs.Valid.{WorldIsValid, GoesOn, EndIsValid}
 use Rattle.ns_machine_moves.specs.WorldStays.{SwapsKeepValid}
 
 module _ (board : Board) where
@@ -57,8 +57,8 @@ module _ (board : Board) where
   frames_swapped code BlockValue (frame ∷ frames) p v = (frame_swapped code BlockValue frame p v.0, frames_swapped code (awaited_below code frame) frames p v.1)
   frames_swapped code PartEnd (frame ∷ frames) p v = (frame_swapped code PartEnd frame p v.0, frames_swapped code (awaited_below code frame) frames p v.1)
 
-  ended_swapped : (code : CodeProgram) (grants : Grants) (ending : Ending) (phase : Phase) (p : Progress) → EndsIn code grants ending phase p
-      → EndsIn code grants ending phase (with_board board p)
+  ended_swapped : (code : CodeProgram) (grants : Grants) (ending : Ending) (phase : Phase) (p : Progress) → EndIsValid code grants ending phase p
+      → EndIsValid code grants ending phase (with_board board p)
   ended_swapped code grants (Limit Cells) Start p v = world_swapped code _ p v
   ended_swapped code grants (Limit Steps) Start p v = absurd v
   ended_swapped code grants (Limit Depth) Start p v = absurd v

@@ -18,7 +18,7 @@ use Rattle.ns_classes.specs.Apply.{class_fault, class_cell}
 use Rattle.ns_classes.specs.Nested.{kept_class}
 use Rattle.ns_actions.specs.declared.site.Site.{Site}
 use Rattle.ns_actions.specs.Site.{error}
-use Rattle.ns_actions.specs.Control.{Progress, in_world, Activation, Exit, FromMethod, FromBody, FromClause, After, Gives, Halts, Part, Skip, Stop, frame_left}
+use Rattle.ns_actions.specs.Control.{Progress, in_world, Activation, Exit, FromMethod, FromBody, FromClause, After, Gives, Halts, PartControl, Skip, Stop, frame_left}
 use Rattle.ns_actions.specs.Control.{EnterPart, charged}
 use Rattle.ns_actions.specs.Bodies.{initialiser_of, no_home, opened}
 use Rattle.ns_actions.specs.Blocks.{new_cell}
@@ -114,7 +114,7 @@ home_none code phase a answer frames p = tested (has_home a.home frames)
 
 -- ---- superclass parts
 
-abbrev pub PartNone : Progress → Part → Type 0
+abbrev pub PartNone : Progress → PartControl → Type 0
 PartNone old (Skip next) = next.world.steps ≡ old.world.steps
 PartNone old (Stop ending next) = (next.world.steps ≡ old.world.steps) × (is_step_limit ending ≡ false)
 PartNone old (EnterPart a ls next) = next.world.steps ≡ old.world.steps
@@ -153,7 +153,7 @@ part_of_none code a (value.Int number) sel arguments p = object_none code a sel 
 part_of_none code a (value.Sym name) sel arguments p = object_none code a sel p
 part_of_none code a (value.Kernel class) sel arguments p = object_none code a sel p
 
-part_settled : (code : CodeProgram) (phase : Phase) (part : Part) (frames : List Frame) (p : Progress) → PartNone p part
+part_settled : (code : CodeProgram) (phase : Phase) (part : PartControl) (frames : List Frame) (p : Progress) → PartNone p part
     → TookNone p (part_arrived code phase part frames)
 part_settled code phase (Skip next) frames p e = record { steps = e; going = refl }
 part_settled code phase (Stop ending next) frames p e = record { steps = e.0; going = e.1 }

@@ -28,11 +28,11 @@ use Rattle.ns_actions.specs.laws.Counting.{step_charged, frame_charged, nothing_
 use Rattle.ns_actions.specs.laws.Spending.{answered_spends}
 use Rattle.ns_machine_moves.specs.State.{Leaving, Frame, Running, Phase, State, Going, Ended, progress_of, world_of}
 use Rattle.ns_machine_moves.specs.Turn.{ends_with_steps}
-use Rattle.ns_machine_moves.specs.Steps.{Step}
+use Rattle.ns_machine_moves.specs.Steps.{PlacedInstr}
 use Rattle.ns_machine_moves.specs.Arrivals.{arrived, acted_on}
 use Rattle.ns_machine_moves.specs.Jumps.{goes_back, jumped}
 use Rattle.ns_machine_moves.specs.Charging.{action_charges}
-use Rattle.ns_machine_moves.specs.Charges.{TookStep, TookNone, Took}
+use Rattle.ns_machine_moves.specs.Charges.{TookStep, TookNone, MoveTook}
 use Rattle.ns_machine_moves.proofs.Walking.{arrived_at}
 use Rattle.ns_machine_moves.proofs.TakingNone.{settled_none}
 
@@ -93,7 +93,7 @@ framed_steps code a arguments p =
 
 pub evaluation_took : (code : CodeProgram) (phase : Phase) (cell : NewCell) (arguments : List Value) (site : Site) (frames : List Frame) (p : Progress)
     → is_block_shape cell ≡ true
-    → Took (eqb (length arguments) (parameters_of code (block_body_in cell))) p (arrived code phase (block_entered code cell arguments site p) frames)
+    → MoveTook (eqb (length arguments) (parameters_of code (block_body_in cell))) p (arrived code phase (block_entered code cell arguments site p) frames)
 evaluation_took code phase (new.Block body env home receiver holder) arguments site frames p is = tested (eqb (length arguments) (parameters_of code body))
   where
     inner : Activation
@@ -102,7 +102,7 @@ evaluation_took code phase (new.Block body env home receiver holder) arguments s
     framed : Progress → Control
     framed q = charged halts Depth (entered q.world) q (opened code halts (Enter FromBody) inner arguments)
 
-    tested : (b : Bool) → Took b p (arrived code phase (cond b (charged halts Steps (stepped p.world) p framed) (fails WrongArity site p)) frames)
+    tested : (b : Bool) → MoveTook b p (arrived code phase (cond b (charged halts Steps (stepped p.world) p framed) (fails WrongArity site p)) frames)
     tested true =
         charge_took (λ c. arrived code phase c frames) halts framed p refl refl
         (λ world. let next : Progress = in_world p world in
@@ -121,14 +121,14 @@ evaluation_took code phase (new.Message sel args) arguments site frames p is = a
 
 turn_took : (code : CodeProgram) (phase : Phase) (method : KMethod) (site : Site) (go : Progress → Waiting) (frames : List Frame) (p : Progress) (turn : Bool)
     → ((q : Progress) → TookNone q (acted_on code phase method site (go q) frames))
-    → Took turn p (acted_on code phase method site (turned turn p go) frames)
+    → MoveTook turn p (acted_on code phase method site (turned turn p go) frames)
 turn_took code phase method site go frames p true none =
     charge_took (λ w. acted_on code phase method site w frames) (λ ending q. Finishes (Halts ending q)) go p refl refl
     (λ world. (none (in_world p world)).steps)
 turn_took code phase method site go frames p false none = none p
 
 pub action_took : (code : CodeProgram) (phase : Phase) (method : KMethod) (k : KAction) (state : KState) (site : Site) (frames : List Frame) (p : Progress)
-    → Took (action_charges k) p (acted_on code phase method site (acted k state site p) frames)
+    → MoveTook (action_charges k) p (acted_on code phase method site (acted k state site p) frames)
 action_took code phase method (action.Evaluate block argument turn count) state site frames p =
     turn_took code phase method site _ frames p turn (λ q. record { steps = refl; going = refl })
 action_took code phase method (action.EvaluateItem block item count) state site frames p =
@@ -138,14 +138,14 @@ action_took code phase method (action.Fail kind) state site frames p = record { 
 
 -- ---- jumps
 
-pub jump_took : (phase : Phase) (leaving : Leaving) (a : Activation) (ls : List Value) (rest landing : List Step) (stack : List Value) (frames : List Frame)
+pub jump_took : (phase : Phase) (leaving : Leaving) (a : Activation) (ls : List Value) (rest landing : List PlacedInstr) (stack : List Value) (frames : List Frame)
     (p : Progress)
-    → Took (goes_back rest landing) p (jumped phase leaving a ls rest landing stack frames p)
+    → MoveTook (goes_back rest landing) p (jumped phase leaving a ls rest landing stack frames p)
 jump_took phase leaving a ls rest landing stack frames p = tested (goes_back rest landing)
   where
     go : Progress → State
     go = Going phase (Running leaving a ls landing stack ∷ frames)
 
-    tested : (b : Bool) → Took b p (cond b (charged (λ ending q. Ended ending phase q) Steps (stepped p.world) p go) (go p))
+    tested : (b : Bool) → MoveTook b p (cond b (charged (λ ending q. Ended ending phase q) Steps (stepped p.world) p go) (go p))
     tested true = charge_took (λ s. s) (λ ending q. Ended ending phase q) go p refl refl (λ world. refl)
     tested false = record { steps = refl; going = refl }

@@ -21,7 +21,7 @@ use Rattle.ns_actions.specs.Actions.{FillsSlot, StoresLocal}
 use Rattle.ns_actions.specs.laws.Spending.{action_spends}
 use Rattle.ns_machine_moves.specs.State.{Leaving, Frame, Running, Looping, Sending, Performing, Evaluating, Phase, State, Unbegun, Going, Pends, Ended, Stuck}
 use Rattle.ns_machine_moves.specs.State.{progress_of, world_of}
-use Rattle.ns_machine_moves.specs.Steps.{Step, steps_from, literal}
+use Rattle.ns_machine_moves.specs.Steps.{PlacedInstr, steps_from, literal}
 use Rattle.ns_machine_moves.specs.Operands.{on_top}
 use Rattle.ns_machine_moves.specs.Jumps.{jumped_on}
 use Rattle.ns_machine_moves.specs.Instructions.{executed}
@@ -29,7 +29,7 @@ use Rattle.ns_machine_moves.specs.Arrivals.{arrived}
 use Rattle.ns_machine_moves.specs.Move.{sent_on, move}
 use Rattle.ns_machine_moves.specs.Turn.{ends_with_steps, was_charged}
 use Rattle.ns_machine_moves.specs.Charging.{jump_charges, instr_charges, will_charge}
-use Rattle.ns_machine_moves.specs.Charges.{is_stuck, TookStep, TookNone, Took, TakesAsTold, ChargesAsTold}
+use Rattle.ns_machine_moves.specs.Charges.{is_stuck, TookStep, TookNone, MoveTook, TakesAsTold, ChargesAsTold}
 use Rattle.ns_machine_moves.specs.laws.Operands.{on_top_all, taken_all, picked_all}
 use Rattle.ns_machine_moves.proofs.TakingNone.{settled_none, cell_none, returned_none, home_none, part_none}
 use Rattle.ns_machine_moves.proofs.TakingSteps.{send_took, evaluation_took, action_took, jump_took}
@@ -55,10 +55,10 @@ plain_took code phase receiver sel vs site frames p =
 
 -- ---- instructions
 
-module _ (code : CodeProgram) (phase : Phase) (leaving : Leaving) (a : Activation) (ls : List Value) (rest : List Step) (frames : List Frame)
+module _ (code : CodeProgram) (phase : Phase) (leaving : Leaving) (a : Activation) (ls : List Value) (rest : List PlacedInstr) (frames : List Frame)
     (p : Progress) where
-  jumped_took : (wanted : Bool) (v : Value) (landing : List Step) (below : List Value)
-      → Took (jump_charges wanted (v ∷ below) rest landing) p (jumped_on phase wanted v leaving a ls rest landing below frames p)
+  jumped_took : (wanted : Bool) (v : Value) (landing : List PlacedInstr) (below : List Value)
+      → MoveTook (jump_charges wanted (v ∷ below) rest landing) p (jumped_on phase wanted v leaving a ls rest landing below frames p)
   jumped_took true value.True landing below = jump_took phase leaving a ls rest landing below frames p
   jumped_took true value.False landing below = record { steps = refl; going = refl }
   jumped_took true value.Nil landing below = record { steps = refl; going = refl }
@@ -74,8 +74,8 @@ module _ (code : CodeProgram) (phase : Phase) (leaving : Leaving) (a : Activatio
   jumped_took false (value.Kernel class) landing below = record { steps = refl; going = refl }
   jumped_took false (value.Ref cell) landing below = record { steps = refl; going = refl }
 
-  on_took : (wanted : Bool) (stack : List Value) (landing : List Step)
-      → Took (jump_charges wanted stack rest landing) p (on_top (Stuck p) stack λ v below. jumped_on phase wanted v leaving a ls rest landing below frames p)
+  on_took : (wanted : Bool) (stack : List Value) (landing : List PlacedInstr)
+      → MoveTook (jump_charges wanted stack rest landing) p (on_top (Stuck p) stack λ v below. jumped_on phase wanted v leaving a ls rest landing below frames p)
   on_took wanted [] landing = stuck_none p
   on_took wanted (v ∷ below) landing = jumped_took wanted v landing below
 
@@ -91,7 +91,7 @@ module _ (code : CodeProgram) (phase : Phase) (leaving : Leaving) (a : Activatio
 
   executed_took : (instr : Instr) (place : Option SourcePlace) (stack : List Value)
       → is_stuck (executed code phase instr place leaving a ls rest stack frames p) ≡ false
-      → Took (instr_charges code a.body rest stack instr) p (executed code phase instr place leaving a ls rest stack frames p)
+      → MoveTook (instr_charges code a.body rest stack instr) p (executed code phase instr place leaving a ls rest stack frames p)
   executed_took i.PushNil place stack e = record { steps = refl; going = refl }
   executed_took i.PushTrue place stack e = record { steps = refl; going = refl }
   executed_took i.PushFalse place stack e = record { steps = refl; going = refl }
@@ -171,7 +171,7 @@ or_true : (b : Bool) → (b || true) ≡ true
 or_true true = refl
 or_true false = refl
 
-told : (b : Bool) (before after : State) → Took b (progress_of before) after → was_charged before after ≡ b
+told : (b : Bool) (before after : State) → MoveTook b (progress_of before) after → was_charged before after ≡ b
 told true before after (inl e) = ap (λ b. b || ends_with_steps after) (less (world_of before).steps (world_of after).steps e)
 told true before after (inr n) =
     ap (λ b. nat_lt (world_of before).steps (world_of after).steps || b) n.ended ∙ or_true (nat_lt (world_of before).steps (world_of after).steps)

@@ -4,7 +4,7 @@ use Rattle.ns_code.specs.declared.program.CodeProgram.{CodeProgram}
 use Rattle.ns_world.specs.declared.value.Value.{Value}
 use Rattle.ns_kcode.specs.declared.state.KMethod.{KMethod}
 use Rattle.ns_actions.specs.declared.site.Site.{Site}
-use Rattle.ns_actions.specs.Control.{Progress, After, Gives, Halts, Control, Now, Enter, Evaluate, Begin, Perform, Part, Skip, Stop, EnterPart, Waiting}
+use Rattle.ns_actions.specs.Control.{Progress, After, Gives, Halts, Control, Now, Enter, Evaluate, Begin, Perform, PartControl, Skip, Stop, EnterPart, Waiting}
 use Rattle.ns_actions.specs.Control.{Waits, Finishes}
 use Rattle.ns_actions.specs.Onward.{reached, after_reached, part_reached, waiting_reached}
 use Rattle.ns_machine_moves.specs.State.{Frame, Running, Looping, Phase, Start, First, Second, Hosted, progress_of}
@@ -37,7 +37,7 @@ arrived_at code phase (Evaluate block arguments site p) frames = refl
 arrived_at code phase (Begin method state site p) frames = refl
 arrived_at code phase (Perform receiver sel array site p) frames = refl
 
-pub part_arrived_at : (code : CodeProgram) (phase : Phase) (part : Part) (frames : List Frame)
+pub part_arrived_at : (code : CodeProgram) (phase : Phase) (part : PartControl) (frames : List Frame)
     → progress_of (part_arrived code phase part frames) ≡ part_reached part
 part_arrived_at code phase (Skip p) frames = refl
 part_arrived_at code phase (Stop ending p) frames = refl

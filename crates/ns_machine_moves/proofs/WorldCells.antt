@@ -20,7 +20,7 @@ use Rattle.ns_actions.specs.Bodies.{no_home}
 use Rattle.ns_actions.specs.Start.{standing_cells, size_of_cells}
 use Rattle.ns_actions.specs.Adding.{Adds, is_block_of}
 use Rattle.ns_machine_moves.specs.ValidFrames.{is_in_method, has_block_home}
-use Rattle.ns_machine_moves.specs.Valid.{BeginsWith, HasArguments, is_no_facet, array_behind, blocks_have_homes}
+use Rattle.ns_machine_moves.specs.Valid.{BeginsWith, HasArgumentCells, is_no_facet, array_behind, blocks_have_homes}
 
 pub first_of : (b c : Bool) → (b && c) ≡ true → b ≡ true
 first_of true c e = refl
@@ -202,7 +202,7 @@ behind_more number at (new.Message sel args ∷ shapes) more e = absurd (cc)
 
 pub arguments_on : (code : CodeProgram) (grants : Grants) (arguments : ℕ) (may : NewCell → Bool) (old new : Heap)
     → list_all is_fixed (map shape_of (standing_cells code grants)) ≡ true
-    → Adds may old new → BeginsWith (standing_cells code grants) old → HasArguments code grants arguments old → HasArguments code grants arguments new
+    → Adds may old new → BeginsWith (standing_cells code grants) old → HasArgumentCells code grants arguments old → HasArgumentCells code grants arguments new
 arguments_on code grants arguments may old new fixed a b has =
     let first : List Cell = standing_cells code grants in
     let s = started_with first may old new fixed a b in

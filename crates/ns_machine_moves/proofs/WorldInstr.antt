@@ -30,14 +30,14 @@ use Rattle.ns_actions.specs.laws.LawfulSends.{sent_lawful}
 use Rattle.ns_actions.specs.laws.LawfulParts.{ended_lawful}
 use Rattle.ns_actions.specs.laws.LawfulValues.{text_lawful, array_lawful, block_lawful}
 use Rattle.ns_machine_moves.specs.State.{Leaving, Loud, Silent, Frame, Running, Phase, State, Going, Ended, Stuck}
-use Rattle.ns_machine_moves.specs.Steps.{Step, steps_from, literal}
+use Rattle.ns_machine_moves.specs.Steps.{PlacedInstr, steps_from, literal}
 use Rattle.ns_machine_moves.specs.Operands.{on_top, taken_off, picked}
 use Rattle.ns_machine_moves.specs.Returns.{returned}
 use Rattle.ns_machine_moves.specs.Arrivals.{arrived, part_arrived}
 use Rattle.ns_machine_moves.specs.Jumps.{goes_back, jumped, takes_jump, jumped_on}
 use Rattle.ns_machine_moves.specs.Instructions.{executed}
 use Rattle.ns_actions.specs.Fitting.{FitsSite}
-use Rattle.ns_machine_moves.specs.WorldAsks.{TakesArguments, CanLeave, InstrAsks}
+use Rattle.ns_machine_moves.specs.WorldAsks.{SelectorTakes, CanLeave, InstrAsks}
 use Rattle.ns_machine_moves.proofs.WorldKeeps.{InWorld, action_in, stepped_in}
 use Rattle.ns_machine_moves.proofs.WorldEnds.{InWorldOf, ended_in, settled_in, cell_settles, end_settles, arrived_in, part_in, returned_home_in}
 
@@ -67,7 +67,7 @@ picked_in P missing (suc place) (v ∷ stack) go m g = picked_in P missing place
 
 -- ---- instructions
 
-module _ (code : CodeProgram) (grants : Grants) (phase : Phase) (leaving : Leaving) (a : Activation) (ls : List Value) (rest : List Step)
+module _ (code : CodeProgram) (grants : Grants) (phase : Phase) (leaving : Leaving) (a : Activation) (ls : List Value) (rest : List PlacedInstr)
     (frames : List Frame) (p : Progress) (w : InWorld code grants phase p) (site : FitsSite code a.site)
     (depth : p.world.depth ≡ suc (length frames)) where
   abbrev Fits : State → Type 0
@@ -90,7 +90,7 @@ module _ (code : CodeProgram) (grants : Grants) (phase : Phase) (leaving : Leavi
       (action_spends code (Sends a target sel vs place) p)
 
   -- the operands that a send takes fit its selector
-  selects : (sel : Sel) (argc : ℕ) (vs : List Value) → TakesArguments code sel argc → length vs ≡ argc + length {A = Value} [] → All Live vs
+  selects : (sel : Sel) (argc : ℕ) (vs : List Value) → SelectorTakes code sel argc → length vs ≡ argc + length {A = Value} [] → All Live vs
       → FitsSelector p.world.cells code sel vs
   selects sel argc vs t e all = record { selector = t.selector; arity = (let n : length vs ≡ argc = omega (arith, e) in n ∙ t.arity); live = all }
 
@@ -107,7 +107,7 @@ module _ (code : CodeProgram) (grants : Grants) (phase : Phase) (leaving : Leavi
       (action_ends code (EndsBody exit a v) p w.world.lawful site) (action_spends code (EndsBody exit a v) p))
   returns Silent v can live = action_in code grants phase EndsPart p w tt
 
-  jumps : (landing : List Step) (stack : List Value) → Fits (jumped phase leaving a ls rest landing stack frames p)
+  jumps : (landing : List PlacedInstr) (stack : List Value) → Fits (jumped phase leaving a ls rest landing stack frames p)
   jumps landing stack = tested (goes_back rest landing)
     where
       go : Progress → State
@@ -119,7 +119,7 @@ module _ (code : CodeProgram) (grants : Grants) (phase : Phase) (leaving : Leavi
           (λ world e. stepped_in code grants phase p world w e)
       tested false = w
 
-  jumps_on : (wanted : Bool) (v : Value) (landing : List Step) (stack : List Value) → Fits (jumped_on phase wanted v leaving a ls rest landing stack frames p)
+  jumps_on : (wanted : Bool) (v : Value) (landing : List PlacedInstr) (stack : List Value) → Fits (jumped_on phase wanted v leaving a ls rest landing stack frames p)
   jumps_on wanted v landing stack = tested (is_boolean v) (takes_jump wanted v)
     where
       tested : (b c : Bool)

@@ -18,7 +18,7 @@ use Rattle.ns_kdata.specs.Leading.{is_common}
 use Rattle.ns_kcode.specs.Next.{next}
 use Rattle.ns_actions.specs.declared.site.Site.{Site}
 use Rattle.ns_actions.specs.Control.{Progress, in_world, FromMethod, FromBody, FromClause, After, Gives, Halts, Control, Now, Enter, Evaluate, Begin, Perform}
-use Rattle.ns_actions.specs.Control.{Part, Skip, Stop, EnterPart, Waiting, Waits, Finishes}
+use Rattle.ns_actions.specs.Control.{PartControl, Skip, Stop, EnterPart, Waiting, Waits, Finishes}
 use Rattle.ns_actions.specs.Sends.{sent, sent_plain, performed}
 use Rattle.ns_actions.specs.Blocks.{evaluated, method_next, new_block, new_text, new_array}
 use Rattle.ns_actions.specs.Classes.{super_part, body_ended}
@@ -110,7 +110,7 @@ module _ (p : Progress) (within : p.begun ≤ p.world.steps) where
   begins_control (Begin method state site q) s = begins_charged 1 1 0 q (omega arith) s
   begins_control (Perform receiver sel array site q) s = begins_charged 1 0 0 q (omega arith) s
 
-  begins_part : (part : Part) → PartSpends p part → Begins p (part_reached part)
+  begins_part : (part : PartControl) → PartSpends p part → Begins p (part_reached part)
   begins_part (Skip q) s = begins_charged 0 0 0 q (omega arith) s
   begins_part (Stop ending q) s = begins_stopped 0 q s
   begins_part (EnterPart a ls q) s = begins_charged 0 1 0 q (omega arith) s
@@ -159,7 +159,7 @@ control_run code (Evaluate block arguments site q) l = l.0
 control_run code (Begin method state site q) l = l.0
 control_run code (Perform receiver sel array site q) l = l.0
 
-part_run : (code : CodeProgram) (part : Part) → LawfulPart code part → LawfulRun code (part_reached part)
+part_run : (code : CodeProgram) (part : PartControl) → LawfulPart code part → LawfulRun code (part_reached part)
 part_run code (Skip q) l = l
 part_run code (Stop ending q) l = l
 part_run code (EnterPart a ls q) l = l.0

@@ -3,7 +3,7 @@ use Rattle.std.specs.Prelude.{List, [], ◌∷◌}
 use Rattle.ns_code.specs.declared.program.CodeProgram.{CodeProgram}
 use Rattle.ns_kcode.specs.declared.state.KMethod.{KMethod}
 use Rattle.ns_actions.specs.declared.site.Site.{Site}
-use Rattle.ns_actions.specs.Control.{Control, Now, Enter, Evaluate, Begin, Perform, Part, Skip, Stop, EnterPart, Waiting, Waits, Finishes}
+use Rattle.ns_actions.specs.Control.{Control, Now, Enter, Evaluate, Begin, Perform, PartControl, Skip, Stop, EnterPart, Waiting, Waits, Finishes}
 use Rattle.ns_actions.specs.Sends.{site_at}
 use Rattle.ns_machine_moves.specs.State.{Loud, Silent, Frame, Running, Looping, Performing, Evaluating, Phase, State, Going, Pends, Ended}
 use Rattle.ns_machine_moves.specs.Steps.{steps_of}
@@ -20,7 +20,7 @@ arrived code phase (Perform receiver sel array site progress) frames =
     Pends phase (Performing receiver sel array (site_at progress.world.cells site.place receiver sel)) frames progress
 
 -- a superclass part
-abbrev pub part_arrived : CodeProgram → Phase → Part → List Frame → State
+abbrev pub part_arrived : CodeProgram → Phase → PartControl → List Frame → State
 part_arrived code phase (Skip progress) frames = Going phase frames progress
 part_arrived code phase (Stop ending progress) frames = Ended ending phase progress
 part_arrived code phase (EnterPart activation locals progress) frames =

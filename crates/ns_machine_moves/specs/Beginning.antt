@@ -18,7 +18,7 @@ use Rattle.ns_machine_moves.specs.State.{State, is_idle, world_of}
 use Rattle.ns_machine_moves.specs.Returns.{opening}
 use Rattle.ns_actions.specs.Sends.{own_sel}
 use Rattle.ns_machine_moves.specs.Starts.{new_machine, started, begun}
-use Rattle.ns_machine_moves.specs.Valid.{WorldIsValid, HasArguments, PendingIsValid, Valid}
+use Rattle.ns_machine_moves.specs.Valid.{WorldIsValid, HasArgumentCells, PendingIsValid, Valid}
 
 -- A new machine of sound code that fits its fields is in a valid state, with limits in range.
 abbrev pub NewIsValid : CodeProgram → Grants → Type 0
@@ -33,7 +33,7 @@ StartKeepsValid code grants = (state : State) → Valid code grants state → Va
 abbrev pub SecondIsValid : CodeProgram → Grants → Type 0
 SecondIsValid code grants =
     (arguments : ℕ) (value : Value) (progress : Progress) → WorldIsValid code (standing_cells code grants) progress
-    → HasArguments code grants arguments progress.world.cells → IsLiveValue progress.world.cells code value
+    → HasArgumentCells code grants arguments progress.world.cells → IsLiveValue progress.world.cells code value
     → PendingIsValid code progress.world.cells (opening code value (own_sel code MainArgs) (platform ∷ Ref arguments ∷ []) progress) []
 
 -- What a host may send: to a live value, with at most 255 live arguments, as many as the selector takes.

@@ -40,14 +40,14 @@ pub record TookNone (old : Progress) (after : State) : Type 0 where
   pub going : ends_with_steps after ≡ false
 
 -- what a move took, by what was told of it
-abbrev pub Took : Bool → Progress → State → Type 0
-Took true old after = TookStep old after
-Took false old after = TookNone old after
+abbrev pub MoveTook : Bool → Progress → State → Type 0
+MoveTook true old after = TookStep old after
+MoveTook false old after = TookNone old after
 
 -- A move takes a step where that was told, and else none.
 abbrev pub TakesAsTold : CodeProgram → Type 0
 TakesAsTold code =
-    (state : State) → is_still state ≡ false → CanMove code state → Took (will_charge code state) (progress_of state) (move code state)
+    (state : State) → is_still state ≡ false → CanMove code state → MoveTook (will_charge code state) (progress_of state) (move code state)
 
 -- So the test before a move tells whether it charges.
 abbrev pub ChargesAsTold : CodeProgram → Type 0

@@ -10,16 +10,16 @@ use Rattle.ns_kcode.specs.Next.{next}
 use Rattle.ns_world.specs.Heap.{Heap}
 use Rattle.ns_actions.specs.Blocks.{block_arity}
 use Rattle.ns_machine_moves.specs.State.{Running, Looping, Pending, Evaluating, State, Going, Pends}
-use Rattle.ns_machine_moves.specs.Steps.{Step, steps_from}
+use Rattle.ns_machine_moves.specs.Steps.{PlacedInstr, steps_from}
 use Rattle.ns_machine_moves.specs.Jumps.{goes_back, takes_jump}
 
 -- a conditional jump on the topmost value
-abbrev pub jump_charges : Bool → List Value → List Step → List Step → Bool
+abbrev pub jump_charges : Bool → List Value → List PlacedInstr → List PlacedInstr → Bool
 jump_charges wanted [] rest landing = false
 jump_charges wanted (value ∷ stack) rest landing = takes_jump wanted value && goes_back rest landing
 
 -- an instruction: each send, and each jump that is taken and goes back
-abbrev pub instr_charges : CodeProgram → ℕ → List Step → List Value → Instr → Bool
+abbrev pub instr_charges : CodeProgram → ℕ → List PlacedInstr → List Value → Instr → Bool
 instr_charges code body rest stack (instr.Send sel argc) = true
 instr_charges code body rest stack (instr.SendInner sel argc) = true
 instr_charges code body rest stack (instr.SendPrivate level sel argc) = true

@@ -10,15 +10,15 @@ use Rattle.ns_machine_moves.specs.Starts.{new_machine, started}
 use Rattle.ns_machine_moves.specs.ValidFrames.{homes_fall}
 
 -- So much depth is charged, and homes fall so.
-pub record AreCounted (frames : List Frame) (progress : Progress) : Type 0 where
+pub record DepthIsCounted (frames : List Frame) (progress : Progress) : Type 0 where
   pub depth : progress.world.depth ≡ length frames
   pub homes : homes_fall progress.begun frames ≡ true
 
 -- the frames of a state that goes on
 abbrev pub FramesAreCounted : State → Type 0
 FramesAreCounted (Unbegun arguments progress) = progress.world.depth ≡ 0
-FramesAreCounted (Going phase frames progress) = AreCounted frames progress
-FramesAreCounted (Pends phase pending frames progress) = AreCounted frames progress
+FramesAreCounted (Going phase frames progress) = DepthIsCounted frames progress
+FramesAreCounted (Pends phase pending frames progress) = DepthIsCounted frames progress
 FramesAreCounted (Ended ending phase progress) = Unit {0}
 FramesAreCounted (Stuck progress) = Unit {0}
 

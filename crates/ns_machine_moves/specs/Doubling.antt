@@ -19,7 +19,7 @@ until is_done step power (suc more) state =
     if is_done state then state else until is_done step (power + 1) more (doubled step power state)
 
 -- So many steps lead from one state to another, at which nothing is left to do unless so many were made.
-pub record Leads {S : Type 0} (is_done : S → Bool) (step : S → S) (power more : ℕ) (state last : S) : Type 0 where
+pub record StepsLead {S : Type 0} (is_done : S → Bool) (step : S → S) (power more : ℕ) (state last : S) : Type 0 where
   pub count : ℕ
   pub is : times step count state ≡ last
   pub done : (is_done last ≡ true) ⊎ (2 ^ (power + more) ≤ count + 2 ^ power)

@@ -13,24 +13,24 @@ use Rattle.ns_actions.specs.Blocks.{new_block, new_text, new_array}
 use Rattle.ns_actions.specs.Classes.{super_part, slot_filled}
 use Rattle.ns_actions.specs.Sends.{To, ToPrivate, ToSuper, to_value, sent}
 use Rattle.ns_machine_moves.specs.State.{Leaving, Frame, Running, Phase, State, Going, Stuck}
-use Rattle.ns_machine_moves.specs.Steps.{Step, steps_from, literal}
+use Rattle.ns_machine_moves.specs.Steps.{PlacedInstr, steps_from, literal}
 use Rattle.ns_machine_moves.specs.Operands.{on_top, taken_off, picked}
 use Rattle.ns_machine_moves.specs.Returns.{settled, returned, returned_home}
 use Rattle.ns_machine_moves.specs.Arrivals.{arrived, part_arrived}
 use Rattle.ns_machine_moves.specs.Jumps.{jumped, jumped_on}
 
 -- the frame goes on with these operands
-abbrev pub on_with : Phase → Leaving → Activation → List Value → List Step → List Value → List Frame → Progress → State
+abbrev pub on_with : Phase → Leaving → Activation → List Value → List PlacedInstr → List Value → List Frame → Progress → State
 on_with phase leaving activation locals rest stack frames progress = Going phase (Running leaving activation locals rest stack ∷ frames) progress
 
 -- the topmost value is stored in a local, and stays
-abbrev pub stored_local : CodeProgram → Phase → ℕ → ℕ → Value → Leaving → Activation → List Value → List Step → List Value → List Frame → Progress → State
+abbrev pub stored_local : CodeProgram → Phase → ℕ → ℕ → Value → Leaving → Activation → List Value → List PlacedInstr → List Value → List Frame → Progress → State
 stored_local code phase hops index value leaving activation locals rest below frames progress =
     on_with phase leaving activation (locals_with code activation locals hops index value) rest (value ∷ below) frames
     (local_stored code activation hops index value progress)
 
 -- one instruction
-abbrev pub executed : CodeProgram → Phase → Instr → Option SourcePlace → Leaving → Activation → List Value → List Step → List Value → List Frame → Progress
+abbrev pub executed : CodeProgram → Phase → Instr → Option SourcePlace → Leaving → Activation → List Value → List PlacedInstr → List Value → List Frame → Progress
     → State
 executed code phase instr.PushNil place leaving activation locals rest stack frames progress =
     on_with phase leaving activation locals rest (Nil ∷ stack) frames progress

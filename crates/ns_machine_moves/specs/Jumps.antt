@@ -8,15 +8,15 @@ use Rattle.ns_world.specs.World.{stepped}
 use Rattle.ns_actions.specs.Control.{Progress, Activation, charged}
 use Rattle.ns_world.specs.Booleans.{is_boolean}
 use Rattle.ns_actions.specs.Site.{error}
-use Rattle.ns_machine_moves.specs.Steps.{Step}
+use Rattle.ns_machine_moves.specs.Steps.{PlacedInstr}
 use Rattle.ns_machine_moves.specs.State.{Leaving, Frame, Running, Phase, State, Going, Ended}
 
 -- whether a jump goes back: more is left from its target on than after it
-abbrev pub goes_back : List Step → List Step → Bool
+abbrev pub goes_back : List PlacedInstr → List PlacedInstr → Bool
 goes_back rest landing = nat_lt (length rest) (length landing)
 
 -- a jump that is taken
-abbrev pub jumped : Phase → Leaving → Activation → List Value → List Step → List Step → List Value → List Frame → Progress → State
+abbrev pub jumped : Phase → Leaving → Activation → List Value → List PlacedInstr → List PlacedInstr → List Value → List Frame → Progress → State
 jumped phase leaving activation locals rest landing stack frames progress =
     if goes_back rest landing
     then charged (λ ending progress.
@@ -30,7 +30,7 @@ takes_jump false False = true
 takes_jump wanted value = false
 
 -- a conditional jump on a value, which it takes
-abbrev pub jumped_on : Phase → Bool → Value → Leaving → Activation → List Value → List Step → List Step → List Value → List Frame → Progress → State
+abbrev pub jumped_on : Phase → Bool → Value → Leaving → Activation → List Value → List PlacedInstr → List PlacedInstr → List Value → List Frame → Progress → State
 jumped_on phase wanted value leaving activation locals rest landing stack frames progress =
     if is_boolean value
     then (if takes_jump wanted value

@@ -10,7 +10,7 @@ use Rattle.ns_kcode.specs.declared.state.KMethod.{KMethod}
 use Rattle.ns_kcode.specs.declared.state.KState.{KState}
 use Rattle.ns_actions.specs.declared.site.Site.{Site}
 use Rattle.ns_actions.specs.Control.{Progress, Activation, Exit}
-use Rattle.ns_machine_moves.specs.Steps.{Step}
+use Rattle.ns_machine_moves.specs.Steps.{PlacedInstr}
 
 -- what the end of a frame does: its value goes to what stands below, or it was a superclass part and gives none
 pub data Leaving : Type 0 where
@@ -20,7 +20,7 @@ pub data Leaving : Type 0 where
 -- A frame: a body that runs, with what is left of it and its operands, the topmost first; or a method of the
 -- kernel that evaluates blocks.
 pub data Frame : Type 0 where
-  Running : (leaving : Leaving) (activation : Activation) (locals : List Value) (rest : List Step) (stack : List Value) → Frame
+  Running : (leaving : Leaving) (activation : Activation) (locals : List Value) (rest : List PlacedInstr) (stack : List Value) → Frame
   Looping : (method : KMethod) (state : KState) (site : Site) → Frame
 
 -- What waits to be done next: a send that opens the run or that a host made, a send of `perform:with:` with the

@@ -9,7 +9,7 @@ use Rattle.ns_kdata.specs.Arguments.{items_of}
 use Rattle.ns_actions.specs.declared.site.Site.{Site}
 use Rattle.ns_actions.specs.Control.{Progress}
 use Rattle.ns_actions.specs.Sends.{site_at, sent_plain, performed}
-use Rattle.ns_machine_moves.specs.Steps.{Step}
+use Rattle.ns_machine_moves.specs.Steps.{PlacedInstr}
 use Rattle.ns_machine_moves.specs.State.{Frame, Phase, State}
 use Rattle.ns_machine_moves.specs.Operands.{taken_off}
 use Rattle.ns_machine_moves.specs.Returns.{has_home, unwound}
@@ -76,13 +76,13 @@ ReturnsLandBelow code phase =
     → LandedBelow code phase home value (unwound code phase home value frames progress)
 
 -- Where there are as many operands, they are taken, the deepest first.
-abbrev pub AreTaken : State → Type 0
-AreTaken missing =
+abbrev pub OperandsAreTaken : State → Type 0
+OperandsAreTaken missing =
     (count : ℕ) (values stack : List Value) (go : List Value → List Value → State) → count ≤ length stack
     → taken_off missing count values stack go ≡ go (reverse (take count stack) ++ values) (drop count stack)
 
 -- A jump within a body goes back exactly where its target isn't behind it.
-abbrev pub GoesBackTo : List Step → Type 0
+abbrev pub GoesBackTo : List PlacedInstr → Type 0
 GoesBackTo steps = (k target : ℕ) → k < length steps → target < length steps → goes_back (drop (k + 1) steps) (drop target steps) ≡ nat_le target k
 
 -- ---- one list of values

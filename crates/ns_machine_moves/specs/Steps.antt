@@ -11,8 +11,8 @@ use Rattle.ns_code.specs.declared.instruction.Instr.TheVariants.{InitSuper, Retu
 use Rattle.ns_actions.specs.Bodies.{initialiser_of}
 
 -- an instruction and its place
-abbrev pub Step : Type 0
-Step = Instr × Option SourcePlace
+abbrev pub PlacedInstr : Type 0
+PlacedInstr = Instr × Option SourcePlace
 
 -- the place of an instruction, by its number
 abbrev pub place_in : List (ℕ × SourcePlace) → ℕ → Option SourcePlace
@@ -20,16 +20,16 @@ place_in [] number = None
 place_in (entry ∷ entries) number = if entry.0 == number then Some entry.1 else place_in entries number
 
 -- instructions with their places, numbered from that number on
-abbrev pub placed : List (ℕ × SourcePlace) → ℕ → List Instr → List Step
+abbrev pub placed : List (ℕ × SourcePlace) → ℕ → List Instr → List PlacedInstr
 placed places number [] = []
 placed places number (instr ∷ instrs) = (instr, place_in places number) ∷ placed places (number + 1) instrs
 
 -- the steps of a body
-abbrev pub steps_of : CodeProgram → ℕ → List Step
+abbrev pub steps_of : CodeProgram → ℕ → List PlacedInstr
 steps_of code body = option_map_or (λ (b : BodyCode). placed b.places 0 b.instrs) (slice_get code.bodies body) ((ReturnSelf, None) ∷ [])
 
 -- what is left of it from an instruction on
-abbrev pub steps_from : CodeProgram → ℕ → ℕ → List Step
+abbrev pub steps_from : CodeProgram → ℕ → ℕ → List PlacedInstr
 steps_from code body target = drop target (steps_of code body)
 
 -- the literal text of that number
@@ -42,7 +42,7 @@ super_place_or (InitSuper argc) place later = place
 super_place_or other place later = later
 
 -- the place of the superclass message among these steps
-abbrev pub super_place : List Step → Option SourcePlace
+abbrev pub super_place : List PlacedInstr → Option SourcePlace
 super_place [] = None
 super_place (step ∷ steps) = super_place_or step.0 step.1 (super_place steps)
 

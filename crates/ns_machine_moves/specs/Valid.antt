@@ -53,13 +53,13 @@ array_behind number (ArrayCell items ∷ cells) = Some number
 array_behind number cells = None
 
 -- The texts of the arguments and their array follow the cells with which each run starts.
-abbrev pub HasArguments : CodeProgram → Grants → ℕ → Heap → Type 0
-HasArguments code grants arguments heap =
+abbrev pub HasArgumentCells : CodeProgram → Grants → ℕ → Heap → Type 0
+HasArgumentCells code grants arguments heap =
     array_behind (size_of_cells (standing_cells code grants)) (drop (length (standing_cells code grants)) (reverse heap)) ≡ Some arguments
 
 -- while the first opening send is answered, the array for the second is there
 abbrev pub HasArgumentsIn : CodeProgram → Grants → Phase → Heap → Type 0
-HasArgumentsIn code grants (First arguments) heap = HasArguments code grants arguments heap
+HasArgumentsIn code grants (First arguments) heap = HasArgumentCells code grants arguments heap
 HasArgumentsIn code grants phase heap = Unit {0}
 
 -- The world of a run of sound code is lawful, its blocks have homes, and no more methods have begun than steps.
@@ -93,11 +93,11 @@ EndingIsValid code (Error error) progress = FitsSite code (record { place = erro
 EndingIsValid code (Limit limit) progress = Unit {0}
 
 -- A start that doesn't fit has the cells that did; the first opening send doesn't end a run with a value.
-abbrev pub EndsIn : CodeProgram → Grants → Ending → Phase → Progress → Type 0
-EndsIn code grants (Limit Cells) Start progress = WorldIsValid code (fitting progress.world.limits.cells 0 (standing_cells code grants)) progress
-EndsIn code grants ending Start progress = ⊥
-EndsIn code grants (Done value) (First arguments) progress = ⊥
-EndsIn code grants ending phase progress = WorldIsValid code (standing_cells code grants) progress × EndingIsValid code ending progress
+abbrev pub EndIsValid : CodeProgram → Grants → Ending → Phase → Progress → Type 0
+EndIsValid code grants (Limit Cells) Start progress = WorldIsValid code (fitting progress.world.limits.cells 0 (standing_cells code grants)) progress
+EndIsValid code grants ending Start progress = ⊥
+EndIsValid code grants (Done value) (First arguments) progress = ⊥
+EndIsValid code grants ending phase progress = WorldIsValid code (standing_cells code grants) progress × EndingIsValid code ending progress
 
 -- ---- states
 
@@ -122,11 +122,11 @@ pub record GoesOn (code : CodeProgram) (grants : Grants) (phase : Phase) (frames
 -- the invariant, by where the run stands
 abbrev pub Valid : CodeProgram → Grants → State → Type 0
 Valid code grants (Unbegun arguments progress) =
-    WorldIsValid code (standing_cells code grants) progress × HasArguments code grants arguments progress.world.cells × (progress.world.depth ≡ 0)
+    WorldIsValid code (standing_cells code grants) progress × HasArgumentCells code grants arguments progress.world.cells × (progress.world.depth ≡ 0)
 Valid code grants (Going phase frames progress) =
     GoesOn code grants phase frames progress × IsTrue (has_frame frames) × FramesAreValid code progress Nothing frames
 Valid code grants (Pends phase pending frames progress) =
     GoesOn code grants phase frames progress × PendingIsValid code progress.world.cells pending frames
     × FramesAreValid code progress (awaited_for pending) frames
-Valid code grants (Ended ending phase progress) = EndsIn code grants ending phase progress
+Valid code grants (Ended ending phase progress) = EndIsValid code grants ending phase progress
 Valid code grants (Stuck progress) = ⊥

@@ -25,7 +25,7 @@ use Rattle.ns_actions.specs.Blocks.{has_arguments}
 use Rattle.ns_actions.specs.Lawful.{LiveState, FitsActivation, FitsExit}
 use Rattle.ns_actions.specs.Fitting.{belongs_to, counts_fit, kind_of, locals_beside, environment_body, FitsObject, FitsSite}
 use Rattle.ns_machine_moves.specs.State.{Leaving, Loud, Silent, Frame, Running, Looping, Pending, Evaluating}
-use Rattle.ns_machine_moves.specs.Steps.{Step, steps_of, steps_from}
+use Rattle.ns_machine_moves.specs.Steps.{PlacedInstr, steps_of, steps_from}
 
 -- ---- what a frame waits for
 
@@ -63,7 +63,7 @@ is_super_part other = false
 -- ---- where a body stands
 
 -- the number of the next instruction, by what is left of the body
-abbrev pub next_number : CodeProgram → ℕ → List Step → ℕ
+abbrev pub next_number : CodeProgram → ℕ → List PlacedInstr → ℕ
 next_number code body rest = length (steps_of code body) - length rest
 
 -- how many operands there are before an instruction, and without those that it takes
@@ -130,7 +130,7 @@ FitsLeaving heap code leaving activation = Unit {0}
 -- A body runs: its self, holder, environment and locals fit it, an initialiser's self is an object with its holder,
 -- and it stands where its instructions and its operands meet.
 pub record RunningIsValid (code : CodeProgram) (progress : Progress) (awaited : Awaited) (leaving : Leaving) (activation : Activation)
-    (locals : List Value) (rest : List Step) (stack : List Value) : Type 0 where
+    (locals : List Value) (rest : List PlacedInstr) (stack : List Value) : Type 0 where
   pub fits : FitsActivation progress.world.cells code activation
   pub object : FitsObject progress.world.cells code activation
   pub kind : IsTrue (ends_kind leaving (kind_of code activation.body))

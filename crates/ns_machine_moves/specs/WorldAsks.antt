@@ -12,12 +12,12 @@ use Rattle.ns_world.specs.Lawful.{IsLiveValue, BlockIsLawful}
 use Rattle.ns_actions.specs.Control.{Progress, Activation}
 use Rattle.ns_actions.specs.Sends.{ToPrivate, ToSuper}
 use Rattle.ns_actions.specs.Lawful.{FitsTarget, FitsExit, FitsSlot, FitsLocal}
-use Rattle.ns_machine_moves.specs.Steps.{Step}
+use Rattle.ns_machine_moves.specs.Steps.{PlacedInstr}
 use Rattle.ns_machine_moves.specs.State.{Leaving, Loud, Silent, Running, State, Going}
 use Rattle.ns_machine_moves.specs.ValidFrames.{has_block_home}
 
 -- A selector takes so many arguments.
-pub record TakesArguments (code : CodeProgram) (sel : Sel) (argc : ℕ) : Type 0 where
+pub record SelectorTakes (code : CodeProgram) (sel : Sel) (argc : ℕ) : Type 0 where
   pub selector : IsTrue (is_selector_number code sel.0)
   pub arity : argc ≡ selector_arity code sel.0
 
@@ -45,12 +45,12 @@ InstrAsks code (instr.PushBlock body) leaving activation progress =
 InstrAsks code (instr.MakeArray count) leaving activation progress = Unit {0}
 InstrAsks code instr.Pop leaving activation progress = Unit {0}
 InstrAsks code (instr.Pick number) leaving activation progress = Unit {0}
-InstrAsks code (instr.Send sel argc) leaving activation progress = TakesArguments code sel argc
-InstrAsks code (instr.SendInner sel argc) leaving activation progress = TakesArguments code sel argc
+InstrAsks code (instr.Send sel argc) leaving activation progress = SelectorTakes code sel argc
+InstrAsks code (instr.SendInner sel argc) leaving activation progress = SelectorTakes code sel argc
 InstrAsks code (instr.SendPrivate level sel argc) leaving activation progress =
-    TakesArguments code sel argc × FitsTarget progress.world.cells code activation (ToPrivate level)
+    SelectorTakes code sel argc × FitsTarget progress.world.cells code activation (ToPrivate level)
 InstrAsks code (instr.SendSuper sel argc) leaving activation progress =
-    TakesArguments code sel argc × FitsTarget progress.world.cells code activation ToSuper
+    SelectorTakes code sel argc × FitsTarget progress.world.cells code activation ToSuper
 InstrAsks code (instr.InitSuper argc) leaving activation progress = IsLiveValue progress.world.cells code activation.self
 InstrAsks code (instr.StoreSlot slot) leaving activation progress = FitsSlot progress.world.cells code activation slot
 InstrAsks code instr.Return leaving activation progress = CanLeave progress.world.cells code leaving
@@ -62,11 +62,11 @@ InstrAsks code (instr.JumpFalse target) leaving activation progress = Unit {0}
 InstrAsks code (instr.JumpTrue target) leaving activation progress = Unit {0}
 
 -- An instruction finds what it asks for, and its place is in a file of the code.
-pub record RunsOn (code : CodeProgram) (step : Step) (leaving : Leaving) (activation : Activation) (progress : Progress) : Type 0 where
+pub record InstructionRunsOn (code : CodeProgram) (step : PlacedInstr) (leaving : Leaving) (activation : Activation) (progress : Progress) : Type 0 where
   pub asks : InstrAsks code step.0 leaving activation progress
   pub file : ForSome step.1 (λ (place : SourcePlace). place.file < length code.files)
 
 -- So does the next instruction of a run that goes on with one.
 abbrev pub FindsAsked : CodeProgram → State → Type 0
-FindsAsked code (Going phase (Running leaving activation locals (step ∷ rest) stack ∷ frames) progress) = RunsOn code step leaving activation progress
+FindsAsked code (Going phase (Running leaving activation locals (step ∷ rest) stack ∷ frames) progress) = InstructionRunsOn code step leaving activation progress
 FindsAsked code state = Unit {0}

@@ -14,7 +14,7 @@ use Rattle.ns_actions.specs.Actions.{Action, Sends, SendsPlain, Performs, Evalua
 use Rattle.ns_actions.specs.Actions.{MakesArray, FillsSlot, StoresLocal, progress_after}
 use Rattle.ns_machine_moves.specs.State.{State, Unbegun, Going, Pends, Ended, Stuck, swapped}
 use Rattle.ns_machine_moves.specs.ValidFrames.{has_block_home}
-use Rattle.ns_machine_moves.specs.Valid.{WorldIsValid, GoesOn, EndsIn, Valid}
+use Rattle.ns_machine_moves.specs.Valid.{WorldIsValid, GoesOn, EndIsValid, Valid}
 
 -- A send can be made, its arguments fit its selector, and what is given or stored is live; a block fits where it is
 -- made, and has the home that its body asks for.
@@ -53,7 +53,7 @@ abbrev pub WorldFits : CodeProgram → Grants → State → Type 0
 WorldFits code grants (Unbegun arguments progress) = Valid code grants (Unbegun arguments progress)
 WorldFits code grants (Going phase frames progress) = GoesOn code grants phase frames progress
 WorldFits code grants (Pends phase pending frames progress) = GoesOn code grants phase frames progress
-WorldFits code grants (Ended ending phase progress) = EndsIn code grants ending phase progress
+WorldFits code grants (Ended ending phase progress) = EndIsValid code grants ending phase progress
 WorldFits code grants (Stuck progress) = Unit {0}
 
 -- Another board keeps a state valid.

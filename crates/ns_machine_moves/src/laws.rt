@@ -5,12 +5,12 @@ ghost use Rattle.ns_code.specs.declared.program.CodeProgram.{CodeProgram};
 ghost use Rattle.ns_world.specs.declared.value.Value.{Value};
 ghost use Rattle.ns_actions.specs.Control.{Progress};
 ghost use Rattle.ns_machine_moves.specs.State.{Phase, State};
-ghost use Rattle.ns_machine_moves.specs.Steps.{Step};
+ghost use Rattle.ns_machine_moves.specs.Steps.{PlacedInstr};
 ghost use Rattle.ns_machine_moves.specs.Counted.{NewIsCounted, StartKeepsCount, MovesKeepCount};
 ghost use Rattle.ns_machine_moves.specs.Onward.{MovesGoOnward};
 ghost use Rattle.ns_machine_moves.specs.Charges.{TakesAsTold, ChargesAsTold};
 ghost use Rattle.ns_machine_moves.specs.Stated.{MovesAdd, ChargesAdd, StaysStill, TurnsAdd, TurnsLeaveOne, SendsOn, PerformsOn};
-ghost use Rattle.ns_machine_moves.specs.Stated.{ReturnsLand, ReturnsLandBelow, HomesAreBelow, AreTaken, GoesBackTo, IsPushed, StaysBelow};
+ghost use Rattle.ns_machine_moves.specs.Stated.{ReturnsLand, ReturnsLandBelow, HomesAreBelow, OperandsAreTaken, GoesBackTo, IsPushed, StaysBelow};
 
 /// So many moves and then so many are all these moves, and charge as many steps.
 #[tactic(auto, using(crate::proofs::Turns::moves_add, crate::proofs::Turns::charges_add))]
@@ -55,13 +55,13 @@ pub fn homes_are_below()
 /// Where there are as many operands, they are taken, the deepest first.
 #[tactic(auto, using(crate::proofs::Taking::taken_is))]
 pub fn operands_are_taken()
-    ensures { (missing : State) → AreTaken missing }
+    ensures { (missing : State) → OperandsAreTaken missing }
 {}
 
 /// A jump within a body goes back exactly where its target isn't behind it.
 #[tactic(auto, using(crate::proofs::Back::back_is))]
 pub fn jumps_go_back()
-    ensures { (steps : List Step) → GoesBackTo steps }
+    ensures { (steps : List PlacedInstr) → GoesBackTo steps }
 {}
 
 /// In one list of values that are in use up to a top, a value that is written there is the topmost

@@ -16,14 +16,14 @@ use Rattle.ns_actions.specs.Bodies.{enclosing}
 use Rattle.ns_actions.specs.Lawful.{declaration_at}
 use Rattle.ns_machine_plan.specs.declared.step.Member.{Member}
 use Rattle.ns_machine_plan.specs.declared.step.Member.TheVariants.{Method, Getter, Setter, Nested, Absent}
-use Rattle.ns_machine_plan.specs.Privates.{IsAmong, reads, writes, slots_member, nested_member, method_member, side_member, private_member, declaration_out, level_side, member_at}
+use Rattle.ns_machine_plan.specs.Privates.{SlotIsAmong, reads, writes, slots_member, nested_member, method_member, side_member, private_member, declaration_out, level_side, member_at}
 use Rattle.ns_machine_plan.specs.Stated.{MembersAreEntries}
 use Rattle.ns_machine_plan.proofs.Finding.{Declared, out_is}
 
 -- so is one that may be none
 abbrev MayBeAmong : ℕ → Option Member → Type 0
 MayBeAmong count None = Unit {0}
-MayBeAmong count (Some member) = IsAmong count member
+MayBeAmong count (Some member) = SlotIsAmong count member
 
 methods_among : (count sel : ℕ) (methods : List MethodCode) → MayBeAmong count (method_member sel methods)
 methods_among count sel [] = tt
@@ -64,12 +64,12 @@ side_among code InstanceSide sel class =
     (methods_among (length class.slots + length class.nested) sel class.methods))
 side_among code ClassSide sel class = methods_among (length class.slots + length class.nested) sel class.side_methods
 
-unwrapped : (count : ℕ) (member : Option Member) → MayBeAmong count member → IsAmong count (unwrap_or member Absent)
+unwrapped : (count : ℕ) (member : Option Member) → MayBeAmong count member → SlotIsAmong count (unwrap_or member Absent)
 unwrapped count None is = tt
 unwrapped count (Some member) is = is
 
 declared_among : (code : CodeProgram) (side : Side) (sel : ℕ) (declared : Option ClassCode)
-    → IsAmong (option_map_or (λ (class : ClassCode). length class.slots + length class.nested) declared 0)
+    → SlotIsAmong (option_map_or (λ (class : ClassCode). length class.slots + length class.nested) declared 0)
     (unwrap_or (option_map_or (side_member code side sel) declared None) Absent)
 declared_among code side sel None = tt
 declared_among code side sel (Some class) = unwrapped (length class.slots + length class.nested) (side_member code side sel class) (side_among code side sel class)
@@ -81,10 +81,10 @@ members_are_entries declared code world activation b level sel lawful fits is th
     holder = (enclosing world.cells activation level).holder
 
     found : (o : Option ℕ) → declaration_at code activation.body level ≡ o → IsSome o
-        → IsAmong (entries_of code (declaration_of world.cells holder)) (member_at code b level sel)
+        → SlotIsAmong (entries_of code (declaration_of world.cells holder)) (member_at code b level sel)
     found None e some = absurd (cc (some))
     found (Some decl) e some =
         let has : declaration_of world.cells holder ≡ decl = declared world code activation level decl lawful fits e in
         let out : declaration_out code b.class level ≡ Some (declaration_of world.cells holder) = sym (out_is code activation.body b level is) ∙ (e ∙ ap Some (sym has)) in
-        subst (λ (o : Option ℕ). IsAmong (entries_of code (declaration_of world.cells holder)) (option_map_or (private_member code (level_side b level) sel.0) o Absent)) (sym out)
+        subst (λ (o : Option ℕ). SlotIsAmong (entries_of code (declaration_of world.cells holder)) (option_map_or (private_member code (level_side b level) sel.0) o Absent)) (sym out)
         (declared_among code (level_side b level) sel.0 (slice_get code.classes (declaration_of world.cells holder)))

@@ -16,8 +16,8 @@ use Rattle.ns_machine_moves.specs.Steps.{steps_of}
 use Rattle.ns_machine_moves.specs.ValidFrames.{Nothing, Stands, next_number}
 use Rattle.ns_machine_plan.specs.declared.step.Step.{Step}
 use Rattle.ns_machine_plan.specs.Steps.{instr_of}
-use Rattle.ns_machine_plan.specs.Plan.{IsStep, IsStepAt}
-use Rattle.ns_machine_plan.specs.Stated.{BodiesBegin, StepsGoOn, JumpsLand, StepsAreUsable, RunningHasStep}
+use Rattle.ns_machine_plan.specs.Plan.{HasStep, IsStepAt}
+use Rattle.ns_machine_plan.specs.Stated.{BodiesHaveSteps, StepsGoOn, JumpsLand, StepsAreUsable, RunningHasStep}
 use Rattle.ns_machine_plan.proofs.Rows.{HasBody, body_there}
 use Rattle.ns_machine_plan.specs.laws.Steps.{steps_count}
 use Rattle.ns_machine_plan.proofs.Lookup.{HasInstr, instr_there, left_from}
@@ -25,9 +25,9 @@ use Rattle.ns_machine_plan.proofs.Lookup.{HasInstr, instr_there, left_from}
 -- the instruction of a step is that of its number
 instr_is : (code : CodeProgram) (body next : ℕ) (step : Step) (at : HasInstr code body next) → IsStepAt code body next step → instr_of step ≡ at.instr
 instr_is code body next step at is =
-    ap (λ (steps : List moves.Step). (get_or steps 0 (i.Pop, None)).0) (sym is.shown ∙ left_from code body next at.body at.instr at.is at.has)
+    ap (λ (steps : List moves.PlacedInstr). (get_or steps 0 (i.Pop, None)).0) (sym is.shown ∙ left_from code body next at.body at.instr at.is at.has)
 
-step_at : (code : CodeProgram) (body next : ℕ) (b : BodyCode) → slice_get code.bodies body ≡ Some b → next < length b.instrs → IsStep code body next
+step_at : (code : CodeProgram) (body next : ℕ) (b : BodyCode) → slice_get code.bodies body ≡ Some b → next < length b.instrs → HasStep code body next
 step_at code body next b is lt =
     record { body_there = slice_get_within code.bodies body b is; next_there = subst (λ n. next < n) (sym (steps_count code body b is)) lt }
 
@@ -40,7 +40,7 @@ Agree = (code : CodeProgram) (number at : ℕ) (body : BodyCode) (instr : Instr)
 abbrev Usable : Type 0
 Usable = (code : CodeProgram) (number at : ℕ) (body : BodyCode) (instr : Instr) → IsSound code → slice_get code.bodies number ≡ Some body → slice_get body.instrs at ≡ Some instr → IsUsable code number body at instr
 
-pub bodies_begin : Sound → (code : CodeProgram) → BodiesBegin code
+pub bodies_begin : Sound → (code : CodeProgram) → BodiesHaveSteps code
 bodies_begin none code body sound lt =
     let there : HasBody code.bodies body = body_there code.bodies body lt in
     let some : 1 ≤ length there.body.instrs = (none code sound).some_instr body there.body there.is in
@@ -68,7 +68,7 @@ steps_are_usable usable code body next step b sound there is b_is =
 pub running_has_step : (code : CodeProgram) → RunningHasStep code
 running_has_step code progress leaving activation locals stack next rest left valid = found (slice_get code.bodies activation.body) refl valid.fits.there valid.stands
   where
-    found : (o : Option BodyCode) → slice_get code.bodies activation.body ≡ o → IsSome o → ForSome o (λ (b : BodyCode). Stands b Nothing (next_number code activation.body rest) (length stack)) → IsStep code activation.body next
+    found : (o : Option BodyCode) → slice_get code.bodies activation.body ≡ o → IsSome o → ForSome o (λ (b : BodyCode). Stands b Nothing (next_number code activation.body rest) (length stack)) → HasStep code activation.body next
     found None is there stands = absurd (cc (there))
     found (Some b) is there stands =
         let count : length (steps_of code activation.body) ≡ length b.instrs = steps_count code activation.body b is in

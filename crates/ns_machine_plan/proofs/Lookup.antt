@@ -19,7 +19,7 @@ use Rattle.ns_machine_plan.specs.declared.step.Step.{Step}
 use Rattle.ns_machine_plan.specs.declared.step.Step.TheVariants.{Pop}
 use Rattle.ns_machine_plan.specs.Steps.{no_place, place_number, step_of, prepared, all_steps, places_in, all_places, places_of, step_shown, HasItsMember}
 use Rattle.ns_machine_plan.specs.Rows.{entry_in, entry_of}
-use Rattle.ns_machine_plan.specs.Plan.{IsStep, IsStepAt}
+use Rattle.ns_machine_plan.specs.Plan.{HasStep, IsStepAt}
 use Rattle.ns_machine_plan.proofs.Made.{prepared_length}
 use Rattle.ns_machine_plan.proofs.Rows.{HasBody, body_there}
 use Rattle.ns_machine_plan.specs.laws.Steps.{steps_are, steps_count}
@@ -220,7 +220,7 @@ its_member code body number (i.Jump n) = tt
 its_member code body number (i.JumpFalse n) = tt
 its_member code body number (i.JumpTrue n) = tt
 
-placed_there : (places : List (ℕ × Place)) (at : ℕ) (instrs : List Instr) (k m : ℕ) (instr : Instr) (d : moves.Step) → slice_get instrs k ≡ Some instr → m ≡ at + k → get_or (placed places at instrs) k d ≡ (instr, place_in places m)
+placed_there : (places : List (ℕ × Place)) (at : ℕ) (instrs : List Instr) (k m : ℕ) (instr : Instr) (d : moves.PlacedInstr) → slice_get instrs k ≡ Some instr → m ≡ at + k → get_or (placed places at instrs) k d ≡ (instr, place_in places m)
 placed_there places at [] k m instr d is e = absurd (none-some instr is)
 placed_there places at (one ∷ instrs) zero m instr d is e =
     let same : one ≡ instr = same_Some one instr is in
@@ -269,18 +269,18 @@ pub record HasInstr (code : CodeProgram) (number next : ℕ) : Type 0 where
   pub instr : Instr
   pub has : slice_get body.instrs next ≡ Some instr
 
-pub instr_there : (code : CodeProgram) (number next : ℕ) → IsStep code number next → HasInstr code number next
+pub instr_there : (code : CodeProgram) (number next : ℕ) → HasStep code number next → HasInstr code number next
 instr_there code number next step =
     let there : HasBody code.bodies number = body_there code.bodies number step.body_there in
     let lt : next < length there.body.instrs = subst (λ n. next < n) (steps_count code number there.body there.is) step.next_there in
     record { body = there.body; is = there.is; instr = get_or there.body.instrs next i.Pop; has = slice_get-get_or there.body.instrs next i.Pop lt }
 
-pub step_inside : (code : CodeProgram) (number next : ℕ) (steps : List Step) → steps ≡ all_steps code 0 code.bodies → IsStep code number next → entry_of code number + next < length steps
+pub step_inside : (code : CodeProgram) (number next : ℕ) (steps : List Step) → steps ≡ all_steps code 0 code.bodies → HasStep code number next → entry_of code number + next < length steps
 step_inside code number next steps are step =
     let at : HasInstr code number next = instr_there code number next step in
     subst (λ xs. entry_of code number + next < length xs) (sym are) (step_there code 0 code.bodies number next at.body at.instr Pop at.is at.has).inside
 
-pub step_told : (code : CodeProgram) (number next : ℕ) (steps : List Step) (d : Step) → steps ≡ all_steps code 0 code.bodies → Fits code → length (places_of code) ≤ no_place → IsStep code number next → IsStepAt code number next (get_or steps (entry_of code number + next) d)
+pub step_told : (code : CodeProgram) (number next : ℕ) (steps : List Step) (d : Step) → steps ≡ all_steps code 0 code.bodies → Fits code → length (places_of code) ≤ no_place → HasStep code number next → IsStepAt code number next (get_or steps (entry_of code number + next) d)
 step_told code number next steps d are fits few step =
     let at : HasInstr code number next = instr_there code number next step in
     subst (λ xs. IsStepAt code number next (get_or xs (entry_of code number + next) d)) (sym are) (step_read code number next at.body at.instr d fits few at.is at.has)

@@ -23,7 +23,7 @@ use Rattle.ns_actions.specs.declared.row.Row.{Row}
 use Rattle.ns_actions.specs.declared.row.Row.TheVariants.{Data, Integer, Top, Facet, Mirror, Method as MethodRow, Apply, Value, ValueWithArguments, NumArgs}
 use Rattle.ns_actions.specs.Rows.{row_at}
 use Rattle.ns_machine_plan.specs.Booleans.{method_of, method_of_send, FindsBoolean}
-use Rattle.ns_machine_plan.specs.Integers.{integer_of, row_found, row_of_send, FindsIn, FindsInteger}
+use Rattle.ns_machine_plan.specs.Integers.{integer_of, row_found, row_of_send, FindsThatRow, FindsInteger}
 
 integer_is : (r : Row) (row : IntRow) → integer_of r ≡ Some row → r ≡ Integer row
 integer_is (Integer one) row is = ap Integer (same_Some one row is)
@@ -62,7 +62,7 @@ module _ {A : Type 0} (of : Row → Option A) (to : A → Row) (is_of : (r : Row
     (find : (number : ℕ) → spelled_row (selector_text code sel.0) first texts ≡ Some (Kernel number)
     → found_from heap code (start.Kernel kernel) sel.0 kind ≡ Kernel number) (one : A) where
   by_found : (found : Option Found) → spelled_row (selector_text code sel.0) first texts ≡ found → row_found of found ≡ Some one
-      → FindsIn heap code kernel sel kind (to one)
+      → FindsThatRow heap code kernel sel kind (to one)
   by_found None spelled is = absurd (none-some one is)
   by_found (Some (Kernel number)) spelled is = record { number = number; found = find number spelled; row_is = is_of (row_at number) one is }
   by_found (Some (Method body holder)) spelled is = absurd (none-some one is)
@@ -74,7 +74,7 @@ module _ {A : Type 0} (of : Row → Option A) (to : A → Row) (is_of : (r : Row
   by_found (Some Absent) spelled is = absurd (none-some one is)
 
   by_name : (name : Option (List ℕ)) → slice_get code.names sel.0 ≡ name
-      → option_map_or (λ text. row_found of (spelled_row text first texts)) name None ≡ Some one → FindsIn heap code kernel sel kind (to one)
+      → option_map_or (λ text. row_found of (spelled_row text first texts)) name None ≡ Some one → FindsThatRow heap code kernel sel kind (to one)
   by_name None there is = absurd (none-some one is)
   by_name (Some text) there is =
       by_found (spelled_row (selector_text code sel.0) first texts) refl

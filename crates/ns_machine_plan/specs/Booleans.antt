@@ -10,7 +10,7 @@ use Rattle.ns_find.specs.Rows.{spelled_row, boolean_texts}
 use Rattle.ns_kcode.specs.declared.state.KMethod.{KMethod}
 use Rattle.ns_actions.specs.declared.row.Row.{Row}
 use Rattle.ns_actions.specs.declared.row.Row.TheVariants.{Method}
-use Rattle.ns_machine_plan.specs.Integers.{row_found, FindsIn}
+use Rattle.ns_machine_plan.specs.Integers.{row_found, FindsThatRow}
 
 -- the method that a row of the kernel is
 abbrev pub method_of : Row → Option KMethod
@@ -27,4 +27,4 @@ method_of_send code sel = option_map_or method_of_text (slice_get code.names sel
 
 -- A Boolean finds the method of that selector.
 abbrev pub FindsBoolean : Heap → CodeProgram → Sel → Sending → KMethod → Type 0
-FindsBoolean heap code sel kind method = FindsIn heap code class.Boolean sel kind (Method method)
+FindsBoolean heap code sel kind method = FindsThatRow heap code class.Boolean sel kind (Method method)

@@ -36,11 +36,11 @@ abbrev pub row_of_send : CodeProgram → Sel → Option IntRow
 row_of_send code sel = option_map_or row_of_text (slice_get code.names sel.0) None
 
 -- A value of a class of the kernel finds that row by a selector.
-pub record FindsIn (heap : Heap) (code : CodeProgram) (class : KernelRow) (sel : Sel) (kind : Sending) (row : Row) : Type 0 where
+pub record FindsThatRow (heap : Heap) (code : CodeProgram) (class : KernelRow) (sel : Sel) (kind : Sending) (row : Row) : Type 0 where
   pub number : ℕ
   pub found : found_from heap code (start.Kernel class) sel.0 kind ≡ Kernel number
   pub row_is : row_at number ≡ row
 
 -- An Integer finds the row of Integer of that selector.
 abbrev pub FindsInteger : Heap → CodeProgram → Sel → Sending → IntRow → Type 0
-FindsInteger heap code sel kind row = FindsIn heap code class.Integer sel kind (Integer row)
+FindsInteger heap code sel kind row = FindsThatRow heap code class.Integer sel kind (Integer row)

@@ -61,19 +61,19 @@ unpacked tables (packed.JumpFalse target) = JumpFalse target
 unpacked tables (packed.JumpTrue target) = JumpTrue target
 
 -- The number of a packed step, if it has one, is in its table.
-abbrev pub IsWithin : Tables → Packed → Type 0
-IsWithin tables (packed.PushLong at) = at < length tables.integers.items
-IsWithin tables (packed.Send at) = at < length tables.sends.items
-IsWithin tables (packed.SendPrivate at) = at < length tables.privates.items
-IsWithin tables (packed.SendSuper at) = at < length tables.supers.items
-IsWithin tables other = Unit {0}
+abbrev pub EntryIsThere : Tables → Packed → Type 0
+EntryIsThere tables (packed.PushLong at) = at < length tables.integers.items
+EntryIsThere tables (packed.Send at) = at < length tables.sends.items
+EntryIsThere tables (packed.SendPrivate at) = at < length tables.privates.items
+EntryIsThere tables (packed.SendSuper at) = at < length tables.supers.items
+EntryIsThere tables other = Unit {0}
 
 -- A packed step stands for that step.
 pub record StandsFor (tables : Tables) (step : Step) (packed : Packed) : Type 0 where
-  pub within : IsWithin tables packed
+  pub within : EntryIsThere tables packed
   pub is : unpacked tables packed ≡ step
 
 -- What stood for a step over the old tables stands for it over the new ones.
-pub record Keeps (old new : Tables) : Type 0 where
-  pub within : (packed : Packed) → IsWithin old packed → IsWithin new packed
-  pub is : (packed : Packed) → IsWithin old packed → unpacked new packed ≡ unpacked old packed
+pub record StandsForSame (old new : Tables) : Type 0 where
+  pub within : (packed : Packed) → EntryIsThere old packed → EntryIsThere new packed
+  pub is : (packed : Packed) → EntryIsThere old packed → unpacked new packed ≡ unpacked old packed

@@ -23,7 +23,7 @@ pub record IsPlanOf (code : CodeProgram) (plan : Plan) : Type 0 where
   pub fits : Fits code
 
 -- A body has a step of that number.
-pub record IsStep (code : CodeProgram) (body next : ℕ) : Type 0 where
+pub record HasStep (code : CodeProgram) (body next : ℕ) : Type 0 where
   pub body_there : body < length code.bodies
   pub next_there : next < length (steps_of code body)
 

@@ -31,12 +31,12 @@ found_in heap code holder (Nested class) = found.Nested class holder
 found_in heap code holder Absent = found.Absent
 
 -- The slot of a member is one of so many entries.
-abbrev pub IsAmong : ℕ → Member → Type 0
-IsAmong count (Method body) = Unit {0}
-IsAmong count (Getter entry) = entry < count
-IsAmong count (Setter entry) = entry < count
-IsAmong count (Nested class) = Unit {0}
-IsAmong count Absent = Unit {0}
+abbrev pub SlotIsAmong : ℕ → Member → Type 0
+SlotIsAmong count (Method body) = Unit {0}
+SlotIsAmong count (Getter entry) = entry < count
+SlotIsAmong count (Setter entry) = entry < count
+SlotIsAmong count (Nested class) = Unit {0}
+SlotIsAmong count Absent = Unit {0}
 
 -- whether a selector reads a private slot
 abbrev pub reads : ℕ → SlotCode → Bool

@@ -29,38 +29,38 @@ use Rattle.ns_machine_plan.specs.declared.step.Step.{Step}
 use Rattle.ns_machine_plan.specs.declared.step.Member.TheVariants.{Absent}
 use Rattle.ns_machine_plan.specs.Booleans.{FindsBoolean, method_of_send}
 use Rattle.ns_machine_plan.specs.Integers.{FindsInteger, row_of_send}
-use Rattle.ns_machine_plan.specs.Privates.{IsAmong, found_in, member_at}
+use Rattle.ns_machine_plan.specs.Privates.{SlotIsAmong, found_in, member_at}
 use Rattle.ns_machine_plan.specs.Steps.{instr_of}
-use Rattle.ns_machine_plan.specs.Plan.{IsStep, IsStepAt}
+use Rattle.ns_machine_plan.specs.Plan.{HasStep, IsStepAt}
 
 -- The first step of a body is there.
-abbrev pub BodiesBegin : CodeProgram → Type 0
-BodiesBegin code = (body : ℕ) → IsSound code → body < length code.bodies → IsStep code body 0
+abbrev pub BodiesHaveSteps : CodeProgram → Type 0
+BodiesHaveSteps code = (body : ℕ) → IsSound code → body < length code.bodies → HasStep code body 0
 
 -- Behind a step that goes on there is a next one.
 abbrev pub StepsGoOn : CodeProgram → Type 0
 StepsGoOn code =
-    (body next : ℕ) (step : Step) → IsSound code → IsStep code body next → IsStepAt code body next step → goes_on (instr_of step) ≡ true
-    → IsStep code body (next + 1)
+    (body next : ℕ) (step : Step) → IsSound code → HasStep code body next → IsStepAt code body next step → goes_on (instr_of step) ≡ true
+    → HasStep code body (next + 1)
 
 -- The target of a jump is a step of its body.
 abbrev pub JumpsLand : CodeProgram → Type 0
 JumpsLand code =
-    (body next to : ℕ) (step : Step) → IsSound code → IsStep code body next → IsStepAt code body next step → target (instr_of step) ≡ Some to
-    → IsStep code body to
+    (body next to : ℕ) (step : Step) → IsSound code → HasStep code body next → IsStepAt code body next step → target (instr_of step) ≡ Some to
+    → HasStep code body to
 
 -- What a step names is there, and it stands in a body in which it can be used.
 abbrev pub StepsAreUsable : CodeProgram → Type 0
 StepsAreUsable code =
-    (body next : ℕ) (step : Step) (b : BodyCode) → IsSound code → IsStep code body next → IsStepAt code body next step
+    (body next : ℕ) (step : Step) (b : BodyCode) → IsSound code → HasStep code body next → IsStepAt code body next step
     → slice_get code.bodies body ≡ Some b → IsUsable code body b next (instr_of step)
 
 -- A body that runs and waits for nothing has a next step.
 abbrev pub RunningHasStep : CodeProgram → Type 0
 RunningHasStep code =
-    (progress : Progress) (leaving : Leaving) (activation : Activation) (locals stack : List Value) (next : ℕ) (rest : List moves.Step)
+    (progress : Progress) (leaving : Leaving) (activation : Activation) (locals stack : List Value) (next : ℕ) (rest : List moves.PlacedInstr)
     → rest ≡ steps_from code activation.body next → RunningIsValid code progress Nothing leaving activation locals rest stack
-    → IsStep code activation.body next
+    → HasStep code activation.body next
 
 -- In a lawful world the member of a private send, with the holder at its level, is what its lookup finds.
 abbrev pub MembersAreFound : CodeProgram → Type 0
@@ -75,7 +75,7 @@ abbrev pub MembersAreEntries : CodeProgram → Type 0
 MembersAreEntries code =
     (world : World) (activation : Activation) (b : BodyCode) (level : ℕ) (sel : Sel) → IsLawful world code
     → FitsActivation world.cells code activation → slice_get code.bodies activation.body ≡ Some b → IsSome (declaration_at code activation.body level)
-    → IsAmong (entries_of code (declaration_of world.cells (enclosing world.cells activation level).holder)) (member_at code b level sel)
+    → SlotIsAmong (entries_of code (declaration_of world.cells (enclosing world.cells activation level).holder)) (member_at code b level sel)
 
 -- A private send of sound code has a member.
 abbrev pub PrivateSendsHaveMembers : CodeProgram → Type 0

@@ -122,7 +122,7 @@ place_of places (InitSuper argc place) = slice_get places place
 place_of places other = None
 
 -- the instruction and its place
-abbrev pub step_shown : List SourcePlace → Step → moves.Step
+abbrev pub step_shown : List SourcePlace → Step → moves.PlacedInstr
 step_shown places step = (instr_of step, place_of places step)
 
 -- A private send has the private member of the declaration around the body that it names, and a send to a value the row that

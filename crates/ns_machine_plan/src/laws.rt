@@ -2,7 +2,7 @@
 
 ghost use Rattle.ns_code.specs.declared.program.CodeProgram.{CodeProgram};
 ghost use Rattle.ns_world.specs.Heap.{Heap};
-ghost use Rattle.ns_machine_plan.specs.Stated.{BodiesBegin, StepsGoOn, JumpsLand, StepsAreUsable, RunningHasStep, FramesAreWithin};
+ghost use Rattle.ns_machine_plan.specs.Stated.{BodiesHaveSteps, StepsGoOn, JumpsLand, StepsAreUsable, RunningHasStep, FramesAreWithin};
 ghost use Rattle.ns_machine_plan.specs.Stated.{MembersAreFound, MembersAreEntries, PrivateSendsHaveMembers, PrivateSendsFind, IntegersFindRows, BooleansFindRows};
 
 use ns_actions::finding::enclosing_objects_are_there;
@@ -12,7 +12,7 @@ use ns_verify::laws::{heights_agree, sound_code_has_no_cause, sound_instructions
 /// In sound code each body has a first step; behind a step that goes on there is a next one, and the target of a jump
 /// is a step of its body.
 pub fn steps_lead_to_steps()
-    ensures first { (code : CodeProgram) → BodiesBegin code }
+    ensures first { (code : CodeProgram) → BodiesHaveSteps code }
     ensures next { (code : CodeProgram) → StepsGoOn code }
     ensures target { (code : CodeProgram) → JumpsLand code }
 {

@@ -21,13 +21,13 @@ pub struct PackedSteps {
 impl Model for PackedSteps {
     ghost use Rattle.std.specs.Prelude.{List, map, All};
     ghost use Rattle.ns_machine_plan.specs.declared.step.Step.{Step};
-    ghost use Rattle.ns_machine_plan.specs.Packed.{unpacked, IsWithin};
+    ghost use Rattle.ns_machine_plan.specs.Packed.{unpacked, EntryIsThere};
 
     ghost Value = { List Step };
 
     ghost view = { λ steps. map (unpacked steps.tables) steps.packed.items };
 
-    ghost invariant = { λ steps. All (IsWithin steps.tables) steps.packed.items };
+    ghost invariant = { λ steps. All (EntryIsThere steps.tables) steps.packed.items };
 }
 
 impl PackedSteps {

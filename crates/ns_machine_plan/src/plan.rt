@@ -3,7 +3,7 @@
 ghost use Rattle.std.specs.Prelude.{◌≡◌, ◌<◌, length, IfOk};
 ghost use Rattle.ns_code.specs.declared.program.CodeProgram.{CodeProgram};
 ghost use Rattle.ns_code.specs.Selector.{selector_arity, own_number};
-ghost use Rattle.ns_machine_plan.specs.Plan.{IsPlanOf, IsStep, IsStepAt};
+ghost use Rattle.ns_machine_plan.specs.Plan.{IsPlanOf, HasStep, IsStepAt};
 ghost use Rattle.ns_machine_plan.specs.Rows.{entry_of, IsRowOf};
 ghost use Rattle.ns_machine_plan.specs.Steps.{places_of};
 ghost use Rattle.ns_actions.specs.Bodies.{greatest_of};
@@ -74,7 +74,7 @@ impl Plan {
     #[inline(always)]
     pub fn step(&self, code: &CodeProgram, body: u32, next: u32) -> Step
         requires plan { IsPlanOf code.now self.now }
-        requires there { IsStep code.now body next }
+        requires there { HasStep code.now body next }
         ensures { IsStepAt code.now body next result }
     {
         let entry = self.row(code, body).entry;
@@ -85,7 +85,7 @@ impl Plan {
     #[inline(always)]
     pub fn step_from(&self, code: &CodeProgram, body: u32, entry: usize, next: u32) -> Step
         requires plan { IsPlanOf code.now self.now }
-        requires there { IsStep code.now body next }
+        requires there { HasStep code.now body next }
         requires entry { entry ≡ entry_of code.now body }
         ensures { IsStepAt code.now body next result }
     {

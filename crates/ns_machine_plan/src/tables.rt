@@ -34,7 +34,7 @@ impl Tables {
 
     /// Packs a step. What doesn't fit gets the next number of its table; more than have numbers find no memory.
     pub fn pack(&mut self, step: Step) -> Result<Packed, NoMemory>
-        ensures keeps { spec.Keeps self.old self.new }
+        ensures keeps { spec.StandsForSame self.old self.new }
         ensures packed { IfOk result (spec.StandsFor self.new step) }
     {
         match step {
@@ -93,7 +93,7 @@ impl Tables {
     /// The step that a packed one stands for.
     #[inline(always)]
     pub fn unpack(&self, packed: Packed) -> Step
-        requires { spec.IsWithin self.now packed }
+        requires { spec.EntryIsThere self.now packed }
         ensures { result ≡ spec.unpacked self.now packed }
     {
         match packed {
@@ -128,7 +128,7 @@ impl Tables {
 
     /// An integer, which fits where it has 32 bits.
     fn pack_integer(&mut self, number: i64) -> Result<Packed, NoMemory>
-        ensures keeps { spec.Keeps self.old self.new }
+        ensures keeps { spec.StandsForSame self.old self.new }
         ensures packed { IfOk result (spec.StandsFor self.new (PushInt number)) }
     {
         match i32::try_from(number) {
@@ -139,7 +139,7 @@ impl Tables {
 
     /// An integer, in its table.
     fn pack_long(&mut self, number: i64) -> Result<Packed, NoMemory>
-        ensures keeps { spec.Keeps self.old self.new }
+        ensures keeps { spec.StandsForSame self.old self.new }
         ensures packed { IfOk result (spec.StandsFor self.new (PushInt number)) }
     {
         let at = put(&mut self.integers, number)?;
@@ -148,7 +148,7 @@ impl Tables {
 
     /// A send to a value, in its table.
     fn pack_send(&mut self, send: ValueSend) -> Result<Packed, NoMemory>
-        ensures keeps { spec.Keeps self.old self.new }
+        ensures keeps { spec.StandsForSame self.old self.new }
         ensures packed { IfOk result (spec.StandsFor self.new (spec.value_send send)) }
     {
         let at = put(&mut self.sends, send)?;
@@ -157,7 +157,7 @@ impl Tables {
 
     /// A private send, in its table.
     fn pack_private(&mut self, send: PrivateSend) -> Result<Packed, NoMemory>
-        ensures keeps { spec.Keeps self.old self.new }
+        ensures keeps { spec.StandsForSame self.old self.new }
         ensures packed { IfOk result (spec.StandsFor self.new (spec.private_send send)) }
     {
         let at = put(&mut self.privates, send)?;
@@ -166,7 +166,7 @@ impl Tables {
 
     /// A send to the superclass, in its table.
     fn pack_super(&mut self, send: SuperSend) -> Result<Packed, NoMemory>
-        ensures keeps { spec.Keeps self.old self.new }
+        ensures keeps { spec.StandsForSame self.old self.new }
         ensures packed { IfOk result (spec.StandsFor self.new (spec.super_send send)) }
     {
         let at = put(&mut self.supers, send)?;

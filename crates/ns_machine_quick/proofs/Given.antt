@@ -4,7 +4,7 @@ use Rattle.ns_code.specs.declared.program.CodeProgram.{CodeProgram}
 use Rattle.ns_world.specs.declared.value.Value.{Value}
 use Rattle.ns_world.specs.World.{WorldView}
 use Rattle.ns_find.specs.declared.found.Sending.{Sending}
-use Rattle.ns_find.specs.Memo.{IsRight}
+use Rattle.ns_find.specs.Memo.{PlaceIsRight}
 use Rattle.ns_actions.specs.Control.{Activation, Progress}
 use Rattle.ns_actions.specs.Sends as sends
 use Rattle.ns_actions.specs.Sends.{Target, To}
@@ -21,7 +21,7 @@ use Rattle.ns_machine_core.specs.declared.state.Next.{Next}
 use Rattle.ns_machine_core.specs.declared.state.Next.TheVariants.{On}
 use Rattle.ns_machine_core.specs.Shown.{phase_shown}
 use Rattle.ns_machine_core.specs.Straight.{StaysOnTop}
-use Rattle.ns_machine_core.specs.Tried.{IsUntouched, led_on, led_charged}
+use Rattle.ns_machine_core.specs.Tried.{OnlyLookupsChanged, led_on, led_charged}
 use Rattle.ns_machine_sends.specs.declared.sent.Sent.{Sent}
 use Rattle.ns_machine_sends.specs.Going.{arguments_in}
 use Rattle.ns_machine_sends.specs.Sending.{sent_at, Sends}
@@ -48,22 +48,22 @@ kept_sends code core new at sent run activation target next rest is = record {
     places = is.stays.places;
     arguments = is.stays.arguments;
   };
-  kept = subst (λ (w : WorldView). All (IsRight w.world.cells code) new.run.memo) same is.kept;
+  kept = subst (λ (w : WorldView). All (PlaceIsRight w.world.cells code) new.run.memo) same is.kept;
 }
   where
     same : run.world ≡ core.run.world
     same = ap (λ (r : Run). r.world) rest
 
 -- What is untouched after a lookup is so before it.
-pub kept_untouched : (code : CodeProgram) (core new : Core) (run : Run) → looked core run → IsUntouched code (record core { run = run }) new → IsUntouched code core new
+pub kept_untouched : (code : CodeProgram) (core new : Core) (run : Run) → looked core run → OnlyLookupsChanged code (record core { run = run }) new → OnlyLookupsChanged code core new
 kept_untouched code core new run rest is = record {
   same = is.same ∙ ap (λ (r : Run). let c : Core = record core { run = record r { memo = new.run.memo } } in c) rest;
-  kept = subst (λ (w : WorldView). All (IsRight w.world.cells code) new.run.memo) (ap (λ (r : Run). r.world) rest) is.kept;
+  kept = subst (λ (w : WorldView). All (PlaceIsRight w.world.cells code) new.run.memo) (ap (λ (r : Run). r.world) rest) is.kept;
 }
 
 -- What a lookup leaves is untouched.
-pub looked_untouched : (code : CodeProgram) (core : Core) (run : Run) → looked core run → All (IsRight core.run.world.world.cells code) run.memo
-    → IsUntouched code core (record core { run = run })
+pub looked_untouched : (code : CodeProgram) (core : Core) (run : Run) → looked core run → All (PlaceIsRight core.run.world.world.cells code) run.memo
+    → OnlyLookupsChanged code core (record core { run = run })
 looked_untouched code core run rest kept = record {
   same = ap (λ (r : Run). let c : Core = record core { run = r } in c) rest;
   kept = kept;

@@ -13,7 +13,7 @@ use Rattle.ns_world.specs.Starts.{start_of, class_name_of, class_name_at}
 use Rattle.ns_find.specs.declared.found.Sending.{Sending}
 use Rattle.ns_find.specs.Find.{found_from}
 use Rattle.ns_kint.specs.declared.row.IntRow.{IntRow}
-use Rattle.ns_machine_plan.specs.Integers.{FindsIn, FindsInteger}
+use Rattle.ns_machine_plan.specs.Integers.{FindsThatRow, FindsInteger}
 use Rattle.ns_actions.specs.declared.row.Row.{Row}
 use Rattle.ns_actions.specs.declared.row.Row.TheVariants.{Integer}
 use Rattle.ns_actions.specs.Blocks.{is_integer}
@@ -37,7 +37,7 @@ integer_named heap receiver is = ap (class_name_at heap) (sym (integer_starts he
 
 -- so it finds the row that its selector spells
 pub class_finds : (code : CodeProgram) (core : Core) (sent : Sent) (receiver : Value) (kind : Sending) (rows : KernelRow) (row : Row)
-    → start_of core.run.world.world.cells receiver ≡ start.Kernel rows → FindsIn core.run.world.world.cells code rows sent.site.sel kind row
+    → start_of core.run.world.world.cells receiver ≡ start.Kernel rows → FindsThatRow core.run.world.world.cells code rows sent.site.sel kind row
     → FindsRow code core sent receiver kind row
 class_finds code core sent receiver kind rows row starts finds = record {
   number = finds.number;

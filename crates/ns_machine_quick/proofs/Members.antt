@@ -13,7 +13,7 @@ use Rattle.ns_actions.specs.Lawful.{FitsActivation, declaration_at}
 use Rattle.ns_actions.specs.Sends.{ToPrivate, found_at}
 use Rattle.ns_machine_plan.specs.declared.step.Member.{Member}
 use Rattle.ns_machine_plan.specs.Stated.{MembersAreFound, MembersAreEntries}
-use Rattle.ns_machine_plan.specs.Privates.{IsAmong, found_in}
+use Rattle.ns_machine_plan.specs.Privates.{SlotIsAmong, found_in}
 use Rattle.ns_machine_quick.specs.Opening.{IsMemberAt}
 
 module _ (code : CodeProgram) where
@@ -31,12 +31,12 @@ module _ (code : CodeProgram) where
 
   pub member_among : MembersAreEntries code → (world : World) (activation : Activation) (level : ℕ) (sel : Sel) (member : Member) → IsLawful world code
       → FitsActivation world.cells code activation → IsSome (declaration_at code activation.body level) → IsMemberAt code activation.body level sel member
-      → IsAmong (entries_of code (declaration_of world.cells (enclosing world.cells activation level).holder)) member
+      → SlotIsAmong (entries_of code (declaration_of world.cells (enclosing world.cells activation level).holder)) member
   member_among entries world activation level sel member lawful fits there is = by_body (slice_get code.bodies activation.body) refl fits.there
     where
       by_body : (o : Option BodyCode) → slice_get code.bodies activation.body ≡ o → IsSome o
-          → IsAmong (entries_of code (declaration_of world.cells (enclosing world.cells activation level).holder)) member
+          → SlotIsAmong (entries_of code (declaration_of world.cells (enclosing world.cells activation level).holder)) member
       by_body None e some = absurd (cc (some))
       by_body (Some b) e some =
-          subst (λ (m : Member). IsAmong (entries_of code (declaration_of world.cells (enclosing world.cells activation level).holder)) m) (sym (is b e))
+          subst (λ (m : Member). SlotIsAmong (entries_of code (declaration_of world.cells (enclosing world.cells activation level).holder)) m) (sym (is b e))
           (entries world activation b level sel lawful fits e there)

@@ -11,7 +11,7 @@ use Rattle.ns_actions.specs.Control.{Activation}
 use Rattle.ns_actions.specs.Sends.{To}
 use Rattle.ns_machine_moves.specs.Arrivals.{arrived}
 use Rattle.ns_machine_moves.specs.State.{State}
-use Rattle.ns_machine_frames.specs.Stated.{AreTaken}
+use Rattle.ns_machine_frames.specs.Stated.{ComeOffAgain}
 use Rattle.ns_machine_frames.specs.declared.registers.Registers.{Registers}
 use Rattle.ns_machine_frames.specs.Standing.{Stood, pushed}
 use Rattle.ns_machine_frames.specs.Stack.{stood, with_top}
@@ -24,7 +24,7 @@ use Rattle.ns_machine_core.specs.declared.state.Next.TheVariants.{On}
 use Rattle.ns_machine_core.specs.Shown.{phase_shown}
 use Rattle.ns_machine_core.specs.Doing.{CanDo}
 use Rattle.ns_machine_core.specs.Passing.{Passes, DoesTwice}
-use Rattle.ns_machine_core.specs.Tried.{Leads}
+use Rattle.ns_machine_core.specs.Tried.{LeadsOrChangesNothing}
 use Rattle.ns_machine_sends.specs.Sending.{sent_at}
 use Rattle.ns_machine_sends.specs.Operands.{SendsOperands}
 use Rattle.ns_machine_sends.specs.laws.Received.{sent_of, many, whole, sends_to_top, send_operands, inner_operands, by, leads_so, kind_does}
@@ -61,7 +61,7 @@ pub kind_operands : (code : CodeProgram) (core : Core) (at : Registers) (sel : S
 kind_operands code core at sel argc Plain can = send_operands code core at sel argc can
 kind_operands code core at sel argc Inner can = inner_operands code core at sel argc can
 
-module _ (taken : (missing : State) → AreTaken missing) (code : CodeProgram) (old new : Core) (at : Registers) (sel : Sel) (argc place : ℕ) where
+module _ (taken : (missing : State) → ComeOffAgain missing) (code : CodeProgram) (old new : Core) (at : Registers) (sel : Sel) (argc place : ℕ) where
   pub kind_answers : (kind : Sending) (next : Next) → CanDo code old at (send_instr kind sel argc) → AnswersToTop code old at sel argc place kind new next
       → DoesTwice code (send_instr kind sel argc) (slice_get old.places place) old at new next
   kind_answers kind next can is =
@@ -70,7 +70,7 @@ module _ (taken : (missing : State) → AreTaken missing) (code : CodeProgram) (
 
   -- Where it leads, the instruction leads.
   pub kind_leads : (kind : Sending) (led : Led) → CanDo code old at (send_instr kind sel argc) → ToTopLeads code old at sel argc place kind new led
-      → Leads code (send_instr kind sel argc) (slice_get old.places place) old at new led
+      → LeadsOrChangesNothing code (send_instr kind sel argc) (slice_get old.places place) old at new led
   kind_leads kind (Straight to) can is = record { does = kind_does taken code old new at sel argc place kind (On to) can is.0; stays = is.1 }
   kind_leads kind (Charged to) can is = record { does = kind_does taken code old new at sel argc place kind (On to) can is.0; stays = is.1 }
   kind_leads kind (OnTop to) can is = kind_does taken code old new at sel argc place kind (On to) can is

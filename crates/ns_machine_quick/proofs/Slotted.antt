@@ -9,7 +9,7 @@ use Rattle.ns_world.specs.Lawful.{IsLawful, HasHolder}
 use Rattle.ns_world.specs.World.{World, WorldView, stepped, stored}
 use Rattle.ns_find.specs.declared.found.Found.{Found}
 use Rattle.ns_find.specs.declared.found.Found.TheVariants.{Getter, Setter}
-use Rattle.ns_find.specs.Belonging.{HasSlot}
+use Rattle.ns_find.specs.Belonging.{IsSlotOf}
 use Rattle.ns_kdata.specs.Arguments.{argument}
 use Rattle.ns_actions.specs.Control.{Activation, gives, in_world}
 use Rattle.ns_actions.specs.Sends.{Target, answered_by, first_of, found_at, receiver_of}
@@ -37,19 +37,19 @@ use Rattle.ns_machine_quick.specs.Opening.{got_at, set_at}
 
 abbrev SlotsInside : Type 0
 SlotsInside =
-    (world : World) (code : CodeProgram) (at holder word : ℕ) → IsLawful world code → HasHolder world.cells (Ref at) holder → HasSlot world.cells code holder word
+    (world : World) (code : CodeProgram) (at holder word : ℕ) → IsLawful world code → HasHolder world.cells (Ref at) holder → IsSlotOf world.cells code holder word
     → word < length (open_words_at world.cells at)
 
 abbrev AllOpen : Type 0
 AllOpen = (world : World) (at holder : ℕ) → HasHolder world.cells (Ref at) holder → open_words_at world.cells at ≡ words_at world.cells at
 
 pub setter_there : SlotsInside → (world : World) (code : CodeProgram) (receiver : Value) (holder word : ℕ) → IsLawful world code
-    → HasHolder world.cells receiver holder → HasSlot world.cells code holder word → (at : ℕ) → receiver ≡ Ref at → word < length (open_words_at world.cells at)
+    → HasHolder world.cells receiver holder → IsSlotOf world.cells code holder word → (at : ℕ) → receiver ≡ Ref at → word < length (open_words_at world.cells at)
 setter_there inside world code receiver holder word lawful has slot at ref =
     inside world code at holder word lawful (subst (λ v. HasHolder world.cells v holder) ref has) slot
 
 pub getter_there : SlotsInside → AllOpen → (world : World) (code : CodeProgram) (receiver : Value) (holder word : ℕ) → IsLawful world code
-    → HasHolder world.cells receiver holder → HasSlot world.cells code holder word → (at : ℕ) → receiver ≡ Ref at → word < length (words_at world.cells at)
+    → HasHolder world.cells receiver holder → IsSlotOf world.cells code holder word → (at : ℕ) → receiver ≡ Ref at → word < length (words_at world.cells at)
 getter_there inside all world code receiver holder word lawful has slot at ref =
     let there = setter_there inside world code receiver holder word lawful has slot at ref in
     omega (arith, there, ap length (all world at holder (subst (λ v. HasHolder world.cells v holder) ref has)))

@@ -10,10 +10,10 @@ use Rattle.ns_find.specs.declared.found.Found.{Found}
 use Rattle.ns_find.specs.declared.found.Sending.{Sending}
 use Rattle.ns_kdata.specs.declared.row.DataRow.{DataRow}
 use Rattle.ns_kdata.specs.declared.row.DataRow.TheVariants.{ArrayPut, DoesNotUnderstand}
-use Rattle.ns_kdata.specs.Arguments.{argument, number_of, IsThere}
+use Rattle.ns_kdata.specs.Arguments.{argument, number_of, CellIsThere}
 use Rattle.ns_kdata.specs.Datum.{datum, row_outcome}
 use Rattle.ns_kdata.specs.Giving.{GivesAtOnce}
-use Rattle.ns_kdata.specs.Outcome.{Outcome, Answers}
+use Rattle.ns_kdata.specs.Outcome.{RowOutcome, Answers}
 use Rattle.ns_kdata.specs.Rows.{put_at_place}
 use Rattle.ns_world.specs.World.{stored}
 use Rattle.ns_kint.specs.declared.row.IntRow.{IntRow}
@@ -40,7 +40,7 @@ use Rattle.ns_machine_quick.proofs.Slotted.{with_stored, stored_limits}
 
 -- ---- the argument
 
-live_there : (heap : Heap) (code : CodeProgram) (v : Value) → IsLive heap code v → IsThere heap v
+live_there : (heap : Heap) (code : CodeProgram) (v : Value) → IsLive heap code v → CellIsThere heap v
 live_there heap code (value.Ref at) live = live
 live_there heap code value.Nil live = tt
 live_there heap code value.True live = tt
@@ -50,9 +50,9 @@ live_there heap code (value.Sym sel) live = tt
 live_there heap code (value.Kernel class) live = tt
 
 -- the first of live arguments is there, and so is nil
-pub first_there : (heap : Heap) (code : CodeProgram) (values : List Value) (v : Value) → All (IsLiveValue heap code) values → v ≡ argument values 0 → IsThere heap v
-first_there heap code [] v live is = subst (IsThere heap) (sym is) tt
-first_there heap code (one ∷ values) v live is = subst (IsThere heap) (sym is) (live_there heap code one (live 0 one (omega arith)).0)
+pub first_there : (heap : Heap) (code : CodeProgram) (values : List Value) (v : Value) → All (IsLiveValue heap code) values → v ≡ argument values 0 → CellIsThere heap v
+first_there heap code [] v live is = subst (CellIsThere heap) (sym is) tt
+first_there heap code (one ∷ values) v live is = subst (CellIsThere heap) (sym is) (live_there heap code one (live 0 one (omega arith)).0)
 
 -- ---- the value
 
@@ -66,7 +66,7 @@ integer_gives code heap row receiver right value is arguments site progress firs
 data_answers : (code : CodeProgram) (row : DataRow) (receiver value : Value) (arguments : List Value) (site : Site) (progress : Progress)
     → datum progress.world code row receiver arguments ≡ Answers value progress.world → data_reached code row receiver arguments site progress ≡ gives value progress
 data_answers code DoesNotUnderstand receiver value arguments site progress is = absurd (cc)
-data_answers code row receiver value arguments site progress is = ap (λ (o : Outcome). outcome_reached o site progress) is
+data_answers code row receiver value arguments site progress is = ap (λ (o : RowOutcome). outcome_reached o site progress) is
 
 pub data_gives : (code : CodeProgram) (heap : Heap) (row : DataRow) (receiver first value : Value) → GivesAtOnce heap code row receiver first value
     → RowGives code heap (Data row) receiver first value

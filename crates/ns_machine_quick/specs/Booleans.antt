@@ -21,7 +21,7 @@ use Rattle.ns_machine_core.specs.declared.led.Led.TheVariants.{Charged, On as On
 use Rattle.ns_machine_core.specs.declared.state.Core.{Core}
 use Rattle.ns_machine_core.specs.declared.state.Next.{Next}
 use Rattle.ns_machine_core.specs.declared.state.Next.TheVariants.{On}
-use Rattle.ns_machine_core.specs.Doing.{Does}
+use Rattle.ns_machine_core.specs.Doing.{IsDone}
 use Rattle.ns_machine_core.specs.Passing.{Passes, DoesTwice}
 use Rattle.ns_machine_core.specs.Straight.{GoesStraight}
 use Rattle.ns_machine_core.specs.Shown.{phase_shown, progress_in}
@@ -81,7 +81,7 @@ ToTopLeadsOrNothing code old at sel argc place kind new other = ⊥
 -- too; or nothing has changed.
 abbrev pub LeadsOrNothing : CodeProgram → Instr → Option SourcePlace → Core → Registers → Core → Led → Type 0
 LeadsOrNothing code instr place old at new (Charged to) = GoesStraight code 1 instr place old at new to
-LeadsOrNothing code instr place old at new (OnTop to) = Does code instr place old at new (On to)
+LeadsOrNothing code instr place old at new (OnTop to) = IsDone code instr place old at new (On to)
 LeadsOrNothing code instr place old at new (Answered to) = DoesTwice code instr place old at new (On to)
 LeadsOrNothing code instr place old at new Nowhere = new ≡ old
 LeadsOrNothing code instr place old at new other = ⊥

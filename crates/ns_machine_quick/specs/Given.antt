@@ -12,7 +12,7 @@ use Rattle.ns_machine_core.specs.declared.led.Led.TheVariants.{Straight, Charged
 use Rattle.ns_machine_core.specs.declared.state.Core.{Core}
 use Rattle.ns_machine_core.specs.declared.state.Next.TheVariants.{On}
 use Rattle.ns_machine_core.specs.Straight.{StaysOnTop}
-use Rattle.ns_machine_core.specs.Tried.{IsUntouched}
+use Rattle.ns_machine_core.specs.Tried.{OnlyLookupsChanged}
 use Rattle.ns_machine_sends.specs.declared.sent.Sent.{Sent}
 use Rattle.ns_machine_sends.specs.Operands.{SendsToTop}
 use Rattle.ns_machine_sends.specs.Sending.{sent_at, Sends}
@@ -21,7 +21,7 @@ use Rattle.ns_machine_sends.specs.Sending.{sent_at, Sends}
 abbrev pub SendsOrNot : CodeProgram → Core → Registers → Sent → Value → Sending → Core → Option Registers → Type 0
 SendsOrNot code old at sent receiver kind new (Some to) =
     (activation : Activation) → Sends code old at sent.floor (sent_at code old at sent activation (To receiver kind)) new (On to)
-SendsOrNot code old at sent receiver kind new None = IsUntouched code old new
+SendsOrNot code old at sent receiver kind new None = OnlyLookupsChanged code old new
 
 -- The same, and the body that runs stays on top, with so many steps charged.
 abbrev pub SendsOnTop : ℕ → CodeProgram → Core → Registers → Sent → Value → Sending → Core → Registers → Type 0
@@ -32,7 +32,7 @@ SendsOnTop charged code old at sent receiver kind new to =
 -- It has led straight on to those registers, with one step charged; or nothing is done.
 abbrev pub ChargesOrNot : CodeProgram → Core → Registers → Sent → Value → Sending → Core → Option Registers → Type 0
 ChargesOrNot code old at sent receiver kind new (Some to) = SendsOnTop 1 code old at sent receiver kind new to
-ChargesOrNot code old at sent receiver kind new None = IsUntouched code old new
+ChargesOrNot code old at sent receiver kind new None = OnlyLookupsChanged code old new
 
 -- It has led there; or nothing is done.
 abbrev pub SendLeads : CodeProgram → Core → Registers → Sent → Value → Sending → Core → Led → Type 0
@@ -41,7 +41,7 @@ SendLeads code old at sent receiver kind new (Charged to) = SendsOnTop 1 code ol
 SendLeads code old at sent receiver kind new (OnTop to) =
     (activation : Activation) → Sends code old at sent.floor (sent_at code old at sent activation (To receiver kind)) new (On to)
 SendLeads code old at sent receiver kind new (Answered to) = ⊥
-SendLeads code old at sent receiver kind new Nowhere = IsUntouched code old new
+SendLeads code old at sent receiver kind new Nowhere = OnlyLookupsChanged code old new
 
 -- The same of operands that are sent to the receiver below them.
 abbrev pub ToTopLeads : CodeProgram → Core → Registers → Sel → ℕ → ℕ → Sending → Core → Led → Type 0
@@ -49,4 +49,4 @@ ToTopLeads code old at sel argc place kind new (Straight to) = SendsToTop code o
 ToTopLeads code old at sel argc place kind new (Charged to) = SendsToTop code old at sel argc place kind new (On to) × StaysOnTop 1 old new
 ToTopLeads code old at sel argc place kind new (OnTop to) = SendsToTop code old at sel argc place kind new (On to)
 ToTopLeads code old at sel argc place kind new (Answered to) = ⊥
-ToTopLeads code old at sel argc place kind new Nowhere = IsUntouched code old new
+ToTopLeads code old at sel argc place kind new Nowhere = OnlyLookupsChanged code old new

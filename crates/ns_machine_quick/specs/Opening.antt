@@ -29,7 +29,7 @@ use Rattle.ns_machine_core.specs.declared.state.Core.{Core}
 use Rattle.ns_machine_core.specs.declared.state.Next.TheVariants.{On}
 use Rattle.ns_machine_core.specs.Shown.{progress_in}
 use Rattle.ns_machine_core.specs.Straight.{StaysOnTop}
-use Rattle.ns_machine_core.specs.Tried.{IsUntouched}
+use Rattle.ns_machine_core.specs.Tried.{OnlyLookupsChanged}
 use Rattle.ns_machine_sends.specs.declared.sent.Sent.{Sent}
 use Rattle.ns_machine_sends.specs.Going.{arguments_in}
 use Rattle.ns_machine_sends.specs.Sending.{sent_at, Sends}
@@ -78,13 +78,13 @@ FindsAround code core running level sent found = found ≡ found_at core.run.wor
 -- A private send has led on with the topmost frame at those registers; or nothing is done.
 abbrev pub AroundOrNot : CodeProgram → Core → Registers → Sent → RunningCode → ℕ → Core → Option Registers → Type 0
 AroundOrNot code old at sent running level new (Some to) = Sends code old at sent.floor (sent_at code old at sent (code_of running) (ToPrivate level)) new (On to)
-AroundOrNot code old at sent running level new None = IsUntouched code old new
+AroundOrNot code old at sent running level new None = OnlyLookupsChanged code old new
 
 -- It has led straight on to those registers, with one step charged; or nothing is done.
 abbrev pub AroundCharges : CodeProgram → Core → Registers → Sent → RunningCode → ℕ → Core → Option Registers → Type 0
 AroundCharges code old at sent running level new (Some to) =
     Sends code old at sent.floor (sent_at code old at sent (code_of running) (ToPrivate level)) new (On to) × StaysOnTop 1 old new
-AroundCharges code old at sent running level new None = IsUntouched code old new
+AroundCharges code old at sent running level new None = OnlyLookupsChanged code old new
 
 -- It has led there; or nothing is done.
 abbrev pub AroundLeads : CodeProgram → Core → Registers → Sent → RunningCode → ℕ → Core → Led → Type 0
@@ -95,7 +95,7 @@ AroundLeads code old at sent running level new (Charged to) =
 AroundLeads code old at sent running level new (OnTop to) =
     Sends code old at sent.floor (sent_at code old at sent (code_of running) (ToPrivate level)) new (On to)
 AroundLeads code old at sent running level new (Answered to) = ⊥
-AroundLeads code old at sent running level new Nowhere = IsUntouched code old new
+AroundLeads code old at sent running level new Nowhere = OnlyLookupsChanged code old new
 
 -- The member is the private one of that name of the declaration so many levels out from a body.
 abbrev pub IsMemberAt : CodeProgram → ℕ → ℕ → Sel → Member → Type 0

@@ -6,7 +6,7 @@ ghost use Rattle.ns_code.specs.declared.instruction.Instr.TheVariants as instr;
 ghost use Rattle.ns_world.specs.Starts.{start_of};
 ghost use Rattle.ns_find.specs.Find.{found_from};
 ghost use Rattle.ns_machine_core.specs.Doing.{CanDo};
-ghost use Rattle.ns_machine_core.specs.Tried.{Leads};
+ghost use Rattle.ns_machine_core.specs.Tried.{LeadsOrChangesNothing};
 ghost use Rattle.ns_machine_sends.specs.Operands.{SendsOperands};
 ghost use Rattle.ns_machine_sends.specs.Sending.{CanSend};
 ghost use Rattle.ns_machine_quick.specs.Given.{SendLeads, ToTopLeads};
@@ -40,7 +40,7 @@ pub fn send(
     place: u32,
 ) -> Led
     requires { CanDo code.now core.old at (instr.Send sel argc) }
-    ensures { Leads code.now (instr.Send sel argc) (slice_get core.old.places place) core.old at core.new result }
+    ensures { LeadsOrChangesNothing code.now (instr.Send sel argc) (slice_get core.old.places place) core.old at core.new result }
 {
     operands_are_taken();
     send_operands(code, core, at, sel, argc, place, Sending::Plain)
@@ -58,7 +58,7 @@ pub fn send_inner(
     place: u32,
 ) -> Led
     requires { CanDo code.now core.old at (instr.SendInner sel argc) }
-    ensures { Leads code.now (instr.SendInner sel argc) (slice_get core.old.places place) core.old at core.new result }
+    ensures { LeadsOrChangesNothing code.now (instr.SendInner sel argc) (slice_get core.old.places place) core.old at core.new result }
 {
     operands_are_taken();
     send_operands(code, core, at, sel, argc, place, Sending::Inner)

@@ -2,7 +2,7 @@
 
 ghost use Rattle.std.specs.Prelude.{length, Decides};
 ghost use Rattle.ns_machine_core.specs.declared.state.Next.TheVariants as next;
-ghost use Rattle.ns_machine_sends.specs.Going.{arguments_in, GoesOn};
+ghost use Rattle.ns_machine_sends.specs.Going.{arguments_in, ControlGoesOn};
 ghost use Rattle.ns_machine_sends.specs.Sending.{CanSend, Sends};
 ghost use Rattle.ns_machine_quick.specs.Given.{SendsOrNot};
 ghost use Rattle.ns_machine_quick.specs.Opening.{HasRoomFor, FindsMethod, begun_at};
@@ -79,7 +79,7 @@ pub fn begin(
 ) -> Registers
     requires can { CanSend code.now core.old at sent receiver }
     requires room { HasRoomFor core.old.run.world.world code.now body (length (arguments_in core.old at sent)) }
-    requires goes { GoesOn code.now (length core.old.stack.frames.items) (begun_at code.now core.old at sent receiver body holder) }
+    requires goes { ControlGoesOn code.now (length core.old.stack.frames.items) (begun_at code.now core.old at sent receiver body holder) }
     ensures { Sends code.now core.old at sent.floor (begun_at code.now core.old at sent receiver body holder) core.new (next.On result) }
 {
     let arguments = core.stack.from(at, sent.first);

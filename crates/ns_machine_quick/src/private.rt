@@ -12,9 +12,9 @@ ghost use Rattle.ns_actions.specs.Lawful.{FitsActivation, declaration_at};
 ghost use Rattle.ns_actions.specs.Sends.{ToPrivate, found_at, receiver_of};
 ghost use Rattle.ns_act.specs.Enclosing.{place_of};
 ghost use Rattle.ns_act.specs.Running.{code_of};
-ghost use Rattle.ns_machine_plan.specs.Privates.{IsAmong, found_in};
+ghost use Rattle.ns_machine_plan.specs.Privates.{SlotIsAmong, found_in};
 ghost use Rattle.ns_machine_core.specs.Doing.{CanDo};
-ghost use Rattle.ns_machine_core.specs.Tried.{Leads};
+ghost use Rattle.ns_machine_core.specs.Tried.{LeadsOrChangesNothing};
 ghost use Rattle.ns_machine_sends.specs.Sending.{CanSend};
 ghost use Rattle.ns_machine_quick.specs.Opening.{FindsAround, AroundOrNot, AroundCharges, AroundLeads, IsMemberAbove, IsMemberAt};
 
@@ -58,7 +58,7 @@ pub fn send_private(
 ) -> Led
     requires can { CanDo code.now core.old at (instr.SendPrivate level sel argc) }
     requires member { IsMemberAbove code.now core.old.stack.frames.items level sel member }
-    ensures { Leads code.now (instr.SendPrivate level sel argc) (slice_get core.old.places place) core.old at core.new result }
+    ensures { LeadsOrChangesNothing code.now (instr.SendPrivate level sel argc) (slice_get core.old.places place) core.old at core.new result }
 {
     operands_are_taken();
     enclosing_objects_are_there();
@@ -147,7 +147,7 @@ fn found_around(
 fn found_with(world: &World, code: &CodeProgram, holder: u32, member: Member) -> Found
     requires lawful { IsLawful world.now.world code.now }
     requires holder { IsTrue (is_class (find_cell world.now.world.cells holder)) }
-    requires among { IsAmong (entries_of code.now (declaration_of world.now.world.cells holder)) member }
+    requires among { SlotIsAmong (entries_of code.now (declaration_of world.now.world.cells holder)) member }
     ensures { result ≡ found_in world.now.world.cells code.now holder member }
 {
     match member {

@@ -4,7 +4,7 @@
 ghost use Rattle.std.specs.Prelude.{◌<◌, length, IfSome};
 ghost use Rattle.ns_world.specs.Heap.{Heap};
 ghost use Rattle.ns_kdata.specs.declared.row.DataRow.TheVariants.{ArrayPut};
-ghost use Rattle.ns_kdata.specs.Arguments.{argument as argument_at, IsThere, items_of};
+ghost use Rattle.ns_kdata.specs.Arguments.{argument as argument_at, CellIsThere, items_of};
 ghost use Rattle.ns_actions.specs.Control.{Activation};
 ghost use Rattle.ns_actions.specs.declared.row.Row.TheVariants.{Data, Integer};
 ghost use Rattle.ns_actions.specs.Sends.{To};
@@ -91,8 +91,8 @@ fn value_of(
     receiver: Value,
     first: Value,
 ) -> Option<Value>
-    requires receiver { IsThere world.now.world.cells receiver }
-    requires first { IsThere world.now.world.cells first }
+    requires receiver { CellIsThere world.now.world.cells receiver }
+    requires first { CellIsThere world.now.world.cells first }
     ensures { IfSome result (λ value. RowGives code.now world.now.world.cells row receiver first value) }
 {
     match row {

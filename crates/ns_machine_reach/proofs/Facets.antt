@@ -22,7 +22,7 @@ use Rattle.ns_world.specs.Cell.{Cell, ObjectCell, ClassCell, BlockCell, Environm
 use Rattle.ns_world.specs.Heap.{Heap, find_cell, chain_of, shape_at, no_class, cell_number}
 use Rattle.ns_world.specs.Seek.{first_such, is_facet, is_top}
 use Rattle.ns_world.specs.Starts.{class_name_of}
-use Rattle.ns_kdata.specs.Outcome.{Outcome, Answers, Fails, making, unchanged, wrong_kind}
+use Rattle.ns_kdata.specs.Outcome.{RowOutcome, Answers, Fails, making, unchanged, wrong_kind}
 use Rattle.ns_kdata.specs.Arguments.{items_of, shape_of_value, is_text, is_array, bytes_of, place_in}
 use Rattle.ns_world.specs.World.{stored}
 use Rattle.ns_world.specs.Layout.{declaration_of}
@@ -168,7 +168,7 @@ module _ (Has : ℕ → Type 0) (first : Progress) where
   }
 
   -- what a row comes to, with the board after it
-  abbrev pub WithBoard : Progress → Board → Outcome → Type 0
+  abbrev pub WithBoard : Progress → Board → RowOutcome → Type 0
   WithBoard now board outcome = OutcomeIn Has first (record now { board = board }) outcome × Kept Has first (record now { board = board })
 
   -- ---- the rows of facets
@@ -198,7 +198,7 @@ module _ (Has : ℕ → Type 0) (first : Progress) where
   ReflectedIn now (Reflects (Perform receiver sel array) world) = In Has receiver × Has array × Kept Has first (in_world now world)
   ReflectedIn now (Refuses fault) = Unit {0}
 
-  outcome_reflected : (now : Progress) (outcome : Outcome) → OutcomeIn Has first now outcome → ReflectedIn now (reflected outcome)
+  outcome_reflected : (now : Progress) (outcome : RowOutcome) → OutcomeIn Has first now outcome → ReflectedIn now (reflected outcome)
   outcome_reflected now (Answers value world) o = o
   outcome_reflected now (Fails fault) o = tt
 

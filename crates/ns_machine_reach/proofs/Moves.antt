@@ -21,14 +21,14 @@ use Rattle.ns_kdata.specs.Arguments.{items_of}
 use Rattle.ns_find.specs.declared.found.Sending.TheVariants.{Inner}
 use Rattle.ns_actions.specs.declared.site.Site.{Site}
 use Rattle.ns_actions.specs.Site.{error}
-use Rattle.ns_actions.specs.Control.{Progress, in_world, Activation, After, Gives, Halts, Control, Now, Enter, Evaluate, Begin, Perform, Part, Skip, Stop, EnterPart, Waiting, Waits, Finishes, charged, frame_left}
+use Rattle.ns_actions.specs.Control.{Progress, in_world, Activation, After, Gives, Halts, Control, Now, Enter, Evaluate, Begin, Perform, PartControl, Skip, Stop, EnterPart, Waiting, Waits, Finishes, charged, frame_left}
 use Rattle.ns_actions.specs.Bodies.{Place, enclosing_place, lexical, enclosing, parent_in, environment_out, is_beside, has_environment, environment_at, local_at, locals_with, local_stored}
 use Rattle.ns_actions.specs.Blocks.{new_text, new_block, new_array, evaluated, method_next}
 use Rattle.ns_world.specs.Booleans.{is_boolean}
 use Rattle.ns_actions.specs.Classes.{super_part, slot_filled, body_ended}
 use Rattle.ns_actions.specs.Sends.{To, ToPrivate, ToSuper, to_value, sent}
 use Rattle.ns_machine_moves.specs.State.{Leaving, Loud, Silent, Frame, Running, Looping, Pending, Sending, Performing, Evaluating, Phase, Start, First, Second, Hosted, State, Unbegun, Going, Pends, Ended, Stuck}
-use Rattle.ns_machine_moves.specs.Steps.{Step, steps_from, literal}
+use Rattle.ns_machine_moves.specs.Steps.{PlacedInstr, steps_from, literal}
 use Rattle.ns_machine_moves.specs.Operands.{on_top, taken_off, picked}
 use Rattle.ns_machine_moves.specs.Returns.{concluded, delivered, settled, returned, is_home, has_home, unwound, returned_home}
 use Rattle.ns_machine_moves.specs.Arrivals.{arrived, part_arrived, acted_on}
@@ -237,7 +237,7 @@ module _ (Has : ℕ → Type 0) (first : Progress) where
     arrived_in (Begin method state site now) frames c all = (phased, (c.0, all), c.1)
     arrived_in (Perform receiver sel array site now) frames c all = (phased, (c.0, c.1), all, c.2)
 
-    part_arrived_in : (part : Part) (frames : List Frame) → PartIn Has first part → FramesIn Has frames → StateIn Has first (part_arrived code phase part frames)
+    part_arrived_in : (part : PartControl) (frames : List Frame) → PartIn Has first part → FramesIn Has frames → StateIn Has first (part_arrived code phase part frames)
     part_arrived_in (Skip now) frames p all = (phased, all, p)
     part_arrived_in (Stop ending now) frames p all = p
     part_arrived_in (EnterPart activation locals now) frames p all = (phased, ((tt, p.0, p.1, tt), all), p.2)
@@ -259,7 +259,7 @@ module _ (Has : ℕ → Type 0) (first : Progress) where
 
     -- ---- instructions
 
-    module _ (leaving : Leaving) (activation : Activation) (locals : List Value) (rest : List Step) (frames : List Frame) (now : Progress) (kept : Kept Has first now)
+    module _ (leaving : Leaving) (activation : Activation) (locals : List Value) (rest : List PlacedInstr) (frames : List Frame) (now : Progress) (kept : Kept Has first now)
         (l : LeavingIn Has leaving) (a : ActivationIn Has activation) (own : AllIn Has locals) (below_in : FramesIn Has frames) where
       -- the frame with these operands
       frame_in : (stack : List Value) → AllIn Has stack → FramesIn Has (Running leaving activation locals rest stack ∷ frames)
@@ -268,7 +268,7 @@ module _ (Has : ℕ → Type 0) (first : Progress) where
       on_in : (stack : List Value) → AllIn Has stack → StateIn Has first (on_with phase leaving activation locals rest stack frames now)
       on_in stack all = (phased, frame_in stack all, kept)
 
-      jumped_in : (landing : List Step) (stack : List Value) → AllIn Has stack → StateIn Has first (jumped phase leaving activation locals rest landing stack frames now)
+      jumped_in : (landing : List PlacedInstr) (stack : List Value) → AllIn Has stack → StateIn Has first (jumped phase leaving activation locals rest landing stack frames now)
       jumped_in landing stack all = by (goes_back rest landing)
         where
           by : (b : Bool) → StateIn Has first (cond b (charged (λ ending progress. Ended ending phase progress) Steps (stepped now.world) now (Going phase (Running leaving activation locals landing stack ∷ frames)))
@@ -278,7 +278,7 @@ module _ (Has : ℕ → Type 0) (first : Progress) where
               (λ next same k. (phased, ((l, a, own, all), below_in), k))
           by false = (phased, ((l, a, own, all), below_in), kept)
 
-      jumped_on_in : (wanted : Bool) (value : Value) (landing : List Step) (stack : List Value) → AllIn Has stack → StateIn Has first (jumped_on phase wanted value leaving activation locals rest landing stack frames now)
+      jumped_on_in : (wanted : Bool) (value : Value) (landing : List PlacedInstr) (stack : List Value) → AllIn Has stack → StateIn Has first (jumped_on phase wanted value leaving activation locals rest landing stack frames now)
       jumped_on_in wanted value landing stack all = by (is_boolean value) (takes_jump wanted value)
         where
           by : (b c : Bool) → StateIn Has first (cond b (cond c (jumped phase leaving activation locals rest landing stack frames now) (Going phase (Running leaving activation locals rest stack ∷ frames) now)) (Ended (error MustBeBoolean activation.site) phase now))

@@ -4,7 +4,7 @@ use Rattle.ns_world.specs.declared.value.Value.{Value}
 use Rattle.ns_world.specs.declared.ending.Ending.{Ending}
 use Rattle.ns_world.specs.declared.ending.Ending.TheVariants.{Done, Error, Limit}
 use Rattle.ns_world.specs.Heap.{Heap}
-use Rattle.ns_world.specs.Reach.{Reach, IsRoot, IsHeld, held, referred, all_referred}
+use Rattle.ns_world.specs.Reach.{IsInReach, IsRoot, IsHeld, held, referred, all_referred}
 use Rattle.ns_actions.specs.Control.{Progress, Activation, Exit, FromMethod, FromBody, FromClause}
 use Rattle.ns_machine_moves.specs.State.{Leaving, Loud, Silent, Frame, Running, Looping, Pending, Sending, Performing, Evaluating, Phase, Start, First, Second, Hosted, State, Unbegun, Going, Pends, Ended, Stuck, progress_of}
 use Rattle.ns_machine_moves.specs.Turn.{is_still}
@@ -140,7 +140,7 @@ module _ (Has : ℕ → Type 0) where
   kept_of first (Stuck now) s = s
 
   -- what is reached from the set is in it
-  pub reached_in : (heap : Heap) (roots : List ℕ) (number : ℕ) → Closed Has heap → AllHave Has roots → Reach heap roots number → Has number
+  pub reached_in : (heap : Heap) (roots : List ℕ) (number : ℕ) → Closed Has heap → AllHave Has roots → IsInReach heap roots number → Has number
   reached_in heap roots n closed all (IsRoot number among some) = has_each Has roots number all among
   reached_in heap roots n closed all (IsHeld from number cell before is among some) =
       has_each Has (held heap cell) number (from_cell Has heap cell (closed from cell (reached_in heap roots from closed all before) is)) among

@@ -12,7 +12,7 @@ use Rattle.ns_world.specs.declared.cell.NewCell.TheVariants as new
 use Rattle.ns_world.specs.Cell.{Cell, ObjectCell, ArrayCell, TextCell}
 use Rattle.ns_world.specs.Heap.{Heap, heap_size, no_class}
 use Rattle.ns_world.specs.World.{World, made}
-use Rattle.ns_kdata.specs.Outcome.{Outcome, Answers, Fails, making, made_as, unchanged, wrong_kind, out_of_range}
+use Rattle.ns_kdata.specs.Outcome.{RowOutcome, Answers, Fails, making, made_as, unchanged, wrong_kind, out_of_range}
 use Rattle.ns_kdata.specs.declared.arguments.Part.{Part}
 use Rattle.ns_kdata.specs.Arguments.{items_of, shape_of_value, is_text, bytes_of, symbol_text, number_of, place_in, part_in}
 use Rattle.ns_world.specs.Booleans.{truth}
@@ -30,7 +30,7 @@ use Rattle.ns_base.specs.Quoted.{quoted}
 
 module _ (Has : ℕ → Type 0) (first : Progress) where
   -- A row's answer is in the set, and so is what it made and wrote.
-  abbrev pub OutcomeIn : Progress → Outcome → Type 0
+  abbrev pub OutcomeIn : Progress → RowOutcome → Type 0
   OutcomeIn now (Answers value world) = In Has value × Kept Has first (in_world now world)
   OutcomeIn now (Fails fault) = Unit {0}
 

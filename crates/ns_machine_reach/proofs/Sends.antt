@@ -17,7 +17,7 @@ use Rattle.ns_world.specs.Starts.{start_of}
 use Rattle.ns_kint.specs.Integer.{integer, is_integer_or_boolean}
 use Rattle.ns_kint.specs.declared.row.IntRow.{IntRow}
 use Rattle.ns_kdata.specs.Arguments.{argument, number_of, shape_of_value}
-use Rattle.ns_kdata.specs.Outcome.{Outcome, Answers, Fails}
+use Rattle.ns_kdata.specs.Outcome.{RowOutcome, Answers, Fails}
 use Rattle.ns_kdata.specs.Rows.{message_selector}
 use Rattle.ns_kdata.specs.Datum.{datum}
 use Rattle.ns_kdata.specs.declared.row.DataRow.{DataRow}
@@ -63,7 +63,7 @@ pub record Known : Type 0 where
 module _ (Has : ℕ → Type 0) (first : Progress) (known : Known) where
   -- ---- rows of the kernel
 
-  outcome_in : (outcome : Outcome) (site : Site) (now : Progress) → Kept Has first now → OutcomeIn Has first now outcome → ControlIn Has first (kernel.outcome_reached outcome site now)
+  outcome_in : (outcome : RowOutcome) (site : Site) (now : Progress) → Kept Has first now → OutcomeIn Has first now outcome → ControlIn Has first (kernel.outcome_reached outcome site now)
   outcome_in (Answers value world) site now kept o = o
   outcome_in (Fails fault) site now kept o = (faulted Has fault site, kept)
 
@@ -71,7 +71,7 @@ module _ (Has : ℕ → Type 0) (first : Progress) (known : Known) where
   answer_in (Ok value) site now kept i = (i, kept)
   answer_in (Err fault) site now kept i = (faulted Has fault site, kept)
 
-  refused_in : (outcome : Outcome) (selector : Value) (site : Site) (now : Progress) → Kept Has first now → OutcomeIn Has first now outcome → ControlIn Has first (kernel.message_refused outcome selector site now)
+  refused_in : (outcome : RowOutcome) (selector : Value) (site : Site) (now : Progress) → Kept Has first now → OutcomeIn Has first now outcome → ControlIn Has first (kernel.message_refused outcome selector site now)
   refused_in (Answers value world) selector site now kept o = o
   refused_in (Fails fault) selector site now kept o = (faulted Has fault (kernel.message_site fault selector site), kept)
 
@@ -134,7 +134,7 @@ module _ (Has : ℕ → Type 0) (first : Progress) (known : Known) where
       by about.MessageSelector = plain about.MessageSelector
       by about.MessageArguments = plain about.MessageArguments
 
-  boarded_in : (outcome : Outcome) (board : Board) (site : Site) (now : Progress) → WithBoard Has first now board outcome → ControlIn Has first (kernel.outcome_reached outcome site (record now { board = board }))
+  boarded_in : (outcome : RowOutcome) (board : Board) (site : Site) (now : Progress) → WithBoard Has first now board outcome → ControlIn Has first (kernel.outcome_reached outcome site (record now { board = board }))
   boarded_in outcome board site now w = outcome_in outcome site (record now { board = board }) w.1 w.0
 
   facet_reached_in : (code : CodeProgram) (of : FacetRow) (receiver : Value) (arguments : List Value) (site : Site) (now : Progress) → Kept Has first now → In Has receiver → AllIn Has arguments

@@ -11,7 +11,7 @@ use Rattle.ns_world.specs.declared.value.Value.{Value}
 use Rattle.ns_world.specs.declared.cell.FacetKind.TheVariants.{Manifest}
 use Rattle.ns_world.specs.Cell.{Cell, FacetCell}
 use Rattle.ns_world.specs.Heap.{Heap, heap_size, find_cell, no_class}
-use Rattle.ns_world.specs.Reach.{Reach, IsRoot, IsHeld, held}
+use Rattle.ns_world.specs.Reach.{IsInReach, IsRoot, IsHeld, held}
 use Rattle.ns_world.specs.World.{World}
 use Rattle.ns_world.specs.Lawful.{IsLawful}
 use Rattle.ns_world.specs.laws.Firsts.{found_past}
@@ -48,7 +48,7 @@ module _ (heap : Heap) (roots : List ℕ) where
 
   reach_is_closed : InReach heap roots no_class → Closed (InReach heap roots) heap
   reach_is_closed none n cell has e =
-      let reached : Reach heap roots n = has (rw e refl) in
+      let reached : IsInReach heap roots n = has (rw e refl) in
       cell_from (InReach heap roots) heap cell none (each_has (InReach heap roots) (held heap cell) (λ m among some. IsHeld n m cell reached e among some))
 
   roots_are_reached : AllHave (InReach heap roots) roots

@@ -10,7 +10,7 @@ use Rattle.ns_world.specs.declared.ending.Ending.{Ending}
 use Rattle.ns_world.specs.declared.ending.Ending.TheVariants.{Done, Error, Limit}
 use Rattle.ns_world.specs.Cell.{Cell, FacetCell}
 use Rattle.ns_world.specs.Heap.{Heap, find_cell}
-use Rattle.ns_world.specs.Reach.{Reach, held, referred, all_referred}
+use Rattle.ns_world.specs.Reach.{IsInReach, held, referred, all_referred}
 use Rattle.ns_actions.specs.Control.{Activation, Exit, FromMethod, FromBody, FromClause}
 use Rattle.ns_machine_moves.specs.State.{Leaving, Loud, Silent, Frame, Running, Looping, Pending, Sending, Performing, Evaluating, Phase, Start, First}
 use Rattle.ns_machine_moves.specs.State.{Second, Hosted, State, Unbegun, Going, Pends, Ended, Stuck, progress_of, world_of}
@@ -83,11 +83,11 @@ roots_of (Stuck progress) = []
 
 -- A cell is reached there, or was none of the cells there: it was made later.
 abbrev pub InReach : Heap → List ℕ → ℕ → Type 0
-InReach heap roots number = IsSome (find_cell heap number) → Reach heap roots number
+InReach heap roots number = IsSome (find_cell heap number) → IsInReach heap roots number
 
 -- no facet of that kind is reached
 abbrev pub LacksFacet : FacetKind → Heap → List ℕ → Type 0
-LacksFacet kind heap roots = (number : ℕ) → Reach heap roots number → find_cell heap number ≡ Some (FacetCell kind) → ⊥
+LacksFacet kind heap roots = (number : ℕ) → IsInReach heap roots number → find_cell heap number ≡ Some (FacetCell kind) → ⊥
 
 -- ---- the law
 
@@ -95,11 +95,11 @@ LacksFacet kind heap roots = (number : ℕ) → Reach heap roots number → find
 -- nothing where no Console was reached, and changed no board where no Board was; and what is reached now, from where it stood and
 -- from where it stands, was reached then or was made since, and holds such cells alone.
 pub record StaysInReach (before after : State) : Type 0 where
-  pub untouched : (number : ℕ) (cell : Cell) → (Reach (world_of before).cells (roots_of before) number → ⊥)
+  pub untouched : (number : ℕ) (cell : Cell) → (IsInReach (world_of before).cells (roots_of before) number → ⊥)
       → find_cell (world_of before).cells number ≡ Some cell → find_cell (world_of after).cells number ≡ Some cell
   pub silent : LacksFacet Console (world_of before).cells (roots_of before) → (world_of after).output ≡ (world_of before).output
   pub board : LacksFacet Board (world_of before).cells (roots_of before) → (progress_of after).board ≡ (progress_of before).board
-  pub reached : (number : ℕ) → Reach (world_of after).cells (roots_of before ++ roots_of after) number
+  pub reached : (number : ℕ) → IsInReach (world_of after).cells (roots_of before ++ roots_of after) number
       → InReach (world_of before).cells (roots_of before) number
   pub holds : (number other : ℕ) (cell : Cell) → InReach (world_of before).cells (roots_of before) number
       → find_cell (world_of after).cells number ≡ Some cell → Contains (held (world_of after).cells cell) other

@@ -11,7 +11,7 @@ use Rattle.ns_world.specs.declared.ending.Ending.{Ending}
 use Rattle.ns_world.specs.declared.ending.Ending.TheVariants.{Done, Error, Limit}
 use Rattle.ns_kcode.specs.declared.state.KState.{KState}
 use Rattle.ns_actions.specs.Control.{Progress, Activation, Exit, FromMethod, FromBody, FromClause, After, Gives, Halts, Control, Now, Enter, Evaluate}
-use Rattle.ns_actions.specs.Control.{Begin, Perform, Part, Skip, Stop, EnterPart, Waiting, Waits, Finishes}
+use Rattle.ns_actions.specs.Control.{Begin, Perform, PartControl, Skip, Stop, EnterPart, Waiting, Waits, Finishes}
 use Rattle.ns_machine_moves.specs.State.{Leaving, Loud, Silent, Frame, Running, Looping, Pending, Sending, Performing, Evaluating, Phase, Start, First}
 use Rattle.ns_machine_moves.specs.State.{Second, Hosted, State, Unbegun, Going, Pends, Ended, Stuck}
 
@@ -122,7 +122,7 @@ module _ (Has : ℕ → Type 0) where
   ControlIn first (Begin method state site progress) = KStateIn state × Kept first progress
   ControlIn first (Perform receiver sel array site progress) = In receiver × Has array × Kept first progress
 
-  abbrev pub PartIn : Progress → Part → Type 0
+  abbrev pub PartIn : Progress → PartControl → Type 0
   PartIn first (Skip progress) = Kept first progress
   PartIn first (Stop ending progress) = EndingIn ending × Kept first progress
   PartIn first (EnterPart activation locals progress) = ActivationIn activation × AllIn locals × Kept first progress

@@ -4,7 +4,7 @@ ghost use Rattle.std.specs.Prelude.{◌≡◌, ◌∷◌, ◌++◌, [], codes, I
 ghost use Rattle.ns_world.specs.declared.value.Value.TheVariants.{Ref, Sym};
 ghost use Rattle.ns_world.specs.Lawful.{IsLawful, IsLiveValue};
 ghost use Rattle.ns_world.specs.Starts.{is_receiver, has_class, start_of, class_name_of};
-ghost use Rattle.ns_kdata.specs.Arguments.{IsThere, bytes_of};
+ghost use Rattle.ns_kdata.specs.Arguments.{CellIsThere, bytes_of};
 ghost use Rattle.ns_base.specs.Quoted.{doubled, quoted};
 ghost use Rattle.ns_mirror.specs.Naming.{class_text, declared_text};
 ghost use Rattle.ns_actions.specs.Report as spec;
@@ -113,7 +113,7 @@ fn put_object(out: &mut Vec<u8>, world: &World, code: &CodeProgram, at: u32) -> 
 
 /// Puts a String in quotes, with inner quotes doubled.
 fn put_quoted(out: &mut Vec<u8>, world: &World, text: Value) -> Result<(), NoMemory>
-    requires { IsThere world.now.world.cells text }
+    requires { CellIsThere world.now.world.cells text }
     ensures { OnOk result (out.new.items ≡ out.old.items ++ quoted (bytes_of world.now.world.cells text)) }
 {
     put(out, b"'".as_slice())?;
@@ -123,7 +123,7 @@ fn put_quoted(out: &mut Vec<u8>, world: &World, text: Value) -> Result<(), NoMem
 
 /// Puts the bytes of a String, with each quote doubled.
 fn put_doubled(out: &mut Vec<u8>, world: &World, text: Value) -> Result<(), NoMemory>
-    requires { IsThere world.now.world.cells text }
+    requires { CellIsThere world.now.world.cells text }
     ensures { OnOk result (out.new.items ≡ out.old.items ++ doubled (bytes_of world.now.world.cells text)) }
 {
     'bytes: for place in 0..text_size(world, text) {

@@ -38,8 +38,8 @@ use Rattle.ns_machine_core.specs.declared.state.Next.{Next}
 use Rattle.ns_machine_core.specs.declared.state.Next.TheVariants as next
 use Rattle.ns_machine_core.specs.Shown.{phase_shown, progress_in, shown}
 use Rattle.ns_machine_core.specs.Doing.{IsSettled}
-use Rattle.ns_machine_core.specs.Standing.{Stands}
-use Rattle.ns_machine_core.specs.Ready.{Moves}
+use Rattle.ns_machine_core.specs.Standing.{HasStandingFrames}
+use Rattle.ns_machine_core.specs.Ready.{MakesMove}
 use Rattle.ns_machine_returns.specs.Handing.{CanTake, GivesLive}
 use Rattle.ns_machine_returns.specs.Acting.{CanAct, Awaits, IsAsked, awaiting}
 use Rattle.ns_machine_returns.proofs.Left.{over, IsLeft, left_stays, left_takes}
@@ -64,7 +64,7 @@ pub evaluation_moves : (code : CodeProgram) (core new : Core) (at : Registers) (
     (world : WorldView) (n : Next) → CanAct code core at → core.stack.frames.items ≡ Looping looping ∷ below core.stack.frames.items
     → ((site : Site) (rest : Progress) → waiting_shown site (waited.Evaluates block argument state) (in_world rest world.world)
     ≡ method_next looping.method looping.state site (in_world rest core.run.world.world))
-    → SameRest core.run.world world → Awaits code (in_other core world) at looping block argument state new n → Moves code core (next.On at) new n
+    → SameRest core.run.world world → Awaits code (in_other core world) at looping block argument state new n → MakesMove code core (next.On at) new n
 evaluation_moves code core new at looping block argument state world n can top is rest awaits = record {
   state = awaits.is
       ∙ (ap (λ (s : List Stood). Pends (phase_shown core.phase) (Evaluating block (listed argument) (site_shown core.places looping.site))
@@ -97,7 +97,7 @@ end_takes code core at here looping world stack can top lawful left =
 pub end_moves : (code : CodeProgram) (core new : Core) (at here : Registers) (looping : LoopingFrame) (answer : Result Value Fault) (world : WorldView) (stack : Stack) (n : Next)
     → CanAct code core at → core.stack.frames.items ≡ Looping looping ∷ below core.stack.frames.items
     → ((site : Site) (rest : Progress) → waiting_shown site (waited.Ends answer) (in_world rest world.world) ≡ method_next looping.method looping.state site (in_world rest core.run.world.world))
-    → IsLeft core at world stack here → IsSettled code (over core world stack) here looping.site answer new n → Moves code core (next.On at) new n
+    → IsLeft core at world stack here → IsSettled code (over core world stack) here looping.site answer new n → MakesMove code core (next.On at) new n
 end_moves code core new at here looping answer world stack n can top is left is_settled = record {
   state = is_settled.state
       ∙ (ap (λ (s : List Stood). acted_on code (phase_shown core.phase) looping.method (site_shown core.places looping.site)
@@ -144,15 +144,15 @@ count_is looping state frames top waits =
 
 -- The same of a machine that was asked, which is its first one in another world.
 module _ (code : CodeProgram) (first : Core) (at : Registers) (looping : LoopingFrame) where
-  stands_other : (world : WorldView) → CanAct code first at → SameRest first.run.world world → Stands code (in_other first world) at
+  stands_other : (world : WorldView) → CanAct code first at → SameRest first.run.world world → HasStandingFrames code (in_other first world) at
   stands_other world can rest = record {
     rooms = rooms_stay code first (in_other first world) can.stands.rooms (record { world = rest; values = refl; frames = refl; places = refl; arguments = refl });
     frames = can.stands.frames;
   }
 
-  pub asked_stands : (core : Core) (waited : Waited) → IsAsked code first at looping core waited → Stands code core at
+  pub asked_stands : (core : Core) (waited : Waited) → IsAsked code first at looping core waited → HasStandingFrames code core at
   asked_stands core waited asked =
-      subst (λ (c : Core). Stands code c at) (sym asked.same) (stands_other core.run.world asked.can asked.rest)
+      subst (λ (c : Core). HasStandingFrames code c at) (sym asked.same) (stands_other core.run.world asked.can asked.rest)
 
   pub asked_top : (core : Core) (waited : Waited) → IsAsked code first at looping core waited
       → core.stack.frames.items ≡ Looping looping ∷ below core.stack.frames.items
@@ -173,7 +173,7 @@ module _ (code : CodeProgram) (first : Core) (at : Registers) (looping : Looping
 
   pub prepared : (core : Core) (above : Registers) (block : Value) (argument : Option Value) (state : KState) (stack : Stack)
       → IsAsked code first at looping core (waited.Evaluates block argument state) → IsArgued core at looping argument state stack above
-      → Moves code first (next.On at) (awaiting looping block (record core { stack = stack })) (next.Waits above)
+      → MakesMove code first (next.On at) (awaiting looping block (record core { stack = stack })) (next.Waits above)
   prepared core above block argument state stack asked argued =
       evaluation_moves code first (awaiting looping block (record core { stack = stack })) at looping block argument state core.run.world (next.Waits above)
       asked.can asked.top asked.is asked.rest
@@ -206,7 +206,7 @@ module _ (code : CodeProgram) (first : Core) (at : Registers) (looping : Looping
 
   pub asked_ends : (core new : Core) (answer : Result Value Fault) (stack : Stack) (here : Registers) (n : Next) → IsAsked code first at looping core (waited.Ends answer)
       → IsLeft core at core.run.world stack here → IsSettled code (record core { stack = stack }) here looping.site answer new n
-      → Moves code first (next.On at) new n
+      → MakesMove code first (next.On at) new n
   asked_ends core new answer stack here n asked left settled =
       end_moves code first new at here looping answer core.run.world stack n asked.can asked.top asked.is
       (asked_left core (waited.Ends answer) stack here asked left)

@@ -17,13 +17,13 @@ use Rattle.ns_machine_frames.specs.Row.{FrameRow}
 use Rattle.ns_machine_frames.specs.Standing.{Stood, Loops, standing, at_next, in_state, below, AreLaid}
 use Rattle.ns_machine_frames.specs.Stack.{stood, in_use, with_top, IsLaid, KeepsRoom}
 use Rattle.ns_machine_frames.specs.Leaving.{turned}
-use Rattle.ns_machine_frames.specs.Room.{bound, AreWithin}
+use Rattle.ns_machine_frames.specs.Room.{bound, FramesFitWithin}
 use Rattle.ns_machine_frames.specs.View.{site_shown, frames_shown}
 use Rattle.ns_machine_frames.specs.laws.Room.{within_more}
 use Rattle.ns_machine_core.specs.declared.state.Core.{Core}
 use Rattle.ns_machine_core.specs.declared.state.Next.TheVariants as next
 use Rattle.ns_machine_core.specs.Shown.{phase_shown, progress_in}
-use Rattle.ns_machine_core.specs.Standing.{Stands}
+use Rattle.ns_machine_core.specs.Standing.{HasStandingFrames}
 use Rattle.ns_actions.specs.Bodies.{height_in, greatest_of}
 use Rattle.ns_machine_returns.specs.Acting.{Awaits}
 
@@ -55,7 +55,7 @@ pub record IsArgued (core : Core) (at : Registers) (looping : LoopingFrame) (arg
   pub top : looping.floor ≤ above.top
 
 pub awaits : (code : CodeProgram) (core : Core) (at above : Registers) (looping : LoopingFrame) (block : Value) (argument : Option Value) (state : KState)
-    (stack : Stack) → Stands code core at → core.stack.frames.items ≡ Looping looping ∷ below core.stack.frames.items
+    (stack : Stack) → HasStandingFrames code core at → core.stack.frames.items ≡ Looping looping ∷ below core.stack.frames.items
     → IsArgued core at looping argument state stack above
     → Awaits code core at looping block argument state
     (record core { stack = stack; waiting = pending.Evaluating block looping.site looping.floor looping.floor }) (next.Waits above)
@@ -70,7 +70,7 @@ awaits code core at above looping block argument state stack stands top argued =
       order = argued.top;
       low = omega arith;
       reach = subst (λ (frames : List Frame). looping.floor ≤ bound (greatest_of code.bodies) frames) (sym items)
-          (subst (AreWithin (height_in code) (greatest_of code.bodies) (length stack.values.items)) items within).1;
+          (subst (FramesFitWithin (height_in code) (greatest_of code.bodies) (length stack.values.items)) items within).1;
       stands = record { laid = laid_at_floor stack above (record looping { state = state }) (below core.stack.frames.items) items argued.laid; within = within };
     },
   );
@@ -114,9 +114,9 @@ awaits code core at above looping block argument state stack stands top argued =
         ∙ (ap (λ (values : List Value). Loops (record looping { state = state }) ∷ standing (below core.stack.frames.items) values) twice
         ∙ ap (λ (frames : List Frame). turned state (standing (at_next at.next frames) (take at.top core.stack.values.items))) (sym top)))
 
-    within : AreWithin (height_in code) (greatest_of code.bodies) (length stack.values.items) stack.frames.items
+    within : FramesFitWithin (height_in code) (greatest_of code.bodies) (length stack.values.items) stack.frames.items
     within =
-        subst (AreWithin (height_in code) (greatest_of code.bodies) (length stack.values.items)) (sym items)
+        subst (FramesFitWithin (height_in code) (greatest_of code.bodies) (length stack.values.items)) (sym items)
         (within_more (height_in code) (greatest_of code.bodies) (length core.stack.values.items) (length stack.values.items)
         (Looping (record looping { state = state }) ∷ below core.stack.frames.items) argued.room.filled
-        (subst (AreWithin (height_in code) (greatest_of code.bodies) (length core.stack.values.items)) top stands.frames.within))
+        (subst (FramesFitWithin (height_in code) (greatest_of code.bodies) (length core.stack.values.items)) top stands.frames.within))

@@ -24,7 +24,7 @@ use Rattle.ns_machine_core.specs.Shown.{phase_shown, progress_in}
 use Rattle.ns_machine_core.specs.Framed.{HasRoomOnTop, answers, AnswersHaveRoom}
 use Rattle.ns_machine_core.specs.laws.Kept.{stays_on}
 use Rattle.ns_machine_returns.specs.Handing.{IsHanded}
-use Rattle.ns_machine_returns.specs.Ending.{CanEnd, IsEnded, IsAnswered}
+use Rattle.ns_machine_returns.specs.Ending.{CanEnd, IsEnded, FrameIsAnswered}
 use Rattle.ns_machine_returns.proofs.Left.{over, IsLeft, left_standing, left_stays}
 
 -- ---- what the topmost frame is sure of
@@ -71,7 +71,7 @@ still_live code core world value live ended =
 pub answered : (code : CodeProgram) (core new : Core) (at here : Registers) (world : WorldView) (stack : Stack) (frame : RunningFrame) (value : Value) (n : Next)
     → CanEnd code core at frame value → IsLeft core at world stack here
     → ((rest : Progress) → in_world rest world.world ≡ frame_left (in_world rest core.run.world.world))
-    → IsHanded code (over core world stack) here value new n → IsAnswered code core at value new n
+    → IsHanded code (over core world stack) here value new n → FrameIsAnswered code core at value new n
 answered code core new at here world stack frame value n can is ended handed = record {
   state = handed.state
       ∙ (ap (λ (s : List Stood). delivered code (phase_shown core.phase) value (frames_shown code core.places s) (progress_in (over core world stack))) is.stood
@@ -82,7 +82,7 @@ answered code core new at here world stack frame value n can is ended handed = r
 }
 
 pub method_ended : (code : CodeProgram) (old new : Core) (at : Registers) (frame : RunningFrame) (value : Value) (n : Next) → frame.leaving ≡ leaving.Method
-    → IsAnswered code old at value new n → IsEnded code old at frame value new n
+    → FrameIsAnswered code old at value new n → IsEnded code old at frame value new n
 method_ended code old new at frame value n is answered = record {
   state = answered.state
       ∙ ap (λ (l : Leaving). returned code (phase_shown old.phase) (leaving_shown l frame.activation) (activation_shown old.places frame.activation) value
@@ -93,7 +93,7 @@ method_ended code old new at frame value n is answered = record {
 }
 
 pub body_ended_so : (code : CodeProgram) (old new : Core) (at : Registers) (frame : RunningFrame) (value : Value) (n : Next) → frame.leaving ≡ leaving.Body
-    → IsAnswered code old at value new n → IsEnded code old at frame value new n
+    → FrameIsAnswered code old at value new n → IsEnded code old at frame value new n
 body_ended_so code old new at frame value n is answered = record {
   state = answered.state
       ∙ ap (λ (l : Leaving). returned code (phase_shown old.phase) (leaving_shown l frame.activation) (activation_shown old.places frame.activation) value

@@ -16,8 +16,8 @@ use Rattle.ns_machine_frames.specs.Row.{FrameRow}
 use Rattle.ns_machine_frames.specs.Standing.{Stood, standing, at_next, AreLaid}
 use Rattle.ns_machine_frames.specs.Stack.{stood, IsLaid, KeepsRoom}
 use Rattle.ns_machine_frames.specs.Leaving.{delivered, with_answer, HasPlace}
-use Rattle.ns_machine_frames.specs.Stated.{IsDelivered}
-use Rattle.ns_machine_frames.specs.Room.{AreWithin}
+use Rattle.ns_machine_frames.specs.Stated.{ValueIsDelivered}
+use Rattle.ns_machine_frames.specs.Room.{FramesFitWithin}
 use Rattle.ns_machine_frames.specs.View.{site_shown, frames_shown}
 use Rattle.ns_machine_frames.specs.laws.Room.{within_more, within_answer}
 use Rattle.ns_machine_core.specs.declared.state.Core.{Core}
@@ -55,7 +55,7 @@ some_left frames n e low = omega (arith, e, low)
 pub has_place : (code : CodeProgram) (core : Core) (at : Registers) → CanTake code core at → HasPlace core.stack.frames.items at.top (length core.stack.values.items)
 has_place code core at can = by_frames core.stack.frames.items can.stands.frames.laid.frames can.stands.frames.within can.room
   where
-    by_frames : (frames : List Frame) → AreLaid frames at.top → AreWithin (height_in code) (greatest_of code.bodies) (length core.stack.values.items) frames
+    by_frames : (frames : List Frame) → AreLaid frames at.top → FramesFitWithin (height_in code) (greatest_of code.bodies) (length core.stack.values.items) frames
         → HasRoomOnTop code (standing (at_next at.next frames) (take at.top core.stack.values.items)) → HasPlace frames at.top (length core.stack.values.items)
     by_frames [] laid within room = tt
     by_frames (Looping frame ∷ frames) laid within room = tt
@@ -75,7 +75,7 @@ stood_some next [] values some = absurd (omega (arith, some))
 stood_some next (Running frame ∷ frames) values some = (_, _, refl)
 stood_some next (Looping frame ∷ frames) values some = (_, _, refl)
 
-pub handed : ((code : CodeProgram) (places : List SourcePlace) (phase : Phase) → IsDelivered code places phase)
+pub handed : ((code : CodeProgram) (places : List SourcePlace) (phase : Phase) → ValueIsDelivered code places phase)
     → (code : CodeProgram) (core : Core) (at to : Registers) (stack : Stack) (value : Value) → CanTake code core at → 0 < length core.stack.frames.items
     → stood stack to ≡ delivered value (stood core.stack at) → IsLaid stack to
     → stack.frames ≡ record core.stack.frames { items = with_answer value core.stack.frames.items } → KeepsRoom core.stack stack
@@ -88,7 +88,7 @@ handed is_delivered code core at to stack value can some is laid frames room = r
       ∙ ap (λ (s : List Stood). returns.delivered code (phase_shown core.phase) value (frames_shown code core.places s) (progress_in core)) (sym top.2));
   stand = record {
     laid = laid;
-    within = subst (λ (row : FrameRow). AreWithin (height_in code) (greatest_of code.bodies) (length stack.values.items) row.items) (sym frames)
+    within = subst (λ (row : FrameRow). FramesFitWithin (height_in code) (greatest_of code.bodies) (length stack.values.items) row.items) (sym frames)
         (within_more (height_in code) (greatest_of code.bodies) (length core.stack.values.items) (length stack.values.items) (with_answer value core.stack.frames.items)
         room.filled
         (within_answer (height_in code) (greatest_of code.bodies) (length core.stack.values.items) value core.stack.frames.items can.stands.frames.within));

@@ -24,7 +24,7 @@ use Rattle.ns_machine_core.specs.declared.state.Next.{Next}
 use Rattle.ns_machine_core.specs.declared.state.Next.TheVariants as next
 use Rattle.ns_machine_core.specs.Shown.{phase_shown, progress_in}
 use Rattle.ns_machine_core.specs.Framed.{AreFramed}
-use Rattle.ns_machine_core.specs.Doing.{done, Finds, CanDo, Does}
+use Rattle.ns_machine_core.specs.Doing.{done, Finds, CanDo, IsDone}
 use Rattle.ns_machine_core.specs.laws.Pushed.{ended_stays, top_stands}
 use Rattle.ns_machine_returns.specs.Unwinding.{CanUnwind, IsUnwound}
 use Rattle.ns_machine_returns.proofs.Returned.{unpushed}
@@ -88,7 +88,7 @@ pub home_returned : ((code : CodeProgram) (places : List SourcePlace) → FindsH
     → (code : CodeProgram) (core new : Core) (at to : Registers) (frame : RunningFrame) (count : ℕ) (value : Value) (place : Option SourcePlace) (n : Next)
     → CanDo code core at instr.ReturnHome → core.stack.frames.items ≡ Running frame ∷ below core.stack.frames.items
     → stood core.stack at ≡ pushed value (stood core.stack to) → frames_to frame.activation.home core.stack.frames.items ≡ Some count
-    → IsUnwound code core to frame.activation.home value new n → Does code instr.ReturnHome place core at new n
+    → IsUnwound code core to frame.activation.home value new n → IsDone code instr.ReturnHome place core at new n
 home_returned law code core new at to frame count value place n can top e there unwound = record {
   state = unwound.state
       ∙ (ap (by_home code core to frame.activation value)
@@ -103,7 +103,7 @@ pub dead_returned : ((code : CodeProgram) (places : List SourcePlace) → FindsH
     → (code : CodeProgram) (core : Core) (at to : Registers) (frame : RunningFrame) (value : Value) (place : Option SourcePlace)
     → CanDo code core at instr.ReturnHome → core.stack.frames.items ≡ Running frame ∷ below core.stack.frames.items
     → stood core.stack at ≡ pushed value (stood core.stack to) → frames_to frame.activation.home core.stack.frames.items ≡ None
-    → Does code instr.ReturnHome place core at
+    → IsDone code instr.ReturnHome place core at
     (record core { ending = fault_ending (fault.Kind DeadReturn) (site_shown core.places frame.activation.site) }) next.Ended
 dead_returned law code core at to frame value place can top e gone = record {
   state = ap (by_home code core to frame.activation value)

@@ -9,10 +9,10 @@ use Rattle.ns_machine_frames.specs.declared.stack.Stack.{Stack}
 use Rattle.ns_machine_frames.specs.Row.{ValueRow, FrameRow}
 use Rattle.ns_machine_frames.specs.Standing.{below}
 use Rattle.ns_machine_frames.specs.Stack.{stood, IsLaid}
-use Rattle.ns_machine_frames.specs.Room.{AreWithin}
+use Rattle.ns_machine_frames.specs.Room.{FramesFitWithin}
 use Rattle.ns_machine_frames.specs.laws.Room.{within_below}
 use Rattle.ns_machine_core.specs.declared.state.Core.{Core}
-use Rattle.ns_machine_core.specs.Standing.{HasRooms, AreStanding, Stands, Stays}
+use Rattle.ns_machine_core.specs.Standing.{HasRooms, AreStanding, HasStandingFrames, KeepsRooms}
 use Rattle.ns_actions.specs.Bodies.{height_in, greatest_of}
 use Rattle.ns_machine_core.specs.Framed.{HasRoomOnTop}
 use Rattle.ns_machine_returns.specs.Handing.{CanTake}
@@ -33,12 +33,12 @@ pub left_standing : (code : CodeProgram) (core : Core) (at here : Registers) (wo
     → IsLeft core at world stack here → AreStanding code stack here
 left_standing code core at here world stack stands is = record {
   laid = is.laid;
-  within = subst (λ (row : FrameRow). AreWithin (height_in code) (greatest_of code.bodies) (length stack.values.items) row.items) (sym is.frames)
-      (subst (λ (row : ValueRow). AreWithin (height_in code) (greatest_of code.bodies) (length row.items) (below core.stack.frames.items)) (sym is.values)
+  within = subst (λ (row : FrameRow). FramesFitWithin (height_in code) (greatest_of code.bodies) (length stack.values.items) row.items) (sym is.frames)
+      (subst (λ (row : ValueRow). FramesFitWithin (height_in code) (greatest_of code.bodies) (length row.items) (below core.stack.frames.items)) (sym is.values)
       (within_below (height_in code) (greatest_of code.bodies) (length core.stack.values.items) core.stack.frames.items stands.within));
 }
 
-pub left_stays : (core : Core) (at here : Registers) (world : WorldView) (stack : Stack) → IsLeft core at world stack here → Stays core (over core world stack)
+pub left_stays : (core : Core) (at here : Registers) (world : WorldView) (stack : Stack) → IsLeft core at world stack here → KeepsRooms core (over core world stack)
 left_stays core at here world stack is = record {
   world = is.rest;
   values = ap (λ (row : ValueRow). row.room) is.values;
@@ -60,7 +60,7 @@ left_rooms code core at here world stack rooms is =
       sends = rw stays.arguments rooms.sends;
     }
 
-pub left_takes : (code : CodeProgram) (core : Core) (at here : Registers) (world : WorldView) (stack : Stack) → Stands code core at
+pub left_takes : (code : CodeProgram) (core : Core) (at here : Registers) (world : WorldView) (stack : Stack) → HasStandingFrames code core at
     → HasRoomOnTop code (below (stood core.stack at)) → IsLawful world.world code → IsLeft core at world stack here → CanTake code (over core world stack) here
 left_takes code core at here world stack stands room lawful is = record {
   stands = record {

@@ -10,7 +10,7 @@ use Rattle.ns_actions.specs.declared.control.Entered.{Entered}
 use Rattle.ns_actions.specs.declared.control.PartReached.{PartReached}
 use Rattle.ns_actions.specs.declared.control.PartReached.TheVariants as part
 use Rattle.ns_actions.specs.Site.{fault_ending}
-use Rattle.ns_actions.specs.Control.{Part, EnterPart, in_world}
+use Rattle.ns_actions.specs.Control.{PartControl, EnterPart, in_world}
 use Rattle.ns_actions.specs.Classes.{super_part}
 use Rattle.ns_actions.specs.Shown.{part_shown, locals_shown}
 use Rattle.ns_actions.specs.Shown as shows
@@ -23,14 +23,14 @@ use Rattle.ns_machine_frames.specs.declared.frame.RunningFrame.{RunningFrame}
 use Rattle.ns_machine_frames.specs.declared.registers.Registers.{Registers}
 use Rattle.ns_machine_frames.specs.Standing.{Stood, Runs, Loops, below, pushed_all}
 use Rattle.ns_machine_frames.specs.Stack.{stood, in_use, with_top, IsLaid}
-use Rattle.ns_machine_frames.specs.Stated.{AreTaken}
+use Rattle.ns_machine_frames.specs.Stated.{ComeOffAgain}
 use Rattle.ns_machine_frames.specs.View.{site_shown, activation_shown, frames_shown}
 use Rattle.ns_machine_core.specs.declared.state.Core.{Core}
 use Rattle.ns_machine_core.specs.declared.state.Next.{Next}
 use Rattle.ns_machine_core.specs.declared.state.Next.TheVariants as next
 use Rattle.ns_machine_core.specs.Shown.{phase_shown, progress_in}
-use Rattle.ns_machine_core.specs.Standing.{Stays}
-use Rattle.ns_machine_core.specs.Doing.{done, Finds, CanDo, Does}
+use Rattle.ns_machine_core.specs.Standing.{KeepsRooms}
+use Rattle.ns_machine_core.specs.Doing.{done, Finds, CanDo, IsDone}
 use Rattle.ns_machine_core.specs.laws.Pushed.{top_stands}
 use Rattle.ns_machine_core.specs.laws.Worlds.{in_other}
 use Rattle.ns_machine_core.specs.laws.Kept.{stays_on}
@@ -38,7 +38,7 @@ use Rattle.ns_machine_returns.specs.Parts.{listed, PartBegins}
 use Rattle.ns_machine_returns.proofs.PartLocals.{HasAll, part_all}
 
 -- what stays in another world of the same limits
-pub world_stays : (core : Core) (world : WorldView) → SameRest core.run.world world → Stays core (in_other core world)
+pub world_stays : (core : Core) (world : WorldView) → SameRest core.run.world world → KeepsRooms core (in_other core world)
 world_stays core world rest = record { world = rest; values = refl; frames = refl; places = refl; arguments = refl }
 
 -- What the action came to.
@@ -49,7 +49,7 @@ pub record IsReached (code : CodeProgram) (core : Core) (world : WorldView) (act
 
 -- ---- what the instruction leads to
 
-pub leads : ((missing : State) → AreTaken missing) → (code : CodeProgram) (core : Core) (world : WorldView) (at : Registers) (argc : ℕ) (place : Option SourcePlace)
+pub leads : ((missing : State) → ComeOffAgain missing) → (code : CodeProgram) (core : Core) (world : WorldView) (at : Registers) (argc : ℕ) (place : Option SourcePlace)
     (frame : RunningFrame) (items : List Value) (reached : PartReached) → CanDo code core at (instr.InitSuper argc)
     → core.stack.frames.items ≡ Running frame ∷ below core.stack.frames.items
     → stood core.stack at ≡ pushed_all items (stood core.stack (with_top (at.top - argc) at)) → length items ≡ argc
@@ -59,7 +59,7 @@ pub leads : ((missing : State) → AreTaken missing) → (code : CodeProgram) (c
     (frames_shown code core.places (stood core.stack (with_top (at.top - argc) at)))
     ≡ done code core.places (phase_shown core.phase) (instr.InitSuper argc) place (stood core.stack at) (progress_in core)
 leads taken code core world at argc place frame items reached can top e many is =
-    ap (λ (p : Part). part_arrived code (phase_shown core.phase) p (frames_shown code core.places (stood core.stack (with_top (at.top - argc) at)))) is.is
+    ap (λ (p : PartControl). part_arrived code (phase_shown core.phase) p (frames_shown code core.places (stood core.stack (with_top (at.top - argc) at)))) is.is
     ∙ (by_stood (stood core.stack (with_top (at.top - argc) at)) e
     (subst (λ (s : List Stood). Finds code core.places (instr.InitSuper argc) s (progress_in core)) e can.finds)
     ∙ ap (λ (s : List Stood). done code core.places (phase_shown core.phase) (instr.InitSuper argc) place s (progress_in core)) (sym e))
@@ -78,12 +78,12 @@ leads taken code core world at argc place frame items reached can top e many is 
         ≡ done code core.places (phase_shown core.phase) (instr.InitSuper n) place (pushed_all items (Runs one locals stack ∷ s)) (progress_in core)) many
         (sym (taken (Stuck (progress_in core)) items stack _))
 
-pub part_skipped : ((missing : State) → AreTaken missing) → (code : CodeProgram) (core : Core) (world : WorldView) (at : Registers) (argc : ℕ) (place : Option SourcePlace)
+pub part_skipped : ((missing : State) → ComeOffAgain missing) → (code : CodeProgram) (core : Core) (world : WorldView) (at : Registers) (argc : ℕ) (place : Option SourcePlace)
     (frame : RunningFrame) (items : List Value) → CanDo code core at (instr.InitSuper argc)
     → core.stack.frames.items ≡ Running frame ∷ below core.stack.frames.items
     → stood core.stack at ≡ pushed_all items (stood core.stack (with_top (at.top - argc) at)) → length items ≡ argc
     → IsLaid core.stack (with_top (at.top - argc) at) → IsReached code core world frame.activation items part.Skips
-    → Does code (instr.InitSuper argc) place core at (in_other core world) (next.On (with_top (at.top - argc) at))
+    → IsDone code (instr.InitSuper argc) place core at (in_other core world) (next.On (with_top (at.top - argc) at))
 part_skipped taken code core world at argc place frame items can top e many laid is = record {
   state = leads taken code core world at argc place frame items part.Skips can top e many is;
   stand = record { laid = laid; within = can.stands.frames.within };
@@ -91,12 +91,12 @@ part_skipped taken code core world at argc place frame items can top e many laid
   kept = can.kept;
 }
 
-pub part_failed : ((missing : State) → AreTaken missing) → (code : CodeProgram) (core : Core) (world : WorldView) (at : Registers) (argc : ℕ) (place : Option SourcePlace)
+pub part_failed : ((missing : State) → ComeOffAgain missing) → (code : CodeProgram) (core : Core) (world : WorldView) (at : Registers) (argc : ℕ) (place : Option SourcePlace)
     (frame : RunningFrame) (items : List Value) (fault : Fault) → CanDo code core at (instr.InitSuper argc)
     → core.stack.frames.items ≡ Running frame ∷ below core.stack.frames.items
     → stood core.stack at ≡ pushed_all items (stood core.stack (with_top (at.top - argc) at)) → length items ≡ argc
     → IsReached code core world frame.activation items (part.Fails fault)
-    → Does code (instr.InitSuper argc) place core at
+    → IsDone code (instr.InitSuper argc) place core at
     (record (in_other core world) { ending = fault_ending fault (site_shown core.places frame.activation.site) }) next.Ended
 part_failed taken code core world at argc place frame items fault can top e many is = record {
   state = leads taken code core world at argc place frame items (part.Fails fault) can top e many is;
@@ -112,13 +112,13 @@ pub locals_are : (code : CodeProgram) (core : Core) (world : WorldView) (activat
 locals_are code core world activation items entered is =
     subst (HasAll code items) (sym is.is) (part_all code items (activation_shown core.places activation) (progress_in core))
 
-pub part_entered : ((missing : State) → AreTaken missing) → (code : CodeProgram) (core new : Core) (world : WorldView) (at : Registers) (argc : ℕ) (place : Option SourcePlace)
+pub part_entered : ((missing : State) → ComeOffAgain missing) → (code : CodeProgram) (core new : Core) (world : WorldView) (at : Registers) (argc : ℕ) (place : Option SourcePlace)
     (frame : RunningFrame) (items : List Value) (entered : Entered) (n : Next) → CanDo code core at (instr.InitSuper argc)
     → core.stack.frames.items ≡ Running frame ∷ below core.stack.frames.items
     → stood core.stack at ≡ pushed_all items (stood core.stack (with_top (at.top - argc) at)) → length items ≡ argc
     → items ≡ drop (at.top - argc) (in_use core.stack at) → IsReached code core world frame.activation items (part.Enters entered)
     → PartBegins code (in_other core world) at (at.top - argc) frame.activation.site entered new n
-    → Does code (instr.InitSuper argc) place core at new n
+    → IsDone code (instr.InitSuper argc) place core at new n
 part_entered taken code core new world at argc place frame items entered n can top e many items_are is begins = record {
   state = begins.state
       ∙ (ap (λ (values : List Value). part_arrived code (phase_shown core.phase)

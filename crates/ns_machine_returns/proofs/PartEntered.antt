@@ -27,7 +27,7 @@ use Rattle.ns_machine_frames.specs.declared.frame.RunningFrame.{RunningFrame}
 use Rattle.ns_machine_frames.specs.declared.registers.Registers.{Registers}
 use Rattle.ns_machine_frames.specs.Standing.{Stood, standing, at_next, below, operands_in}
 use Rattle.ns_machine_frames.specs.Stack.{stood, in_use, with_top, IsLaid}
-use Rattle.ns_machine_frames.specs.Room.{AreWithin, bound}
+use Rattle.ns_machine_frames.specs.Room.{FramesFitWithin, bound}
 use Rattle.ns_machine_frames.specs.View.{site_shown, activation_shown}
 use Rattle.ns_machine_frames.specs.laws.Counts.{many_stand, many_next}
 use Rattle.ns_machine_core.specs.declared.state.Core.{Core}
@@ -45,13 +45,13 @@ use Rattle.ns_machine_returns.proofs.PartDone.{IsReached, world_stays, locals_ar
 
 -- where the arguments begin, the frames reach no further than they may
 reach_is : (code : CodeProgram) (core : Core) (at : Registers) (first : ℕ) (frame : RunningFrame) → core.stack.frames.items ≡ Running frame ∷ below core.stack.frames.items
-    → IsLaid core.stack (with_top first at) → AreWithin (height_in code) (greatest_of code.bodies) (length core.stack.values.items) core.stack.frames.items
+    → IsLaid core.stack (with_top first at) → FramesFitWithin (height_in code) (greatest_of code.bodies) (length core.stack.values.items) core.stack.frames.items
     → length (operands_in (stood core.stack (with_top first at))) ≤ height_in code frame.activation.body
     → first ≤ bound (greatest_of code.bodies) core.stack.frames.items
 reach_is code core at first frame top laid within few =
     let here = subst (λ (frames : List Frame). length (operands_in (standing (at_next at.next frames) (take first core.stack.values.items))) ≤ height_in code frame.activation.body) top few in
     let count = operands_count frame.operands first core.stack.values.items laid.filled in
-    let reach = (subst (AreWithin (height_in code) (greatest_of code.bodies) (length core.stack.values.items)) top within).1 in
+    let reach = (subst (FramesFitWithin (height_in code) (greatest_of code.bodies) (length core.stack.values.items)) top within).1 in
     subst (λ (frames : List Frame). first ≤ bound (greatest_of code.bodies) frames) (sym top) (omega (arith, here, count, reach))
 
 pub enters : ((code : CodeProgram) → WhatIsReachedIsEntered code)

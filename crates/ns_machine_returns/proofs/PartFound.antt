@@ -31,7 +31,7 @@ use Rattle.ns_machine_frames.specs.View.{activation_shown}
 use Rattle.ns_machine_core.specs.declared.state.Core.{Core}
 use Rattle.ns_machine_core.specs.Shown.{progress_in}
 use Rattle.ns_actions.specs.Bodies.{height_in}
-use Rattle.ns_machine_core.specs.Doing.{Finds, FindsIn, CanDo}
+use Rattle.ns_machine_core.specs.Doing.{Finds, FindsWhatItTakes, CanDo}
 use Rattle.ns_machine_core.specs.laws.Pushed.{top_stands}
 
 -- ---- operands that are taken
@@ -84,7 +84,7 @@ pub record PartFinds (code : CodeProgram) (core : Core) (activation : Activation
 
 -- by what the instruction finds in its frame
 found_in : (code : CodeProgram) (core : Core) (argc : ℕ) (frame : RunningFrame) (locals stack items : List Value) (others : List Stood) → length items ≡ argc
-    → FindsIn code core.places (instr.InitSuper argc) frame locals (reverse items ++ stack) (progress_in core)
+    → FindsWhatItTakes code core.places (instr.InitSuper argc) frame locals (reverse items ++ stack) (progress_in core)
     → PartFinds code core frame.activation (Runs frame locals stack ∷ others) items
 found_in code core argc frame locals stack items others many finds =
     let b = there_is (slice_get code.bodies frame.activation.body) finds.fits.there in

@@ -18,7 +18,7 @@ use Rattle.ns_machine_core.specs.declared.state.Core.{Core}
 use Rattle.ns_machine_core.specs.declared.state.Next.{Next}
 use Rattle.ns_machine_core.specs.Shown.{phase_shown, progress_in}
 use Rattle.ns_machine_core.specs.Framed.{AreFramed}
-use Rattle.ns_machine_core.specs.Doing.{done, Finds, CanDo, Does}
+use Rattle.ns_machine_core.specs.Doing.{done, Finds, CanDo, IsDone}
 use Rattle.ns_machine_core.specs.laws.Pushed.{top_stands}
 use Rattle.ns_machine_returns.specs.Ending.{CanEnd, IsEnded}
 
@@ -71,7 +71,7 @@ value_ends code core at to frame value can top e laid =
 
 pub value_returned : (code : CodeProgram) (core new : Core) (at to : Registers) (frame : RunningFrame) (value : Value) (place : Option SourcePlace) (n : Next)
     → CanDo code core at instr.Return → core.stack.frames.items ≡ Running frame ∷ below core.stack.frames.items
-    → stood core.stack at ≡ pushed value (stood core.stack to) → IsEnded code core to frame value new n → Does code instr.Return place core at new n
+    → stood core.stack at ≡ pushed value (stood core.stack to) → IsEnded code core to frame value new n → IsDone code instr.Return place core at new n
 value_returned code core new at to frame value place n can top e ended = record {
   state = ended.state
       ∙ (by_stood (stood core.stack to) e (subst (λ (s : List Stood). Finds code core.places instr.Return s (progress_in core)) e can.finds)
@@ -126,7 +126,7 @@ self_ends code core at frame can top =
 
 pub self_returned : (code : CodeProgram) (core new : Core) (at : Registers) (frame : RunningFrame) (place : Option SourcePlace) (n : Next)
     → CanDo code core at instr.ReturnSelf → core.stack.frames.items ≡ Running frame ∷ below core.stack.frames.items
-    → IsEnded code core at frame frame.activation.me new n → Does code instr.ReturnSelf place core at new n
+    → IsEnded code core at frame frame.activation.me new n → IsDone code instr.ReturnSelf place core at new n
 self_returned code core new at frame place n can top ended = record {
   state = ended.state ∙ by_stood (stood core.stack at) refl can.finds;
   stand = ended.stand;

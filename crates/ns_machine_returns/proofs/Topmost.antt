@@ -13,7 +13,7 @@ use Rattle.ns_machine_frames.specs.declared.frame.LoopingFrame.{LoopingFrame}
 use Rattle.ns_machine_frames.specs.declared.registers.Registers.{Registers}
 use Rattle.ns_machine_frames.specs.Standing.{Stood, Loops, standing, at_next, below}
 use Rattle.ns_machine_frames.specs.Stack.{stood}
-use Rattle.ns_machine_frames.specs.Room.{AreWithin, bound, DepthGivesRoom}
+use Rattle.ns_machine_frames.specs.Room.{FramesFitWithin, bound, DepthGivesRoom}
 use Rattle.ns_machine_frames.specs.View.{frames_shown}
 use Rattle.ns_machine_frames.specs.laws.Counts.{many_stand}
 use Rattle.ns_machine_core.specs.declared.state.Core.{Core}
@@ -21,7 +21,7 @@ use Rattle.ns_machine_core.specs.declared.state.Next.TheVariants as next
 use Rattle.ns_machine_core.specs.Shown.{phase_shown, progress_in}
 use Rattle.ns_actions.specs.Bodies.{height_in, greatest_of}
 use Rattle.ns_machine_core.specs.Framed.{HasRoomOnTop, AreFramed}
-use Rattle.ns_machine_core.specs.Ready.{IsReady}
+use Rattle.ns_machine_core.specs.Ready.{MachineIsReady}
 use Rattle.ns_machine_returns.specs.Acting.{IsActing, IsLooping, CanAct}
 
 pub acting_loops : (code : CodeProgram) (core : Core) (at : Registers) → CanAct code core at → IsLooping core.stack.frames.items
@@ -45,7 +45,7 @@ pub sure : (code : CodeProgram) (core : Core) (at : Registers) (looping : Loopin
 sure code core at looping can top =
     let live = subst (IsActing core.run.world.world.cells code) top can.acting in
     let framed = subst (λ (frames : List Frame). AreFramed code (standing (at_next at.next frames) (take at.top core.stack.values.items)) (progress_in core)) top can.framed in
-    let within = subst (AreWithin (height_in code) (greatest_of code.bodies) (length core.stack.values.items)) top can.stands.frames.within in
+    let within = subst (FramesFitWithin (height_in code) (greatest_of code.bodies) (length core.stack.values.items)) top can.stands.frames.within in
     let stood_is = ap (λ (frames : List Frame). standing (at_next at.next frames) (take at.top core.stack.values.items)) top in
     record {
       live = live;
@@ -72,7 +72,7 @@ argument_fits law code core at looping can top =
 
 pub ready_acts : ((code : CodeProgram) (grants : Grants) (places : List SourcePlace) (phase : Phase) (s : List Stood) (p : Progress)
     → Valid code grants (Going phase (frames_shown code places s) p) → AreFramed code s p)
-    → (code : CodeProgram) (grants : Grants) (core : Core) (at : Registers) (looping : LoopingFrame) → IsReady code grants core (next.On at)
+    → (code : CodeProgram) (grants : Grants) (core : Core) (at : Registers) (looping : LoopingFrame) → MachineIsReady code grants core (next.On at)
     → core.stack.frames.items ≡ Looping looping ∷ below core.stack.frames.items → CanAct code core at
 ready_acts law code grants core at looping ready top = record {
   stands = record { rooms = ready.rooms; frames = ready.stand };

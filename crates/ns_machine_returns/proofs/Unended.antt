@@ -10,10 +10,10 @@ use Rattle.ns_machine_frames.specs.declared.stack.Stack.{Stack}
 use Rattle.ns_machine_frames.specs.Row.{FrameRow}
 use Rattle.ns_machine_frames.specs.Standing.{below}
 use Rattle.ns_machine_core.specs.declared.state.Core.{Core}
-use Rattle.ns_machine_core.specs.Tried.{IsUntouched}
+use Rattle.ns_machine_core.specs.Tried.{OnlyLookupsChanged}
 use Rattle.ns_machine_returns.specs.Ending.{CanEnd}
 
-pub unended : (code : CodeProgram) (core : Core) (at : Registers) (frame : RunningFrame) (value : Value) → CanEnd code core at frame value → IsUntouched code core core
+pub unended : (code : CodeProgram) (core : Core) (at : Registers) (frame : RunningFrame) (value : Value) → CanEnd code core at frame value → OnlyLookupsChanged code core core
 unended code core at frame value can = record { same = refl; kept = can.kept }
 
 -- Where two frames stand, one is left.

@@ -16,14 +16,14 @@ use Rattle.ns_machine_frames.specs.declared.stack.Stack.{Stack}
 use Rattle.ns_machine_frames.specs.Row.{ValueRow, FrameRow}
 use Rattle.ns_machine_frames.specs.Standing.{Stood, at_next}
 use Rattle.ns_machine_frames.specs.Stack.{stood, IsLaid}
-use Rattle.ns_machine_frames.specs.Room.{AreWithin}
+use Rattle.ns_machine_frames.specs.Room.{FramesFitWithin}
 use Rattle.ns_machine_frames.specs.Stated.{parts_ended, Unwinds}
 use Rattle.ns_machine_frames.specs.View.{frames_shown}
 use Rattle.ns_machine_frames.specs.laws.Counts.{next_apart}
 use Rattle.ns_machine_core.specs.declared.state.Core.{Core}
 use Rattle.ns_machine_core.specs.declared.state.Next.{Next}
 use Rattle.ns_machine_core.specs.Shown.{phase_shown, progress_in}
-use Rattle.ns_machine_core.specs.Standing.{Stays}
+use Rattle.ns_machine_core.specs.Standing.{KeepsRooms}
 use Rattle.ns_actions.specs.Bodies.{height_in, greatest_of}
 use Rattle.ns_machine_core.specs.Framed.{HasRoomOnTop}
 use Rattle.ns_machine_core.specs.laws.Kept.{rooms_stay, stays_on}
@@ -33,8 +33,8 @@ use Rattle.ns_machine_returns.proofs.Left.{over}
 use Rattle.ns_machine_returns.proofs.GivenBack.{parts_lawful, parts_cells}
 use Rattle.ns_machine_returns.proofs.HomeFound.{room_there}
 
-within_drop : (height : ℕ → ℕ) (greatest filled count : ℕ) (frames : List Frame) → AreWithin height greatest filled frames
-    → AreWithin height greatest filled (drop count frames)
+within_drop : (height : ℕ → ℕ) (greatest filled count : ℕ) (frames : List Frame) → FramesFitWithin height greatest filled frames
+    → FramesFitWithin height greatest filled (drop count frames)
 within_drop height greatest filled zero frames within = within
 within_drop height greatest filled (suc count) [] within = within
 within_drop height greatest filled (suc count) (frame ∷ frames) within = within_drop height greatest filled count frames within.2
@@ -49,7 +49,7 @@ pub record AreGone (count : ℕ) (core : Core) (at : Registers) (world : WorldVi
   pub frames : stack.frames ≡ record core.stack.frames { items = drop count core.stack.frames.items }
 
 gone_stays : (count : ℕ) (core : Core) (at here : Registers) (world : WorldView) (stack : Stack) → AreGone count core at world stack here
-    → Stays core (over core world stack)
+    → KeepsRooms core (over core world stack)
 gone_stays count core at here world stack gone = record {
   world = gone.rest;
   values = ap (λ (row : ValueRow). row.room) gone.values;
@@ -70,8 +70,8 @@ gone_takes law code core at here home count value world stack can gone = record 
     rooms = rooms_stay code core (over core world stack) can.stands.rooms (gone_stays count core at here world stack gone);
     frames = record {
       laid = gone.laid;
-      within = subst (λ (row : FrameRow). AreWithin (height_in code) (greatest_of code.bodies) (length stack.values.items) row.items) (sym gone.frames)
-          (subst (λ (row : ValueRow). AreWithin (height_in code) (greatest_of code.bodies) (length row.items) (drop count core.stack.frames.items)) (sym gone.values)
+      within = subst (λ (row : FrameRow). FramesFitWithin (height_in code) (greatest_of code.bodies) (length stack.values.items) row.items) (sym gone.frames)
+          (subst (λ (row : ValueRow). FramesFitWithin (height_in code) (greatest_of code.bodies) (length row.items) (drop count core.stack.frames.items)) (sym gone.values)
           (within_drop (height_in code) (greatest_of code.bodies) (length core.stack.values.items) count core.stack.frames.items can.stands.frames.within));
     };
   };

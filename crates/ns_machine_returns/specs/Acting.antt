@@ -25,9 +25,9 @@ use Rattle.ns_machine_core.specs.declared.state.Core.{Core}
 use Rattle.ns_machine_core.specs.declared.state.Next.{Next}
 use Rattle.ns_machine_core.specs.declared.state.Next.TheVariants.{On}
 use Rattle.ns_machine_core.specs.Shown.{phase_shown, progress_in, shown}
-use Rattle.ns_machine_core.specs.Standing.{Stands, StandAt, Stays, KeepsRightIn}
+use Rattle.ns_machine_core.specs.Standing.{HasStandingFrames, StandAt, KeepsRooms, KeepsRightIn}
 use Rattle.ns_machine_core.specs.Framed.{AreFramed}
-use Rattle.ns_machine_core.specs.Ready.{IsReady}
+use Rattle.ns_machine_core.specs.Ready.{MachineIsReady}
 use Rattle.ns_machine_core.specs.laws.Worlds.{in_other}
 
 -- The topmost frame is that of a method of the kernel, whose values are live.
@@ -44,7 +44,7 @@ IsLooping (Looping frame ∷ frames) = Unit {0}
 
 -- A method of the kernel, which is topmost, can do its next action.
 pub record CanAct (code : CodeProgram) (core : Core) (at : Registers) : Type 0 where
-  pub stands : Stands code core at
+  pub stands : HasStandingFrames code core at
   pub framed : AreFramed code (stood core.stack at) (progress_in core)
   pub acting : IsActing core.run.world.world.cells code core.stack.frames.items
   pub lawful : IsLawful core.run.world.world code
@@ -53,7 +53,7 @@ pub record CanAct (code : CodeProgram) (core : Core) (at : Registers) : Type 0 w
 -- So it can at every moment of a run at which it is topmost.
 abbrev pub ReadyCanAct : CodeProgram → Grants → Type 0
 ReadyCanAct code grants =
-    (core : Core) (at : Registers) (looping : LoopingFrame) → IsReady code grants core (On at)
+    (core : Core) (at : Registers) (looping : LoopingFrame) → MachineIsReady code grants core (On at)
     → core.stack.frames.items ≡ Looping looping ∷ below core.stack.frames.items → CanAct code core at
 
 -- The method of the kernel that is topmost was asked what it does next: nothing but the world has changed, in which a step is
@@ -77,4 +77,4 @@ pub record Awaits (code : CodeProgram) (old : Core) (at : Registers) (looping : 
       (frames_shown code old.places (turned state (stood old.stack at))) (progress_in old)
   pub stand : StandAt code new next
   pub run : new.run ≡ old.run
-  pub stays : Stays old new
+  pub stays : KeepsRooms old new

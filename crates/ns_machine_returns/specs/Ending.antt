@@ -14,13 +14,13 @@ use Rattle.ns_machine_frames.specs.View.{leaving_shown, activation_shown, frames
 use Rattle.ns_machine_core.specs.declared.state.Core.{Core}
 use Rattle.ns_machine_core.specs.declared.state.Next.{Next}
 use Rattle.ns_machine_core.specs.Shown.{phase_shown, progress_in, shown}
-use Rattle.ns_machine_core.specs.Standing.{Stands, StandAt, Stays, KeepsRightIn}
+use Rattle.ns_machine_core.specs.Standing.{HasStandingFrames, StandAt, KeepsRooms, KeepsRightIn}
 use Rattle.ns_machine_core.specs.Framed.{AreFramed}
 use Rattle.ns_actions.specs.Control.{frame_left}
 
 -- The frame of a body, on top, can end with a live value.
 pub record CanEnd (code : CodeProgram) (core : Core) (at : Registers) (frame : RunningFrame) (value : Value) : Type 0 where
-  pub stands : Stands code core at
+  pub stands : HasStandingFrames code core at
   pub top : core.stack.frames.items ≡ Running frame ∷ below core.stack.frames.items
   pub framed : AreFramed code (stood core.stack at) (progress_in core)
   pub lawful : IsLawful core.run.world.world code
@@ -34,13 +34,13 @@ pub record IsEnded (code : CodeProgram) (old : Core) (at : Registers) (frame : R
       returned code (phase_shown old.phase) (leaving_shown frame.leaving frame.activation) (activation_shown old.places frame.activation) value
       (frames_shown code old.places (below (stood old.stack at))) (progress_in old)
   pub stand : StandAt code new next
-  pub stays : Stays old new
+  pub stays : KeepsRooms old new
   pub kept : KeepsRightIn code old new
 
 -- The frame was given back, and the value is its answer.
-pub record IsAnswered (code : CodeProgram) (old : Core) (at : Registers) (value : Value) (new : Core) (next : Next) : Type 0 where
+pub record FrameIsAnswered (code : CodeProgram) (old : Core) (at : Registers) (value : Value) (new : Core) (next : Next) : Type 0 where
   pub state : shown code new next ≡
       delivered code (phase_shown old.phase) value (frames_shown code old.places (below (stood old.stack at))) (frame_left (progress_in old))
   pub stand : StandAt code new next
-  pub stays : Stays old new
+  pub stays : KeepsRooms old new
   pub kept : KeepsRightIn code old new

@@ -12,12 +12,12 @@ use Rattle.ns_machine_frames.specs.View.{frames_shown}
 use Rattle.ns_machine_core.specs.declared.state.Core.{Core}
 use Rattle.ns_machine_core.specs.declared.state.Next.{Next}
 use Rattle.ns_machine_core.specs.Shown.{phase_shown, progress_in, shown}
-use Rattle.ns_machine_core.specs.Standing.{Stands, StandAt, Stays}
+use Rattle.ns_machine_core.specs.Standing.{HasStandingFrames, StandAt, KeepsRooms}
 use Rattle.ns_machine_core.specs.Framed.{HasRoomOnTop}
 
 -- Frames stand in a lawful world, and a body on top has room for a value.
 pub record CanTake (code : CodeProgram) (core : Core) (at : Registers) : Type 0 where
-  pub stands : Stands code core at
+  pub stands : HasStandingFrames code core at
   pub room : HasRoomOnTop code (stood core.stack at)
   pub lawful : IsLawful core.run.world.world code
 
@@ -31,4 +31,4 @@ pub record IsHanded (code : CodeProgram) (old : Core) (at : Registers) (value : 
   pub state : shown code new next ≡ delivered code (phase_shown old.phase) value (frames_shown code old.places (stood old.stack at)) (progress_in old)
   pub stand : StandAt code new next
   pub run : new.run ≡ old.run
-  pub stays : Stays old new
+  pub stays : KeepsRooms old new

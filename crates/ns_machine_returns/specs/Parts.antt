@@ -15,7 +15,7 @@ use Rattle.ns_machine_frames.specs.View.{site_shown, frames_shown}
 use Rattle.ns_machine_core.specs.declared.state.Core.{Core}
 use Rattle.ns_machine_core.specs.declared.state.Next.{Next}
 use Rattle.ns_machine_core.specs.Shown.{phase_shown, progress_in, shown}
-use Rattle.ns_machine_core.specs.Standing.{StandAt, Stays}
+use Rattle.ns_machine_core.specs.Standing.{StandAt, KeepsRooms}
 
 -- the call of a superclass part, whose arguments stand from a place on, where its caller's values end
 abbrev pub part_call : KeptSite → ℕ → Call
@@ -33,4 +33,4 @@ pub record PartBegins (code : CodeProgram) (old : Core) (at : Registers) (first 
       (frames_shown code old.places (stood old.stack (with_top first at)))
   pub stand : StandAt code new next
   pub run : new.run ≡ old.run
-  pub stays : Stays old new
+  pub stays : KeepsRooms old new

@@ -9,7 +9,7 @@ ghost use Rattle.ns_machine_frames.specs.Stack.{in_use, IsLaid, KeepsRoom};
 ghost use Rattle.ns_machine_core.specs.declared.state.Core.{Core as AnyCore};
 ghost use Rattle.ns_machine_core.specs.declared.state.Next.TheVariants as next;
 ghost use Rattle.ns_machine_core.specs.Own.{AreOwn};
-ghost use Rattle.ns_machine_core.specs.Ready.{Moves};
+ghost use Rattle.ns_machine_core.specs.Ready.{MakesMove};
 ghost use Rattle.ns_machine_returns.specs.Acting.{IsLooping, CanAct, IsAsked, awaiting};
 
 use crate::handing::bring;
@@ -33,7 +33,7 @@ use ns_world::value::Value;
 pub fn act(code: &CodeProgram, core: &mut Core, at: Registers, own: OwnSends) -> Next
     requires can { CanAct code.now core.old at }
     requires own { AreOwn code.now core.old.places own }
-    ensures { Moves code.now core.old (next.On at) core.new result }
+    ensures { MakesMove code.now core.old (next.On at) core.new result }
 {
     let method = looping(&core.stack);
     match ask(code, core, at, method) {
@@ -81,7 +81,7 @@ pub fn prepare(
 ) -> Registers
     requires { (first : AnyCore) × IsAsked code.now first at looping core.old (waited.Evaluates block argument state) }
     ensures moves { (first : AnyCore) → IsAsked code.now first at looping core.old (waited.Evaluates block argument state)
-        → Moves code.now first (next.On at) (awaiting looping block core.new) (next.Waits result) }
+        → MakesMove code.now first (next.On at) (awaiting looping block core.new) (next.Waits result) }
     ensures place { looping.floor < length core.new.stack.values.items }
 {
     frames_have_room();
@@ -108,7 +108,7 @@ pub fn end_method(
 ) -> Next
     requires asked { (first : AnyCore) × IsAsked code.now first at looping core.old (waited.Ends answer) }
     requires own { AreOwn code.now core.old.places own }
-    ensures { (first : AnyCore) → IsAsked code.now first at looping core.old (waited.Ends answer) → Moves code.now first (next.On at) core.new result }
+    ensures { (first : AnyCore) → IsAsked code.now first at looping core.old (waited.Ends answer) → MakesMove code.now first (next.On at) core.new result }
 {
     actions_keep_lawful();
     let here = core.stack.leave(at);

@@ -11,7 +11,7 @@ ghost use Rattle.ns_machine_core.specs.Doing.{CanDo};
 ghost use Rattle.ns_machine_core.specs.Framed.{HasRoomOnTop};
 ghost use Rattle.ns_machine_core.specs.Tried.{DoesOrNot};
 ghost use Rattle.ns_machine_returns.specs.Answering.{EndsOrNot};
-ghost use Rattle.ns_machine_returns.specs.Ending.{CanEnd, IsAnswered};
+ghost use Rattle.ns_machine_returns.specs.Ending.{CanEnd, FrameIsAnswered};
 ghost use Rattle.ns_machine_returns.specs.Handing.{CanTake, IsHanded};
 
 use ns_act::bodies::part_ended;
@@ -86,7 +86,7 @@ fn answer(
     requires can { CanEnd code.now core.old at frame value }
     requires room { HasRoomOnTop code.now (below (stood core.old.stack at)) }
     requires some { 1 < length core.old.stack.frames.items }
-    ensures { IsAnswered code.now core.old at value core.new (next.On result) }
+    ensures { FrameIsAnswered code.now core.old at value core.new (next.On result) }
 {
     charging_keeps_lawful();
     let _frame = frame;

@@ -6,10 +6,10 @@ ghost use Rattle.ns_code.specs.declared.instruction.Instr.TheVariants as instr;
 ghost use Rattle.ns_machine_frames.specs.declared.frame.Leaving.TheVariants as leaving;
 ghost use Rattle.ns_machine_frames.specs.Standing.{below};
 ghost use Rattle.ns_machine_frames.specs.Stack.{stood};
-ghost use Rattle.ns_machine_core.specs.Doing.{CanDo, Does};
+ghost use Rattle.ns_machine_core.specs.Doing.{CanDo, IsDone};
 ghost use Rattle.ns_machine_core.specs.Framed.{HasRoomOnTop};
 ghost use Rattle.ns_machine_core.specs.Own.{AreOwn};
-ghost use Rattle.ns_machine_returns.specs.Ending.{CanEnd, IsEnded, IsAnswered};
+ghost use Rattle.ns_machine_returns.specs.Ending.{CanEnd, IsEnded, FrameIsAnswered};
 
 use crate::handing::{bring, hand};
 use ns_act::bodies::part_ended;
@@ -30,7 +30,7 @@ use ns_world::value::Value;
 pub fn return_value(code: &CodeProgram, core: &mut Core, at: Registers, own: OwnSends) -> Next
     requires can { CanDo code.now core.old at instr.Return }
     requires own { AreOwn code.now core.old.places own }
-    ensures { (place : Option SourcePlace) → Does code.now instr.Return place core.old at core.new result }
+    ensures { (place : Option SourcePlace) → IsDone code.now instr.Return place core.old at core.new result }
 {
     let frame = running(&core.stack);
     let (value, below) = core.stack.pop(at);
@@ -42,7 +42,7 @@ pub fn return_value(code: &CodeProgram, core: &mut Core, at: Registers, own: Own
 pub fn return_self(code: &CodeProgram, core: &mut Core, at: Registers, own: OwnSends) -> Next
     requires can { CanDo code.now core.old at instr.ReturnSelf }
     requires own { AreOwn code.now core.old.places own }
-    ensures { (place : Option SourcePlace) → Does code.now instr.ReturnSelf place core.old at core.new result }
+    ensures { (place : Option SourcePlace) → IsDone code.now instr.ReturnSelf place core.old at core.new result }
 {
     let frame = running(&core.stack);
     end_body(code, core, at, own, frame, frame.activation.me)
@@ -84,7 +84,7 @@ fn answer(
     requires can { CanEnd code.now core.old at frame value }
     requires room { HasRoomOnTop code.now (below (stood core.old.stack at)) }
     requires own { AreOwn code.now core.old.places own }
-    ensures { IsAnswered code.now core.old at value core.new result }
+    ensures { FrameIsAnswered code.now core.old at value core.new result }
 {
     charging_keeps_lawful();
     let _frame = frame;

@@ -6,7 +6,7 @@ ghost use Rattle.ns_code.specs.declared.instruction.Instr.TheVariants as instr;
 ghost use Rattle.ns_actions.specs.Control.{Progress, in_world};
 ghost use Rattle.ns_act.specs.Room.{SameRest};
 ghost use Rattle.ns_machine_frames.specs.Stated.{parts_ended};
-ghost use Rattle.ns_machine_core.specs.Doing.{CanDo, Does};
+ghost use Rattle.ns_machine_core.specs.Doing.{CanDo, IsDone};
 ghost use Rattle.ns_machine_core.specs.Own.{AreOwn};
 ghost use Rattle.ns_machine_returns.specs.Unwinding.{CanUnwind, IsUnwound};
 
@@ -26,7 +26,7 @@ use ns_world::world::World;
 pub fn return_home(code: &CodeProgram, core: &mut Core, at: Registers, own: OwnSends) -> Next
     requires can { CanDo code.now core.old at instr.ReturnHome }
     requires own { AreOwn code.now core.old.places own }
-    ensures { (place : Option SourcePlace) → Does code.now instr.ReturnHome place core.old at core.new result }
+    ensures { (place : Option SourcePlace) → IsDone code.now instr.ReturnHome place core.old at core.new result }
 {
     returns_unwind();
     let frame = running(&core.stack);

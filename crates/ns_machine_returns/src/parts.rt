@@ -6,7 +6,7 @@ ghost use Rattle.ns_code.specs.declared.instruction.Instr.TheVariants as instr;
 ghost use Rattle.ns_actions.specs.declared.control.Exit.TheVariants as exit;
 ghost use Rattle.ns_machine_core.specs.declared.state.Next.TheVariants as next;
 ghost use Rattle.ns_machine_core.specs.Arriving.{CanEnter};
-ghost use Rattle.ns_machine_core.specs.Doing.{CanDo, Does};
+ghost use Rattle.ns_machine_core.specs.Doing.{CanDo, IsDone};
 ghost use Rattle.ns_machine_returns.specs.Parts.{part_call, listed, PartBegins};
 
 use ns_act::classes::super_part;
@@ -28,7 +28,7 @@ use ns_machine_frames::registers::Registers;
 #[inline(always)]
 pub fn init_super(code: &CodeProgram, core: &mut Core, at: Registers, argc: u8) -> Next
     requires { CanDo code.now core.old at (instr.InitSuper argc) }
-    ensures { (place : Option SourcePlace) → Does code.now (instr.InitSuper argc) place core.old at core.new result }
+    ensures { (place : Option SourcePlace) → IsDone code.now (instr.InitSuper argc) place core.old at core.new result }
 {
     begin_part(code, core, at, u32::from(argc))
 }
@@ -37,7 +37,7 @@ pub fn init_super(code: &CodeProgram, core: &mut Core, at: Registers, argc: u8) 
 #[tactic(auto, using(ns_machine_core::specs::laws::Pushed::runs, ns_machine_core::specs::laws::Pushed::one_more, ns_machine_core::specs::laws::Taken::some_operand))]
 fn begin_part(code: &CodeProgram, core: &mut Core, at: Registers, count: u32) -> Next
     requires { CanDo code.now core.old at (instr.InitSuper count) }
-    ensures { (place : Option SourcePlace) → Does code.now (instr.InitSuper count) place core.old at core.new result }
+    ensures { (place : Option SourcePlace) → IsDone code.now (instr.InitSuper count) place core.old at core.new result }
 {
     operands_are_taken();
     enclosing_objects_are_there();

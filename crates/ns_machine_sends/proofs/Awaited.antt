@@ -8,7 +8,7 @@ use Rattle.ns_world.specs.declared.value.Value.{Value}
 use Rattle.ns_world.specs.World.{made}
 use Rattle.ns_actions.specs.Bodies.{height_in, greatest_of}
 use Rattle.ns_find.specs.declared.memo.Kept.{Kept}
-use Rattle.ns_find.specs.Memo.{IsRight}
+use Rattle.ns_find.specs.Memo.{PlaceIsRight}
 use Rattle.ns_machine_moves.specs.Arrivals.{arrived}
 use Rattle.ns_machine_moves.specs.State.{Pends, Evaluating}
 use Rattle.ns_machine_moves.specs.Move.{move}
@@ -19,12 +19,12 @@ use Rattle.ns_machine_frames.specs.View.{site_shown}
 use Rattle.ns_machine_core.specs.declared.state.Next.{Next}
 use Rattle.ns_machine_core.specs.declared.state.Next.TheVariants as next
 use Rattle.ns_machine_core.specs.Shown.{phase_shown, progress_in, shown}
-use Rattle.ns_machine_core.specs.Ready.{IsReady, Moves}
+use Rattle.ns_machine_core.specs.Ready.{MachineIsReady, MakesMove}
 use Rattle.ns_machine_core.specs.laws.Kept.{rooms_stay}
 use Rattle.ns_machine_frames.specs.declared.registers.Registers.{Registers}
 use Rattle.ns_machine_frames.specs.declared.stack.Stack.{Stack}
 use Rattle.ns_machine_frames.specs.Row.{ValueRow, FrameRow}
-use Rattle.ns_machine_frames.specs.Room.{AreWithin, bound}
+use Rattle.ns_machine_frames.specs.Room.{FramesFitWithin, bound}
 use Rattle.ns_machine_frames.specs.Standing.{standing, at_next, AreLaid}
 use Rattle.ns_machine_frames.specs.Stack.{in_use, stood, with_top, IsLaid, KeepsRoom}
 use Rattle.ns_machine_frames.specs.View.{frames_shown, state_shown}
@@ -154,15 +154,15 @@ place_made code core at sent stack stands waits used frames filled laid room = r
     lower : take sent.floor stack.values.items ≡ take sent.floor core.stack.values.items
     lower = sym (take-take sent.floor at.top stack.values.items low_top) ∙ (ap (take sent.floor) used ∙ take-take sent.floor at.top core.stack.values.items low_top)
 
-    within : AreWithin (height_in code) (greatest_of code.bodies) (length stack.values.items) stack.frames.items
-    within = subst (λ (kept : FrameRow). AreWithin (height_in code) (greatest_of code.bodies) (length stack.values.items) kept.items) (sym frames)
+    within : FramesFitWithin (height_in code) (greatest_of code.bodies) (length stack.values.items) stack.frames.items
+    within = subst (λ (kept : FrameRow). FramesFitWithin (height_in code) (greatest_of code.bodies) (length stack.values.items) kept.items) (sym frames)
         (within_more (height_in code) (greatest_of code.bodies) (length core.stack.values.items) (length stack.values.items) core.stack.frames.items room.filled
         stands.within)
 
 -- ---- from where it waited
 
 module _ (code : CodeProgram) (grants : Grants) (core mid : Core) (at : Registers) (sent : Sent) (block : Value) (values : List Value)
-    (ready : IsReady code grants core (next.Waits at)) (is : IsWaiting code core values block) (made : HasMadePlace code core at sent mid) where
+    (ready : MachineIsReady code grants core (next.Waits at)) (is : IsWaiting code core values block) (made : HasMadePlace code core at sent mid) where
   pub place_left : IsLeft code mid at sent
   place_left = record {
     sound = is.sound;
@@ -191,7 +191,7 @@ module _ (code : CodeProgram) (grants : Grants) (core mid : Core) (at : Register
   pub evaluation_moves : (new : Core) (n : Next) → Leads code mid at sent.floor (evaluated_with code mid sent values block) new n
       → arrived code (phase_shown core.phase) (evaluated_with code core sent values block) (frames_shown code core.places (stood core.stack (with_top sent.floor at)))
       ≡ move code (shown code core (next.Waits at))
-      → Moves code core (next.Waits at) new n
+      → MakesMove code core (next.Waits at) new n
   evaluation_moves new n leads is_move = record {
     state = leads.state ∙ (same ∙ is_move);
     stand = leads.stand;
@@ -205,7 +205,7 @@ module _ (code : CodeProgram) (grants : Grants) (core mid : Core) (at : Register
       places = leads.stays.places ∙ made.stays.places;
       arguments = leads.stays.arguments ∙ made.stays.arguments;
     };
-    kept = subst (λ (memo : List (Option Kept)). All (IsRight core.run.world.world.cells code) memo) (sym (leads.memo ∙ ap (λ (run : Run). run.memo) made.run)) ready.kept;
+    kept = subst (λ (memo : List (Option Kept)). All (PlaceIsRight core.run.world.world.cells code) memo) (sym (leads.memo ∙ ap (λ (run : Run). run.memo) made.run)) ready.kept;
   }
     where
       same : arrived code (phase_shown mid.phase) (evaluated_with code mid sent values block) (frames_shown code mid.places (stood mid.stack (with_top sent.floor at)))
@@ -279,10 +279,10 @@ module _ (code : CodeProgram) (grants : Grants) (core : Core) (at : Registers) (
       record { sound = is.sound; lawful = is.lawful; depth = is.depth; block_is = is.block_is; few = is.few; live = is.live }
 
   pub once_moves : (new : Core) (n : Next) → Leads code core at sent.floor (evaluated_with code core sent (arguments_in core at sent) block) new n
-      → Moves code (with_block sent block core) (next.Waits at) new n
+      → MakesMove code (with_block sent block core) (next.Waits at) new n
   once_moves new n is = record {
     state = is.state;
     stand = is.stand;
     stays = record { world = is.stays.world; values = is.stays.values; frames = is.stays.frames; places = is.stays.places; arguments = is.stays.arguments };
-    kept = subst (λ (memo : List (Option Kept)). All (IsRight core.run.world.world.cells code) memo) (sym is.memo) waits.ready.kept;
+    kept = subst (λ (memo : List (Option Kept)). All (PlaceIsRight core.run.world.world.cells code) memo) (sym is.memo) waits.ready.kept;
   }

@@ -23,7 +23,7 @@ use Rattle.ns_machine_core.specs.Shown.{phase_shown}
 use Rattle.ns_machine_core.specs.Arriving.{CanEnter, Arrives, reached_at}
 use Rattle.ns_machine_core.specs.Entering.{WhatIsReachedIsEntered}
 use Rattle.ns_machine_sends.specs.declared.sent.Sent.{Sent}
-use Rattle.ns_machine_sends.specs.Going.{arguments_in, control_at, GoesOn, IsLeft, TakesNone, AreTaken}
+use Rattle.ns_machine_sends.specs.Going.{arguments_in, control_at, ControlGoesOn, IsLeft, TakesNone, ArgumentsStand}
 use Rattle.ns_machine_sends.proofs.Arrived.{begins_at}
 
 has_place : (g : Given) (floor filled : ℕ) → floor < filled → HasPlaceFor g floor filled
@@ -37,8 +37,8 @@ call_of leaving sent = record { leaving = leaving; site = sent.site; floor = sen
 
 pub may_enter : ((code : CodeProgram) → WhatIsReachedIsEntered code) → (code : CodeProgram) (core : Core) (at : Registers) (sent : Sent) (leaving : Leaving) (exit : Exit)
     (entered : Entered) → IsLeft code core at sent
-    → GoesOn code (length core.stack.frames.items) (control_at code core at sent (reached.Enters exit entered))
-    → AreTaken core exit entered.given (arguments_in core at sent) → CanEnter code core at (call_of leaving sent) exit entered
+    → ControlGoesOn code (length core.stack.frames.items) (control_at code core at sent (reached.Enters exit entered))
+    → ArgumentsStand core exit entered.given (arguments_in core at sent) → CanEnter code core at (call_of leaving sent) exit entered
 may_enter law code core at sent leaving exit entered left goes taken =
     law code goes.own core at (call_of leaving sent) exit entered (site_shown core.places sent.site) left.sound goes.fits
     (record {
@@ -84,14 +84,14 @@ without_same code core sent exit.Body entered given.Listed some none e takes = a
 without_same code core sent (exit.Clause class) entered given.Listed some none e takes = refl
 
 pub bare_goes : (code : CodeProgram) (core : Core) (at : Registers) (sent : Sent) (exit : Exit) (entered : Entered) → TakesNone entered.given exit
-    → GoesOn code (length core.stack.frames.items) (control_at code core at sent (reached.Enters exit entered))
-    → GoesOn code (length core.stack.frames.items)
+    → ControlGoesOn code (length core.stack.frames.items) (control_at code core at sent (reached.Enters exit entered))
+    → ControlGoesOn code (length core.stack.frames.items)
     (control_at code core (with_top sent.floor at) (record sent { first = sent.floor }) (reached.Enters exit entered))
 bare_goes code core at sent exit entered takes goes =
-    subst (λ (c : Control). GoesOn code (length core.stack.frames.items) c)
+    subst (λ (c : Control). ControlGoesOn code (length core.stack.frames.items) c)
     (without_same code core sent exit entered entered.given (arguments_in core at sent) (arguments_in core (with_top sent.floor at) (record sent { first = sent.floor })) refl takes) goes
 
-taken_none : (core : Core) (exit : Exit) (g : Given) → TakesNone g exit → AreTaken core exit g []
+taken_none : (core : Core) (exit : Exit) (g : Given) → TakesNone g exit → ArgumentsStand core exit g []
 taken_none core exit (given.Message at) takes = refl
 taken_none core exit (given.Items at) takes = absurd takes
 taken_none core exit.Method given.Listed takes = absurd takes
@@ -99,9 +99,9 @@ taken_none core exit.Body given.Listed takes = absurd takes
 taken_none core (exit.Clause class) given.Listed takes = refl
 
 pub bare_taken : (core : Core) (at : Registers) (sent : Sent) (exit : Exit) (entered : Entered) → TakesNone entered.given exit
-    → AreTaken core exit entered.given (arguments_in core (with_top sent.floor at) (record sent { first = sent.floor }))
+    → ArgumentsStand core exit entered.given (arguments_in core (with_top sent.floor at) (record sent { first = sent.floor }))
 bare_taken core at sent exit entered takes =
-    subst (λ (vs : List Value). AreTaken core exit entered.given vs) (sym (none_left sent.floor core.stack.values.items)) (taken_none core exit entered.given takes)
+    subst (λ (vs : List Value). ArgumentsStand core exit entered.given vs) (sym (none_left sent.floor core.stack.values.items)) (taken_none core exit entered.given takes)
 
 pub bare_arrives : (code : CodeProgram) (core new : Core) (at : Registers) (sent : Sent) (exit : Exit) (entered : Entered) (next : Next) → TakesNone entered.given exit
     → Arrives code core (with_top sent.floor at) sent.floor

@@ -25,7 +25,7 @@ use Rattle.ns_machine_core.specs.Entering.{ArgumentsAreLocals}
 use Rattle.ns_machine_core.specs.laws.Kept.{rooms_stay}
 use Rattle.ns_machine_core.specs.laws.Sizes.{size_fits}
 use Rattle.ns_machine_sends.specs.declared.sent.Sent.{Sent}
-use Rattle.ns_machine_sends.specs.Going.{arguments_in, control_at, GoesOn, IsLeft, AreTaken, ArePlaced}
+use Rattle.ns_machine_sends.specs.Going.{arguments_in, control_at, ControlGoesOn, IsLeft, ArgumentsStand, ArePlaced}
 use Rattle.ns_machine_sends.specs.Kept.{kept_control}
 use Rattle.ns_machine_sends.proofs.Entered.{none_left}
 
@@ -41,22 +41,22 @@ inside_same : (code : CodeProgram) (core : Core) (sent : Sent) (exit : Exit) (en
 inside_same code core sent exit entered some none e = rw e refl
 
 pub bare_goes : (code : CodeProgram) (core : Core) (at : Registers) (sent : Sent) (exit : Exit) (entered : Entered) → has_environment code entered.body ≡ true
-    → GoesOn code (length core.stack.frames.items) (kept_control code core sent (reached.Enters exit entered))
-    → GoesOn code (length core.stack.frames.items) (control_at code core (with_top sent.floor at) (from_floor sent) (reached.Enters exit entered))
+    → ControlGoesOn code (length core.stack.frames.items) (kept_control code core sent (reached.Enters exit entered))
+    → ControlGoesOn code (length core.stack.frames.items) (control_at code core (with_top sent.floor at) (from_floor sent) (reached.Enters exit entered))
 bare_goes code core at sent exit entered inside goes =
-    subst (λ (c : Control). GoesOn code (length core.stack.frames.items) c)
+    subst (λ (c : Control). ControlGoesOn code (length core.stack.frames.items) c)
     (inside_same code core sent exit entered core.arguments.items (arguments_in core (with_top sent.floor at) (from_floor sent)) inside) goes
 
-none_taken : (core : Core) (exit : Exit) → AreTaken core exit given.Listed []
+none_taken : (core : Core) (exit : Exit) → ArgumentsStand core exit given.Listed []
 none_taken core exit.Method = refl
 none_taken core exit.Body = refl
 none_taken core (exit.Clause class) = refl
 
 pub bare_taken : (core : Core) (at : Registers) (sent : Sent) (exit : Exit) (entered : Entered) → entered.given ≡ given.Listed
-    → AreTaken core exit entered.given (arguments_in core (with_top sent.floor at) (from_floor sent))
+    → ArgumentsStand core exit entered.given (arguments_in core (with_top sent.floor at) (from_floor sent))
 bare_taken core at sent exit entered listed =
-    subst (λ (g : Given). AreTaken core exit g (arguments_in core (with_top sent.floor at) (from_floor sent))) (sym listed)
-    (subst (λ (vs : List Value). AreTaken core exit given.Listed vs) (sym (none_left sent.floor core.stack.values.items)) (none_taken core exit))
+    subst (λ (g : Given). ArgumentsStand core exit g (arguments_in core (with_top sent.floor at) (from_floor sent))) (sym listed)
+    (subst (λ (vs : List Value). ArgumentsStand core exit given.Listed vs) (sym (none_left sent.floor core.stack.values.items)) (none_taken core exit))
 
 pub bare_arrives : (code : CodeProgram) (core new : Core) (at : Registers) (sent : Sent) (exit : Exit) (entered : Entered) (next : Next)
     → has_environment code entered.body ≡ true
@@ -75,7 +75,7 @@ bare_arrives code core new at sent exit entered next inside is = record {
 
 -- they have their places among its locals
 pub kept_fit : (code : CodeProgram) → ArgumentsAreLocals code → DepthGivesRoom (greatest_of code.bodies) → (core : Core) (at : Registers) (sent : Sent) (exit : Exit)
-    (entered : Entered) → IsLeft code core at sent → GoesOn code (length core.stack.frames.items) (kept_control code core sent (reached.Enters exit entered))
+    (entered : Entered) → IsLeft code core at sent → ControlGoesOn code (length core.stack.frames.items) (kept_control code core sent (reached.Enters exit entered))
     → entered.given ≡ given.Listed → passed exit core.arguments.items ≡ core.arguments.items → has_environment code entered.body ≡ false
     → sent.floor + length core.arguments.items ≤ core.stack.values.room
 kept_fit code law depth core at sent exit entered left goes listed whole beside =
@@ -110,18 +110,18 @@ module _ (code : CodeProgram) (core mid : Core) (at to : Registers) (sent : Sent
   placed_same : (exit : Exit) (entered : Entered) → control_at code mid to (from_floor sent) (reached.Enters exit entered) ≡ kept_control code core sent (reached.Enters exit entered)
   placed_same exit entered = rw (placed.arguments, placed.run, placed.stays.places) refl
 
-  pub placed_goes : (exit : Exit) (entered : Entered) → GoesOn code (length core.stack.frames.items) (kept_control code core sent (reached.Enters exit entered))
-      → GoesOn code (length mid.stack.frames.items) (control_at code mid to (from_floor sent) (reached.Enters exit entered))
+  pub placed_goes : (exit : Exit) (entered : Entered) → ControlGoesOn code (length core.stack.frames.items) (kept_control code core sent (reached.Enters exit entered))
+      → ControlGoesOn code (length mid.stack.frames.items) (control_at code mid to (from_floor sent) (reached.Enters exit entered))
   placed_goes exit entered goes =
-      subst (λ (n : ℕ). GoesOn code n (control_at code mid to (from_floor sent) (reached.Enters exit entered)))
+      subst (λ (n : ℕ). ControlGoesOn code n (control_at code mid to (from_floor sent) (reached.Enters exit entered)))
       (ap (λ (kept : FrameRow). length kept.items) (sym placed.frames))
-      (subst (λ (c : Control). GoesOn code (length core.stack.frames.items) c) (sym (placed_same exit entered)) goes)
+      (subst (λ (c : Control). ControlGoesOn code (length core.stack.frames.items) c) (sym (placed_same exit entered)) goes)
 
   pub placed_taken : (exit : Exit) (entered : Entered) → entered.given ≡ given.Listed → passed exit core.arguments.items ≡ core.arguments.items
-      → AreTaken mid exit entered.given (arguments_in mid to (from_floor sent))
+      → ArgumentsStand mid exit entered.given (arguments_in mid to (from_floor sent))
   placed_taken exit entered listed whole =
-      subst (λ (g : Given). AreTaken mid exit g (arguments_in mid to (from_floor sent))) (sym listed)
-      (subst (λ (vs : List Value). AreTaken mid exit given.Listed vs) (sym placed.arguments) (sym whole))
+      subst (λ (g : Given). ArgumentsStand mid exit g (arguments_in mid to (from_floor sent))) (sym listed)
+      (subst (λ (vs : List Value). ArgumentsStand mid exit given.Listed vs) (sym placed.arguments) (sym whole))
 
   pub placed_arrives : (new : Core) (exit : Exit) (entered : Entered) (next : Next)
       → Arrives code mid to sent.floor (control_at code mid to (from_floor sent) (reached.Enters exit entered)) new next

@@ -15,7 +15,7 @@ use Rattle.ns_world.specs.Lawful.{IsLiveValue}
 use Rattle.ns_world.specs.Cell.{Cell, EnvironmentCell, shape_of}
 use Rattle.ns_world.specs.Heap.{Heap, heap_size, find_cell}
 use Rattle.ns_world.specs.World.{World, WorldView, stepped, entered, made}
-use Rattle.ns_kdata.specs.Arguments.{IsThere, shape_of_value}
+use Rattle.ns_kdata.specs.Arguments.{CellIsThere, shape_of_value}
 use Rattle.ns_actions.specs.declared.site.Site.{Site}
 use Rattle.ns_actions.specs.declared.control.Reached.{Reached}
 use Rattle.ns_actions.specs.declared.control.Reached.TheVariants as reached
@@ -42,7 +42,7 @@ use Rattle.ns_machine_frames.specs.Stack.{stood, with_top}
 use Rattle.ns_machine_frames.specs.View.{frames_shown}
 use Rattle.ns_machine_core.specs.declared.state.Core.{Core}
 use Rattle.ns_machine_sends.specs.declared.sent.Sent.{Sent}
-use Rattle.ns_machine_sends.specs.Going.{GoesOn, ComesToBody, Leads}
+use Rattle.ns_machine_sends.specs.Going.{ControlGoesOn, ComesToBody, Leads}
 use Rattle.ns_machine_sends.specs.Waiting.{EntersOrEnds, IsWaiting, evaluated_with}
 
 -- ---- an evaluation enters a body or halts
@@ -108,7 +108,7 @@ block_at : (o : Option Cell) → IsTrue (is_block_shape (option_map_or shape_of 
 block_at (Some cell) is = refl
 block_at None is = absurd (cc)
 
-pub block_there : (heap : Heap) (block : Value) → IsTrue (is_block heap block) → IsThere heap block
+pub block_there : (heap : Heap) (block : Value) → IsTrue (is_block heap block) → CellIsThere heap block
 block_there heap (Ref at) is = block_at (find_cell heap at) is
 block_there heap Nil is = tt
 block_there heap True is = tt
@@ -128,7 +128,7 @@ pub record EvaluationsKnown : Type 0 where
 
 -- An evaluation with these arguments goes on where what they are known to be lets it.
 module _ (code : CodeProgram) (core : Core) (sent : Sent) (block : Value) (values : List Value) where
-  pub evaluated_goes : EvaluationsKnown → IsWaiting code core values block → GoesOn code (length core.stack.frames.items) (evaluated_with code core sent values block)
+  pub evaluated_goes : EvaluationsKnown → IsWaiting code core values block → ControlGoesOn code (length core.stack.frames.items) (evaluated_with code core sent values block)
   evaluated_goes known is =
       let site = site_shown core.places sent.site in
       let after = known.lawful code block values site (progress_in core) is.lawful is.live in
@@ -143,9 +143,9 @@ module _ (code : CodeProgram) (core : Core) (sent : Sent) (block : Value) (value
 
   -- what it came to, in another world
   module _ (world : WorldView) (r : Reached) (same : reached_at code (in_other core world) sent.site values r ≡ evaluated_with code core sent values block) where
-    pub evaluation_goes : GoesOn code (length core.stack.frames.items) (evaluated_with code core sent values block)
-        → GoesOn code (length core.stack.frames.items) (reached_at code (in_other core world) sent.site values r)
-    evaluation_goes goes = subst (λ (c : Control). GoesOn code (length core.stack.frames.items) c) (sym same) goes
+    pub evaluation_goes : ControlGoesOn code (length core.stack.frames.items) (evaluated_with code core sent values block)
+        → ControlGoesOn code (length core.stack.frames.items) (reached_at code (in_other core world) sent.site values r)
+    evaluation_goes goes = subst (λ (c : Control). ControlGoesOn code (length core.stack.frames.items) c) (sym same) goes
 
     pub evaluation_enters : EntersOrEnds r
     evaluation_enters =

@@ -14,9 +14,9 @@ use Rattle.ns_actions.specs.Kernel.{row_reached}
 use Rattle.ns_machine_moves.specs.Arrivals.{arrived}
 use Rattle.ns_act.specs.declared.sends.Answered.TheVariants as answers
 use Rattle.ns_act.specs.Plain.{IsPlain}
-use Rattle.ns_kernel_rows.specs.Asked.{IsAsked}
+use Rattle.ns_kernel_rows.specs.Asked.{CanBeAsked}
 use Rattle.ns_kernel_rows.specs.Plain.{IsOfRow}
-use Rattle.ns_kernel_rows.specs.Reaching.{Reaches}
+use Rattle.ns_kernel_rows.specs.Reaching.{CallReaches}
 use Rattle.ns_machine_frames.specs.declared.frame.Frame.{Frame}
 use Rattle.ns_machine_frames.specs.declared.registers.Registers.{Registers}
 use Rattle.ns_machine_frames.specs.Stack.{stood, with_top}
@@ -28,7 +28,7 @@ use Rattle.ns_machine_core.specs.Standing.{HasRooms}
 use Rattle.ns_machine_core.specs.Arriving.{Arrives}
 use Rattle.ns_machine_core.specs.Doing.{IsRunning}
 use Rattle.ns_machine_sends.specs.declared.sent.Sent.{Sent}
-use Rattle.ns_machine_sends.specs.Going.{arguments_in, control_at, GoesOn, IsLeft, ComesToBody, IsGiven, answered_at, CanAsk, Leads}
+use Rattle.ns_machine_sends.specs.Going.{arguments_in, control_at, ControlGoesOn, IsLeft, ComesToBody, IsGiven, answered_at, CanAsk, Leads}
 
 -- ---- what comes of it
 
@@ -66,7 +66,7 @@ abbrev pub with_world : Core → WorldView → Board → Core
 with_world core world board = record core { run = record core.run { world = world; board = board } }
 
 pub row_asked : (code : CodeProgram) (core : Core) (at : Registers) (sent : Sent) (receiver : Value) (number : ℕ) → IsLeft code core at sent
-    → CanAsk code core at sent receiver number → IsAsked code core.run.world receiver (arguments_in core at sent)
+    → CanAsk code core at sent receiver number → CanBeAsked code core.run.world receiver (arguments_in core at sent)
 row_asked code core at sent receiver number left can = record {
   lawful = can.lawful;
   room = record { cells = left.rooms.cells; out = left.rooms.out };
@@ -98,7 +98,7 @@ row_left code core at sent world board limits room left = record {
 
 pub row_control : (code : CodeProgram) (core : Core) (at : Registers) (sent : Sent) (receiver : Value) (number : ℕ) (row : Row) (world : WorldView) (board : Board) (r : Reached)
     → row ≡ row_at number
-    → Reaches code (arguments_in core at sent) (row_reached code row sent.site.sel receiver (arguments_in core at sent)) core.run.world core.run.board r world board
+    → CallReaches code (arguments_in core at sent) (row_reached code row sent.site.sel receiver (arguments_in core at sent)) core.run.world core.run.board r world board
     → control_at code (with_world core world board) at sent r ≡ answered_at code core at sent receiver (answers.Row number)
 row_control code core at sent receiver number row world board r same reaches =
     reaches (site_shown core.places sent.site) core.run.begun
@@ -106,15 +106,15 @@ row_control code core at sent receiver number row world board r same reaches =
 
 pub row_goes : (code : CodeProgram) (core : Core) (at : Registers) (sent : Sent) (receiver : Value) (number : ℕ) (row : Row) (world : WorldView) (board : Board) (r : Reached)
     → row ≡ row_at number
-    → Reaches code (arguments_in core at sent) (row_reached code row sent.site.sel receiver (arguments_in core at sent)) core.run.world core.run.board r world board
-    → GoesOn code (length core.stack.frames.items) (answered_at code core at sent receiver (answers.Row number))
-    → GoesOn code (length core.stack.frames.items) (control_at code (with_world core world board) at sent r)
+    → CallReaches code (arguments_in core at sent) (row_reached code row sent.site.sel receiver (arguments_in core at sent)) core.run.world core.run.board r world board
+    → ControlGoesOn code (length core.stack.frames.items) (answered_at code core at sent receiver (answers.Row number))
+    → ControlGoesOn code (length core.stack.frames.items) (control_at code (with_world core world board) at sent r)
 row_goes code core at sent receiver number row world board r same reaches goes =
-    subst (λ (c : Control). GoesOn code (length core.stack.frames.items) c) (sym (row_control code core at sent receiver number row world board r same reaches)) goes
+    subst (λ (c : Control). ControlGoesOn code (length core.stack.frames.items) c) (sym (row_control code core at sent receiver number row world board r same reaches)) goes
 
 pub row_leads : (code : CodeProgram) (core new : Core) (at : Registers) (sent : Sent) (receiver : Value) (number : ℕ) (row : Row) (world : WorldView) (board : Board) (r : Reached)
     (next : Next) → row ≡ row_at number
-    → Reaches code (arguments_in core at sent) (row_reached code row sent.site.sel receiver (arguments_in core at sent)) core.run.world core.run.board r world board
+    → CallReaches code (arguments_in core at sent) (row_reached code row sent.site.sel receiver (arguments_in core at sent)) core.run.world core.run.board r world board
     → world.world.limits ≡ core.run.world.world.limits → SameRoom core.run.world world
     → Arrives code (with_world core world board) at sent.floor (control_at code (with_world core world board) at sent r) new next
     → Leads code core at sent.floor (answered_at code core at sent receiver (answers.Row number)) new next

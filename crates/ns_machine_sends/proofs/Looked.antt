@@ -7,7 +7,7 @@ use Rattle.ns_world.specs.World.{WorldView}
 use Rattle.ns_find.specs.declared.found.Found.{Found}
 use Rattle.ns_find.specs.declared.found.Sending.{Sending}
 use Rattle.ns_find.specs.Find.{found_from}
-use Rattle.ns_find.specs.Memo.{IsRight}
+use Rattle.ns_find.specs.Memo.{PlaceIsRight}
 use Rattle.ns_actions.specs.Control.{Progress, Activation, Control}
 use Rattle.ns_actions.specs.Sends.{Target}
 use Rattle.ns_machine_moves.specs.Arrivals.{arrived}
@@ -21,7 +21,7 @@ use Rattle.ns_machine_core.specs.declared.state.Core.{Core}
 use Rattle.ns_machine_core.specs.declared.state.Next.{Next}
 use Rattle.ns_machine_core.specs.Shown.{phase_shown}
 use Rattle.ns_machine_sends.specs.declared.sent.Sent.{Sent}
-use Rattle.ns_machine_sends.specs.Going.{arguments_in, GoesOn}
+use Rattle.ns_machine_sends.specs.Going.{arguments_in, ControlGoesOn}
 use Rattle.ns_machine_sends.specs.Sending.{CanSend, looked_up, Sends}
 use Rattle.ns_machine_sends.specs.laws.Looked.{looked}
 use Rattle.ns_machine_sends.proofs.Stepped.{left_in}
@@ -31,7 +31,7 @@ world_same core run rest = ap (λ (r : Run). r.world) rest
 
 -- so a send can still be made
 pub looked_can : (code : CodeProgram) (core : Core) (at : Registers) (sent : Sent) (receiver : Value) (run : Run) → looked core run
-    → All (IsRight core.run.world.world.cells code) run.memo → CanSend code core at sent receiver → CanSend code (record core { run = run }) at sent receiver
+    → All (PlaceIsRight core.run.world.world.cells code) run.memo → CanSend code core at sent receiver → CanSend code (record core { run = run }) at sent receiver
 looked_can code core at sent receiver run rest kept can = record {
   left = left_in code core at sent run
       (record { limits = ap (λ (w : WorldView). w.world.limits) same; room = (ap (λ (w : WorldView). w.cell_room) same, ap (λ (w : WorldView). w.out_room) same) })
@@ -60,8 +60,8 @@ looked_same code core at sent run activation target rest =
     ap (λ (p : Progress). answered code activation target sent.site.sel (arguments_in core at sent) (site_shown core.places sent.site) p) (ap progress_of rest)
 
 pub looked_goes : (code : CodeProgram) (core : Core) (at : Registers) (sent : Sent) (run : Run) (activation : Activation) (target : Target) → looked core run
-    → GoesOn code (length core.stack.frames.items) (looked_up code core at sent activation target)
-    → GoesOn code (length core.stack.frames.items) (looked_up code (record core { run = run }) at sent activation target)
+    → ControlGoesOn code (length core.stack.frames.items) (looked_up code core at sent activation target)
+    → ControlGoesOn code (length core.stack.frames.items) (looked_up code (record core { run = run }) at sent activation target)
 looked_goes code core at sent run activation target rest goes =
     rw (looked_same code core at sent run activation target rest) goes
 
@@ -90,7 +90,7 @@ looked_sends code core new at sent run activation target next rest is = record {
     places = is.stays.places;
     arguments = is.stays.arguments;
   };
-  kept = subst (λ (w : WorldView). All (IsRight w.world.cells code) new.run.memo) same is.kept;
+  kept = subst (λ (w : WorldView). All (PlaceIsRight w.world.cells code) new.run.memo) same is.kept;
 }
   where
     same : run.world ≡ core.run.world

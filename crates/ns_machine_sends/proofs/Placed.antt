@@ -10,7 +10,7 @@ use Rattle.ns_actions.specs.declared.control.Reached.TheVariants as reached
 use Rattle.ns_machine_frames.specs.declared.registers.Registers.{Registers}
 use Rattle.ns_machine_frames.specs.declared.stack.Stack.{Stack}
 use Rattle.ns_machine_frames.specs.Row.{FrameRow}
-use Rattle.ns_machine_frames.specs.Room.{AreWithin, bound}
+use Rattle.ns_machine_frames.specs.Room.{FramesFitWithin, bound}
 use Rattle.ns_machine_frames.specs.Standing.{standing, at_next, AreLaid}
 use Rattle.ns_machine_frames.specs.Stack.{in_use, stood, with_top, IsLaid, KeepsRoom}
 use Rattle.ns_machine_core.specs.declared.state.Core.{Core}
@@ -20,7 +20,7 @@ use Rattle.ns_machine_core.specs.Standing.{ArgumentsWait}
 use Rattle.ns_machine_core.specs.Arriving.{Arrives}
 use Rattle.ns_machine_core.specs.laws.Pushed.{stack_stays}
 use Rattle.ns_machine_sends.specs.declared.sent.Sent.{Sent}
-use Rattle.ns_machine_sends.specs.Going.{control_at, GoesOn, IsLeft, ArePlaced}
+use Rattle.ns_machine_sends.specs.Going.{control_at, ControlGoesOn, IsLeft, ArePlaced}
 use Rattle.ns_machine_sends.specs.Kept.{keeping, kept_control}
 use Rattle.ns_machine_frames.specs.laws.Room.{within_more}
 
@@ -29,7 +29,7 @@ floor_laid code core at sent left = left.waits.stands.laid
 
 -- there is room for the elements with which a block is evaluated
 pub items_fit : (code : CodeProgram) (core : Core) (at : Registers) (sent : Sent) (block : Value) (array : ℕ) → IsLeft code core at sent
-    → GoesOn code (length core.stack.frames.items) (control_at code core at sent (reached.Evaluates block (given.Items array)))
+    → ControlGoesOn code (length core.stack.frames.items) (control_at code core at sent (reached.Evaluates block (given.Items array)))
     → length (items_of core.run.world.world.cells (Ref array)) ≤ core.arguments.room
 items_fit code core at sent block array left goes = let few = goes.room in let room = left.rooms.evaluations in omega (arith, few, room)
 
@@ -88,8 +88,8 @@ values_placed code core at to sent stack values left used laid frames room here 
     lower = sym (take-take sent.floor to.top stack.values.items (omega (arith, top)))
         ∙ (ap (take sent.floor) used ∙ take_at (in_use core.stack (with_top sent.floor at)) values sent.floor size)
 
-    within : AreWithin (height_in code) (greatest_of code.bodies) (length stack.values.items) stack.frames.items
-    within = subst (λ (kept : FrameRow). AreWithin (height_in code) (greatest_of code.bodies) (length stack.values.items) kept.items) (sym frames)
+    within : FramesFitWithin (height_in code) (greatest_of code.bodies) (length stack.values.items) stack.frames.items
+    within = subst (λ (kept : FrameRow). FramesFitWithin (height_in code) (greatest_of code.bodies) (length stack.values.items) kept.items) (sym frames)
         (within_more (height_in code) (greatest_of code.bodies) (length core.stack.values.items) (length stack.values.items) core.stack.frames.items room.filled left.stands.within)
 
 -- what stands below them, where a call's arguments stand or none do

@@ -14,7 +14,7 @@ use Rattle.ns_find.specs.declared.found.Found.{Found}
 use Rattle.ns_find.specs.declared.found.Sending.TheVariants.{Plain}
 use Rattle.ns_find.specs.declared.memo.Kept.{Kept}
 use Rattle.ns_find.specs.Find.{found_from}
-use Rattle.ns_find.specs.Memo.{IsRight}
+use Rattle.ns_find.specs.Memo.{PlaceIsRight}
 use Rattle.ns_actions.specs.declared.row.Row.{Row}
 use Rattle.ns_actions.specs.declared.control.Reached.{Reached}
 use Rattle.ns_actions.specs.declared.control.Reached.TheVariants as reached
@@ -33,8 +33,8 @@ use Rattle.ns_act.specs.declared.sends.Answered.TheVariants as answers
 use Rattle.ns_act.specs.Answered.{answered_shown, answered, IsAnswered}
 use Rattle.ns_act.specs.Run.{progress_of}
 use Rattle.ns_act.specs.Room.{SameRest}
-use Rattle.ns_kernel_rows.specs.Asked.{IsAsked}
-use Rattle.ns_kernel_rows.specs.Reaching.{Reaches}
+use Rattle.ns_kernel_rows.specs.Asked.{CanBeAsked}
+use Rattle.ns_kernel_rows.specs.Reaching.{CallReaches}
 use Rattle.ns_machine_frames.specs.declared.frame.Frame.{Frame}
 use Rattle.ns_machine_frames.specs.declared.registers.Registers.{Registers}
 use Rattle.ns_machine_frames.specs.Stack.{stood, with_top}
@@ -47,9 +47,9 @@ use Rattle.ns_machine_core.specs.laws.Worlds.{in_other}
 use Rattle.ns_machine_sends.specs.declared.led.Led.{Led}
 use Rattle.ns_machine_sends.specs.declared.led.Led.TheVariants as led
 use Rattle.ns_machine_sends.specs.declared.sent.Sent.{Sent}
-use Rattle.ns_machine_sends.specs.Going.{GoesOn, ComesToBody, IsLeft}
+use Rattle.ns_machine_sends.specs.Going.{ControlGoesOn, ComesToBody, IsLeft}
 use Rattle.ns_machine_sends.specs.Kept.{kept_control, kept_answer, CanAskKept, CanAnswerKept}
-use Rattle.ns_machine_sends.specs.Waiting.{CanSendOn, sent_on_at, looked_on, LeadsTo, LeadsKept}
+use Rattle.ns_machine_sends.specs.Waiting.{CanSendOn, sent_on_at, looked_on, SendLeadsTo, LeadsKept}
 use Rattle.ns_machine_sends.specs.laws.Goes.{room_above}
 use Rattle.ns_machine_sends.specs.laws.Stepped.{no_one}
 use Rattle.ns_machine_sends.proofs.Leads.{with_world}
@@ -73,7 +73,7 @@ value_led code core at sent value =
     record { control_is = refl; stack = refl; phase = refl; stays = stack_stays core core.stack refl refl; memo = refl }
 
 pub row_asked : (code : CodeProgram) (core : Core) (at : Registers) (sent : Sent) (receiver : Value) (number : ℕ) → IsLeft code core at sent
-    → CanAskKept code core receiver number → IsAsked code core.run.world receiver core.arguments.items
+    → CanAskKept code core receiver number → CanBeAsked code core.run.world receiver core.arguments.items
 row_asked code core at sent receiver number left can = record {
   lawful = can.lawful;
   room = record { cells = left.rooms.cells; out = left.rooms.out };
@@ -83,7 +83,7 @@ row_asked code core at sent receiver number left can = record {
 
 row_control : (code : CodeProgram) (core : Core) (sent : Sent) (receiver : Value) (number : ℕ) (row : Row) (world : WorldView) (board : Board) (r : Reached)
     → row ≡ row_at number
-    → Reaches code core.arguments.items (row_reached code row sent.site.sel receiver core.arguments.items) core.run.world core.run.board r world board
+    → CallReaches code core.arguments.items (row_reached code row sent.site.sel receiver core.arguments.items) core.run.world core.run.board r world board
     → kept_control code (with_world core world board) sent r ≡ kept_answer code core sent receiver (answers.Row number)
 row_control code core sent receiver number row world board r same reaches =
     reaches (site_shown core.places sent.site) core.run.begun
@@ -91,15 +91,15 @@ row_control code core sent receiver number row world board r same reaches =
 
 pub row_goes : (code : CodeProgram) (core : Core) (sent : Sent) (receiver : Value) (number : ℕ) (row : Row) (world : WorldView) (board : Board) (r : Reached)
     → row ≡ row_at number
-    → Reaches code core.arguments.items (row_reached code row sent.site.sel receiver core.arguments.items) core.run.world core.run.board r world board
-    → GoesOn code (length core.stack.frames.items) (kept_answer code core sent receiver (answers.Row number))
-    → GoesOn code (length core.stack.frames.items) (kept_control code (with_world core world board) sent r)
+    → CallReaches code core.arguments.items (row_reached code row sent.site.sel receiver core.arguments.items) core.run.world core.run.board r world board
+    → ControlGoesOn code (length core.stack.frames.items) (kept_answer code core sent receiver (answers.Row number))
+    → ControlGoesOn code (length core.stack.frames.items) (kept_control code (with_world core world board) sent r)
 row_goes code core sent receiver number row world board r same reaches goes =
-    subst (λ (c : Control). GoesOn code (length core.stack.frames.items) c) (sym (row_control code core sent receiver number row world board r same reaches)) goes
+    subst (λ (c : Control). ControlGoesOn code (length core.stack.frames.items) c) (sym (row_control code core sent receiver number row world board r same reaches)) goes
 
 pub row_led : (code : CodeProgram) (core new : Core) (at : Registers) (sent : Sent) (receiver : Value) (number : ℕ) (row : Row) (world : WorldView) (board : Board) (r : Reached)
     (to : Led) → row ≡ row_at number
-    → Reaches code core.arguments.items (row_reached code row sent.site.sel receiver core.arguments.items) core.run.world core.run.board r world board
+    → CallReaches code core.arguments.items (row_reached code row sent.site.sel receiver core.arguments.items) core.run.world core.run.board r world board
     → world.world.limits ≡ core.run.world.world.limits → SameRoom core.run.world world
     → LeadsKept code (with_world core world board) at sent.floor (kept_control code (with_world core world board) sent r) new to
     → LeadsKept code core at sent.floor (kept_answer code core sent receiver (answers.Row number)) new to
@@ -161,15 +161,15 @@ answer_is code core sent receiver run answer values same e =
     ≡ answered code no_one (To receiver Plain) sent.site.sel vs (site_shown core.places sent.site) (progress_in core)) same e
 
 pub answer_goes : (code : CodeProgram) (core : Core) (sent : Sent) (receiver : Value) (run : Run) (answer : Answered) (control : Control)
-    → kept_answer code (record core { run = run }) sent receiver answer ≡ control → GoesOn code (length core.stack.frames.items) control
-    → GoesOn code (length core.stack.frames.items) (kept_answer code (record core { run = run }) sent receiver answer)
-answer_goes code core sent receiver run answer control e goes = subst (λ (c : Control). GoesOn code (length core.stack.frames.items) c) (sym e) goes
+    → kept_answer code (record core { run = run }) sent receiver answer ≡ control → ControlGoesOn code (length core.stack.frames.items) control
+    → ControlGoesOn code (length core.stack.frames.items) (kept_answer code (record core { run = run }) sent receiver answer)
+answer_goes code core sent receiver run answer control e goes = subst (λ (c : Control). ControlGoesOn code (length core.stack.frames.items) c) (sym e) goes
 
 pub answer_led : (code : CodeProgram) (core new : Core) (at : Registers) (sent : Sent) (receiver : Value) (run : Run) (answer : Answered) (control : Control) (to : Led)
     → kept_answer code (record core { run = run }) sent receiver answer ≡ control → SameRest core.run.world run.world
-    → All (IsRight core.run.world.world.cells code) run.memo
+    → All (PlaceIsRight core.run.world.world.cells code) run.memo
     → LeadsKept code (record core { run = run }) at sent.floor (kept_answer code (record core { run = run }) sent receiver answer) new to
-    → LeadsTo code core at sent.floor control new to
+    → SendLeadsTo code core at sent.floor control new to
 answer_led code core new at sent receiver run answer control (led.Goes n) e rest kept is = record {
   state = is.state
       ∙ ap (λ (c : Control). arrived code (phase_shown core.phase) c (frames_shown code core.places (stood core.stack (with_top sent.floor at)))) e;
@@ -184,7 +184,7 @@ answer_led code core new at sent receiver run answer control (led.Goes n) e rest
     places = is.stays.places;
     arguments = is.stays.arguments;
   };
-  kept = subst (λ (memo : List (Option Kept)). All (IsRight core.run.world.world.cells code) memo) (sym is.memo) kept;
+  kept = subst (λ (memo : List (Option Kept)). All (PlaceIsRight core.run.world.world.cells code) memo) (sym is.memo) kept;
 }
 answer_led code core new at sent receiver run answer control (led.Gives value) e rest kept is = record {
   control_is = sym e ∙ is.control_is;
@@ -200,7 +200,7 @@ answer_led code core new at sent receiver run answer control (led.Gives value) e
     places = is.stays.places;
     arguments = is.stays.arguments;
   };
-  kept = subst (λ (memo : List (Option Kept)). All (IsRight core.run.world.world.cells code) memo) (sym is.memo) kept;
+  kept = subst (λ (memo : List (Option Kept)). All (PlaceIsRight core.run.world.world.cells code) memo) (sym is.memo) kept;
 }
 
 -- ---- the step
@@ -234,12 +234,12 @@ on_stepped code core sent receiver world e =
 
 pub on_goes : (code : CodeProgram) → WaitedIsLawful code → WaitedFits code → WaitedStays code → WaitedSpends code → (core : Core) (at : Registers) (sent : Sent) (receiver : Value)
     (world : WorldView) → stepped core.run.world.world ≡ Some world.world → CanSendOn code core at sent receiver
-    → GoesOn code (length core.stack.frames.items) (looked_on code (in_other core world) sent receiver)
+    → ControlGoesOn code (length core.stack.frames.items) (looked_on code (in_other core world) sent receiver)
 on_goes code lawful fits stays spends core at sent receiver world e can =
     let values = core.arguments.items in
     let site = site_shown core.places sent.site in
     let after = lawful receiver sent.site.sel values site (progress_in core) can.lawful can.live can.selector in
-    subst (λ (c : Control). GoesOn code (length core.stack.frames.items) c) (on_stepped code core sent receiver world e)
+    subst (λ (c : Control). ControlGoesOn code (length core.stack.frames.items) c) (on_stepped code core sent receiver world e)
     (record {
       own = initialiser_kind;
       lawful = after;
@@ -251,8 +251,8 @@ on_goes code lawful fits stays spends core at sent receiver world e can =
 
 pub on_leads : (code : CodeProgram) (core new : Core) (at : Registers) (sent : Sent) (receiver : Value) (world : WorldView) (to : Led)
     → stepped core.run.world.world ≡ Some world.world → SameRoom core.run.world world
-    → LeadsTo code (in_other core world) at sent.floor (looked_on code (in_other core world) sent receiver) new to
-    → LeadsTo code core at sent.floor (sent_on_at code core sent receiver) new to
+    → SendLeadsTo code (in_other core world) at sent.floor (looked_on code (in_other core world) sent receiver) new to
+    → SendLeadsTo code core at sent.floor (sent_on_at code core sent receiver) new to
 on_leads code core new at sent receiver world (led.Goes n) e room is = record {
   state = is.state
       ∙ ap (λ (c : Control). arrived code (phase_shown core.phase) c (frames_shown code core.places (stood core.stack (with_top sent.floor at))))
@@ -268,7 +268,7 @@ on_leads code core new at sent receiver world (led.Goes n) e room is = record {
     places = is.stays.places;
     arguments = is.stays.arguments;
   };
-  kept = subst (λ (h : Heap). All (IsRight h code) new.run.memo) (ap (λ (w : World). w.cells) (step_is core.run.world.world world.world e)) is.kept;
+  kept = subst (λ (h : Heap). All (PlaceIsRight h code) new.run.memo) (ap (λ (w : World). w.cells) (step_is core.run.world.world world.world e)) is.kept;
 }
 on_leads code core new at sent receiver world (led.Gives value) e room is = record {
   control_is = on_stepped code core sent receiver world e ∙ is.control_is;
@@ -284,12 +284,12 @@ on_leads code core new at sent receiver world (led.Gives value) e room is = reco
     places = is.stays.places;
     arguments = is.stays.arguments;
   };
-  kept = subst (λ (h : Heap). All (IsRight h code) new.run.memo) (ap (λ (w : World). w.cells) (step_is core.run.world.world world.world e)) is.kept;
+  kept = subst (λ (h : Heap). All (PlaceIsRight h code) new.run.memo) (ap (λ (w : World). w.cells) (step_is core.run.world.world world.world e)) is.kept;
 }
 
 pub no_step_leads : (code : CodeProgram) (core : Core) (at : Registers) (sent : Sent) (receiver : Value) → stepped core.run.world.world ≡ None
     → CanSendOn code core at sent receiver
-    → LeadsTo code core at sent.floor (sent_on_at code core sent receiver) (record core { ending = ending.Limit Steps }) (led.Goes next.Ended)
+    → SendLeadsTo code core at sent.floor (sent_on_at code core sent receiver) (record core { ending = ending.Limit Steps }) (led.Goes next.Ended)
 no_step_leads code core at sent receiver e can = record {
   state = ap (λ (c : Control). arrived code (phase_shown core.phase) c (frames_shown code core.places (stood core.stack (with_top sent.floor at))))
       (sym (ap (λ (o : Option World). charged halts Steps o (progress_in core)

@@ -11,20 +11,20 @@ use Rattle.ns_actions.specs.Lawful.{FitsActivation}
 use Rattle.ns_actions.specs.Sends.{ToSuper, sent}
 use Rattle.ns_machine_moves.specs.Arrivals.{arrived}
 use Rattle.ns_machine_moves.specs.State.{State, Stuck}
-use Rattle.ns_machine_moves.specs.WorldAsks.{TakesArguments}
+use Rattle.ns_machine_moves.specs.WorldAsks.{SelectorTakes}
 use Rattle.ns_act.specs.declared.running.Running.{Running as RunningCode}
 use Rattle.ns_act.specs.Running.{code_of}
 use Rattle.ns_machine_frames.specs.declared.frame.Frame.TheVariants.{Running}
 use Rattle.ns_machine_frames.specs.declared.frame.RunningFrame.{RunningFrame}
 use Rattle.ns_machine_frames.specs.declared.registers.Registers.{Registers}
-use Rattle.ns_machine_frames.specs.Stated.{AreTaken}
+use Rattle.ns_machine_frames.specs.Stated.{ComeOffAgain}
 use Rattle.ns_machine_frames.specs.Standing.{Stood, Runs, Loops, pushed_all, below}
 use Rattle.ns_machine_frames.specs.Stack.{stood}
 use Rattle.ns_machine_frames.specs.View.{activation_shown, frames_shown}
 use Rattle.ns_machine_core.specs.declared.state.Core.{Core}
 use Rattle.ns_machine_core.specs.declared.state.Next.{Next}
 use Rattle.ns_machine_core.specs.Shown.{phase_shown, progress_in}
-use Rattle.ns_machine_core.specs.Doing.{done, Finds, CanDo, running_of, Does}
+use Rattle.ns_machine_core.specs.Doing.{done, Finds, CanDo, running_of, IsDone}
 use Rattle.ns_machine_sends.specs.Sending.{sent_at, Sends}
 use Rattle.ns_machine_sends.specs.Operands.{topmost, SendsOperands}
 use Rattle.ns_machine_core.specs.laws.Charged.{step_is}
@@ -46,16 +46,16 @@ super_operands code core at sel argc can = record {
   fits = by_stood (stood core.stack at) can.finds;
 }
   where
-    by_stood : (s : List Stood) → Finds code core.places (instr.SendSuper sel argc) s (progress_in core) → TakesArguments code sel argc
+    by_stood : (s : List Stood) → Finds code core.places (instr.SendSuper sel argc) s (progress_in core) → SelectorTakes code sel argc
     by_stood [] finds = absurd finds
     by_stood (Loops frame ∷ s) finds = absurd finds
     by_stood (Runs frame locals stack ∷ s) finds = finds.asks.0
 
-pub super_does : ((missing : State) → AreTaken missing) → (code : CodeProgram) (old new : Core) (at : Registers) (sel : Sel) (argc place : ℕ) (class : ClassName)
+pub super_does : ((missing : State) → ComeOffAgain missing) → (code : CodeProgram) (old new : Core) (at : Registers) (sel : Sel) (argc place : ℕ) (class : ClassName)
     (here : RunningCode) (running : RunningFrame) (next : Next) → CanDo code old at (instr.SendSuper sel argc)
     → old.stack.frames.items ≡ Running running ∷ below old.stack.frames.items → here ≡ running_of running.activation
     → Sends code old at (at.top - argc) (sent_at code old at (own_sent at argc place class sel) (code_of here) ToSuper) new next
-    → Does code (instr.SendSuper sel argc) (slice_get old.places place) old at new next
+    → IsDone code (instr.SendSuper sel argc) (slice_get old.places place) old at new next
 super_does taken code old new at sel argc place class here running next can top e is =
     own_does code old new at (instr.SendSuper sel argc) sel argc place class ToSuper here running next can
     (own_apart code old at sel argc (super_operands code old at sel argc can)) top is

@@ -31,7 +31,7 @@ use Rattle.ns_machine_frames.specs.View.{site_shown, frames_shown}
 use Rattle.ns_machine_core.specs.declared.state.Core.{Core}
 use Rattle.ns_machine_core.specs.declared.state.Next.{Next}
 use Rattle.ns_machine_core.specs.Shown.{phase_shown, progress_in, shown}
-use Rattle.ns_machine_core.specs.Standing.{HasRooms, AreStanding, ArgumentsWait, StandAt, Stays}
+use Rattle.ns_machine_core.specs.Standing.{HasRooms, AreStanding, ArgumentsWait, StandAt, KeepsRooms}
 use Rattle.ns_machine_core.specs.Arriving.{reached_at}
 use Rattle.ns_machine_core.specs.Doing.{IsRunning}
 use Rattle.ns_machine_sends.specs.declared.sent.Sent.{Sent}
@@ -52,7 +52,7 @@ HasRoomAbove frames (Begin method state site progress) = frames < progress.world
 HasRoomAbove frames (Perform receiver sel array site progress) = Unit {0}
 
 -- Control can go on above so many frames: the run is lawful, and what goes on fits and has room.
-pub record GoesOn (code : CodeProgram) (frames : ℕ) (control : Control) : Type 0 where
+pub record ControlGoesOn (code : CodeProgram) (frames : ℕ) (control : Control) : Type 0 where
   pub own : ℕ
   pub lawful : LawfulControl code control
   pub fits : FitsNext own code control
@@ -97,8 +97,8 @@ TakesNone given.Listed exit.Body = ⊥
 TakesNone given.Listed (exit.Clause class) = Unit {0}
 
 -- The arguments that stand there are those with which a body is entered.
-abbrev pub AreTaken : Core → Exit → Given → List Value → Type 0
-AreTaken core exit given there = arguments_for there given ≡ given_values core.run.world.world.cells (passed exit there) given
+abbrev pub ArgumentsStand : Core → Exit → Given → List Value → Type 0
+ArgumentsStand core exit given there = arguments_for there given ≡ given_values core.run.world.world.cells (passed exit there) given
 
 -- Values stand as arguments from the floor on, and all else is as it was.
 pub record ArePlaced (code : CodeProgram) (old : Core) (at : Registers) (floor : ℕ) (values : List Value) (new : Core) (to : Registers) : Type 0 where
@@ -110,7 +110,7 @@ pub record ArePlaced (code : CodeProgram) (old : Core) (at : Registers) (floor :
   pub waits : ArgumentsWait code new.stack to floor floor
   pub run : new.run ≡ old.run
   pub phase : new.phase ≡ old.phase
-  pub stays : Stays old new
+  pub stays : KeepsRooms old new
 
 -- what a send came to, at its site
 abbrev pub answered_at : CodeProgram → Core → Registers → Sent → Value → Answered → Control
@@ -133,4 +133,4 @@ pub record Leads (code : CodeProgram) (old : Core) (at : Registers) (floor : ℕ
   pub state : shown code new next ≡ arrived code (phase_shown old.phase) control (frames_shown code old.places (stood old.stack (with_top floor at)))
   pub stand : StandAt code new next
   pub memo : new.run.memo ≡ old.run.memo
-  pub stays : Stays old new
+  pub stays : KeepsRooms old new

@@ -9,7 +9,7 @@ use Rattle.ns_find.specs.declared.found.Sending.{Sending}
 use Rattle.ns_actions.specs.Control.{Activation}
 use Rattle.ns_actions.specs.Sends.{To, sent}
 use Rattle.ns_machine_moves.specs.Arrivals.{arrived}
-use Rattle.ns_machine_moves.specs.WorldAsks.{TakesArguments}
+use Rattle.ns_machine_moves.specs.WorldAsks.{SelectorTakes}
 use Rattle.ns_machine_frames.specs.declared.registers.Registers.{Registers}
 use Rattle.ns_machine_frames.specs.Standing.{Stood, pushed, pushed_all}
 use Rattle.ns_machine_frames.specs.Stack.{in_use, stood}
@@ -17,7 +17,7 @@ use Rattle.ns_machine_frames.specs.View.{frames_shown}
 use Rattle.ns_machine_core.specs.declared.state.Core.{Core}
 use Rattle.ns_machine_core.specs.declared.state.Next.{Next}
 use Rattle.ns_machine_core.specs.Shown.{phase_shown, progress_in, shown}
-use Rattle.ns_machine_core.specs.Standing.{StandAt, Stays, KeepsRightIn}
+use Rattle.ns_machine_core.specs.Standing.{StandAt, KeepsRooms, KeepsRightIn}
 use Rattle.ns_machine_core.specs.Doing.{CanDo}
 
 -- the topmost operands, the deepest first
@@ -31,7 +31,7 @@ pub record SendsOperands (code : CodeProgram) (core : Core) (at : Registers) (se
   pub takes_is : takes instr ≡ taken
   pub leaves_is : leaves instr ≡ 1
   pub on : goes_on instr ≡ true
-  pub fits : TakesArguments code sel argc
+  pub fits : SelectorTakes code sel argc
 
 -- The operands were sent to the receiver below them, whose place comes by its number, as by any code.
 pub record SendsToTop (code : CodeProgram) (old : Core) (at : Registers) (sel : Sel) (argc place : ℕ) (kind : Sending) (new : Core) (next : Next) : Type 0 where
@@ -43,5 +43,5 @@ pub record SendsToTop (code : CodeProgram) (old : Core) (at : Registers) (sel : 
       arrived code (phase_shown old.phase) (sent code activation (To receiver kind) sel (topmost old at argc) (slice_get old.places place) (progress_in old))
       (frames_shown code old.places under)
   pub stand : StandAt code new next
-  pub stays : Stays old new
+  pub stays : KeepsRooms old new
   pub kept : KeepsRightIn code old new

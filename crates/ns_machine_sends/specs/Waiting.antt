@@ -21,8 +21,8 @@ use Rattle.ns_machine_frames.specs.View.{site_shown}
 use Rattle.ns_machine_core.specs.declared.state.Core.{Core}
 use Rattle.ns_machine_core.specs.Shown.{progress_in}
 use Rattle.ns_machine_core.specs.declared.state.Next.TheVariants as next
-use Rattle.ns_machine_core.specs.Ready.{IsReady}
-use Rattle.ns_machine_core.specs.Standing.{AreStanding, ArgumentsWait, Stays, KeepsRightIn}
+use Rattle.ns_machine_core.specs.Ready.{MachineIsReady}
+use Rattle.ns_machine_core.specs.Standing.{AreStanding, ArgumentsWait, KeepsRooms, KeepsRightIn}
 use Rattle.ns_machine_sends.specs.declared.sent.Sent.{Sent}
 use Rattle.ns_machine_sends.specs.declared.led.Led.{Led}
 use Rattle.ns_machine_sends.specs.declared.led.Led.TheVariants as led
@@ -36,13 +36,13 @@ with_block sent block core = record core { waiting = pending.Evaluating block se
 -- The evaluation of a block waits in a machine that is ready.
 pub record BlockWaits (code : CodeProgram) (grants : Grants) (core : Core) (at : Registers) (sent : Sent) (block : Value) : Type 0 where
   pub is : core.waiting ≡ pending.Evaluating block sent.site sent.floor sent.first
-  pub ready : IsReady code grants core (next.Waits at)
+  pub ready : MachineIsReady code grants core (next.Waits at)
 
 -- So it does with the arguments that are kept.
 pub record BlockWaitsKept (code : CodeProgram) (grants : Grants) (core : Core) (at : Registers) (sent : Sent) (block : Value) : Type 0 where
   pub is : core.waiting ≡ pending.EvaluatingKept block sent.site sent.floor
   pub first : sent.first ≡ sent.floor
-  pub ready : IsReady code grants core (next.Waits at)
+  pub ready : MachineIsReady code grants core (next.Waits at)
 
 -- There is a place at the floor, and nothing that is in use has changed.
 pub record HasMadePlace (code : CodeProgram) (old : Core) (at : Registers) (sent : Sent) (new : Core) : Type 0 where
@@ -55,7 +55,7 @@ pub record HasMadePlace (code : CodeProgram) (old : Core) (at : Registers) (sent
   pub run : new.run ≡ old.run
   pub phase : new.phase ≡ old.phase
   pub arguments : new.arguments ≡ old.arguments
-  pub stays : Stays old new
+  pub stays : KeepsRooms old new
 
 -- What is known where the evaluation of a block waits with these arguments.
 pub record IsWaiting (code : CodeProgram) (core : Core) (arguments : List Value) (block : Value) : Type 0 where
@@ -104,20 +104,20 @@ pub record IsGivenOn (code : CodeProgram) (old : Core) (control : Control) (new 
   pub control_is : control ≡ gives value (progress_in new)
   pub stack : new.stack ≡ old.stack
   pub phase : new.phase ≡ old.phase
-  pub stays : Stays old new
+  pub stays : KeepsRooms old new
   pub kept : KeepsRightIn code old new
 
 -- A send went on where control is, or gives a value.
-abbrev pub LeadsTo : CodeProgram → Core → Registers → ℕ → Control → Core → Led → Type 0
-LeadsTo code old at floor control new (led.Goes next) = Sends code old at floor control new next
-LeadsTo code old at floor control new (led.Gives value) = IsGivenOn code old control new value
+abbrev pub SendLeadsTo : CodeProgram → Core → Registers → ℕ → Control → Core → Led → Type 0
+SendLeadsTo code old at floor control new (led.Goes next) = Sends code old at floor control new next
+SendLeadsTo code old at floor control new (led.Gives value) = IsGivenOn code old control new value
 
 -- The same of an action that keeps lookups as they were.
 pub record IsGivenKept (code : CodeProgram) (old : Core) (control : Control) (new : Core) (value : Value) : Type 0 where
   pub control_is : control ≡ gives value (progress_in new)
   pub stack : new.stack ≡ old.stack
   pub phase : new.phase ≡ old.phase
-  pub stays : Stays old new
+  pub stays : KeepsRooms old new
   pub memo : new.run.memo ≡ old.run.memo
 
 abbrev pub LeadsKept : CodeProgram → Core → Registers → ℕ → Control → Core → Led → Type 0

@@ -7,9 +7,9 @@ ghost use Rattle.ns_code.specs.Selector.{own_number};
 ghost use Rattle.ns_actions.specs.Lawful.{FitsActivation, declaration_at};
 ghost use Rattle.ns_actions.specs.Sends.{ToPrivate, ToSuper, receiver_of};
 ghost use Rattle.ns_act.specs.Running.{code_of};
-ghost use Rattle.ns_machine_core.specs.Doing.{CanDo, Does};
+ghost use Rattle.ns_machine_core.specs.Doing.{CanDo, IsDone};
 ghost use Rattle.ns_machine_core.specs.Own.{AreOwn};
-ghost use Rattle.ns_machine_sends.specs.Going.{GoesOn};
+ghost use Rattle.ns_machine_sends.specs.Going.{ControlGoesOn};
 ghost use Rattle.ns_machine_sends.specs.Sending.{CanSend, looked_up, sent_at, Sends};
 
 use crate::going::go_on;
@@ -49,7 +49,7 @@ pub fn send_super(
 ) -> Next
     requires can { CanDo code.now core.old at (instr.SendSuper sel argc) }
     requires own { AreOwn code.now core.old.places own }
-    ensures { Does code.now (instr.SendSuper sel argc) (slice_get core.old.places place) core.old at core.new result }
+    ensures { IsDone code.now (instr.SendSuper sel argc) (slice_get core.old.places place) core.old at core.new result }
 {
     operands_are_taken();
     let code_here = running_code(running(&core.stack).activation);
@@ -106,7 +106,7 @@ fn look_above(
     requires can { CanSend code.now core.old at sent running.me }
     requires runs { FitsActivation core.old.run.world.world.cells code.now (code_of running) }
     requires own { own.0 ≡ own_number code.now DoesNotUnderstand }
-    requires goes { GoesOn code.now (length core.old.stack.frames.items) (looked_up code.now core.old at sent (code_of running) ToSuper) }
+    requires goes { ControlGoesOn code.now (length core.old.stack.frames.items) (looked_up code.now core.old at sent (code_of running) ToSuper) }
     ensures { Sends code.now core.old at sent.floor (looked_up code.now core.old at sent (code_of running) ToSuper) core.new result }
 {
     rows_that_are_found_suit();
@@ -137,7 +137,7 @@ pub fn send_private(
 ) -> Next
     requires can { CanDo code.now core.old at (instr.SendPrivate level sel argc) }
     requires own { AreOwn code.now core.old.places own }
-    ensures { Does code.now (instr.SendPrivate level sel argc) (slice_get core.old.places place) core.old at core.new result }
+    ensures { IsDone code.now (instr.SendPrivate level sel argc) (slice_get core.old.places place) core.old at core.new result }
 {
     operands_are_taken();
     enclosing_objects_are_there();
@@ -213,7 +213,7 @@ fn look_around(
     requires runs { FitsActivation core.old.run.world.world.cells code.now (code_of running) }
     requires level { IsSome (declaration_at code.now running.body level) }
     requires own { own.0 ≡ own_number code.now DoesNotUnderstand }
-    requires goes { GoesOn code.now (length core.old.stack.frames.items) (looked_up code.now core.old at sent (code_of running) (ToPrivate level)) }
+    requires goes { ControlGoesOn code.now (length core.old.stack.frames.items) (looked_up code.now core.old at sent (code_of running) (ToPrivate level)) }
     ensures { Sends code.now core.old at sent.floor (looked_up code.now core.old at sent (code_of running) (ToPrivate level)) core.new result }
 {
     rows_that_are_found_suit();

@@ -5,7 +5,7 @@ ghost use Rattle.ns_world.specs.Lawful.{IsLawful, IsLiveValue};
 ghost use Rattle.ns_actions.specs.declared.control.Reached.TheVariants as reached;
 ghost use Rattle.ns_machine_core.specs.Arriving.{Arrives};
 ghost use Rattle.ns_machine_core.specs.Doing.{IsRunning};
-ghost use Rattle.ns_machine_sends.specs.Going.{control_at, IsLeft, GoesOn, IsGiven, ComesToBody};
+ghost use Rattle.ns_machine_sends.specs.Going.{control_at, IsLeft, ControlGoesOn, IsGiven, ComesToBody};
 ghost use Rattle.ns_machine_sends.specs.Kept.{kept_control};
 
 use crate::ending::{fail, refuse};
@@ -105,7 +105,7 @@ pub fn arrive(
     reached: Reached,
 ) -> Next
     requires left { IsLeft code.now core.old at sent }
-    requires goes { GoesOn code.now (length core.old.stack.frames.items) (control_at code.now core.old at sent reached) }
+    requires goes { ControlGoesOn code.now (length core.old.stack.frames.items) (control_at code.now core.old at sent reached) }
     requires given { IsGiven core.old.run.world.world.cells reached }
     requires body { ComesToBody reached core.old.stack.frames.items }
     ensures { Arrives code.now core.old at sent.floor (control_at code.now core.old at sent reached) core.new result }
@@ -137,7 +137,7 @@ pub fn arrive_kept(
     reached: Reached,
 ) -> Next
     requires left { IsLeft code.now core.old at sent }
-    requires goes { GoesOn code.now (length core.old.stack.frames.items) (kept_control code.now core.old sent reached) }
+    requires goes { ControlGoesOn code.now (length core.old.stack.frames.items) (kept_control code.now core.old sent reached) }
     requires given { IsGiven core.old.run.world.world.cells reached }
     requires body { ComesToBody reached core.old.stack.frames.items }
     ensures { Arrives code.now core.old at sent.floor (kept_control code.now core.old sent reached) core.new result }

@@ -8,7 +8,7 @@ ghost use Rattle.ns_actions.specs.Shown.{passed};
 ghost use Rattle.ns_act.specs.Plain.{IsOwnGiven};
 ghost use Rattle.ns_machine_core.specs.declared.state.Next.TheVariants as next;
 ghost use Rattle.ns_machine_core.specs.Arriving.{Arrives};
-ghost use Rattle.ns_machine_sends.specs.Going.{arguments_in, control_at, GoesOn, IsLeft, TakesNone, AreTaken};
+ghost use Rattle.ns_machine_sends.specs.Going.{arguments_in, control_at, ControlGoesOn, IsLeft, TakesNone, ArgumentsStand};
 ghost use Rattle.ns_machine_sends.specs.Kept.{kept_control};
 
 use crate::placing::place_kept;
@@ -34,8 +34,8 @@ pub fn enter_on_arguments(
     entered: Entered,
 ) -> Registers
     requires left { IsLeft code.now core.old at sent }
-    requires goes { GoesOn code.now (length core.old.stack.frames.items) (control_at code.now core.old at sent (reached.Enters exit entered)) }
-    requires taken { AreTaken core.old exit entered.given (arguments_in core.old at sent) }
+    requires goes { ControlGoesOn code.now (length core.old.stack.frames.items) (control_at code.now core.old at sent (reached.Enters exit entered)) }
+    requires taken { ArgumentsStand core.old exit entered.given (arguments_in core.old at sent) }
     ensures { Arrives code.now core.old at sent.floor (control_at code.now core.old at sent (reached.Enters exit entered)) core.new (next.On result) }
 {
     what_is_reached_can_be_entered();
@@ -60,7 +60,7 @@ pub fn enter_without(
     entered: Entered,
 ) -> Registers
     requires left { IsLeft code.now core.old at sent }
-    requires goes { GoesOn code.now (length core.old.stack.frames.items) (control_at code.now core.old at sent (reached.Enters exit entered)) }
+    requires goes { ControlGoesOn code.now (length core.old.stack.frames.items) (control_at code.now core.old at sent (reached.Enters exit entered)) }
     requires none { TakesNone entered.given exit }
     ensures { Arrives code.now core.old at sent.floor (control_at code.now core.old at sent (reached.Enters exit entered)) core.new (next.On result) }
 {
@@ -86,7 +86,7 @@ pub fn enter_reached(
     entered: Entered,
 ) -> Registers
     requires left { IsLeft code.now core.old at sent }
-    requires goes { GoesOn code.now (length core.old.stack.frames.items) (control_at code.now core.old at sent (reached.Enters exit entered)) }
+    requires goes { ControlGoesOn code.now (length core.old.stack.frames.items) (control_at code.now core.old at sent (reached.Enters exit entered)) }
     requires given { IsOwnGiven entered.given }
     ensures { Arrives code.now core.old at sent.floor (control_at code.now core.old at sent (reached.Enters exit entered)) core.new (next.On result) }
 {
@@ -110,7 +110,7 @@ pub fn enter_kept(
     entered: Entered,
 ) -> Registers
     requires left { IsLeft code.now core.old at sent }
-    requires goes { GoesOn code.now (length core.old.stack.frames.items) (kept_control code.now core.old sent (reached.Enters exit entered)) }
+    requires goes { ControlGoesOn code.now (length core.old.stack.frames.items) (kept_control code.now core.old sent (reached.Enters exit entered)) }
     requires given { IsOwnGiven entered.given }
     ensures { Arrives code.now core.old at sent.floor (kept_control code.now core.old sent (reached.Enters exit entered)) core.new (next.On result) }
 {
@@ -135,7 +135,7 @@ fn enter_on_kept(
     entered: Entered,
 ) -> Registers
     requires left { IsLeft code.now core.old at sent }
-    requires goes { GoesOn code.now (length core.old.stack.frames.items) (kept_control code.now core.old sent (reached.Enters exit entered)) }
+    requires goes { ControlGoesOn code.now (length core.old.stack.frames.items) (kept_control code.now core.old sent (reached.Enters exit entered)) }
     requires listed { entered.given ≡ given.Listed }
     requires passed { passed exit core.old.arguments.items ≡ core.old.arguments.items }
     ensures { Arrives code.now core.old at sent.floor (kept_control code.now core.old sent (reached.Enters exit entered)) core.new (next.On result) }
@@ -157,7 +157,7 @@ fn enter_bare(
     entered: Entered,
 ) -> Registers
     requires left { IsLeft code.now core.old at sent }
-    requires goes { GoesOn code.now (length core.old.stack.frames.items) (kept_control code.now core.old sent (reached.Enters exit entered)) }
+    requires goes { ControlGoesOn code.now (length core.old.stack.frames.items) (kept_control code.now core.old sent (reached.Enters exit entered)) }
     requires listed { entered.given ≡ given.Listed }
     requires inside { has_environment code.now entered.body ≡ true }
     ensures { Arrives code.now core.old at sent.floor (kept_control code.now core.old sent (reached.Enters exit entered)) core.new (next.On result) }
@@ -183,7 +183,7 @@ fn enter_beside(
     entered: Entered,
 ) -> Registers
     requires left { IsLeft code.now core.old at sent }
-    requires goes { GoesOn code.now (length core.old.stack.frames.items) (kept_control code.now core.old sent (reached.Enters exit entered)) }
+    requires goes { ControlGoesOn code.now (length core.old.stack.frames.items) (kept_control code.now core.old sent (reached.Enters exit entered)) }
     requires listed { entered.given ≡ given.Listed }
     requires passed { passed exit core.old.arguments.items ≡ core.old.arguments.items }
     requires beside { has_environment code.now entered.body ≡ false }

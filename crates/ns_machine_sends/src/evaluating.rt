@@ -2,12 +2,12 @@
 
 ghost use Rattle.std.specs.Prelude.{length};
 ghost use Rattle.ns_world.specs.declared.value.Value.TheVariants.{Ref};
-ghost use Rattle.ns_kdata.specs.Arguments.{IsThere};
+ghost use Rattle.ns_kdata.specs.Arguments.{CellIsThere};
 ghost use Rattle.ns_actions.specs.declared.control.Given.TheVariants as given;
 ghost use Rattle.ns_actions.specs.declared.control.Reached.TheVariants as reached;
 ghost use Rattle.ns_kernel_rows.specs.Plain.{IsGivenThere};
 ghost use Rattle.ns_machine_core.specs.Arriving.{Arrives};
-ghost use Rattle.ns_machine_sends.specs.Going.{control_at, GoesOn, IsLeft};
+ghost use Rattle.ns_machine_sends.specs.Going.{control_at, ControlGoesOn, IsLeft};
 ghost use Rattle.ns_machine_sends.specs.Kept.{kept_control};
 
 use crate::placing::keep_items;
@@ -30,7 +30,7 @@ pub fn wait_for(
     given: Given,
 ) -> Next
     requires left { IsLeft code.now core.old at sent }
-    requires goes { GoesOn code.now (length core.old.stack.frames.items) (control_at code.now core.old at sent (reached.Evaluates block given)) }
+    requires goes { ControlGoesOn code.now (length core.old.stack.frames.items) (control_at code.now core.old at sent (reached.Evaluates block given)) }
     requires given { IsGivenThere core.old.run.world.world.cells given }
     ensures { Arrives code.now core.old at sent.floor (control_at code.now core.old at sent (reached.Evaluates block given)) core.new result }
 {
@@ -53,7 +53,7 @@ pub fn wait_for_kept(
     given: Given,
 ) -> Next
     requires left { IsLeft code.now core.old at sent }
-    requires goes { GoesOn code.now (length core.old.stack.frames.items) (kept_control code.now core.old sent (reached.Evaluates block given)) }
+    requires goes { ControlGoesOn code.now (length core.old.stack.frames.items) (kept_control code.now core.old sent (reached.Evaluates block given)) }
     requires given { IsGivenThere core.old.run.world.world.cells given }
     ensures { Arrives code.now core.old at sent.floor (kept_control code.now core.old sent (reached.Evaluates block given)) core.new result }
 {
@@ -76,8 +76,8 @@ fn wait_with_items(
     array: u32,
 ) -> Next
     requires left { IsLeft code.now core.old at sent }
-    requires goes { GoesOn code.now (length core.old.stack.frames.items) (control_at code.now core.old at sent (reached.Evaluates block (given.Items array))) }
-    requires there { IsThere core.old.run.world.world.cells (Ref array) }
+    requires goes { ControlGoesOn code.now (length core.old.stack.frames.items) (control_at code.now core.old at sent (reached.Evaluates block (given.Items array))) }
+    requires there { CellIsThere core.old.run.world.world.cells (Ref array) }
     ensures { Arrives code.now core.old at sent.floor (control_at code.now core.old at sent (reached.Evaluates block (given.Items array))) core.new result }
 {
     keep_items(core, array);

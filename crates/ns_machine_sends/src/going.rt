@@ -4,7 +4,7 @@ ghost use Rattle.std.specs.Prelude.{◌≡◌, length};
 ghost use Rattle.ns_actions.specs.Rows.{row_at};
 ghost use Rattle.ns_act.specs.declared.sends.Answered.TheVariants as answers;
 ghost use Rattle.ns_machine_core.specs.Doing.{IsRunning};
-ghost use Rattle.ns_machine_sends.specs.Going.{GoesOn, IsLeft, answered_at, CanAsk, CanAnswer, Leads};
+ghost use Rattle.ns_machine_sends.specs.Going.{ControlGoesOn, IsLeft, answered_at, CanAsk, CanAnswer, Leads};
 
 use crate::arriving::arrive;
 use crate::sent::Sent;
@@ -28,7 +28,7 @@ pub fn go_on(
     answered: Answered,
 ) -> Next
     requires left { IsLeft code.now core.old at sent }
-    requires goes { GoesOn code.now (length core.old.stack.frames.items) (answered_at code.now core.old at sent receiver answered) }
+    requires goes { ControlGoesOn code.now (length core.old.stack.frames.items) (answered_at code.now core.old at sent receiver answered) }
     requires can { CanAnswer code.now core.old at sent receiver answered }
     requires runs { IsRunning core.old.stack.frames.items }
     ensures { Leads code.now core.old at sent.floor (answered_at code.now core.old at sent receiver answered) core.new result }
@@ -51,7 +51,7 @@ fn ask(
     number: u32,
 ) -> Next
     requires left { IsLeft code.now core.old at sent }
-    requires goes { GoesOn code.now (length core.old.stack.frames.items) (answered_at code.now core.old at sent receiver (answers.Row number)) }
+    requires goes { ControlGoesOn code.now (length core.old.stack.frames.items) (answered_at code.now core.old at sent receiver (answers.Row number)) }
     requires can { CanAsk code.now core.old at sent receiver number }
     requires runs { IsRunning core.old.stack.frames.items }
     ensures { Leads code.now core.old at sent.floor (answered_at code.now core.old at sent receiver (answers.Row number)) core.new result }
@@ -76,7 +76,7 @@ fn ask_apart(
     row: Row,
 ) -> Next
     requires left { IsLeft code.now core.old at sent }
-    requires goes { GoesOn code.now (length core.old.stack.frames.items) (answered_at code.now core.old at sent receiver (answers.Row number)) }
+    requires goes { ControlGoesOn code.now (length core.old.stack.frames.items) (answered_at code.now core.old at sent receiver (answers.Row number)) }
     requires can { CanAsk code.now core.old at sent receiver number }
     requires runs { IsRunning core.old.stack.frames.items }
     requires row { row ≡ row_at number }
@@ -98,7 +98,7 @@ fn ask_row(
     row: Row,
 ) -> Next
     requires left { IsLeft code.now core.old at sent }
-    requires goes { GoesOn code.now (length core.old.stack.frames.items) (answered_at code.now core.old at sent receiver (answers.Row number)) }
+    requires goes { ControlGoesOn code.now (length core.old.stack.frames.items) (answered_at code.now core.old at sent receiver (answers.Row number)) }
     requires can { CanAsk code.now core.old at sent receiver number }
     requires runs { IsRunning core.old.stack.frames.items }
     requires row { row ≡ row_at number }

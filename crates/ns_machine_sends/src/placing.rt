@@ -2,7 +2,7 @@
 
 ghost use Rattle.std.specs.Prelude.{◌≡◌, ◌≤◌, ◌+◌, length};
 ghost use Rattle.ns_world.specs.declared.value.Value.TheVariants.{Ref};
-ghost use Rattle.ns_kdata.specs.Arguments.{IsThere, items_of};
+ghost use Rattle.ns_kdata.specs.Arguments.{CellIsThere, items_of};
 ghost use Rattle.ns_machine_sends.specs.Going.{IsLeft, ArePlaced};
 ghost use Rattle.ns_machine_sends.specs.Kept.{keeping};
 
@@ -17,7 +17,7 @@ use ns_world::world::World;
 
 /// Takes the elements of an array as arguments.
 fn take_items(world: &World, arguments: &mut Arguments, array: u32)
-    requires there { IsThere world.now.world.cells (Ref array) }
+    requires there { CellIsThere world.now.world.cells (Ref array) }
     requires room { length (items_of world.now.world.cells (Ref array)) ≤ arguments.old.room }
     ensures { arguments.new ≡ record arguments.old { items = items_of world.now.world.cells (Ref array) } }
 {
@@ -30,7 +30,7 @@ fn take_items(world: &World, arguments: &mut Arguments, array: u32)
 
 /// Keeps the elements of an array as the arguments of what waits.
 pub fn keep_items(core: &mut Core, array: u32)
-    requires there { IsThere core.old.run.world.world.cells (Ref array) }
+    requires there { CellIsThere core.old.run.world.world.cells (Ref array) }
     requires room { length (items_of core.old.run.world.world.cells (Ref array)) ≤ core.old.arguments.room }
     ensures { core.new ≡ keeping (items_of core.old.run.world.world.cells (Ref array)) core.old }
 {

@@ -5,9 +5,9 @@ ghost use Rattle.std.specs.Prelude.{◌≡◌, length};
 ghost use Rattle.ns_code.specs.declared.own.Own.TheVariants.{DoesNotUnderstand};
 ghost use Rattle.ns_code.specs.Selector.{own_number};
 ghost use Rattle.ns_act.specs.declared.sends.Answered.TheVariants as answers;
-ghost use Rattle.ns_machine_sends.specs.Going.{GoesOn, IsLeft, IsGiven};
+ghost use Rattle.ns_machine_sends.specs.Going.{ControlGoesOn, IsLeft, IsGiven};
 ghost use Rattle.ns_machine_sends.specs.Kept.{kept_control, kept_answer, CanAskKept, CanAnswerKept};
-ghost use Rattle.ns_machine_sends.specs.Waiting.{CanSendOn, sent_on_at, looked_on, LeadsTo, LeadsKept};
+ghost use Rattle.ns_machine_sends.specs.Waiting.{CanSendOn, sent_on_at, looked_on, SendLeadsTo, LeadsKept};
 
 use crate::arriving::arrive_kept;
 use crate::led::Led;
@@ -38,7 +38,7 @@ pub fn send_on(
 ) -> Led
     requires can { CanSendOn code.now core.old at sent receiver }
     requires own { own.0 ≡ own_number code.now DoesNotUnderstand }
-    ensures { LeadsTo code.now core.old at sent.floor (sent_on_at code.now core.old sent receiver) core.new result }
+    ensures { SendLeadsTo code.now core.old at sent.floor (sent_on_at code.now core.old sent receiver) core.new result }
 {
     charging_keeps_lawful();
     sends_that_waited_go_on();
@@ -62,8 +62,8 @@ fn look_on(
 ) -> Led
     requires can { CanSendOn code.now core.old at sent receiver }
     requires own { own.0 ≡ own_number code.now DoesNotUnderstand }
-    requires goes { GoesOn code.now (length core.old.stack.frames.items) (looked_on code.now core.old sent receiver) }
-    ensures { LeadsTo code.now core.old at sent.floor (looked_on code.now core.old sent receiver) core.new result }
+    requires goes { ControlGoesOn code.now (length core.old.stack.frames.items) (looked_on code.now core.old sent receiver) }
+    ensures { SendLeadsTo code.now core.old at sent.floor (looked_on code.now core.old sent receiver) core.new result }
 {
     rows_that_are_found_suit();
     let answered = ns_act::answering::send(
@@ -89,7 +89,7 @@ fn come_to(
     answered: Answered,
 ) -> Led
     requires left { IsLeft code.now core.old at sent }
-    requires goes { GoesOn code.now (length core.old.stack.frames.items) (kept_answer code.now core.old sent receiver answered) }
+    requires goes { ControlGoesOn code.now (length core.old.stack.frames.items) (kept_answer code.now core.old sent receiver answered) }
     requires can { CanAnswerKept code.now core.old receiver answered }
     ensures { LeadsKept code.now core.old at sent.floor (kept_answer code.now core.old sent receiver answered) core.new result }
 {
@@ -110,7 +110,7 @@ fn ask_on(
     number: u32,
 ) -> Led
     requires left { IsLeft code.now core.old at sent }
-    requires goes { GoesOn code.now (length core.old.stack.frames.items) (kept_answer code.now core.old sent receiver (answers.Row number)) }
+    requires goes { ControlGoesOn code.now (length core.old.stack.frames.items) (kept_answer code.now core.old sent receiver (answers.Row number)) }
     requires can { CanAskKept code.now core.old receiver number }
     ensures { LeadsKept code.now core.old at sent.floor (kept_answer code.now core.old sent receiver (answers.Row number)) core.new result }
 {
@@ -131,7 +131,7 @@ fn ask_on(
 #[tactic(auto, using(crate::proofs::Resent::no_value, crate::proofs::Resent::value_led, crate::specs::laws::Looked::comes_leads))]
 fn lead(code: &CodeProgram, core: &mut Core, at: Registers, sent: Sent, reached: Reached) -> Led
     requires left { IsLeft code.now core.old at sent }
-    requires goes { GoesOn code.now (length core.old.stack.frames.items) (kept_control code.now core.old sent reached) }
+    requires goes { ControlGoesOn code.now (length core.old.stack.frames.items) (kept_control code.now core.old sent reached) }
     requires given { IsGiven core.old.run.world.world.cells reached }
     ensures { LeadsKept code.now core.old at sent.floor (kept_control code.now core.old sent reached) core.new result }
 {

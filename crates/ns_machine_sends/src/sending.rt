@@ -7,7 +7,7 @@ ghost use Rattle.ns_world.specs.Starts.{start_of};
 ghost use Rattle.ns_find.specs.Find.{found_from};
 ghost use Rattle.ns_actions.specs.Control.{Activation};
 ghost use Rattle.ns_actions.specs.Sends.{To};
-ghost use Rattle.ns_machine_sends.specs.Going.{GoesOn};
+ghost use Rattle.ns_machine_sends.specs.Going.{ControlGoesOn};
 ghost use Rattle.ns_machine_sends.specs.Sending.{CanSend, looked_up, sent_at, Sends};
 
 use crate::going::go_on;
@@ -72,7 +72,7 @@ fn look_up(
 ) -> Next
     requires can { CanSend code.now core.old at sent receiver }
     requires own { own.0 ≡ own_number code.now DoesNotUnderstand }
-    requires goes { (activation : Activation) → GoesOn code.now (length core.old.stack.frames.items) (looked_up code.now core.old at sent activation (To receiver kind)) }
+    requires goes { (activation : Activation) → ControlGoesOn code.now (length core.old.stack.frames.items) (looked_up code.now core.old at sent activation (To receiver kind)) }
     ensures { (activation : Activation) → Sends code.now core.old at sent.floor (looked_up code.now core.old at sent activation (To receiver kind)) core.new result }
 {
     let found = found_of(&mut core.run, code, receiver, sent.site.sel, kind);
@@ -97,7 +97,7 @@ fn do_apart(
 ) -> Next
     requires can { CanSend code.now core.old at sent receiver }
     requires own { own.0 ≡ own_number code.now DoesNotUnderstand }
-    requires goes { (activation : Activation) → GoesOn code.now (length core.old.stack.frames.items) (looked_up code.now core.old at sent activation (To receiver kind)) }
+    requires goes { (activation : Activation) → ControlGoesOn code.now (length core.old.stack.frames.items) (looked_up code.now core.old at sent activation (To receiver kind)) }
     requires found { found ≡ found_from core.old.run.world.world.cells code.now (start_of core.old.run.world.world.cells receiver) sent.site.sel.0 kind }
     ensures { (activation : Activation) → Sends code.now core.old at sent.floor (looked_up code.now core.old at sent activation (To receiver kind)) core.new result }
 {
@@ -118,7 +118,7 @@ fn do_found(
 ) -> Next
     requires can { CanSend code.now core.old at sent receiver }
     requires own { own.0 ≡ own_number code.now DoesNotUnderstand }
-    requires goes { (activation : Activation) → GoesOn code.now (length core.old.stack.frames.items) (looked_up code.now core.old at sent activation (To receiver kind)) }
+    requires goes { (activation : Activation) → ControlGoesOn code.now (length core.old.stack.frames.items) (looked_up code.now core.old at sent activation (To receiver kind)) }
     requires found { found ≡ found_from core.old.run.world.world.cells code.now (start_of core.old.run.world.world.cells receiver) sent.site.sel.0 kind }
     ensures { (activation : Activation) → Sends code.now core.old at sent.floor (looked_up code.now core.old at sent activation (To receiver kind)) core.new result }
 {

@@ -2,7 +2,7 @@
 
 ghost use Rattle.std.specs.Prelude.{◌+◌, slice_get};
 ghost use Rattle.ns_code.specs.declared.instruction.Instr.TheVariants as instr;
-ghost use Rattle.ns_machine_core.specs.Doing.{CanDo, Does};
+ghost use Rattle.ns_machine_core.specs.Doing.{CanDo, IsDone};
 ghost use Rattle.ns_machine_core.specs.Own.{AreOwn};
 ghost use Rattle.ns_machine_sends.specs.Operands.{SendsOperands, SendsToTop};
 
@@ -32,7 +32,7 @@ pub fn send(
 ) -> Next
     requires can { CanDo code.now core.old at (instr.Send sel argc) }
     requires own { AreOwn code.now core.old.places own }
-    ensures { Does code.now (instr.Send sel argc) (slice_get core.old.places place) core.old at core.new result }
+    ensures { IsDone code.now (instr.Send sel argc) (slice_get core.old.places place) core.old at core.new result }
 {
     operands_are_taken();
     send_operands(code, core, at, sel, argc, place, Sending::Plain, own)
@@ -52,7 +52,7 @@ pub fn send_inner(
 ) -> Next
     requires can { CanDo code.now core.old at (instr.SendInner sel argc) }
     requires own { AreOwn code.now core.old.places own }
-    ensures { Does code.now (instr.SendInner sel argc) (slice_get core.old.places place) core.old at core.new result }
+    ensures { IsDone code.now (instr.SendInner sel argc) (slice_get core.old.places place) core.old at core.new result }
 {
     operands_are_taken();
     send_operands(code, core, at, sel, argc, place, Sending::Inner, own)

@@ -3,10 +3,10 @@
 ghost use Rattle.std.specs.Prelude.{◌+◌, ◌<◌, ◌≤◌, length};
 ghost use Rattle.ns_facets.specs.declared.row.Grants.{Grants};
 ghost use Rattle.ns_machine_core.specs.declared.state.Next.TheVariants as next;
-ghost use Rattle.ns_machine_core.specs.Ready.{Moves};
+ghost use Rattle.ns_machine_core.specs.Ready.{MakesMove};
 ghost use Rattle.ns_machine_core.specs.Standing.{AreStanding, ArgumentsWait};
 ghost use Rattle.ns_machine_core.specs.Arriving.{Arrives};
-ghost use Rattle.ns_machine_sends.specs.Going.{arguments_in, control_at, GoesOn, IsGiven, IsLeft, Leads};
+ghost use Rattle.ns_machine_sends.specs.Going.{arguments_in, control_at, ControlGoesOn, IsGiven, IsLeft, Leads};
 ghost use Rattle.ns_machine_sends.specs.Waiting.{BlockWaits, BlockWaitsKept, EntersOrEnds, HasMadePlace, IsWaiting, evaluated_with, with_block};
 
 use crate::arriving::arrive_kept;
@@ -32,7 +32,7 @@ pub fn evaluate(
     block: Value,
 ) -> Next
     requires { (grants : Grants) × BlockWaits code.now grants core.old at sent block }
-    ensures { Moves code.now core.old (next.Waits at) core.new result }
+    ensures { MakesMove code.now core.old (next.Waits at) core.new result }
 {
     make_place(code, core, at, sent);
     enter_block(code, core, at, sent, block)
@@ -49,7 +49,7 @@ pub fn evaluate_at_once(
 ) -> Next
     requires waits { (grants : Grants) × BlockWaits code.now grants (with_block sent block core.old) at sent block }
     requires place { sent.floor < length core.old.stack.values.items }
-    ensures { Moves code.now (with_block sent block core.old) (next.Waits at) core.new result }
+    ensures { MakesMove code.now (with_block sent block core.old) (next.Waits at) core.new result }
 {
     enter_block(code, core, at, sent, block)
 }
@@ -63,7 +63,7 @@ pub fn evaluate_kept(
     block: Value,
 ) -> Next
     requires { (grants : Grants) × BlockWaitsKept code.now grants core.old at sent block }
-    ensures { Moves code.now core.old (next.Waits at) core.new result }
+    ensures { MakesMove code.now core.old (next.Waits at) core.new result }
 {
     make_place(code, core, at, sent);
     enter_block_kept(code, core, at, sent, block)
@@ -118,7 +118,7 @@ fn arrive_in(
     reached: Reached,
 ) -> Next
     requires left { IsLeft code.now core.old at sent }
-    requires goes { GoesOn code.now (length core.old.stack.frames.items) (control_at code.now core.old at sent reached) }
+    requires goes { ControlGoesOn code.now (length core.old.stack.frames.items) (control_at code.now core.old at sent reached) }
     requires given { IsGiven core.old.run.world.world.cells reached }
     requires enters { EntersOrEnds reached }
     ensures { Arrives code.now core.old at sent.floor (control_at code.now core.old at sent reached) core.new result }

@@ -8,7 +8,7 @@ use Rattle.ns_world.specs.declared.cell.CellLimit.{CellLimit}
 use Rattle.ns_world.specs.Cell.{TextCell, cell_size}
 use Rattle.ns_world.specs.World.{WorldView}
 use Rattle.ns_actions.specs.Start.{top_if, tops_of, size_of_cells}
-use Rattle.ns_machine_start.specs.Making.{Makes, referring}
+use Rattle.ns_machine_start.specs.Making.{CellsAreMade, referring}
 use Rattle.ns_machine_start.proofs.Made.{both_made, both_stopped}
 
 -- ---- classes
@@ -33,23 +33,23 @@ one_top_more classes decl class d inside is =
 
 -- one more of them was made
 pub top_made : (classes : List ClassCode) (decl : ℕ) (class d : ClassCode) (old middle new : WorldView) → decl < length classes → class ≡ get_or classes decl d
-    → Makes (tops_of 0 (take decl classes)) old (Ok tt) middle → Makes (top_if class.outer decl) middle (Ok tt) new
-    → Makes (tops_of 0 (take (decl + 1) classes)) old (Ok tt) new
+    → CellsAreMade (tops_of 0 (take decl classes)) old (Ok tt) middle → CellsAreMade (top_if class.outer decl) middle (Ok tt) new
+    → CellsAreMade (tops_of 0 (take (decl + 1) classes)) old (Ok tt) new
 top_made classes decl class d old middle new inside is before this =
-    subst (λ cells. Makes cells old (Ok tt) new) (sym (one_top_more classes decl class d inside is))
+    subst (λ cells. CellsAreMade cells old (Ok tt) new) (sym (one_top_more classes decl class d inside is))
     (both_made (tops_of 0 (take decl classes)) (top_if class.outer decl) old middle new (Ok tt) before this)
 
 -- one of them doesn't fit
 pub top_stopped : (classes : List ClassCode) (decl : ℕ) (class d : ClassCode) (old middle new : WorldView) (limit other : CellLimit) → decl < length classes
-    → class ≡ get_or classes decl d → Makes (tops_of 0 (take decl classes)) old (Ok tt) middle → Makes (top_if class.outer decl) middle (Err limit) new
-    → Makes (tops_of 0 classes) old (Err other) new
+    → class ≡ get_or classes decl d → CellsAreMade (tops_of 0 (take decl classes)) old (Ok tt) middle → CellsAreMade (top_if class.outer decl) middle (Err limit) new
+    → CellsAreMade (tops_of 0 classes) old (Err other) new
 top_stopped classes decl class d old middle new limit other inside is before this =
-    let through : Makes (tops_of 0 (take (decl + 1) classes)) old (Err limit) new =
-    subst (λ cells. Makes cells old (Err limit) new) (sym (one_top_more classes decl class d inside is))
+    let through : CellsAreMade (tops_of 0 (take (decl + 1) classes)) old (Err limit) new =
+    subst (λ cells. CellsAreMade cells old (Err limit) new) (sym (one_top_more classes decl class d inside is))
     (both_made (tops_of 0 (take decl classes)) (top_if class.outer decl) old middle new (Err limit) before this) in
     let rest = drop (decl + 1) classes in
     let number = length (take (decl + 1) classes) in
-    subst (λ cells. Makes cells old (Err other) new)
+    subst (λ cells. CellsAreMade cells old (Err other) new)
     (sym (tops_of_both 0 (take (decl + 1) classes) rest) ∙ ap (tops_of 0) (take-append-drop (decl + 1) classes))
     (both_stopped (tops_of 0 (take (decl + 1) classes)) (tops_of (0 + number) rest) old new limit other through)
 
@@ -76,19 +76,19 @@ one_text_more texts count text inside is =
     ∙ (texts_of_both (take count texts) (get_or texts count text ∷ []) ∙ ap (λ t. map TextCell (take count texts) ++ TextCell t ∷ []) (sym is))
 
 pub text_made : (texts : List (List ℕ)) (count : ℕ) (text : List ℕ) (old middle new : WorldView) (result : Result (Unit {0}) CellLimit) → count < length texts
-    → text ≡ get_or texts count text → Makes (map TextCell (take count texts)) old (Ok tt) middle → Makes (TextCell text ∷ []) middle result new
-    → Makes (map TextCell (take (count + 1) texts)) old result new
+    → text ≡ get_or texts count text → CellsAreMade (map TextCell (take count texts)) old (Ok tt) middle → CellsAreMade (TextCell text ∷ []) middle result new
+    → CellsAreMade (map TextCell (take (count + 1) texts)) old result new
 text_made texts count text old middle new result inside is before this =
-    subst (λ cells. Makes cells old result new) (sym (one_text_more texts count text inside is))
+    subst (λ cells. CellsAreMade cells old result new) (sym (one_text_more texts count text inside is))
     (both_made (map TextCell (take count texts)) (TextCell text ∷ []) old middle new result before this)
 
 -- one of them doesn't fit
 pub text_stopped : (texts : List (List ℕ)) (count : ℕ) (text : List ℕ) (old middle new : WorldView) (limit other : CellLimit) → count < length texts
-    → text ≡ get_or texts count text → Makes (map TextCell (take count texts)) old (Ok tt) middle → Makes (TextCell text ∷ []) middle (Err limit) new
-    → Makes (map TextCell texts) old (Err other) new
+    → text ≡ get_or texts count text → CellsAreMade (map TextCell (take count texts)) old (Ok tt) middle → CellsAreMade (TextCell text ∷ []) middle (Err limit) new
+    → CellsAreMade (map TextCell texts) old (Err other) new
 text_stopped texts count text old middle new limit other inside is before this =
     let rest = drop (count + 1) texts in
-    subst (λ cells. Makes cells old (Err other) new)
+    subst (λ cells. CellsAreMade cells old (Err other) new)
     (sym (texts_of_both (take (count + 1) texts) rest) ∙ ap (map TextCell) (take-append-drop (count + 1) texts))
     (both_stopped (map TextCell (take (count + 1) texts)) (map TextCell rest) old new limit other
     (text_made texts count text old middle new (Err limit) inside is before this))

@@ -11,7 +11,7 @@ use Rattle.ns_world.specs.World.{World, WorldView, MakesCell, made}
 use Rattle.ns_actions.specs.Control.{Progress, in_world, Halts, charged}
 use Rattle.ns_actions.specs.Start.{all_made, size_of_cells}
 use Rattle.ns_act.specs.Room.{SameRest}
-use Rattle.ns_machine_start.specs.Making.{going_on, Makes, unnumbered}
+use Rattle.ns_machine_start.specs.Making.{going_on, CellsAreMade, unnumbered}
 
 -- ---- sizes
 
@@ -35,7 +35,7 @@ rest_on here there = record {
 }
 
 -- no cell was made
-pub none_made : (world : WorldView) → Makes [] world (Ok tt) world
+pub none_made : (world : WorldView) → CellsAreMade [] world (Ok tt) world
 none_made world = record { goes_on = λ last next more progress. refl; size = omega arith; rest = same_rest refl }
 
 -- a world in which a cell was made has it
@@ -49,7 +49,7 @@ size_made old new cell is = by_test (nat_le (heap_size old.cells + cell_size cel
 
 -- a cell that was made
 pub one_made : (cell : Cell) (old new : WorldView) (result : Result ℕ CellLimit) → MakesCell old cell result new → new.world.limits ≡ old.world.limits
-    → Makes (cell ∷ []) old (unnumbered result) new
+    → CellsAreMade (cell ∷ []) old (unnumbered result) new
 one_made cell old new (Ok number) makes limits = record {
   goes_on = λ last next more progress.
       ap (λ (w : Option World). charged Halts Cells w (in_world progress old.world) (all_made (next ∷ more) (Ref (heap_size old.world.cells)))) makes.0;
@@ -65,15 +65,15 @@ one_made cell old new (Err limit) makes limits = record {
 }
 
 -- one part and then another
-pub both_made : (first second : List Cell) (old middle new : WorldView) (result : Result (Unit {0}) CellLimit) → Makes first old (Ok tt) middle
-    → Makes second middle result new → Makes (first ++ second) old result new
+pub both_made : (first second : List Cell) (old middle new : WorldView) (result : Result (Unit {0}) CellLimit) → CellsAreMade first old (Ok tt) middle
+    → CellsAreMade second middle result new → CellsAreMade (first ++ second) old result new
 both_made first second old middle new result here there = record {
   goes_on = λ last next more progress. on second last next more progress there;
   size = size result there.size;
   rest = rest_on here.rest there.rest;
 }
   where
-    on : (second : List Cell) (last : Value) (next : Cell) (more : List Cell) (progress : Progress) → Makes second middle result new
+    on : (second : List Cell) (last : Value) (next : Cell) (more : List Cell) (progress : Progress) → CellsAreMade second middle result new
         → all_made ((first ++ second) ++ next ∷ more) last (in_world progress old.world) ≡ going_on result (next ∷ more) (in_world progress new.world)
     on [] last next more progress there =
         ap (λ cells. all_made cells last (in_world progress old.world)) (append_assoc first [] (next ∷ more))
@@ -88,7 +88,7 @@ both_made first second old middle new result here there = record {
     size (Err limit) is = tt
 
 -- where a part of it doesn't fit, the whole doesn't
-pub both_stopped : (first second : List Cell) (old new : WorldView) (limit other : CellLimit) → Makes first old (Err limit) new → Makes (first ++ second) old (Err other) new
+pub both_stopped : (first second : List Cell) (old new : WorldView) (limit other : CellLimit) → CellsAreMade first old (Err limit) new → CellsAreMade (first ++ second) old (Err other) new
 both_stopped first second old new limit other here = record {
   goes_on = λ last next more progress. on second last next more progress;
   size = tt;

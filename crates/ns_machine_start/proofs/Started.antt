@@ -12,10 +12,10 @@ use Rattle.ns_world.specs.Heap.{heap_size}
 use Rattle.ns_world.specs.World.{World, WorldView, MakesCell}
 use Rattle.ns_actions.specs.Control.{Progress, in_world, Gives, Halts, charged}
 use Rattle.ns_actions.specs.Start.{all_made, size_of_cells, numbers_from, standing_cells, start_cells}
-use Rattle.ns_machine_start.specs.Making.{going_on, start_shown, Makes, referring}
+use Rattle.ns_machine_start.specs.Making.{going_on, start_shown, CellsAreMade, referring}
 
 -- what follows some cells that were made
-through : (cells texts : List Cell) (last : Cell) (old new : WorldView) (result : Result (Unit {0}) CellLimit) → Makes cells old result new → (progress : Progress)
+through : (cells texts : List Cell) (last : Cell) (old new : WorldView) (result : Result (Unit {0}) CellLimit) → CellsAreMade cells old result new → (progress : Progress)
     → all_made (cells ++ (texts ++ last ∷ [])) Nil (in_world progress old.world) ≡ going_on result (texts ++ last ∷ []) (in_world progress new.world)
 through cells [] last old new result makes progress = makes.goes_on Nil last [] progress
 through cells (text ∷ texts) last old new result makes progress = makes.goes_on Nil text (texts ++ last ∷ []) progress
@@ -32,7 +32,7 @@ last_made cell old new (Err limit) makes progress =
 
 -- the start ends where a standing cell doesn't fit
 pub standing_stopped : (code : CodeProgram) (grants : Grants) (arguments : List (List ℕ)) (old new : WorldView) (limit other : CellLimit)
-    → Makes (standing_cells code grants) old (Err limit) new → (progress : Progress)
+    → CellsAreMade (standing_cells code grants) old (Err limit) new → (progress : Progress)
     → all_made (start_cells code grants arguments) Nil (in_world progress old.world) ≡ start_shown (Err other) (in_world progress new.world)
 standing_stopped code grants arguments old new limit other makes progress =
     let standing = standing_cells code grants in
@@ -41,7 +41,7 @@ standing_stopped code grants arguments old new limit other makes progress =
 
 -- or where a text doesn't
 pub texts_stopped : (code : CodeProgram) (grants : Grants) (arguments : List (List ℕ)) (old middle new : WorldView) (limit other : CellLimit)
-    → Makes (standing_cells code grants) old (Ok tt) middle → Makes (map TextCell arguments) middle (Err limit) new → (progress : Progress)
+    → CellsAreMade (standing_cells code grants) old (Ok tt) middle → CellsAreMade (map TextCell arguments) middle (Err limit) new → (progress : Progress)
     → all_made (start_cells code grants arguments) Nil (in_world progress old.world) ≡ start_shown (Err other) (in_world progress new.world)
 texts_stopped code grants arguments old middle new limit other before makes progress =
     let standing = standing_cells code grants in
@@ -51,7 +51,7 @@ texts_stopped code grants arguments old middle new limit other before makes prog
 
 -- else it ends with their array
 pub array_last : (code : CodeProgram) (grants : Grants) (arguments : List (List ℕ)) (items : List Value) (old first second new : WorldView) (result : Result ℕ CellLimit)
-    → old.world.cells ≡ [] → Makes (standing_cells code grants) old (Ok tt) first → Makes (map TextCell arguments) first (Ok tt) second
+    → old.world.cells ≡ [] → CellsAreMade (standing_cells code grants) old (Ok tt) first → CellsAreMade (map TextCell arguments) first (Ok tt) second
     → items ≡ referring (heap_size first.world.cells) arguments → MakesCell second (ArrayCell items) result new → (progress : Progress)
     → all_made (start_cells code grants arguments) Nil (in_world progress old.world) ≡ start_shown result (in_world progress new.world)
 array_last code grants arguments items old first second new result empty before makes refers last progress =

@@ -18,7 +18,7 @@ going_on (Ok done) cells progress = all_made cells Nil progress
 going_on (Err limit) cells progress = Halts (Limit Cells) progress
 
 -- Cells were made in their order, up to the first that doesn't fit: whatever cells follow, the start goes on with them.
-pub record Makes (cells : List Cell) (old : WorldView) (result : Result (Unit {0}) CellLimit) (new : WorldView) : Type 0 where
+pub record CellsAreMade (cells : List Cell) (old : WorldView) (result : Result (Unit {0}) CellLimit) (new : WorldView) : Type 0 where
   pub goes_on : (last : Value) (next : Cell) (more : List Cell) (progress : Progress)
       → all_made (cells ++ next ∷ more) last (in_world progress old.world) ≡ going_on result (next ∷ more) (in_world progress new.world)
   pub size : OnOk result (heap_size new.world.cells ≡ heap_size old.world.cells + size_of_cells cells)

@@ -4,8 +4,8 @@ ghost use Rattle.std.specs.Prelude.{◌∷◌, ◌≤◌, [], length, IsTrue, Op
 ghost use Rattle.ns_world.specs.Cell.{fresh};
 ghost use Rattle.ns_world.specs.Heap.{has_superclass};
 ghost use Rattle.ns_actions.specs.Start.{facet_if, facets_of, top_if, tops_of, standing_cells};
-ghost use Rattle.ns_act.specs.Room.{HasRoom};
-ghost use Rattle.ns_machine_start.specs.Making.{Makes};
+ghost use Rattle.ns_act.specs.Room.{HasCellRoom};
+ghost use Rattle.ns_machine_start.specs.Making.{CellsAreMade};
 
 use ns_code::class::ClassCode;
 use ns_code::program::CodeProgram;
@@ -14,20 +14,20 @@ use ns_world::cell::{CellLimit, FacetKind, NewCell};
 use ns_world::value::{KClass, Value};
 use ns_world::world::World;
 
-/// Makes the facets and the top-level classes.
+/// CellsAreMade the facets and the top-level classes.
 pub fn make_standing(world: &mut World, code: &CodeProgram, grants: Grants) -> Result<(), CellLimit>
-    requires room { HasRoom world.old }
+    requires room { HasCellRoom world.old }
     requires classes { length code.now.classes ≤ 4294967295 }
-    ensures { Makes (standing_cells code.now grants) world.old result world.new }
+    ensures { CellsAreMade (standing_cells code.now grants) world.old result world.new }
 {
     make_facets(world, grants)?;
     make_tops(world, code.classes.as_slice())
 }
 
-/// Makes Manifest and Platform, and the facets that are granted.
+/// CellsAreMade Manifest and Platform, and the facets that are granted.
 fn make_facets(world: &mut World, grants: Grants) -> Result<(), CellLimit>
-    requires room { HasRoom world.old }
-    ensures { Makes (facets_of grants) world.old result world.new }
+    requires room { HasCellRoom world.old }
+    ensures { CellsAreMade (facets_of grants) world.old result world.new }
 {
     make_cell(world, NewCell::Facet(FacetKind::Manifest))?;
     make_cell(world, NewCell::Facet(FacetKind::Platform))?;
@@ -37,10 +37,10 @@ fn make_facets(world: &mut World, grants: Grants) -> Result<(), CellLimit>
     make_facet_if(world, grants.board, FacetKind::Board)
 }
 
-/// Makes a facet, where it is granted.
+/// CellsAreMade a facet, where it is granted.
 fn make_facet_if(world: &mut World, granted: bool, kind: FacetKind) -> Result<(), CellLimit>
-    requires room { HasRoom world.old }
-    ensures { Makes (facet_if granted kind) world.old result world.new }
+    requires room { HasCellRoom world.old }
+    ensures { CellsAreMade (facet_if granted kind) world.old result world.new }
 {
     if granted {
         return make_cell(world, NewCell::Facet(kind));
@@ -48,11 +48,11 @@ fn make_facet_if(world: &mut World, granted: bool, kind: FacetKind) -> Result<()
     Ok(())
 }
 
-/// Makes the classes of the top-level declarations.
+/// CellsAreMade the classes of the top-level declarations.
 fn make_tops(world: &mut World, classes: &[ClassCode]) -> Result<(), CellLimit>
-    requires room { HasRoom world.old }
+    requires room { HasCellRoom world.old }
     requires numbers { length classes.now ≤ 4294967295 }
-    ensures { Makes (tops_of 0 classes.now) world.old result world.new }
+    ensures { CellsAreMade (tops_of 0 classes.now) world.old result world.new }
 {
     'classes: for decl in 0..classes.len() {
         make_top_if(world, classes[decl].outer, decl as u32)?;
@@ -60,10 +60,10 @@ fn make_tops(world: &mut World, classes: &[ClassCode]) -> Result<(), CellLimit>
     Ok(())
 }
 
-/// Makes the class of a declaration, where it is a top-level one.
+/// CellsAreMade the class of a declaration, where it is a top-level one.
 fn make_top_if(world: &mut World, outer: Option<u32>, decl: u32) -> Result<(), CellLimit>
-    requires room { HasRoom world.old }
-    ensures { Makes (top_if outer decl) world.old result world.new }
+    requires room { HasCellRoom world.old }
+    ensures { CellsAreMade (top_if outer decl) world.old result world.new }
 {
     match outer {
         Some(_) => Ok(()),
@@ -80,11 +80,11 @@ fn make_top_if(world: &mut World, outer: Option<u32>, decl: u32) -> Result<(), C
     }
 }
 
-/// Makes a cell.
+/// CellsAreMade a cell.
 fn make_cell(world: &mut World, cell: NewCell) -> Result<(), CellLimit>
-    requires room { HasRoom world.old }
+    requires room { HasCellRoom world.old }
     requires superclass { IsTrue (has_superclass world.old.world.cells (fresh cell)) }
-    ensures { Makes (fresh cell ∷ []) world.old result world.new }
+    ensures { CellsAreMade (fresh cell ∷ []) world.old result world.new }
 {
     match world.make(cell) {
         Ok(_) => Ok(()),

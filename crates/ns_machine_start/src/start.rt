@@ -6,7 +6,7 @@ ghost use Rattle.ns_world.specs.declared.value.Value.TheVariants.{Nil};
 ghost use Rattle.ns_world.specs.World.{empty_world};
 ghost use Rattle.ns_actions.specs.Control.{Progress, in_world};
 ghost use Rattle.ns_actions.specs.Start.{nothing_done, start_cells, all_made, start_made};
-ghost use Rattle.ns_act.specs.Room.{HasRoom, SameRest};
+ghost use Rattle.ns_act.specs.Room.{HasCellRoom, SameRest};
 ghost use Rattle.ns_machine_start.specs.Making.{start_shown};
 
 use crate::cells::make_standing;
@@ -31,7 +31,7 @@ pub fn make_start(
     arguments: &[Text],
 ) -> Result<Result<u32, CellLimit>, NoMemory>
     requires empty { world.old.world ≡ empty_world world.old.world.limits }
-    requires room { HasRoom world.old }
+    requires room { HasCellRoom world.old }
     requires classes { length code.now.classes ≤ 4294967295 }
     ensures made { IfOk result (λ made. start_shown made (in_world (nothing_done world.old.world.limits) world.new.world)
         ≡ start_made code.now grants arguments.now world.old.world.limits) }
@@ -51,7 +51,7 @@ fn make_all(
     texts: &mut Vec<Value>,
 ) -> Result<u32, CellLimit>
     requires empty { world.old.world.cells ≡ [] }
-    requires room { HasRoom world.old }
+    requires room { HasCellRoom world.old }
     requires classes { length code.now.classes ≤ 4294967295 }
     requires none { texts.old.items ≡ [] }
     requires enough { length arguments.now ≤ vec_capacity texts.old }

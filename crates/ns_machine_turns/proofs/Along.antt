@@ -1,4 +1,4 @@
--- Moves of a machine one after another, with steps left.
+-- MakesMove of a machine one after another, with steps left.
 use Rattle.std.proofs.Common.{◌≡◌, ℕ, ◌-◌, ◌<◌, ◌≤◌, refl, ap, sym, subst, arith, false}
 use Rattle.ns_code.specs.declared.program.CodeProgram.{CodeProgram}
 use Rattle.ns_facets.specs.declared.row.Grants.{Grants}
@@ -15,7 +15,7 @@ use Rattle.ns_machine_core.specs.declared.state.Core.{Core}
 use Rattle.ns_machine_core.specs.declared.state.Next.{Next}
 use Rattle.ns_machine_core.specs.declared.state.Next.TheVariants.{On, Waits}
 use Rattle.ns_machine_core.specs.Shown.{phase_shown, progress_in, shown}
-use Rattle.ns_machine_core.specs.Ready.{Moves, MovesKeepReady}
+use Rattle.ns_machine_core.specs.Ready.{MakesMove, MovesKeepReady}
 use Rattle.ns_machine_turns.specs.Turning.{steps_left, RunsBy, IsTurning, GoesAlong, HasGone, MovesGoAlong}
 use Rattle.ns_machine_turns.proofs.Turned.{Known, runs_on, turning_on, counted, left_is, since_begun}
 
@@ -26,7 +26,7 @@ pub record KnownMoves (code : CodeProgram) : Type 0 where
   pub lower : (grants : Grants) → MovesLower code grants
 
 -- a move takes no step back
-pub since_on : (code : CodeProgram) → Known code → (old new : Core) (from next : Next) → Moves code old from new next
+pub since_on : (code : CodeProgram) → Known code → (old new : Core) (from next : Next) → MakesMove code old from new next
     → old.run.world.world.steps ≤ new.run.world.world.steps
 since_on code known old new from next moved =
     let on = (known.onward 1 (shown code old from)).later.steps in
@@ -41,7 +41,7 @@ none_gone code plan sends left old from runs = record { runs = runs; turning = �
 
 module _ (code : CodeProgram) (all : KnownMoves code) (plan : Plan) (sends : OwnSends) (left : ℕ) (old : Core) (from : Next) where
   module _ (goes : is_still (shown code old from) ≡ false) (now new : Core) (here next : Next) (on : is_still (shown code now here) ≡ false)
-      (few : now.run.world.world.steps - old.run.world.world.steps < left) (moved : Moves code now here new next) where
+      (few : now.run.world.world.steps - old.run.world.world.steps < left) (moved : MakesMove code now here new next) where
     some_left : (steps : ℕ) (first : Core) (began : Next) → left ≡ steps_left steps (shown code first began) (shown code old from)
         → IsTurning code steps first began old from → 1 ≤ steps_left steps (shown code first began) (shown code now here)
     some_left steps first began e turning =
@@ -70,7 +70,7 @@ module _ (code : CodeProgram) (all : KnownMoves code) (plan : Plan) (sends : Own
       falls = falls_on along;
     }
 
--- Moves that led on with the steps that were left then, of those with which others had led there, have led on from where those began.
+-- MakesMove that led on with the steps that were left then, of those with which others had led there, have led on from where those began.
 module _ (code : CodeProgram) (plan : Plan) (sends : OwnSends) (left : ℕ) (old now new : Core) (from here next : Next) where
   left_there : GoesAlong code plan sends left old from now here → is_still (shown code old from) ≡ false → (steps : ℕ) (first : Core) (began : Next)
       → left ≡ steps_left steps (shown code first began) (shown code old from) → IsTurning code steps first began old from
@@ -107,13 +107,13 @@ gone_since code plan sends left some old now new from here next along goes e gon
 -- With so many steps left, a move of a body that runs leads on,
 pub body_gone : (code : CodeProgram) → MovesGoAlong code → (plan : Plan) (sends : OwnSends) (left some : ℕ) (old now new : Core) (at here : Registers) (next : Next)
     → 1 ≤ some → some ≡ left - (now.run.world.world.steps - old.run.world.world.steps) → GoesAlong code plan sends left old (On at) now (On here)
-    → Moves code now (On here) new next → HasGone code plan sends left old (On at) new next
+    → MakesMove code now (On here) new next → HasGone code plan sends left old (On at) new next
 body_gone code law plan sends left some old now new at here next one e along moved =
     law plan sends left old now new (On at) (On here) next along refl refl (omega (arith, one, e)) moved
 
 -- and leaves less to be done.
 pub body_falls : (code : CodeProgram) → MovesGoAlong code → (plan : Plan) (sends : OwnSends) (now new : Core) (here : Registers) (next : Next)
-    → RunsBy code plan sends now (On here) → Moves code now (On here) new next → run_left code (shown code new next) < run_left code (shown code now (On here))
+    → RunsBy code plan sends now (On here) → MakesMove code now (On here) new next → run_left code (shown code new next) < run_left code (shown code now (On here))
 body_falls code law plan sends now new here next runs moved =
     (body_gone code law plan sends 1 1 now now new here here next (omega arith) (omega arith) (none_gone code plan sends 1 now (On here) runs) moved).falls
 

@@ -25,7 +25,7 @@ use Rattle.ns_machine_plan.specs.Stated.{JumpsLand}
 use Rattle.ns_machine_core.specs.declared.state.Core.{Core}
 use Rattle.ns_machine_core.specs.declared.state.Next.TheVariants.{On}
 use Rattle.ns_machine_core.specs.Shown.{phase_shown, progress_in, shown}
-use Rattle.ns_machine_turns.specs.Prepared.{CanRun, IsAhead}
+use Rattle.ns_machine_turns.specs.Prepared.{IsPreparedToRun, IsAhead}
 use Rattle.ns_machine_turns.specs.Charging.{takes_on_top, step_charges}
 use Rattle.ns_machine_turns.proofs.Fetched.{stands, locals_at, operands_at, others_at, valid_here}
 
@@ -78,19 +78,19 @@ module _ (code : CodeProgram) (body next : ℕ) (inside : next < length (steps_o
 
 -- ---- the run
 
-pub frame_told : ((steps : List moves.Step) → GoesBackTo steps) → (code : CodeProgram) → JumpsLand code → (core : Core) (at : Registers) (running : RunningFrame)
-    (s : Step) → CanRun code core (On at) → core.stack.frames.items ≡ Running running ∷ below core.stack.frames.items
+pub frame_told : ((steps : List moves.PlacedInstr) → GoesBackTo steps) → (code : CodeProgram) → JumpsLand code → (core : Core) (at : Registers) (running : RunningFrame)
+    (s : Step) → IsPreparedToRun code core (On at) → core.stack.frames.items ≡ Running running ∷ below core.stack.frames.items
     → IsAhead code core at running.activation.body s
     → step_charges at.next (operands_in (stood core.stack at)) s ≡ will_charge code (shown code core (On at))
 frame_told back code land core at running s can top ahead =
     ap (λ (all : List Stood). step_charges at.next (operands_in all) s) (stands core at running top)
     ∙ (step_told code running.activation.body at.next ahead.there.next_there (back (steps_of code running.activation.body)) s (operands_at core at running)
     (λ to e. (land running.activation.body at.next to s (valid_here code can.grants core at running can.ready.valid top).0.world.sound ahead.there ahead.is e).next_there)
-    ∙ (ap (λ (rest : List moves.Step). charged rest) (sym ahead.left)
+    ∙ (ap (λ (rest : List moves.PlacedInstr). charged rest) (sym ahead.left)
     ∙ ap (λ (all : List Stood). will_charge code (Going (phase_shown core.phase) (frames_shown code core.places all) (progress_in core)))
     (sym (stands core at running top))))
   where
-    charged : List moves.Step → Bool
+    charged : List moves.PlacedInstr → Bool
     charged rest =
         will_charge code (Going (phase_shown core.phase)
         (state.Running (leaving_shown running.leaving running.activation) (activation_shown core.places running.activation) (locals_at core at running) rest

@@ -24,14 +24,14 @@ use Rattle.ns_machine_frames.specs.Stack.{in_use, stood}
 use Rattle.ns_machine_frames.specs.View.{leaving_shown, activation_shown, frames_shown}
 use Rattle.ns_machine_plan.specs.declared.plan.Plan.{Plan}
 use Rattle.ns_machine_plan.specs.declared.step.Step.{Step}
-use Rattle.ns_machine_plan.specs.Plan.{IsStep, IsStepAt}
+use Rattle.ns_machine_plan.specs.Plan.{HasStep, IsStepAt}
 use Rattle.ns_machine_plan.specs.Steps.{places_of, instr_of, place_of, step_shown}
 use Rattle.ns_machine_plan.specs.Stated.{RunningHasStep}
 use Rattle.ns_machine_core.specs.declared.state.Core.{Core}
 use Rattle.ns_machine_core.specs.declared.state.Next.TheVariants.{On}
 use Rattle.ns_machine_core.specs.Shown.{phase_shown, progress_in, shown}
 use Rattle.ns_machine_core.specs.Moving.{HasNextStep, ValidHasNextStep}
-use Rattle.ns_machine_core.specs.Straight.{RunsBody}
+use Rattle.ns_machine_core.specs.Straight.{TopRunsBody}
 use Rattle.ns_machine_turns.specs.Prepared.{IsPrepared, IsAhead}
 
 -- ---- steps
@@ -47,7 +47,7 @@ pub shown_here : (code : CodeProgram) (plan : Plan) (places : List SourcePlace) 
     → IsStepAt code body next step → steps_from code body next ≡ step_shown places step ∷ steps_from code body (next + 1)
 shown_here code plan places body next step prepared is = is.shown ∙ ap on same
   where
-    on : Option SourcePlace → List moves.Step
+    on : Option SourcePlace → List moves.PlacedInstr
     on place = (instr_of step, place) ∷ steps_from code body (next + 1)
 
     same : place_of (places_of code) step ≡ place_of places step
@@ -78,7 +78,7 @@ module _ (code : CodeProgram) (grants : Grants) (core : Core) (at : Registers) (
       subst (λ (s : List Stood). Valid code grants (Going (phase_shown core.phase) (frames_shown code core.places s) (progress_in core)))
       (stands core at running top) valid
 
-  pub step_there : RunningHasStep code → IsStep code running.activation.body at.next
+  pub step_there : RunningHasStep code → HasStep code running.activation.body at.next
   step_there has =
       has (progress_in core) (leaving_shown running.leaving running.activation) (activation_shown core.places running.activation)
       (locals_at core at running) (operands_at core at running) at.next (steps_from code running.activation.body at.next) refl valid_here.2.0
@@ -108,17 +108,17 @@ pub record HasTop (body : ℕ) (frames : List Frame) : Type 0 where
   pub top : frames ≡ Running running ∷ below frames
   pub is : running.activation.body ≡ body
 
-pub top_of : (body : ℕ) (frames : List Frame) → RunsBody body frames → HasTop body frames
+pub top_of : (body : ℕ) (frames : List Frame) → TopRunsBody body frames → HasTop body frames
 top_of body [] runs = absurd runs
 top_of body (Running frame ∷ frames) runs = record { running = frame; top = refl; is = runs }
 top_of body (Looping frame ∷ frames) runs = absurd runs
 
 module _ (code : CodeProgram) (grants : Grants) (core : Core) (at : Registers) (body : ℕ) (valid : Valid code grants (shown code core (On at)))
-    (runs : RunsBody body core.stack.frames.items) where
-  pub body_has_step : RunningHasStep code → IsStep code body at.next
+    (runs : TopRunsBody body core.stack.frames.items) where
+  pub body_has_step : RunningHasStep code → HasStep code body at.next
   body_has_step has =
       let it = top_of body core.stack.frames.items runs in
-      subst (λ (b : ℕ). IsStep code b at.next) it.is (step_there code grants core at it.running valid it.top has)
+      subst (λ (b : ℕ). HasStep code b at.next) it.is (step_there code grants core at it.running valid it.top has)
 
   pub body_has_next : ValidHasNextStep code grants → HasNextStep code core at body
   body_has_next has =
@@ -126,7 +126,7 @@ module _ (code : CodeProgram) (grants : Grants) (core : Core) (at : Registers) (
       subst (λ (b : ℕ). HasNextStep code core at b) it.is (has core at it.running valid it.top)
 
 pub is_ahead : (code : CodeProgram) (plan : Plan) (core : Core) (at : Registers) (body : ℕ) (step : Step) → IsPrepared code plan core.places
-    → HasNextStep code core at body → IsStep code body at.next → IsStepAt code body at.next step → IsAhead code core at body step
+    → HasNextStep code core at body → HasStep code body at.next → IsStepAt code body at.next step → IsAhead code core at body step
 is_ahead code plan core at body step prepared has there is = record {
   next = has.is (step_shown core.places step)
       (first_left at.next (steps_of code body) (steps_from code body (at.next + 1)) (step_shown core.places step)

@@ -11,7 +11,7 @@ use Rattle.ns_world.specs.Cell.{Cell, shape_of}
 use Rattle.ns_world.specs.Heap.{Heap, find_cell}
 use Rattle.ns_world.specs.Lawful.{IsLiveValue}
 use Rattle.ns_base.specs.declared.selector.Sel.{Sel}
-use Rattle.ns_kdata.specs.Arguments.{IsThere, items_of, is_array, is_array_shape}
+use Rattle.ns_kdata.specs.Arguments.{CellIsThere, items_of, is_array, is_array_shape}
 use Rattle.ns_actions.specs.Control.{Control, gives}
 use Rattle.ns_actions.specs.Lawful.{LawfulControl, FitsSelector}
 use Rattle.ns_actions.specs.Sends.{sent_from}
@@ -28,7 +28,7 @@ use Rattle.ns_machine_frames.specs.Row.{ValueRow, FrameRow}
 use Rattle.ns_machine_frames.specs.Standing.{at_next}
 use Rattle.ns_machine_frames.specs.Stack.{stood, with_top}
 use Rattle.ns_machine_frames.specs.View.{site_shown, frames_shown, state_shown}
-use Rattle.ns_find.specs.Memo.{IsRight}
+use Rattle.ns_find.specs.Memo.{PlaceIsRight}
 use Rattle.ns_act.specs.declared.run.Run.{Run}
 use Rattle.ns_machine_core.specs.declared.state.Core.{Core}
 use Rattle.ns_machine_core.specs.declared.state.Next.{Next}
@@ -36,7 +36,7 @@ use Rattle.ns_machine_core.specs.declared.state.Next.TheVariants as next
 use Rattle.ns_machine_core.specs.Shown.{phase_shown, progress_in, shown}
 use Rattle.ns_machine_core.specs.declared.own.OwnSends.{OwnSends}
 use Rattle.ns_machine_core.specs.Own.{AreOwn}
-use Rattle.ns_machine_core.specs.Ready.{IsReady, Moves}
+use Rattle.ns_machine_core.specs.Ready.{MachineIsReady, MakesMove}
 use Rattle.ns_machine_core.specs.Framed.{HasRoomOnTop, WaitingHasRoom, ArgumentsAreFew}
 use Rattle.ns_machine_core.specs.Standing.{AreStanding, ArgumentsWait, SendWaits, Wait}
 use Rattle.ns_actions.specs.Bodies.{greatest_of}
@@ -87,7 +87,7 @@ given_sends code old mid new at sent receiver value n given handed = record {
     places = handed.stays.places ∙ given.stays.places;
     arguments = handed.stays.arguments ∙ given.stays.arguments;
   };
-  kept = subst (λ (run : Run). All (IsRight old.run.world.world.cells code) run.memo) (sym handed.run) given.kept;
+  kept = subst (λ (run : Run). All (PlaceIsRight old.run.world.world.cells code) run.memo) (sym handed.run) given.kept;
 }
   where
     same : delivered code (phase_shown mid.phase) value (frames_shown code mid.places (stood mid.stack (with_top sent.floor at))) (progress_in mid)
@@ -103,7 +103,7 @@ frames_many code core at floor =
     ∙ (many_stand (at_next at.next core.stack.frames.items) (take floor core.stack.values.items) ∙ many_next at.next core.stack.frames.items)
 
 -- what a machine shows in which this waits
-pub valid_there : (code : CodeProgram) (grants : Grants) (core : Core) (at : Registers) (p : Pending) → core.waiting ≡ p → IsReady code grants core (next.Waits at)
+pub valid_there : (code : CodeProgram) (grants : Grants) (core : Core) (at : Registers) (p : Pending) → core.waiting ≡ p → MachineIsReady code grants core (next.Waits at)
     → Valid code grants (state_shown code core.places (phase_shown core.phase) p core.arguments.items core.stack at (progress_in core))
 valid_there code grants core at p is ready =
     subst (λ (q : Pending). Valid code grants (state_shown code core.places (phase_shown core.phase) q core.arguments.items core.stack at (progress_in core))) is ready.valid
@@ -129,19 +129,19 @@ stands_below code core at sent sel first stands waits = record {
 }
 
 pub sending_stands : (code : CodeProgram) (grants : Grants) (core : Core) (at : Registers) (sent : Sent) (receiver : Value) (sel : Sel)
-    → core.waiting ≡ pending.Sending receiver sel sent.site sent.floor → sent.first ≡ sent.floor → IsReady code grants core (next.Waits at)
+    → core.waiting ≡ pending.Sending receiver sel sent.site sent.floor → sent.first ≡ sent.floor → MachineIsReady code grants core (next.Waits at)
     → StandsBelow code core at sent sel
 sending_stands code grants core at sent receiver sel is first ready =
     stands_below code core at sent sel first ready.stand.0 (subst (λ (p : Pending). Wait code p core.stack at) is ready.stand.1)
 
 pub performing_stands : (code : CodeProgram) (grants : Grants) (core : Core) (at : Registers) (sent : Sent) (receiver : Value) (sel : Sel) (array : ℕ)
-    → core.waiting ≡ pending.Performing receiver sel array sent.site sent.floor → sent.first ≡ sent.floor → IsReady code grants core (next.Waits at)
+    → core.waiting ≡ pending.Performing receiver sel array sent.site sent.floor → sent.first ≡ sent.floor → MachineIsReady code grants core (next.Waits at)
     → StandsBelow code core at sent sel
 performing_stands code grants core at sent receiver sel array is first ready =
     stands_below code core at sent sel first ready.stand.0 (subst (λ (p : Pending). Wait code p core.stack at) is ready.stand.1)
 
 pub sending_known : (code : CodeProgram) (grants : Grants) → WaitingHasRoom code grants → (core : Core) (at : Registers) (sent : Sent) (receiver : Value) (sel : Sel)
-    → core.waiting ≡ pending.Sending receiver sel sent.site sent.floor → sent.first ≡ sent.floor → IsReady code grants core (next.Waits at)
+    → core.waiting ≡ pending.Sending receiver sel sent.site sent.floor → sent.first ≡ sent.floor → MachineIsReady code grants core (next.Waits at)
     → WaitsToSend code core at sent receiver core.arguments.items
 sending_known code grants law core at sent receiver sel is first ready =
     let valid = valid_there code grants core at (pending.Sending receiver sel sent.site sent.floor) is ready in
@@ -161,7 +161,7 @@ sending_known code grants law core at sent receiver sel is first ready =
 
 pub performing_known : (code : CodeProgram) (grants : Grants) → WaitingHasRoom code grants → (core : Core) (at : Registers) (sent : Sent) (receiver : Value)
     (sel : Sel) (array : ℕ) → core.waiting ≡ pending.Performing receiver sel array sent.site sent.floor → sent.first ≡ sent.floor
-    → IsReady code grants core (next.Waits at) → WaitsToSend code core at sent receiver (items_of core.run.world.world.cells (Ref array))
+    → MachineIsReady code grants core (next.Waits at) → WaitsToSend code core at sent receiver (items_of core.run.world.world.cells (Ref array))
 performing_known code grants law core at sent receiver sel array is first ready =
     let valid = valid_there code grants core at (pending.Performing receiver sel array sent.site sent.floor) is ready in
     let named = (performing_stands code grants core at sent receiver sel array is first ready).named in
@@ -182,7 +182,7 @@ cell_there : (o : Option Cell) → IsTrue (is_array_shape (option_map_or shape_o
 cell_there (Some cell) is = refl
 cell_there None is = absurd (cc)
 
-pub array_there : (heap : Heap) (at : ℕ) → IsTrue (is_array heap (Ref at)) → IsThere heap (Ref at)
+pub array_there : (heap : Heap) (at : ℕ) → IsTrue (is_array heap (Ref at)) → CellIsThere heap (Ref at)
 array_there heap at is = cell_there (find_cell heap at) is
 
 -- there is room for as many arguments as a selector takes, and for an answer behind the caller's values
@@ -275,7 +275,7 @@ module _ (code : CodeProgram) (core mid : Core) (at : Registers) (sent : Sent) (
   pub sent_moves : (new : Core) (from n : Next) → Sends code mid at sent.floor (sent_on_at code mid sent receiver) new n
       → arrived code (phase_shown core.phase) (sent_from code receiver sent.site.sel arguments (site_shown core.places sent.site) (progress_in core))
       (frames_shown code core.places (stood core.stack (with_top sent.floor at))) ≡ move code (shown code core from)
-      → Moves code core from new n
+      → MakesMove code core from new n
   sent_moves new from n sends is_move = record {
     state = sends.state ∙ (same ∙ is_move);
     stand = sends.stand;
@@ -289,7 +289,7 @@ module _ (code : CodeProgram) (core mid : Core) (at : Registers) (sent : Sent) (
       places = sends.stays.places ∙ set.stays.places;
       arguments = sends.stays.arguments ∙ set.stays.arguments;
     };
-    kept = subst (λ (run : Run). All (IsRight run.world.world.cells code) new.run.memo) set.run sends.kept;
+    kept = subst (λ (run : Run). All (PlaceIsRight run.world.world.cells code) new.run.memo) set.run sends.kept;
   }
     where
       same : arrived code (phase_shown mid.phase) (sent_on_at code mid sent receiver) (frames_shown code mid.places (stood mid.stack (with_top sent.floor at)))
@@ -310,9 +310,9 @@ sending_move code core at sent receiver sel arguments named =
     (frames_shown code core.places (stood core.stack (with_top sent.floor at)))) named
 
 pub sending_moves : (code : CodeProgram) (grants : Grants) → WaitingHasRoom code grants → (core mid new : Core) (at : Registers) (sent : Sent) (receiver : Value) (sel : Sel)
-    (n : Next) → core.waiting ≡ pending.Sending receiver sel sent.site sent.floor → sent.first ≡ sent.floor → IsReady code grants core (next.Waits at)
+    (n : Next) → core.waiting ≡ pending.Sending receiver sel sent.site sent.floor → sent.first ≡ sent.floor → MachineIsReady code grants core (next.Waits at)
     → HasMadePlace code core at sent mid → Sends code mid at sent.floor (sent_on_at code mid sent receiver) new n
-    → Moves code core (next.Waits at) new n
+    → MakesMove code core (next.Waits at) new n
 sending_moves code grants law core mid new at sent receiver sel n is first ready made sends =
     sent_moves code core mid at sent receiver core.arguments.items (sending_known code grants law core at sent receiver sel is first ready)
     (sending_set code core mid at sent made) new (next.Waits at) n sends
@@ -321,9 +321,9 @@ sending_moves code grants law core mid new at sent receiver sel n is first ready
 
 pub performing_moves : (code : CodeProgram) (grants : Grants) → WaitingHasRoom code grants → (core mid new : Core) (at : Registers) (sent : Sent)
     (receiver : Value) (sel : Sel) (array : ℕ) (n : Next) → core.waiting ≡ pending.Performing receiver sel array sent.site sent.floor → sent.first ≡ sent.floor
-    → IsReady code grants core (next.Waits at) → HasMadePlace code (keeping (items_of core.run.world.world.cells (Ref array)) core) at sent mid
+    → MachineIsReady code grants core (next.Waits at) → HasMadePlace code (keeping (items_of core.run.world.world.cells (Ref array)) core) at sent mid
     → Sends code mid at sent.floor (sent_on_at code mid sent receiver) new n
-    → Moves code core (next.Waits at) new n
+    → MakesMove code core (next.Waits at) new n
 performing_moves code grants law core mid new at sent receiver sel array n is first ready made sends =
     sent_moves code core mid at sent receiver (items_of core.run.world.world.cells (Ref array))
     (performing_known code grants law core at sent receiver sel array is first ready)

@@ -6,7 +6,7 @@ use Rattle.ns_machine_moves.specs.State.{State, progress_of, world_of}
 use Rattle.ns_machine_moves.specs.Move.{move}
 use Rattle.ns_machine_moves.specs.Turn.{is_still, Turns}
 use Rattle.ns_machine_moves.specs.Charging.{will_charge}
-use Rattle.ns_machine_moves.specs.Charges.{CanMove, Took, TakesAsTold, ChargesAsTold}
+use Rattle.ns_machine_moves.specs.Charges.{CanMove, MoveTook, TakesAsTold, ChargesAsTold}
 use Rattle.ns_machine_moves.specs.Onward.{MovesGoOnward}
 use Rattle.ns_machine_moves.specs.Standing.{MovesKeepValid}
 use Rattle.ns_machine_moves.specs.Valid.{Valid}
@@ -18,11 +18,11 @@ use Rattle.ns_machine_core.specs.declared.state.Core.{Core}
 use Rattle.ns_machine_core.specs.declared.state.Next.{Next}
 use Rattle.ns_machine_core.specs.Own.{AreOwn}
 use Rattle.ns_machine_core.specs.Shown.{shown}
-use Rattle.ns_machine_core.specs.Ready.{Moves, MovesKeepReady}
-use Rattle.ns_machine_core.specs.Turning.{IsWithin, TurnsBegin, FreeMovesGoOn, ChargedMovesGoOn, TurnsEnd, TurnsRest}
+use Rattle.ns_machine_core.specs.Ready.{MakesMove, MovesKeepReady}
+use Rattle.ns_machine_core.specs.Turning.{EndsTheWhole, TurnsBegin, FreeMovesGoOn, ChargedMovesGoOn, TurnsEnd, TurnsRest}
 use Rattle.ns_machine_core.specs.laws.Kept.{shown_progress, stays_on}
-use Rattle.ns_machine_turns.specs.Prepared.{IsPrepared, CanRun}
-use Rattle.ns_machine_turns.specs.Turning.{steps_left, GoesOn, IsUnderWay, RunsBy, IsTurning}
+use Rattle.ns_machine_turns.specs.Prepared.{IsPrepared, IsPreparedToRun}
+use Rattle.ns_machine_turns.specs.Turning.{steps_left, EndsTheTurn, IsUnderWay, RunsBy, IsTurning}
 
 -- ---- states
 
@@ -42,14 +42,14 @@ module _ (code : CodeProgram) (known : Known code) (steps : ℕ) where
   pub begins : (first : State) → IsUnderWay code steps first first
   begins first =
       let all : steps ≡ steps_left steps first first = omega arith in
-      inr (record { since = omega arith; within = subst (λ n. IsWithin code steps first n first) all (known.begin steps first) })
+      inr (record { since = omega arith; within = subst (λ n. EndsTheWhole code steps first n first) all (known.begin steps first) })
 
   module _ (grants : Grants) (first now : State) (valid : Valid code grants now) (goes : is_still now ≡ false) where
     can : CanMove code now
     can = can_move code grants (known.keeps grants) now valid
 
-    within_on : (b : Bool) → will_charge code now ≡ b → Took b (progress_of now) (move code now) → (b ≡ true → 1 ≤ steps_left steps first now)
-        → GoesOn code steps first now → IsUnderWay code steps first (move code now)
+    within_on : (b : Bool) → will_charge code now ≡ b → MoveTook b (progress_of now) (move code now) → (b ≡ true → 1 ≤ steps_left steps first now)
+        → EndsTheTurn code steps first now → IsUnderWay code steps first (move code now)
     within_on true told (inl one) some on =
         let since = on.since in
         let left = some refl in
@@ -57,7 +57,7 @@ module _ (code : CodeProgram) (known : Known code) (steps : ℕ) where
         inr (record {
           since = omega (arith, one, since);
           within = known.charged steps (steps_left steps first (move code now)) first now
-              (subst (λ n. IsWithin code steps first n now) e on.within) (known.test now can ∙ told);
+              (subst (λ n. EndsTheWhole code steps first n now) e on.within) (known.test now can ∙ told);
         })
     within_on true told (inr none) some on =
         let left = some refl in
@@ -66,7 +66,7 @@ module _ (code : CodeProgram) (known : Known code) (steps : ℕ) where
         inl (record {
           still = still;
           turns = known.rest steps (steps_left steps first now - 1) first (move code now)
-              (known.charged steps (steps_left steps first now - 1) first now (subst (λ n. IsWithin code steps first n now) e on.within)
+              (known.charged steps (steps_left steps first now - 1) first now (subst (λ n. EndsTheWhole code steps first n now) e on.within)
               (known.test now can ∙ told)) still;
         })
     within_on false told took some on =
@@ -75,7 +75,7 @@ module _ (code : CodeProgram) (known : Known code) (steps : ℕ) where
         let e : steps_left steps first now ≡ steps_left steps first (move code now) = ap (λ n. steps - (n - (world_of first).steps)) (sym same) in
         inr (record {
           since = omega (arith, same, since);
-          within = subst (λ n. IsWithin code steps first n (move code now)) e
+          within = subst (λ n. EndsTheWhole code steps first n (move code now)) e
               (known.free steps (steps_left steps first now) first now on.within (known.test now can ∙ told));
         })
 
@@ -90,7 +90,7 @@ module _ (code : CodeProgram) (known : Known code) (steps : ℕ) where
 
     pub ends_here : will_charge code now ≡ true → steps_left steps first now ≡ 0 → IsUnderWay code steps first now → Turns code steps first now
     ends_here told none (inl over) = over.turns
-    ends_here told none (inr on) = known.last steps first now (subst (λ n. IsWithin code steps first n now) none on.within) (known.test now can ∙ told)
+    ends_here told none (inr on) = known.last steps first now (subst (λ n. EndsTheWhole code steps first n now) none on.within) (known.test now can ∙ told)
 
   pub rests_here : (first now : State) → is_still now ≡ true → IsUnderWay code steps first now → Turns code steps first now
   rests_here first now still (inl over) = over.turns
@@ -99,7 +99,7 @@ module _ (code : CodeProgram) (known : Known code) (steps : ℕ) where
 -- ---- the machine
 
 pub runs_on : (code : CodeProgram) (plan : Plan) (sends : OwnSends) (old new : Core) (from next : Next) → ((grants : Grants) → MovesKeepReady code grants)
-    → RunsBy code plan sends old from → Moves code old from new next → RunsBy code plan sends new next
+    → RunsBy code plan sends old from → MakesMove code old from new next → RunsBy code plan sends new next
 runs_on code plan sends old new from next keeps runs moved = record {
   prepared = subst (IsPrepared code plan) (sym moved.stays.places) runs.prepared;
   own = subst (λ places. AreOwn code places sends) (sym moved.stays.places) runs.own;
@@ -114,9 +114,9 @@ turning_begins code known steps core next = record {
 }
 
 pub turning_on : (code : CodeProgram) → Known code → ((grants : Grants) → MovesKeepReady code grants) → (steps : ℕ) (first old new : Core)
-    (began from next : Next) → CanRun code old from → is_still (shown code old from) ≡ false
+    (began from next : Next) → IsPreparedToRun code old from → is_still (shown code old from) ≡ false
     → (will_charge code (shown code old from) ≡ true → 1 ≤ steps_left steps (shown code first began) (shown code old from))
-    → IsTurning code steps first began old from → Moves code old from new next → IsTurning code steps first began new next
+    → IsTurning code steps first began old from → MakesMove code old from new next → IsTurning code steps first began new next
 turning_on code known keeps steps first old new began from next can goes some turning moved = record {
   ready = λ grants ready. keeps grants old new from next (turning.ready grants ready) moved;
   stays = stays_on first old new turning.stays moved.stays;
@@ -154,7 +154,7 @@ module _ (code : CodeProgram) (steps : ℕ) (first now : Core) (from next : Next
   none_left all = let e = left_is in omega (arith, e, all)
 
 -- what is spent stays so
-pub spent_on : (code : CodeProgram) → Known code → (steps : ℕ) (first : State) (old new : Core) (from next : Next) → Moves code old from new next
+pub spent_on : (code : CodeProgram) → Known code → (steps : ℕ) (first : State) (old new : Core) (from next : Next) → MakesMove code old from new next
     → is_still (shown code old from) ≡ false
     → (is_still (shown code old from) ≡ true) ⊎ (steps_left steps first (shown code old from) ≡ 0)
     → (is_still (shown code new next) ≡ true) ⊎ (steps_left steps first (shown code new next) ≡ 0)

@@ -4,16 +4,16 @@ use Rattle.ns_code.specs.declared.program.CodeProgram.{CodeProgram}
 use Rattle.ns_facets.specs.declared.row.Grants.{Grants}
 use Rattle.ns_machine_moves.specs.Falling.{run_left}
 use Rattle.ns_find.specs.declared.memo.Kept.{Kept}
-use Rattle.ns_find.specs.Memo.{IsRight}
+use Rattle.ns_find.specs.Memo.{PlaceIsRight}
 use Rattle.ns_machine_frames.specs.declared.registers.Registers.{Registers}
 use Rattle.ns_machine_plan.specs.declared.plan.Plan.{Plan}
 use Rattle.ns_machine_core.specs.declared.own.OwnSends.{OwnSends}
 use Rattle.ns_machine_core.specs.declared.state.Core.{Core}
 use Rattle.ns_machine_core.specs.declared.state.Next.{Next}
 use Rattle.ns_machine_core.specs.declared.state.Next.TheVariants.{On}
-use Rattle.ns_machine_core.specs.Ready.{IsReady}
+use Rattle.ns_machine_core.specs.Ready.{MachineIsReady}
 use Rattle.ns_machine_core.specs.Shown.{shown}
-use Rattle.ns_machine_core.specs.Tried.{IsUntouched}
+use Rattle.ns_machine_core.specs.Tried.{OnlyLookupsChanged}
 use Rattle.ns_machine_moves.specs.Turn.{is_still}
 use Rattle.ns_machine_turns.specs.Turning.{RunsBy, IsTurning, GoesAlong, HasGone}
 use Rattle.ns_machine_turns.proofs.Along.{gone_far}
@@ -22,8 +22,8 @@ use Rattle.ns_machine_turns.proofs.Along.{gone_far}
 abbrev pub with_memo : Core → List (Option Kept) → Core
 with_memo core memo = record core { run = record core.run { memo = memo } }
 
-module _ (code : CodeProgram) (core : Core) (at : Registers) (memo : List (Option Kept)) (kept : All (IsRight core.run.world.world.cells code) memo) where
-  memo_ready : (grants : Grants) → IsReady code grants core (On at) → IsReady code grants (with_memo core memo) (On at)
+module _ (code : CodeProgram) (core : Core) (at : Registers) (memo : List (Option Kept)) (kept : All (PlaceIsRight core.run.world.world.cells code) memo) where
+  memo_ready : (grants : Grants) → MachineIsReady code grants core (On at) → MachineIsReady code grants (with_memo core memo) (On at)
   memo_ready grants ready = record {
     valid = ready.valid;
     rooms = record { cells = ready.rooms.cells; out = ready.rooms.out; frames = ready.rooms.frames; values = ready.rooms.values; evaluations = ready.rooms.evaluations; sends = ready.rooms.sends };
@@ -62,26 +62,26 @@ module _ (code : CodeProgram) (core : Core) (at : Registers) (memo : List (Optio
 
 -- Moves that have led to such a machine have led on to it.
 pub untouched_along : (code : CodeProgram) (plan : Plan) (sends : OwnSends) (left : ℕ) (old : Core) (from : Next) (now new : Core) (at : Registers)
-    → GoesAlong code plan sends left old from now (On at) → IsUntouched code now new → GoesAlong code plan sends left old from new (On at)
+    → GoesAlong code plan sends left old from now (On at) → OnlyLookupsChanged code now new → GoesAlong code plan sends left old from new (On at)
 untouched_along code plan sends left old from now new at along is =
     subst (λ (core : Core). GoesAlong code plan sends left old from core (On at)) (sym is.same)
     (memo_along code now at new.run.memo is.kept plan sends left old from along)
 
-pub untouched_steps : (code : CodeProgram) (now new : Core) → IsUntouched code now new → new.run.world.world.steps ≡ now.run.world.world.steps
+pub untouched_steps : (code : CodeProgram) (now new : Core) → OnlyLookupsChanged code now new → new.run.world.world.steps ≡ now.run.world.world.steps
 untouched_steps code now new is = ap (λ (core : Core). core.run.world.world.steps) is.same
 
-pub untouched_few : (code : CodeProgram) (now new old : Core) (left : ℕ) → IsUntouched code now new → now.run.world.world.steps - old.run.world.world.steps < left
+pub untouched_few : (code : CodeProgram) (now new old : Core) (left : ℕ) → OnlyLookupsChanged code now new → now.run.world.world.steps - old.run.world.world.steps < left
     → new.run.world.world.steps - old.run.world.world.steps < left
 untouched_few code now new old left is few = let same = untouched_steps code now new is in omega (arith, same, few)
 
 -- What is less than is left for such a machine is less than was left.
-pub untouched_falls : (code : CodeProgram) (now new : Core) (at : Registers) (less : ℕ) → IsUntouched code now new
+pub untouched_falls : (code : CodeProgram) (now new : Core) (at : Registers) (less : ℕ) → OnlyLookupsChanged code now new
     → less < run_left code (shown code new (On at)) → less < run_left code (shown code now (On at))
 untouched_falls code now new at less is falls = subst (λ (core : Core). less < run_left code (shown code core (On at))) is.same falls
 
 -- Moves that led on from such a machine, with the steps that were left for it, have led on from where others began.
 pub untouched_far : (code : CodeProgram) (plan : Plan) (sends : OwnSends) (left some : ℕ) (old now mid new : Core) (from : Next) (at : Registers) (next : Next)
-    → GoesAlong code plan sends left old from now (On at) → is_still (shown code old from) ≡ false → IsUntouched code now mid
+    → GoesAlong code plan sends left old from now (On at) → is_still (shown code old from) ≡ false → OnlyLookupsChanged code now mid
     → some ≡ left - (mid.run.world.world.steps - old.run.world.world.steps) → HasGone code plan sends some mid (On at) new next
     → HasGone code plan sends left old from new next
 untouched_far code plan sends left some old now mid new from at next along goes is e gone =

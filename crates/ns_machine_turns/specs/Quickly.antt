@@ -7,19 +7,19 @@ use Rattle.ns_machine_core.specs.declared.led.Led.TheVariants.{Straight, Charged
 use Rattle.ns_machine_core.specs.declared.state.Core.{Core}
 use Rattle.ns_machine_core.specs.declared.state.Next.TheVariants.{On}
 use Rattle.ns_machine_core.specs.Passing.{MovesTwice}
-use Rattle.ns_machine_core.specs.Ready.{Moves}
+use Rattle.ns_machine_core.specs.Ready.{MakesMove}
 use Rattle.ns_machine_core.specs.Straight.{StaysOnTop}
-use Rattle.ns_machine_core.specs.Tried.{IsUntouched}
+use Rattle.ns_machine_core.specs.Tried.{OnlyLookupsChanged}
 
 -- The next move was made, so many steps were charged, and the body that runs goes straight on at those registers.
 pub record MovesStraight (code : CodeProgram) (charged : ℕ) (old : Core) (at : Registers) (new : Core) (to : Registers) : Type 0 where
-  pub moves : Moves code old (On at) new (On to)
+  pub moves : MakesMove code old (On at) new (On to)
   pub stays : StaysOnTop charged old new
 
 -- The next move was made, and leads there, or the one after it does, which was made too; or nothing has changed but the lookups that are kept.
 abbrev pub MovesOrNot : CodeProgram → Core → Registers → Core → Led → Type 0
 MovesOrNot code old at new (Straight to) = MovesStraight code 0 old at new to
 MovesOrNot code old at new (Charged to) = MovesStraight code 1 old at new to
-MovesOrNot code old at new (OnTop to) = Moves code old (On at) new (On to)
+MovesOrNot code old at new (OnTop to) = MakesMove code old (On at) new (On to)
 MovesOrNot code old at new (Answered to) = MovesTwice code old (On at) new (On to)
-MovesOrNot code old at new Nowhere = IsUntouched code old new
+MovesOrNot code old at new Nowhere = OnlyLookupsChanged code old new

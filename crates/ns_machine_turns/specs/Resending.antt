@@ -9,7 +9,7 @@ use Rattle.ns_machine_frames.specs.declared.frame.KeptSite.{KeptSite}
 use Rattle.ns_machine_frames.specs.declared.registers.Registers.{Registers}
 use Rattle.ns_machine_frames.specs.Stack.{stood, with_top}
 use Rattle.ns_machine_core.specs.declared.state.Core.{Core}
-use Rattle.ns_machine_core.specs.Standing.{AreStanding, ArgumentsWait, HasRooms, Stays, KeepsRightIn}
+use Rattle.ns_machine_core.specs.Standing.{AreStanding, ArgumentsWait, HasRooms, KeepsRooms, KeepsRightIn}
 use Rattle.ns_machine_core.specs.Framed.{HasRoomOnTop}
 use Rattle.ns_machine_sends.specs.declared.sent.Sent.{Sent}
 
@@ -39,4 +39,4 @@ pub record IsSet (code : CodeProgram) (old : Core) (at : Registers) (sent : Sent
   pub place : sent.floor < length new.stack.values.items
   pub run : new.run ≡ old.run
   pub phase : new.phase ≡ old.phase
-  pub stays : Stays old new
+  pub stays : KeepsRooms old new

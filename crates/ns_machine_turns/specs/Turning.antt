@@ -11,11 +11,11 @@ use Rattle.ns_machine_core.specs.declared.state.Core.{Core}
 use Rattle.ns_machine_core.specs.declared.state.Next.{Next}
 use Rattle.ns_machine_core.specs.Own.{AreOwn}
 use Rattle.ns_machine_core.specs.Shown.{shown}
-use Rattle.ns_machine_core.specs.Standing.{Stays}
+use Rattle.ns_machine_core.specs.Standing.{KeepsRooms}
 use Rattle.ns_machine_core.specs.Passing.{MovesTwice}
-use Rattle.ns_machine_core.specs.Ready.{IsReady, Moves}
-use Rattle.ns_machine_core.specs.Turning.{IsWithin}
-use Rattle.ns_machine_turns.specs.Prepared.{IsPrepared, CanRun}
+use Rattle.ns_machine_core.specs.Ready.{MachineIsReady, MakesMove}
+use Rattle.ns_machine_core.specs.Turning.{EndsTheWhole}
+use Rattle.ns_machine_turns.specs.Prepared.{IsPrepared, IsPreparedToRun}
 
 -- how many of so many steps are left at a state, of a turn that began at another
 abbrev pub steps_left : ℕ → State → State → ℕ
@@ -27,27 +27,27 @@ pub record IsOver (code : CodeProgram) (steps : ℕ) (first now : State) : Type 
   pub turns : Turns code steps first now
 
 -- What ends a turn of the steps that are left from here on ends the whole turn.
-pub record GoesOn (code : CodeProgram) (steps : ℕ) (first now : State) : Type 0 where
+pub record EndsTheTurn (code : CodeProgram) (steps : ℕ) (first now : State) : Type 0 where
   pub since : (world_of first).steps ≤ (world_of now).steps
-  pub within : IsWithin code steps first (steps_left steps first now) now
+  pub within : EndsTheWhole code steps first (steps_left steps first now) now
 
 -- A turn that began at a state has come to another.
 abbrev pub IsUnderWay : CodeProgram → ℕ → State → State → Type 0
-IsUnderWay code steps first now = IsOver code steps first now ⊎ GoesOn code steps first now
+IsUnderWay code steps first now = IsOver code steps first now ⊎ EndsTheTurn code steps first now
 
 -- The machine runs by a plan, and sends by itself what the code says.
 pub record RunsBy (code : CodeProgram) (plan : Plan) (sends : OwnSends) (core : Core) (next : Next) : Type 0 where
   pub prepared : IsPrepared code plan core.places
   pub own : AreOwn code core.places sends
-  pub can : CanRun code core next
+  pub can : IsPreparedToRun code core next
 
 -- With such a machine a turn has come from where it began to where it is.
 pub record IsTurning (code : CodeProgram) (steps : ℕ) (first : Core) (from : Next) (now : Core) (next : Next) : Type 0 where
-  pub ready : (grants : Grants) → IsReady code grants first from → IsReady code grants now next
-  pub stays : Stays first now
+  pub ready : (grants : Grants) → MachineIsReady code grants first from → MachineIsReady code grants now next
+  pub stays : KeepsRooms first now
   pub under : IsUnderWay code steps (shown code first from) (shown code now next)
 
--- Moves of the machine, if any, have led from one state to another: a turn that had come to the first with so many steps left
+-- MakesMove of the machine, if any, have led from one state to another: a turn that had come to the first with so many steps left
 -- has come to the other, no step is taken back, and no more is left to be done.
 pub record GoesAlong (code : CodeProgram) (plan : Plan) (sends : OwnSends) (left : ℕ) (old : Core) (from : Next) (new : Core) (to : Next) : Type 0 where
   pub runs : RunsBy code plan sends new to
@@ -66,7 +66,7 @@ abbrev pub MovesGoAlong : CodeProgram → Type 0
 MovesGoAlong code =
     (plan : Plan) (sends : OwnSends) (left : ℕ) (old now new : Core) (from here next : Next)
     → GoesAlong code plan sends left old from now here → is_still (shown code old from) ≡ false → is_still (shown code now here) ≡ false
-    → now.run.world.world.steps - old.run.world.world.steps < left → Moves code now here new next → HasGone code plan sends left old from new next
+    → now.run.world.world.steps - old.run.world.world.steps < left → MakesMove code now here new next → HasGone code plan sends left old from new next
 
 -- So do two moves that are made as one.
 abbrev pub PassingGoesAlong : CodeProgram → Type 0

@@ -3,7 +3,7 @@
 ghost use Rattle.std.specs.Prelude.{◌≡◌, ◌≤◌, length, true, false};
 ghost use Rattle.ns_code.specs.Table.{takes};
 ghost use Rattle.ns_kcode.specs.declared.state.KAction.TheVariants as action;
-ghost use Rattle.ns_kdata.specs.Arguments.{IsThere};
+ghost use Rattle.ns_kdata.specs.Arguments.{CellIsThere};
 ghost use Rattle.ns_actions.specs.Blocks.{block_arity};
 ghost use Rattle.ns_machine_moves.specs.Jumps.{takes_jump};
 ghost use Rattle.ns_machine_moves.specs.Charging as charging;
@@ -13,7 +13,7 @@ ghost use Rattle.ns_machine_frames.specs.Stack.{stood, IsLaid};
 ghost use Rattle.ns_machine_plan.specs.Steps.{instr_of};
 ghost use Rattle.ns_machine_core.specs.declared.state.Next.TheVariants as next;
 ghost use Rattle.ns_machine_core.specs.Shown.{shown};
-ghost use Rattle.ns_machine_turns.specs.Prepared.{IsPrepared, CanRun};
+ghost use Rattle.ns_machine_turns.specs.Prepared.{IsPrepared, IsPreparedToRun};
 ghost use Rattle.ns_machine_turns.specs.Charging as spec;
 
 use crate::fetching::fetch;
@@ -37,7 +37,7 @@ use ns_world::world::World;
 /// Whether the next move of a run charges a step, or finds none left.
 pub fn charges(plan: &Plan, code: &CodeProgram, core: &Core, next: Next) -> bool
     requires prepared { IsPrepared code.now plan.now core.now.places }
-    requires can { CanRun code.now core.now next }
+    requires can { IsPreparedToRun code.now core.now next }
     ensures { result ≡ will_charge code.now (shown code.now core.now next) }
 {
     match next {
@@ -50,7 +50,7 @@ pub fn charges(plan: &Plan, code: &CodeProgram, core: &Core, next: Next) -> bool
 /// The same of a run that goes on with its topmost frame.
 fn frame_charges(plan: &Plan, code: &CodeProgram, core: &Core, at: Registers) -> bool
     requires prepared { IsPrepared code.now plan.now core.now.places }
-    requires can { CanRun code.now core.now (next.On at) }
+    requires can { IsPreparedToRun code.now core.now (next.On at) }
     ensures { result ≡ will_charge code.now (shown code.now core.now (next.On at)) }
 {
     jumps_go_back();
@@ -105,7 +105,7 @@ fn action_charges(action: KAction) -> bool
 /// Whether what waits charges: a send, and the evaluation of a block with as many arguments as it takes.
 fn pending_charges(plan: &Plan, code: &CodeProgram, core: &Core, at: Registers) -> bool
     requires prepared { IsPrepared code.now plan.now core.now.places }
-    requires can { CanRun code.now core.now (next.Waits at) }
+    requires can { IsPreparedToRun code.now core.now (next.Waits at) }
     ensures { result ≡ will_charge code.now (shown code.now core.now (next.Waits at)) }
 {
     match core.waiting {
@@ -122,7 +122,7 @@ fn pending_charges(plan: &Plan, code: &CodeProgram, core: &Core, at: Registers) 
 
 /// How many arguments a block takes.
 fn arity(code: &CodeProgram, world: &World, block: Value) -> u8
-    requires { IsThere world.now.world.cells block }
+    requires { CellIsThere world.now.world.cells block }
     ensures { result ≡ block_arity code.now world.now.world.cells block }
 {
     let body = match shape_of_value(world, block) {

@@ -3,8 +3,8 @@
 ghost use Rattle.std.specs.Prelude.{◌≡◌};
 ghost use Rattle.ns_machine_plan.specs.Rows.{entry_of};
 ghost use Rattle.ns_machine_core.specs.declared.state.Next.TheVariants as next;
-ghost use Rattle.ns_machine_core.specs.Straight.{RunsBody};
-ghost use Rattle.ns_machine_turns.specs.Prepared.{IsPrepared, CanRun, IsAhead};
+ghost use Rattle.ns_machine_core.specs.Straight.{TopRunsBody};
+ghost use Rattle.ns_machine_turns.specs.Prepared.{IsPrepared, IsPreparedToRun, IsAhead};
 
 use ns_code::program::CodeProgram;
 use ns_machine_core::laws::valid_runs_have_a_next_step;
@@ -18,8 +18,8 @@ use ns_machine_plan::step::Step;
 #[inline(always)]
 pub fn fetch(plan: &Plan, code: &CodeProgram, core: &Core, at: Registers, body: u32) -> Step
     requires prepared { IsPrepared code.now plan.now core.now.places }
-    requires can { CanRun code.now core.now (next.On at) }
-    requires runs { RunsBody body core.now.stack.frames.items }
+    requires can { IsPreparedToRun code.now core.now (next.On at) }
+    requires runs { TopRunsBody body core.now.stack.frames.items }
     ensures { IsAhead code.now core.now at body result }
 {
     running_bodies_have_steps();
@@ -38,8 +38,8 @@ pub fn fetch_from(
     entry: usize,
 ) -> Step
     requires prepared { IsPrepared code.now plan.now core.now.places }
-    requires can { CanRun code.now core.now (next.On at) }
-    requires runs { RunsBody body core.now.stack.frames.items }
+    requires can { IsPreparedToRun code.now core.now (next.On at) }
+    requires runs { TopRunsBody body core.now.stack.frames.items }
     requires entry { entry ≡ entry_of code.now body }
     ensures { IsAhead code.now core.now at body result }
 {

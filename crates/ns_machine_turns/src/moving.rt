@@ -3,7 +3,7 @@
 ghost use Rattle.std.specs.Prelude.{◌≡◌, false};
 ghost use Rattle.ns_machine_moves.specs.Turn.{is_still};
 ghost use Rattle.ns_machine_core.specs.declared.state.Next.TheVariants as next;
-ghost use Rattle.ns_machine_core.specs.Ready.{Moves};
+ghost use Rattle.ns_machine_core.specs.Ready.{MakesMove};
 ghost use Rattle.ns_machine_core.specs.Shown.{shown};
 ghost use Rattle.ns_machine_turns.specs.Turning.{RunsBy};
 ghost use Rattle.ns_machine_turns.specs.Resending.{sent_from_floor};
@@ -25,7 +25,7 @@ use ns_machine_sends::waiting::{evaluate, evaluate_kept};
 pub fn step(plan: &Plan, code: &CodeProgram, core: &mut Core, next: Next, own: OwnSends) -> Next
     requires runs { RunsBy code.now plan.now own core.old next }
     requires goes { is_still (shown code.now core.old next) ≡ false }
-    ensures { Moves code.now core.old next core.new result }
+    ensures { MakesMove code.now core.old next core.new result }
 {
     match next {
         Next::On(at) => go_on(plan, code, core, at, own),
@@ -43,7 +43,7 @@ pub fn take_up(
     own: OwnSends,
 ) -> Next
     requires { RunsBy code.now plan.now own core.old (next.Waits at) }
-    ensures { Moves code.now core.old (next.Waits at) core.new result }
+    ensures { MakesMove code.now core.old (next.Waits at) core.new result }
 {
     match core.waiting {
         Pending::Nothing => go_on(plan, code, core, at, own),

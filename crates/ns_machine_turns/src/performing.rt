@@ -5,7 +5,7 @@ ghost use Rattle.std.specs.Prelude.{◌≡◌, Some, slice_get};
 ghost use Rattle.ns_machine_plan.specs.Spelled.{spelled_by};
 ghost use Rattle.ns_machine_core.specs.Doing.{CanDo};
 ghost use Rattle.ns_machine_core.specs.Straight.{IsOnTop};
-ghost use Rattle.ns_machine_core.specs.Tried.{Leads};
+ghost use Rattle.ns_machine_core.specs.Tried.{LeadsOrChangesNothing};
 ghost use Rattle.ns_machine_quick.specs.Booleans.{LeadsOrNothing};
 ghost use Rattle.ns_machine_turns.specs.Above.{HasMemberAbove};
 
@@ -40,7 +40,7 @@ pub fn perform(code: &CodeProgram, core: &mut Core, at: Registers, top: OnTop, s
     requires can { CanDo code.now core.old at (instr_of step) }
     requires top { IsOnTop code.now top core.old.stack.frames.items }
     requires member { HasMemberAbove code.now core.old.stack.frames.items step }
-    ensures { Leads code.now (instr_of step) (place_of core.old.places step) core.old at core.new result }
+    ensures { LeadsOrChangesNothing code.now (instr_of step) (place_of core.old.places step) core.old at core.new result }
 {
     match step {
         Step::PushNil => Led::Straight(push_nil(code, core, at)),
@@ -98,7 +98,7 @@ fn send_as(
 ) -> Led
     requires can { CanDo code.now core.old at (send_instr kind sel argc) }
     requires row { row ≡ spelled_by code.now sel }
-    ensures { Leads code.now (send_instr kind sel argc) (slice_get core.old.places place) core.old at core.new result }
+    ensures { LeadsOrChangesNothing code.now (send_instr kind sel argc) (slice_get core.old.places place) core.old at core.new result }
 {
     match send_spelled(code, core, at, sel, argc, kind, place, row) {
         Led::Straight(to) => Led::Straight(to),
@@ -169,7 +169,7 @@ fn send_found(
     place: u32,
 ) -> Led
     requires { CanDo code.now core.old at (send_instr kind sel argc) }
-    ensures { Leads code.now (send_instr kind sel argc) (slice_get core.old.places place) core.old at core.new result }
+    ensures { LeadsOrChangesNothing code.now (send_instr kind sel argc) (slice_get core.old.places place) core.old at core.new result }
 {
     match kind {
         Sending::Plain => send(code, core, at, sel, argc, place),

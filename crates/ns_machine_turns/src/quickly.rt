@@ -4,7 +4,7 @@ ghost use Rattle.std.specs.Prelude.{◌≡◌};
 ghost use Rattle.ns_machine_plan.specs.Rows.{entry_of};
 ghost use Rattle.ns_machine_core.specs.declared.state.Next.TheVariants as next;
 ghost use Rattle.ns_machine_core.specs.Straight.{IsOnTop};
-ghost use Rattle.ns_machine_turns.specs.Prepared.{IsPrepared, CanRun};
+ghost use Rattle.ns_machine_turns.specs.Prepared.{IsPrepared, IsPreparedToRun};
 ghost use Rattle.ns_machine_turns.specs.Quickly.{MovesOrNot};
 
 use crate::fetching::fetch_from;
@@ -29,7 +29,7 @@ pub fn go_quickly(
     entry: usize,
 ) -> Led
     requires prepared { IsPrepared code.now plan.now core.old.places }
-    requires can { CanRun code.now core.old (next.On at) }
+    requires can { IsPreparedToRun code.now core.old (next.On at) }
     requires top { IsOnTop code.now top core.old.stack.frames.items }
     requires entry { entry ≡ entry_of code.now top.body }
     ensures { MovesOrNot code.now core.old at core.new result }

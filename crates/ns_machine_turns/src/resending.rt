@@ -7,10 +7,10 @@ ghost use Rattle.ns_machine_frames.specs.Stack.{stood, with_top};
 ghost use Rattle.ns_machine_core.specs.declared.state.Next.TheVariants as next;
 ghost use Rattle.ns_machine_core.specs.Framed.{HasRoomOnTop};
 ghost use Rattle.ns_machine_core.specs.Own.{AreOwn};
-ghost use Rattle.ns_machine_core.specs.Ready.{Moves};
+ghost use Rattle.ns_machine_core.specs.Ready.{MakesMove};
 ghost use Rattle.ns_machine_sends.specs.Sending.{Sends};
 ghost use Rattle.ns_machine_sends.specs.Waiting.{CanSendOn, sent_on_at};
-ghost use Rattle.ns_machine_turns.specs.Prepared.{CanRun};
+ghost use Rattle.ns_machine_turns.specs.Prepared.{IsPreparedToRun};
 
 use ns_actions::laws::sends_that_waited_go_on;
 use ns_base::selector::Sel;
@@ -37,11 +37,11 @@ pub fn send_waiting(
     sel: Sel,
     own: OwnSends,
 ) -> Next
-    requires can { CanRun code.now core.old (next.Waits at) }
+    requires can { IsPreparedToRun code.now core.old (next.Waits at) }
     requires waits { core.old.waiting ≡ pending.Sending receiver sel sent.site sent.floor }
     requires first { sent.first ≡ sent.floor }
     requires own { AreOwn code.now core.old.places own }
-    ensures { Moves code.now core.old (next.Waits at) core.new result }
+    ensures { MakesMove code.now core.old (next.Waits at) core.new result }
 {
     valid_frames_are_framed();
     let _sel = sel;
@@ -60,11 +60,11 @@ pub fn perform_waiting(
     array: u32,
     own: OwnSends,
 ) -> Next
-    requires can { CanRun code.now core.old (next.Waits at) }
+    requires can { IsPreparedToRun code.now core.old (next.Waits at) }
     requires waits { core.old.waiting ≡ pending.Performing receiver sel array sent.site sent.floor }
     requires first { sent.first ≡ sent.floor }
     requires own { AreOwn code.now core.old.places own }
-    ensures { Moves code.now core.old (next.Waits at) core.new result }
+    ensures { MakesMove code.now core.old (next.Waits at) core.new result }
 {
     valid_frames_are_framed();
     arguments_are_few();

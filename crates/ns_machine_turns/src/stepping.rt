@@ -3,9 +3,9 @@
 ghost use Rattle.std.specs.Prelude.{slice_get};
 ghost use Rattle.ns_machine_plan.specs.Steps.{instr_of, place_of, send_instr};
 ghost use Rattle.ns_machine_core.specs.declared.state.Next.TheVariants as next;
-ghost use Rattle.ns_machine_core.specs.Doing.{CanDo, Does, IsRunning};
+ghost use Rattle.ns_machine_core.specs.Doing.{CanDo, IsDone, IsRunning};
 ghost use Rattle.ns_machine_core.specs.Own.{AreOwn};
-ghost use Rattle.ns_machine_core.specs.Ready.{Moves};
+ghost use Rattle.ns_machine_core.specs.Ready.{MakesMove};
 ghost use Rattle.ns_machine_turns.specs.Turning.{RunsBy};
 
 use crate::fetching::fetch;
@@ -40,7 +40,7 @@ use ns_machine_sends::sends::{send, send_inner};
 #[inline(always)]
 pub fn go_on(plan: &Plan, code: &CodeProgram, core: &mut Core, at: Registers, own: OwnSends) -> Next
     requires { RunsBy code.now plan.now own core.old (next.On at) }
-    ensures { Moves code.now core.old (next.On at) core.new result }
+    ensures { MakesMove code.now core.old (next.On at) core.new result }
 {
     topmost_methods_can_act();
     match *core.stack.topmost() {
@@ -49,7 +49,7 @@ pub fn go_on(plan: &Plan, code: &CodeProgram, core: &mut Core, at: Registers, ow
     }
 }
 
-/// Does the next step of a body, which runs in the topmost frame. Its code stands once, and apart from that of methods of the
+/// IsDone the next step of a body, which runs in the topmost frame. Its code stands once, and apart from that of methods of the
 /// kernel.
 #[inline(never)]
 pub fn run_on(
@@ -61,7 +61,7 @@ pub fn run_on(
 ) -> Next
     requires runs { RunsBy code.now plan.now own core.old (next.On at) }
     requires running { IsRunning core.old.stack.frames.items }
-    ensures { Moves code.now core.old (next.On at) core.new result }
+    ensures { MakesMove code.now core.old (next.On at) core.new result }
 {
     moves_keep_machines_ready();
     let frame = running(&core.stack);
@@ -73,12 +73,12 @@ pub fn run_on(
     perform(code, core, behind, step, own)
 }
 
-/// Does a step, behind which the registers stand.
+/// IsDone a step, behind which the registers stand.
 #[inline(always)]
 fn perform(code: &CodeProgram, core: &mut Core, at: Registers, step: Step, own: OwnSends) -> Next
     requires can { CanDo code.now core.old at (instr_of step) }
     requires own { AreOwn code.now core.old.places own }
-    ensures { Does code.now (instr_of step) (place_of core.old.places step) core.old at core.new result }
+    ensures { IsDone code.now (instr_of step) (place_of core.old.places step) core.old at core.new result }
 {
     match step {
         Step::PushNil => Next::On(push_nil(code, core, at)),
@@ -135,7 +135,7 @@ fn send_as(
 ) -> Next
     requires can { CanDo code.now core.old at (send_instr kind sel argc) }
     requires own { AreOwn code.now core.old.places own }
-    ensures { Does code.now (send_instr kind sel argc) (slice_get core.old.places place) core.old at core.new result }
+    ensures { IsDone code.now (send_instr kind sel argc) (slice_get core.old.places place) core.old at core.new result }
 {
     match kind {
         Sending::Plain => send(code, core, at, sel, argc, place, own),

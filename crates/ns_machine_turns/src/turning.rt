@@ -7,9 +7,9 @@ ghost use Rattle.ns_machine_moves.specs.Turn.{is_still, Turns};
 ghost use Rattle.ns_machine_core.specs.declared.state.Core.{Core as AnyCore};
 ghost use Rattle.ns_machine_core.specs.Doing.{IsRunning};
 ghost use Rattle.ns_machine_core.specs.Shown.{shown};
-ghost use Rattle.ns_machine_core.specs.Ready.{IsReady, Moves};
-ghost use Rattle.ns_machine_core.specs.Standing.{Stays};
-ghost use Rattle.ns_machine_core.specs.Straight.{RunsBody};
+ghost use Rattle.ns_machine_core.specs.Ready.{MachineIsReady, MakesMove};
+ghost use Rattle.ns_machine_core.specs.Standing.{KeepsRooms};
+ghost use Rattle.ns_machine_core.specs.Straight.{TopRunsBody};
 ghost use Rattle.ns_machine_core.specs.declared.state.Next.TheVariants as next;
 ghost use Rattle.ns_machine_turns.specs.Turning.{RunsBy, HasGone};
 
@@ -46,8 +46,8 @@ pub fn turn(
 ) -> Next
     requires { RunsBy code.now plan.now own core.old next }
     ensures turns { Turns code.now steps (shown code.now core.old next) (shown code.now core.new result) }
-    ensures ready { (grants : Grants) → IsReady code.now grants core.old next → IsReady code.now grants core.new result }
-    ensures stays { Stays core.old core.new }
+    ensures ready { (grants : Grants) → MachineIsReady code.now grants core.old next → MachineIsReady code.now grants core.new result }
+    ensures stays { KeepsRooms core.old core.new }
 {
     turns_go_by_moves();
     moves_charge_as_told();
@@ -78,7 +78,7 @@ pub fn turn(
     }
 }
 
-/// Moves with so many steps left: as long as the topmost frame goes on, and else the one of what waits.
+/// MakesMove with so many steps left: as long as the topmost frame goes on, and else the one of what waits.
 #[inline(always)]
 fn go_along(
     plan: &Plan,
@@ -101,7 +101,7 @@ fn go_along(
     }
 }
 
-/// Moves with so many steps left, for as long as the topmost frame goes on. The registers stay in local variables: no other way
+/// MakesMove with so many steps left, for as long as the topmost frame goes on. The registers stay in local variables: no other way
 /// on is carried from one move to the next.
 #[inline(always)]
 fn run_along(
@@ -176,7 +176,7 @@ fn go_straight(
     own: OwnSends,
 ) -> Next
     requires runs { RunsBy code.now plan.now own core.old (next.On at) }
-    requires body { RunsBody body core.old.stack.frames.items }
+    requires body { TopRunsBody body core.old.stack.frames.items }
     requires some { 1 ≤ left }
     ensures { HasGone code.now plan.now own left core.old (next.On at) core.new result }
 {
@@ -272,7 +272,7 @@ fn as_value(next: Next) -> Next
 fn step_apart(plan: &Plan, code: &CodeProgram, core: &mut Core, next: Next, own: OwnSends) -> Next
     requires runs { RunsBy code.now plan.now own core.old next }
     requires goes { is_still (shown code.now core.old next) ≡ false }
-    ensures { Moves code.now core.old next core.new result }
+    ensures { MakesMove code.now core.old next core.new result }
 {
     step(plan, code, core, next, own)
 }

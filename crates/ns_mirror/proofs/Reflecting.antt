@@ -11,7 +11,7 @@ use Rattle.ns_world.specs.Cell.{Cell, shape_of, ObjectCell, ClassCell, BlockCell
 use Rattle.ns_world.specs.Heap.{find_cell, is_class}
 use Rattle.ns_world.specs.World.{World, WorldView}
 use Rattle.ns_world.specs.Lawful.{IsLawful, IsLiveValue}
-use Rattle.ns_kdata.specs.Outcome.{Outcome, Answers, Fails, Gives}
+use Rattle.ns_kdata.specs.Outcome.{RowOutcome, Answers, Fails, Gives}
 use Rattle.ns_mirror.specs.Looking.{mirrored, mirrored_in}
 use Rattle.ns_mirror.specs.Mirror.{GivesMirrored, reflected}
 use Rattle.ns_mirror.specs.declared.row.Mirrored.TheVariants.{Answer}
@@ -33,11 +33,11 @@ pub mirrored_live : (world : World) (code : CodeProgram) (mirror : ℕ) → IsLa
 mirrored_live world code mirror lawful = mirrored_cell world code mirror lawful (find_cell world.cells mirror) refl
 
 -- an outcome that is given is given as a mirror's answer
-pub answers : (outcome : Outcome) (old new : WorldView) (value : Value) → Gives outcome old (Ok value) new → GivesMirrored (reflected outcome) old (Ok (Answer value)) new
+pub answers : (outcome : RowOutcome) (old new : WorldView) (value : Value) → Gives outcome old (Ok value) new → GivesMirrored (reflected outcome) old (Ok (Answer value)) new
 answers (Answers answer world) old new value g = (ap Answer (g.0), g.1, g.2)
 answers (Fails fault) old new value g = absurd g
 
-pub refuses : (outcome : Outcome) (old new : WorldView) (fault : Fault) → Gives outcome old (Err fault) new → GivesMirrored (reflected outcome) old (Err fault) new
+pub refuses : (outcome : RowOutcome) (old new : WorldView) (fault : Fault) → Gives outcome old (Err fault) new → GivesMirrored (reflected outcome) old (Err fault) new
 refuses (Answers answer world) old new fault g = absurd g
 refuses (Fails found) old new fault g = g
 

@@ -11,7 +11,7 @@ use Rattle.ns_world.specs.declared.ending.Kind.TheVariants as kind
 use Rattle.ns_world.specs.Cell.{MirrorCell}
 use Rattle.ns_world.specs.World.{World, WorldView, SameRoom}
 use Rattle.ns_world.specs.Heap.{cell_number}
-use Rattle.ns_kdata.specs.Outcome.{Outcome, Answers, Fails, making, unchanged, wrong_kind}
+use Rattle.ns_kdata.specs.Outcome.{RowOutcome, Answers, Fails, making, unchanged, wrong_kind}
 use Rattle.ns_kdata.specs.Arguments.{argument, is_array, items_of}
 use Rattle.ns_mirror.specs.declared.row.MirrorRow.{MirrorRow}
 use Rattle.ns_mirror.specs.declared.row.MirrorRow.TheVariants as row
@@ -28,7 +28,7 @@ pub data Reflected : Type 0 where
   Refuses : (fault : Fault) → Reflected
 
 -- an outcome as that of a mirror's row
-abbrev pub reflected : Outcome → Reflected
+abbrev pub reflected : RowOutcome → Reflected
 reflected (Answers value world) = Reflects (Answer value) world
 reflected (Fails fault) = Refuses fault
 

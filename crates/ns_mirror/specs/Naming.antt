@@ -12,7 +12,7 @@ use Rattle.ns_world.specs.declared.kernel.ClassName.TheVariants.{Declared, Class
 use Rattle.ns_world.specs.Starts.{class_name_of}
 use Rattle.ns_world.specs.Cell.{TextCell}
 use Rattle.ns_world.specs.World.{World}
-use Rattle.ns_kdata.specs.Outcome.{Outcome, making}
+use Rattle.ns_kdata.specs.Outcome.{RowOutcome, making}
 
 -- the names of the kernel's classes
 abbrev pub kernel_text : KernelRow → List ℕ
@@ -47,5 +47,5 @@ class_text code (ClassOf decl) = declared_text code decl ++ codes " class"
 class_text code (Kernel named) = kernel_text named
 
 -- `className` of a value
-abbrev pub class_name : World → CodeProgram → Value → Outcome
+abbrev pub class_name : World → CodeProgram → Value → RowOutcome
 class_name world code value = making world (TextCell (class_text code (class_name_of world.cells value)))

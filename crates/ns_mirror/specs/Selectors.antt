@@ -13,7 +13,7 @@ use Rattle.ns_world.specs.Heap.{Heap, no_class}
 use Rattle.ns_world.specs.Layout.{declaration_of}
 use Rattle.ns_world.specs.World.{World}
 use Rattle.ns_kdata.specs.Arguments.{shape_of_value}
-use Rattle.ns_kdata.specs.Outcome.{Outcome, making}
+use Rattle.ns_kdata.specs.Outcome.{RowOutcome, making}
 
 -- the selectors of the public methods of a list, as symbols
 abbrev pub public_selectors : List MethodCode → List Value
@@ -38,5 +38,5 @@ methods_of_shape heap code (new.Class decl base encl holder over) = declared_sid
 methods_of_shape heap code cell = []
 
 -- `selectors` of a value
-abbrev pub selectors : World → CodeProgram → Value → Outcome
+abbrev pub selectors : World → CodeProgram → Value → RowOutcome
 selectors world code value = making world (ArrayCell (public_selectors (methods_of_shape world.cells code (shape_of_value world.cells value))))

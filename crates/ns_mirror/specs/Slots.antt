@@ -14,7 +14,7 @@ use Rattle.ns_world.specs.Cell.{ArrayCell}
 use Rattle.ns_world.specs.Heap.{Heap, chain_of, word_of_object}
 use Rattle.ns_world.specs.Layout.{declaration_of, entry_word}
 use Rattle.ns_world.specs.World.{World, stored}
-use Rattle.ns_kdata.specs.Outcome.{Outcome, Answers, Fails, making, wrong_kind, out_of_range}
+use Rattle.ns_kdata.specs.Outcome.{RowOutcome, Answers, Fails, making, wrong_kind, out_of_range}
 use Rattle.ns_mirror.specs.declared.slots.Entry.{Entry}
 use Rattle.ns_mirror.specs.declared.slots.SlotPlace.{SlotPlace}
 use Rattle.ns_mirror.specs.Looking.{object_class}
@@ -34,7 +34,7 @@ slot_names_along heap code [] = []
 slot_names_along heap code (class ∷ classes) = slot_names_along heap code classes ++ slot_symbols (declared_slots code (declaration_of heap class))
 
 -- `slotNames` of a value
-abbrev pub slot_names : World → CodeProgram → Value → Outcome
+abbrev pub slot_names : World → CodeProgram → Value → RowOutcome
 slot_names world code value = making world (ArrayCell (slot_names_along world.cells code (chain_of world.cells (object_class world.cells value))))
 
 -- the first slot of a name, with its number, counted from a number on
@@ -77,12 +77,12 @@ slot heap code value (Sym sel) = read_slot heap value (slot_of heap code value s
 slot heap code value other = Err wrong_kind
 
 -- a value stored in a slot; OutOfRange where there is none, FixedSlot where it is immutable
-abbrev pub write_slot : World → Value → Value → Option SlotPlace → Outcome
+abbrev pub write_slot : World → Value → Value → Option SlotPlace → RowOutcome
 write_slot world object value None = Fails out_of_range
 write_slot world object value (Some place) =
     if place.mutable then Answers value (stored world object place.word value) else Fails (Kind kind.FixedSlot)
 
 -- `slot:put:`
-abbrev pub slot_put : World → CodeProgram → Value → Value → Value → Outcome
+abbrev pub slot_put : World → CodeProgram → Value → Value → Value → RowOutcome
 slot_put world code object (Sym sel) value = write_slot world object value (slot_of world.cells code object sel)
 slot_put world code object other value = Fails wrong_kind

@@ -6,17 +6,17 @@ ghost use Rattle.ns_world.specs.World.{World};
 ghost use Rattle.ns_mirror.specs.declared.row.MirrorRow.{MirrorRow};
 ghost use Rattle.ns_mirror.specs.Mirror.{row_outcome};
 ghost use Rattle.ns_mirror.specs.Leading.{ReflectsOn};
-ghost use Rattle.ns_mirror.specs.Stated.{AnswersAreLive, RowsKeepLawful};
+ghost use Rattle.ns_mirror.specs.Stated.{MirrorsAreLive, MirrorsKeepLawful};
 
 /// In a lawful world and for live values a row's answer is live, and so is what it is to send.
 pub fn answers_are_live()
-    ensures { AnswersAreLive }
+    ensures { MirrorsAreLive }
 {}
 
 /// A row leaves a lawful world lawful, where the value that `on:` mirrors and the one that
 /// `slot:put:` stores are live.
 pub fn rows_keep_lawful()
-    ensures { RowsKeepLawful }
+    ensures { MirrorsKeepLawful }
 {}
 
 /// A row leads to a later world: it makes a cell, writes a slot, or changes nothing.

@@ -3,8 +3,8 @@
 ghost use Rattle.std.specs.Prelude.{◌≤◌, All, IsSome};
 ghost use Rattle.ns_world.specs.Heap.{find_cell};
 ghost use Rattle.ns_world.specs.Lawful.{IsLiveValue, IsLawful};
-ghost use Rattle.ns_kdata.specs.Arguments.{IsThere};
-ghost use Rattle.ns_kdata.specs.Outcome.{Outcome, Gives};
+ghost use Rattle.ns_kdata.specs.Arguments.{CellIsThere};
+ghost use Rattle.ns_kdata.specs.Outcome.{RowOutcome, Gives};
 ghost use Rattle.ns_world.specs.World.{WorldView};
 ghost use Rattle.ns_mirror.specs.Mirror as spec;
 ghost use Rattle.ns_mirror.specs.Mirror.{GivesMirrored};
@@ -61,7 +61,7 @@ fn row_outcome(
 ) -> Result<Mirrored, Fault>
     requires lawful { IsLawful world.old.world code.now }
     requires value { IsLiveValue world.old.world.cells code.now value }
-    requires second { IsThere world.old.world.cells second }
+    requires second { CellIsThere world.old.world.cells second }
     requires room { world.old.world.limits.cells ≤ world.old.cell_room }
     ensures { GivesMirrored (spec.row_outcome world.old.world code.now row value first second) world.old result world.new }
 {
@@ -79,7 +79,7 @@ fn row_outcome(
 
 /// A value as the answer of a mirror.
 fn answered(answer: Result<Value, Fault>) -> Result<Mirrored, Fault>
-    ensures { (outcome : Outcome) (old new : WorldView) → Gives outcome old answer new → GivesMirrored (spec.reflected outcome) old result new }
+    ensures { (outcome : RowOutcome) (old new : WorldView) → Gives outcome old answer new → GivesMirrored (spec.reflected outcome) old result new }
 {
     match answer {
         Ok(value) => Ok(Mirrored::Answer(value)),
@@ -95,7 +95,7 @@ pub fn perform(
     name: Value,
     args: Value,
 ) -> Result<Mirrored, Fault>
-    requires { IsThere world.now.world.cells args }
+    requires { CellIsThere world.now.world.cells args }
     ensures { GivesMirrored (spec.perform world.now.world code.now receiver name args) world.now result world.now }
 {
     match name {
@@ -111,7 +111,7 @@ fn performed_with(
     sel: Sel,
     args: Value,
 ) -> Result<Mirrored, Fault>
-    requires { IsThere world.now.world.cells args }
+    requires { CellIsThere world.now.world.cells args }
     ensures { GivesMirrored (spec.performed_with world.now.world code.now receiver sel args) world.now result world.now }
 {
     if !is_array(world, args) {

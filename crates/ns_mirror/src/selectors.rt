@@ -3,7 +3,7 @@
 ghost use Rattle.std.specs.Prelude.{◌≡◌, ◌≢◌, ◌+◌, ◌<◌, ◌≤◌, ◌^◌, [], ◌∷◌, length, IsTrue};
 ghost use Rattle.ns_world.specs.Heap.{open_words_at, find_cell, is_class, no_class};
 ghost use Rattle.ns_world.specs.Cell.{ArrayCell};
-ghost use Rattle.ns_kdata.specs.Arguments.{IsThere};
+ghost use Rattle.ns_kdata.specs.Arguments.{CellIsThere};
 ghost use Rattle.ns_kdata.specs.Outcome.{Gives, making};
 ghost use Rattle.ns_mirror.specs.Arrays.{listed};
 ghost use Rattle.ns_mirror.specs.Selectors as spec;
@@ -24,7 +24,7 @@ use ns_world::world::World;
 /// class side where a class is mirrored, as symbols in text order; empty for kernel values.
 pub fn selectors(world: &mut World, code: &CodeProgram, value: Value) -> Result<Value, Fault>
     requires room { world.old.world.limits.cells ≤ world.old.cell_room }
-    requires there { IsThere world.old.world.cells value }
+    requires there { CellIsThere world.old.world.cells value }
     requires class { looking.object_class world.old.world.cells value ≢ no_class →
         IsTrue (is_class (find_cell world.old.world.cells (looking.object_class world.old.world.cells value))) }
     requires fits { Fits code.now }

@@ -5,7 +5,7 @@ ghost use Rattle.ns_world.specs.declared.value.Value.TheVariants as value_is;
 ghost use Rattle.ns_world.specs.Heap.{find_cell, is_class, is_chain_start, chain_of, words_at, open_words_at};
 ghost use Rattle.ns_world.specs.Lawful.{IsLawful};
 ghost use Rattle.ns_code.specs.Fits.{Fits};
-ghost use Rattle.ns_kdata.specs.Arguments.{IsThere};
+ghost use Rattle.ns_kdata.specs.Arguments.{CellIsThere};
 ghost use Rattle.ns_kdata.specs.Outcome.{Gives};
 ghost use Rattle.ns_world.specs.World.{stored};
 ghost use Rattle.ns_mirror.specs.Arrays.{listed};
@@ -39,7 +39,7 @@ pub struct SlotPlace {
 /// `slot:`: the value of the first slot of that name, from the class upwards.
 pub fn slot(world: &World, code: &CodeProgram, object: Value, name: Value) -> Result<Value, Fault>
     requires lawful { IsLawful world.now.world code.now }
-    requires there { IsThere world.now.world.cells object }
+    requires there { CellIsThere world.now.world.cells object }
     ensures { result ≡ spec.slot world.now.world.cells code.now object name }
 {
     match name {
@@ -50,7 +50,7 @@ pub fn slot(world: &World, code: &CodeProgram, object: Value, name: Value) -> Re
 
 fn read_slot(world: &World, code: &CodeProgram, object: Value, sel: Sel) -> Result<Value, Fault>
     requires lawful { IsLawful world.now.world code.now }
-    requires there { IsThere world.now.world.cells object }
+    requires there { CellIsThere world.now.world.cells object }
     ensures { result ≡ spec.read_slot world.now.world.cells object (spec.slot_of world.now.world.cells code.now object sel) }
 {
     match slot_of(world, code, object, sel) {
@@ -68,7 +68,7 @@ pub fn slot_put(
     value: Value,
 ) -> Result<Value, Fault>
     requires lawful { IsLawful world.old.world code.now }
-    requires there { IsThere world.old.world.cells object }
+    requires there { CellIsThere world.old.world.cells object }
     ensures { Gives (spec.slot_put world.old.world code.now object name value) world.old result world.new }
 {
     match name {
@@ -85,7 +85,7 @@ fn write_slot(
     value: Value,
 ) -> Result<Value, Fault>
     requires lawful { IsLawful world.old.world code.now }
-    requires there { IsThere world.old.world.cells object }
+    requires there { CellIsThere world.old.world.cells object }
     ensures { Gives (spec.write_slot world.old.world object value (spec.slot_of world.old.world.cells code.now object sel)) world.old result world.new }
 {
     let Some(place) = slot_of(world, code, object, sel) else {
@@ -101,7 +101,7 @@ fn write_slot(
 /// The slot of a name of an object, with its word inside of it.
 fn slot_of(world: &World, code: &CodeProgram, object: Value, sel: Sel) -> Option<SlotPlace>
     requires lawful { IsLawful world.now.world code.now }
-    requires there { IsThere world.now.world.cells object }
+    requires there { CellIsThere world.now.world.cells object }
     ensures slot { result ≡ spec.slot_of world.now.world.cells code.now object sel }
     ensures inside { (at : ℕ) → object ≡ value_is.Ref at → IfSome result (λ p. p.word < length (open_words_at world.now.world.cells at)) }
     ensures within { (at : ℕ) → object ≡ value_is.Ref at → IfSome result (λ p. p.word < length (words_at world.now.world.cells at)) }
@@ -175,7 +175,7 @@ fn declared_slots(code: &CodeProgram, decl: u32) -> &[SlotCode]
 /// other value.
 pub fn slot_names(world: &mut World, code: &CodeProgram, object: Value) -> Result<Value, Fault>
     requires lawful { IsLawful world.old.world code.now }
-    requires there { IsThere world.old.world.cells object }
+    requires there { CellIsThere world.old.world.cells object }
     requires room { world.old.world.limits.cells ≤ world.old.cell_room }
     ensures { Gives (spec.slot_names world.old.world code.now object) world.old result world.new }
 {

@@ -2,7 +2,7 @@
 
 ghost use Rattle.std.specs.Prelude.{◌≡◌, ◌≢◌, IsSome};
 ghost use Rattle.ns_world.specs.Heap.{find_cell, no_class};
-ghost use Rattle.ns_kdata.specs.Arguments.{IsThere};
+ghost use Rattle.ns_kdata.specs.Arguments.{CellIsThere};
 ghost use Rattle.ns_mirror.specs.Looking as spec;
 
 use ns_kdata::arguments::shape_of_value;
@@ -24,7 +24,7 @@ pub fn mirrored(world: &World, mirror: u32) -> Value
 
 /// The class of an object, the number of no class for any other value.
 pub fn object_class(world: &World, value: Value) -> u32
-    requires { IsThere world.now.world.cells value }
+    requires { CellIsThere world.now.world.cells value }
     ensures { result ≡ spec.object_class world.now.world.cells value }
 {
     match shape_of_value(world, value) {
@@ -36,7 +36,7 @@ pub fn object_class(world: &World, value: Value) -> u32
 /// `enclosing`: the enclosing object of an object's class, or of the class that is mirrored; nil
 /// for kernel values.
 pub fn enclosing(world: &World, value: Value) -> Value
-    requires there { IsThere world.now.world.cells value }
+    requires there { CellIsThere world.now.world.cells value }
     requires class { spec.object_class world.now.world.cells value ≢ no_class →
         IsSome (find_cell world.now.world.cells (spec.object_class world.now.world.cells value)) }
     ensures { result ≡ spec.enclosing world.now.world.cells value }

@@ -7,13 +7,13 @@ use Rattle.ns_world.specs.declared.value.Value.TheVariants.{Sym}
 use Rattle.ns_kcode.specs.declared.state.KMethod.{KMethod}
 use Rattle.ns_actions.specs.declared.site.Site.{Site}
 use Rattle.ns_actions.specs.Control.{Progress, Activation, Exit, Control, Now, Enter, Evaluate, Begin, Perform, frame_left}
-use Rattle.ns_actions.specs.Control.{Part, Skip, Stop, EnterPart, Waiting, Waits, Finishes}
+use Rattle.ns_actions.specs.Control.{PartControl, Skip, Stop, EnterPart, Waiting, Waits, Finishes}
 use Rattle.ns_actions.specs.Classes.{super_part, slot_filled, body_ended}
 use Rattle.ns_actions.specs.Blocks.{evaluated, method_next, taken, new_block, new_text, new_array}
 use Rattle.ns_actions.specs.Sends.{Target, ToSuper, to_value, sent, performed}
 use Rattle.ns_resolved.specs.Program as m
 use Rattle.ns_resolved.specs.Tables.{sel_of}
-use Rattle.ns_model.specs.Outcome.{Outcome, Yields, Returns, Ends, Spent, bind, settled, back, passed, is_home, homes_in, is_live}
+use Rattle.ns_model.specs.Outcome.{Completion, Yields, Returns, Ends, Spent, bind, settled, back, passed, is_home, homes_in, is_live}
 use Rattle.ns_model.specs.Outcome.{going_home, caught, finish, finish_part}
 use Rattle.ns_model.specs.Eval.{Call, PartCall, reached_by, send_made, local_set, eval, eval_all, eval_messages, locals_begun, slots_filled}
 use Rattle.ns_model.specs.Eval.{each_evaluated, method_steps, block_steps, part_made, eval_initialiser, eval_body}
@@ -23,64 +23,64 @@ use Rattle.ns_model.specs.Laws.{IsEnough}
 
 -- ---- outcomes that are the same where the fuel of the first was enough
 
-abbrev pub Agrees : {A : Type 0} → Outcome A → Outcome A → Type 0
+abbrev pub Agrees : {A : Type 0} → Completion A → Completion A → Type 0
 Agrees (Yields v ls p) o = Yields v ls p ≡ o
 Agrees (Returns h v p) o = Returns h v p ≡ o
 Agrees (Ends e p) o = Ends e p ≡ o
 Agrees Spent o = Unit {0}
 
-agree : {A : Type 0} (o : Outcome A) → Agrees o o
+agree : {A : Type 0} (o : Completion A) → Agrees o o
 agree (Yields v ls p) = refl
 agree (Returns h v p) = refl
 agree (Ends e p) = refl
 agree Spent = tt
 
-agree_on : {A : Type 0} (o o' : Outcome A) → o ≡ o' → Agrees o o'
+agree_on : {A : Type 0} (o o' : Completion A) → o ≡ o' → Agrees o o'
 agree_on o o' e = subst (Agrees o) e (agree o)
 
 -- where the fuel was enough they are the same
-pub agreed : {A : Type 0} (o o' : Outcome A) → IsEnough o → Agrees o o' → o ≡ o'
+pub agreed : {A : Type 0} (o o' : Completion A) → IsEnough o → Agrees o o' → o ≡ o'
 agreed (Yields v ls p) o' enough e = e
 agreed (Returns h v p) o' enough e = e
 agreed (Ends e p) o' enough same = same
 agreed Spent o' enough e = absurd enough
 
-spent_last : {A : Type 0} (o : Outcome A) → Agrees o Spent → o ≡ Spent
+spent_last : {A : Type 0} (o : Completion A) → Agrees o Spent → o ≡ Spent
 spent_last (Yields v ls p) e = e
 spent_last (Returns h v p) e = e
 spent_last (Ends e p) same = same
 spent_last Spent e = refl
 
 -- and where each agrees with the other
-pub agreed_both : {A : Type 0} (o o' : Outcome A) → Agrees o o' → Agrees o' o → o ≡ o'
+pub agreed_both : {A : Type 0} (o o' : Completion A) → Agrees o o' → Agrees o' o → o ≡ o'
 agreed_both (Yields v ls p) o' e f = e
 agreed_both (Returns h v p) o' e f = e
 agreed_both (Ends e p) o' same f = same
 agreed_both Spent o' e f = sym (spent_last o' f)
 
-pub agree_bind : {A B : Type 0} (o o' : Outcome A) (k k' : A → List Value → Progress → Outcome B) → Agrees o o'
+pub agree_bind : {A B : Type 0} (o o' : Completion A) (k k' : A → List Value → Progress → Completion B) → Agrees o o'
     → ((v : A) (ls : List Value) (p : Progress) → Agrees (k v ls p) (k' v ls p)) → Agrees (bind o k) (bind o' k')
 agree_bind (Yields v ls p) o' k k' e f = subst (λ o. Agrees (k v ls p) (bind o k')) e (f v ls p)
 agree_bind (Returns h v p) o' k k' e f = ap (λ o. bind o k') e
 agree_bind (Ends ending p) o' k k' e f = ap (λ o. bind o k') e
 agree_bind Spent o' k k' e f = tt
 
-agree_back : {A : Type 0} (ls : List Value) (o o' : Outcome A) → Agrees o o' → Agrees (back ls o) (back ls o')
+agree_back : {A : Type 0} (ls : List Value) (o o' : Completion A) → Agrees o o' → Agrees (back ls o) (back ls o')
 agree_back ls o o' e = agree_bind o o' _ (λ v others p. Yields v ls p) e (λ v others p. refl)
 
-pub agree_passed : (o o' : Outcome Value) → Agrees o o' → Agrees (passed o) (passed o')
+pub agree_passed : (o o' : Completion Value) → Agrees o o' → Agrees (passed o) (passed o')
 agree_passed (Yields v ls p) o' e = ap passed e
 agree_passed (Returns h v p) o' e = ap passed e
 agree_passed (Ends ending p) o' e = ap passed e
 agree_passed Spent o' e = tt
 
-agree_finish_part : (o o' : Outcome Value) → Agrees o o' → Agrees (finish_part o) (finish_part o')
+agree_finish_part : (o o' : Completion Value) → Agrees o o' → Agrees (finish_part o) (finish_part o')
 agree_finish_part (Yields v ls p) o' e = ap finish_part e
 agree_finish_part (Returns h v p) o' e = ap finish_part e
 agree_finish_part (Ends ending p) o' e = ap finish_part e
 agree_finish_part Spent o' e = tt
 
-agree_finish : (code other : CodeProgram) → ActAlike code other → (exit : Exit) (a : Activation) (o o' : Outcome Value) → Agrees o o'
+agree_finish : (code other : CodeProgram) → ActAlike code other → (exit : Exit) (a : Activation) (o o' : Completion Value) → Agrees o o'
     → Agrees (finish code exit a o) (finish other exit a o')
 agree_finish code other alike exit a (Yields v ls p) o' e =
     agree_on (settled [] (body_ended code exit a v p)) (finish other exit a o') (ap (settled []) (alike.ends exit a v p) ∙ ap (finish other exit a) e)
@@ -93,7 +93,7 @@ abbrev CallsAgree : Call → Call → Type 0
 CallsAgree call call' = (c : Control) (live : List ℕ) → Agrees (call c live) (call' c live)
 
 abbrev PartsAgree : PartCall → PartCall → Type 0
-PartsAgree part part' = (c : Part) (live : List ℕ) → Agrees (part c live) (part' c live)
+PartsAgree part part' = (c : PartControl) (live : List ℕ) → Agrees (part c live) (part' c live)
 
 -- a call of what is the same
 called : (call call' : Call) (c c' : Control) (live : List ℕ) → CallsAgree call call' → c ≡ c' → Agrees (call c live) (call' c' live)

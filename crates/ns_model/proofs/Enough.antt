@@ -27,7 +27,7 @@ use Rattle.ns_actions.specs.Start.{facet_if, facets_of, top_if, tops_of, standin
 use Rattle.ns_actions.specs.Start.{all_made, start_made, manifest, platform, first_class}
 use Rattle.ns_actions.specs.laws.Onward.{charged_all}
 use Rattle.ns_resolved.specs.Program.{Meant}
-use Rattle.ns_model.specs.Outcome.{Outcome, Yields, Returns, Ends, Spent}
+use Rattle.ns_model.specs.Outcome.{Completion, Yields, Returns, Ends, Spent}
 use Rattle.ns_model.specs.Run.{run, fuel_of}
 use Rattle.ns_model.specs.Whole.{opening_place, opening, opened}
 use Rattle.ns_model.specs.Laws.{IsEnough, Ready, EndsByItself, method_begins}
@@ -36,7 +36,7 @@ use Rattle.ns_model.proofs.Facts.{facts}
 
 -- ---- the opening sends
 
-enough_of : {A : Type 0} (old : Progress) (o : Outcome A) → Fine old o → IsEnough o
+enough_of : {A : Type 0} (old : Progress) (o : Completion A) → Fine old o → IsEnough o
 enough_of old (Yields v ls p) f = tt
 enough_of old (Returns h v p) f = tt
 enough_of old (Ends e p) f = tt

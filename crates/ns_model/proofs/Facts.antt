@@ -22,7 +22,7 @@ use Rattle.ns_actions.specs.declared.site.Site.{Site}
 use Rattle.ns_actions.specs.Site.{error}
 use Rattle.ns_actions.specs.Control.{Progress, in_world, Activation, FromMethod, FromBody, FromClause, After, Gives, Halts, Control, Now, Enter}
 use Rattle.ns_actions.specs.Control.{Evaluate, Begin, Perform}
-use Rattle.ns_actions.specs.Control.{Part, Skip, Stop, EnterPart, Waiting, Waits, Finishes, charged, halts, fails}
+use Rattle.ns_actions.specs.Control.{PartControl, Skip, Stop, EnterPart, Waiting, Waits, Finishes, charged, halts, fails}
 use Rattle.ns_actions.specs.Bodies.{parameters_of, has_environment, first_locals, initialiser_of, no_home, opened}
 use Rattle.ns_actions.specs.Classes.{super_selector, factory_selector, object_part, part_of, super_part, body_ended}
 use Rattle.ns_actions.specs.Blocks.{block_entered, evaluated, method_next, new_block, new_text, new_array}
@@ -150,7 +150,7 @@ below (cell ∷ earlier) n over o e =
         omega (arith, over_below earlier cell over e (and_first (has_superclass earlier cell) (is_ordered earlier) o), eqb-true n (heap_size earlier) t)
     tested false t e further = further e
 
-abbrev Below : ℕ → Part → Type 0
+abbrev Below : ℕ → PartControl → Type 0
 Below n (Skip p) = Unit {0}
 Below n (Stop e p) = Unit {0}
 Below n (EnterPart a ls p) = a.holder < n
@@ -197,7 +197,7 @@ part_below n code a (value.Int number) sel arguments p h = object_below n code a
 part_below n code a (value.Sym name) sel arguments p h = object_below n code a sel p
 part_below n code a (value.Kernel class) sel arguments p h = object_below n code a sel p
 
-part_fact : (above : ℕ) (old : Progress) (part : Part) → IsLater old.world (part_reached part).world → Below above part → PartLater above old part
+part_fact : (above : ℕ) (old : Progress) (part : PartControl) → IsLater old.world (part_reached part).world → Below above part → PartLater above old part
 part_fact above old (Skip p) o b = later_of old p o
 part_fact above old (Stop e p) o b = later_of old p o
 part_fact above old (EnterPart a ls p) o b = (later_of old p o, b)

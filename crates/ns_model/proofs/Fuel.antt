@@ -10,7 +10,7 @@ use Rattle.ns_kcode.specs.declared.state.KMethod.{KMethod}
 use Rattle.ns_kcode.specs.declared.state.KState.{KState}
 use Rattle.ns_actions.specs.declared.site.Site.{Site}
 use Rattle.ns_actions.specs.Control.{Progress, Activation, Exit, After, Gives, Halts, Control, Now, Enter, Evaluate, frame_left}
-use Rattle.ns_actions.specs.Control.{Begin, Perform, Part, Skip, Stop, EnterPart, Waiting, Waits, Finishes}
+use Rattle.ns_actions.specs.Control.{Begin, Perform, PartControl, Skip, Stop, EnterPart, Waiting, Waits, Finishes}
 use Rattle.ns_actions.specs.Onward.{reached}
 use Rattle.ns_actions.specs.Bodies.{local_stored}
 use Rattle.ns_actions.specs.Classes.{super_part, slot_filled, body_ended}
@@ -18,7 +18,7 @@ use Rattle.ns_actions.specs.Blocks.{evaluated, method_next, taken, new_block, ne
 use Rattle.ns_actions.specs.Sends.{Target, ToSuper, to_value, sent, sent_plain, performed}
 use Rattle.ns_resolved.specs.Program as m
 use Rattle.ns_resolved.specs.Tables.{sel_of}
-use Rattle.ns_model.specs.Outcome.{Outcome, Yields, Returns, Ends, Spent, bind, settled, back, passed, is_home, homes_in, is_live}
+use Rattle.ns_model.specs.Outcome.{Completion, Yields, Returns, Ends, Spent, bind, settled, back, passed, is_home, homes_in, is_live}
 use Rattle.ns_model.specs.Outcome.{going_home, caught, finish, finish_part}
 use Rattle.ns_model.specs.Eval.{Call, PartCall, reached_by, send_made, eval, eval_all, eval_messages, locals_begun, slots_filled}
 use Rattle.ns_model.specs.Eval.{each_evaluated, method_steps, block_steps, part_made, eval_initialiser, eval_body}
@@ -78,7 +78,7 @@ Moves old (Begin named state site p) = Past old p
 Moves old (Perform receiver sel array site p) = Past old p
 
 -- a superclass part of a smaller class
-abbrev pub PartLater : ℕ → Progress → Part → Type 0
+abbrev pub PartLater : ℕ → Progress → PartControl → Type 0
 PartLater above old (Skip p) = Later old p
 PartLater above old (Stop e p) = Later old p
 PartLater above old (EnterPart a ls p) = Later old p × (a.holder < above)
@@ -109,19 +109,19 @@ left_later p = record { steps = omega arith; limits = refl; ordered = λ o. o }
 
 -- ---- outcomes for which the fuel was enough
 
-abbrev pub Fine : {A : Type 0} → Progress → Outcome A → Type 0
+abbrev pub Fine : {A : Type 0} → Progress → Completion A → Type 0
 Fine old (Yields v ls p) = Later old p
 Fine old (Returns h v p) = Later old p
 Fine old (Ends e p) = Unit {0}
 Fine old Spent = ⊥
 
-fine_from : {A : Type 0} (old p : Progress) (o : Outcome A) → Later old p → Fine p o → Fine old o
+fine_from : {A : Type 0} (old p : Progress) (o : Completion A) → Later old p → Fine p o → Fine old o
 fine_from old p (Yields v ls q) l f = also old p q l f
 fine_from old p (Returns h v q) l f = also old p q l f
 fine_from old p (Ends e q) l f = tt
 fine_from old p Spent l f = f
 
-pub fine_bind : {A B : Type 0} (old : Progress) (o : Outcome A) (k : A → List Value → Progress → Outcome B) → Fine old o
+pub fine_bind : {A B : Type 0} (old : Progress) (o : Completion A) (k : A → List Value → Progress → Completion B) → Fine old o
     → ((v : A) (ls : List Value) (p : Progress) → Later old p → Fine p (k v ls p)) → Fine old (bind o k)
 fine_bind old (Yields v ls p) k f g = fine_from old p (k v ls p) f (g v ls p f)
 fine_bind old (Returns h v p) k f g = f
@@ -132,10 +132,10 @@ fine_settled : (old : Progress) (ls : List Value) (after : After) → AfterLater
 fine_settled old ls (Gives v p) l = l
 fine_settled old ls (Halts e p) l = tt
 
-fine_back : {A : Type 0} (old : Progress) (ls : List Value) (o : Outcome A) → Fine old o → Fine old (back ls o)
+fine_back : {A : Type 0} (old : Progress) (ls : List Value) (o : Completion A) → Fine old o → Fine old (back ls o)
 fine_back old ls o f = fine_bind old o (λ v others p. Yields v ls p) f (λ v others p l. stay p)
 
-fine_passed : (old : Progress) (o : Outcome Value) → Fine old o → Fine old (passed o)
+fine_passed : (old : Progress) (o : Completion Value) → Fine old o → Fine old (passed o)
 fine_passed old (Yields v ls p) f = f
 fine_passed old (Returns h v p) f = also old p (frame_left p) f (left_later p)
 fine_passed old (Ends e p) f = tt
@@ -149,7 +149,7 @@ fine_caught : (b : Bool) (h : ℕ) (v : Value) (p : Progress) → Fine p (caught
 fine_caught true h v p = stay p
 fine_caught false h v p = stay p
 
-fine_finish : (code : CodeProgram) → Facts code → (exit : Exit) (a : Activation) (old : Progress) (o : Outcome Value) → Fine old o
+fine_finish : (code : CodeProgram) → Facts code → (exit : Exit) (a : Activation) (old : Progress) (o : Completion Value) → Fine old o
     → Fine old (finish code exit a o)
 fine_finish code facts exit a old (Yields v ls p) f = fine_from old p _ f (fine_settled p [] (body_ended code exit a v p) (facts.ended exit a v p))
 fine_finish code facts exit a old (Returns h v p) f =
@@ -157,7 +157,7 @@ fine_finish code facts exit a old (Returns h v p) f =
 fine_finish code facts exit a old (Ends e p) f = tt
 fine_finish code facts exit a old Spent f = f
 
-fine_finish_part : (old : Progress) (o : Outcome Value) → Fine old o → Fine old (finish_part o)
+fine_finish_part : (old : Progress) (o : Completion Value) → Fine old o → Fine old (finish_part o)
 fine_finish_part old (Yields v ls p) f = also old p (frame_left p) f (left_later p)
 fine_finish_part old (Returns h v p) f = also old p (frame_left p) f (left_later p)
 fine_finish_part old (Ends e p) f = tt
@@ -178,9 +178,9 @@ abbrev pub CallFine : ℕ → Call → Type 0
 CallFine n call = (c : Control) (live : List ℕ) (old : Progress) → Moves old c → Ready n old → Fine (reached c) (call c live)
 
 abbrev pub PartFine : ℕ → ℕ → PartCall → Type 0
-PartFine n above part = (c : Part) (live : List ℕ) (old : Progress) → PartLater above old c → Ready n old → Fine old (part c live)
+PartFine n above part = (c : PartControl) (live : List ℕ) (old : Progress) → PartLater above old c → Ready n old → Fine old (part c live)
 
-pub moves_on : {A : Type 0} (old : Progress) (c : Control) (o : Outcome A) → Moves old c → Fine (reached c) o → Fine old o
+pub moves_on : {A : Type 0} (old : Progress) (c : Control) (o : Completion A) → Moves old c → Fine (reached c) o → Fine old o
 moves_on old (Now (Gives v p)) o l f = fine_from old p o (past_later old p l) f
 moves_on old (Now (Halts e p)) o l f = fine_from old p o l f
 moves_on old (Enter exit a ls p) o l f = fine_from old p o (past_later old p l) f
@@ -309,7 +309,7 @@ module _ (meant : m.Meant) (code : CodeProgram) (facts : Facts code) where
       (fine_finish_part p _ (fine_body code facts call (run_part meant code call above) a live n ok (less (part_fine n call ok above))
       (does_at meant a.body) ls p (ready_on n old p r l.0)))
     where
-      lower : (c : Part) (q : Progress) → PartLater a.holder q c → PartLater above q c
+      lower : (c : PartControl) (q : Progress) → PartLater a.holder q c → PartLater above q c
       lower (Skip s) q g = g
       lower (Stop e s) q g = g
       lower (EnterPart b ls s) q g = (g.0, omega (arith, g.1, l.1))
@@ -319,7 +319,7 @@ module _ (meant : m.Meant) (code : CodeProgram) (facts : Facts code) where
 
   -- a kernel method goes on after a block
   again : (n : ℕ) → CallFine n (run meant code n) → (named : KMethod) (state : KState) (site : Site) (live : List ℕ) (old p : Progress) → Ready n old
-      → Past old p → (o : Outcome Value) → Fine p o
+      → Past old p → (o : Completion Value) → Fine p o
       → Fine p (bind (passed o) (λ v ls q. run meant code n (Begin named (taken state v) site q) live))
   again n ok named state site live old p r past o f =
       fine_bind p (passed o) _ (fine_passed p o f) (λ v ls q l. ok (Begin named (taken state v) site q) live old (past_on old p q past l) r)

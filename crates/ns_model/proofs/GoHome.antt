@@ -6,20 +6,20 @@ use Rattle.ns_world.specs.declared.value.Value.{Value}
 use Rattle.ns_kcode.specs.declared.state.KMethod.{KMethod}
 use Rattle.ns_actions.specs.declared.site.Site.{Site}
 use Rattle.ns_actions.specs.Control.{Progress, Activation, Exit, FromMethod, FromBody, FromClause, After, Gives, Halts, Control, Now, Enter, Evaluate, frame_left}
-use Rattle.ns_actions.specs.Control.{Begin, Perform, Part, Skip, Stop, EnterPart, Waiting, Waits, Finishes}
+use Rattle.ns_actions.specs.Control.{Begin, Perform, PartControl, Skip, Stop, EnterPart, Waiting, Waits, Finishes}
 use Rattle.ns_actions.specs.Classes.{super_part, slot_filled, body_ended}
 use Rattle.ns_actions.specs.Blocks.{evaluated, method_next, taken, new_block, new_text, new_array}
 use Rattle.ns_actions.specs.Sends.{Target, ToSuper, to_value, sent, performed}
 use Rattle.ns_resolved.specs.Program as m
 use Rattle.ns_resolved.specs.Tables.{sel_of}
-use Rattle.ns_model.specs.Outcome.{Outcome, Yields, Returns, Ends, Spent, bind, settled, back, passed, homes_in, is_live}
+use Rattle.ns_model.specs.Outcome.{Completion, Yields, Returns, Ends, Spent, bind, settled, back, passed, homes_in, is_live}
 use Rattle.ns_model.specs.Outcome.{going_home, caught, finish, finish_part}
 use Rattle.ns_model.specs.Eval.{Call, PartCall, reached_by, send_made, eval, eval_all, eval_messages, locals_begun, slots_filled, each_evaluated}
 use Rattle.ns_model.specs.Eval.{method_steps, block_steps, eval_initialiser, eval_body}
 use Rattle.ns_model.specs.Run.{does_at, gone_on, run_part, run}
 use Rattle.ns_model.specs.Laws.{GoesHome}
 
-home_bind : {A B : Type 0} (live : List ℕ) (o : Outcome A) (k : A → List Value → Progress → Outcome B) → GoesHome live o
+home_bind : {A B : Type 0} (live : List ℕ) (o : Completion A) (k : A → List Value → Progress → Completion B) → GoesHome live o
     → ((v : A) (ls : List Value) (p : Progress) → GoesHome live (k v ls p)) → GoesHome live (bind o k)
 home_bind live (Yields v ls p) k h m = m v ls p
 home_bind live (Returns home v p) k h m = h
@@ -30,7 +30,7 @@ home_settled : (live : List ℕ) (ls : List Value) (after : After) → GoesHome 
 home_settled live ls (Gives v p) = tt
 home_settled live ls (Halts e p) = tt
 
-home_passed : (live : List ℕ) (o : Outcome Value) → GoesHome live o → GoesHome live (passed o)
+home_passed : (live : List ℕ) (o : Completion Value) → GoesHome live o → GoesHome live (passed o)
 home_passed live (Yields v ls p) h = tt
 home_passed live (Returns home v p) h = h
 home_passed live (Ends e p) h = tt
@@ -51,7 +51,7 @@ home_caught live own home v p e = tested (own == home) refl
     tested true f = tt
     tested false f = or_second (own == home) (is_live live home) e f
 
-home_finish : (code : CodeProgram) (exit : Exit) (a : Activation) (live : List ℕ) (o : Outcome Value) → GoesHome (homes_in exit a.home live) o
+home_finish : (code : CodeProgram) (exit : Exit) (a : Activation) (live : List ℕ) (o : Completion Value) → GoesHome (homes_in exit a.home live) o
     → GoesHome live (finish code exit a o)
 home_finish code exit a live (Yields v ls p) h = home_settled live [] (body_ended code exit a v p)
 home_finish code FromMethod a live (Returns home v p) h = home_caught live a.home home v (frame_left p) h
@@ -60,7 +60,7 @@ home_finish code (FromClause object holder class) a live (Returns home v p) h = 
 home_finish code exit a live (Ends e p) h = tt
 home_finish code exit a live Spent h = tt
 
-home_finish_part : (live : List ℕ) (o : Outcome Value) → GoesHome live o → GoesHome live (finish_part o)
+home_finish_part : (live : List ℕ) (o : Completion Value) → GoesHome live o → GoesHome live (finish_part o)
 home_finish_part live (Yields v ls p) h = tt
 home_finish_part live (Returns home v p) h = h
 home_finish_part live (Ends e p) h = tt
@@ -70,10 +70,10 @@ abbrev pub CallHome : Call → Type 0
 CallHome call = (c : Control) (live : List ℕ) → GoesHome live (call c live)
 
 abbrev pub PartHome : PartCall → Type 0
-PartHome part = (c : Part) (live : List ℕ) → GoesHome live (part c live)
+PartHome part = (c : PartControl) (live : List ℕ) → GoesHome live (part c live)
 
 module _ (code : CodeProgram) (call : Call) (part : PartCall) (a : Activation) (live : List ℕ) (call_home : CallHome call) (part_home : PartHome part) where
-  home_back : {A : Type 0} (ls : List Value) (o : Outcome A) → GoesHome live o → GoesHome live (back ls o)
+  home_back : {A : Type 0} (ls : List Value) (o : Completion A) → GoesHome live o → GoesHome live (back ls o)
   home_back ls o h = home_bind live o (λ v others p. Yields v ls p) h (λ v others p. tt)
 
   home_send : (target : Target) (message : m.Sent) (vs ls : List Value) (p : Progress) → GoesHome live (send_made code call part a live target message vs ls p)

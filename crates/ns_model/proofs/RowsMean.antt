@@ -19,15 +19,15 @@ use Rattle.ns_actions.specs.declared.site.Site.{Site}
 use Rattle.ns_actions.specs.Control.{Progress, in_world, Begin, Waits, Finishes, Halts, charged}
 use Rattle.ns_actions.specs.Blocks.{evaluated, acted, listed, item_at, waiting}
 use Rattle.ns_resolved.specs.Program.{Meant}
-use Rattle.ns_model.specs.Outcome.{Outcome, Ends, bind, passed}
+use Rattle.ns_model.specs.Outcome.{Completion, Ends, bind, passed}
 use Rattle.ns_model.specs.Rows.{host, counted, repeated, method_row}
 use Rattle.ns_model.specs.Run.{gone_on, run}
-use Rattle.ns_model.specs.Laws.{IsEnough, AreCounted, method_begins, MethodsAreRows}
+use Rattle.ns_model.specs.Laws.{IsEnough, TurnsAreCounted, method_begins, MethodsAreRows}
 use Rattle.ns_model.proofs.ActionsRead.{act_alike}
 use Rattle.ns_model.proofs.Agreeing.{Agrees, agreed, agree_bind, agree_passed, runs_agree}
 
 module _ (meant : Meant) (code : CodeProgram) (enough : ℕ) (live : List ℕ) (site : Site) where
-  abbrev here : Host Progress (Outcome Value)
+  abbrev here : Host Progress (Completion Value)
   here = host code (run meant code enough) live site
 
   more : (n : ℕ) → n ≤ enough → (block : Value) (arguments : List Value) (p : Progress)
@@ -82,7 +82,7 @@ module _ (meant : Meant) (code : CodeProgram) (enough : ℕ) (live : List ℕ) (
   at_once zero named state value p e some = absurd (omega (arith, some))
   at_once (suc n) named state value p e some = ap (λ a. row_acted here a state p (λ state p. actions here named n state p)) e
 
-  to_do : (receiver first second : Value) (z : ℤ) (p : Progress) → 1 ≤ enough → AreCounted enough method.ToDo receiver
+  to_do : (receiver first second : Value) (z : ℤ) (p : Progress) → 1 ≤ enough → TurnsAreCounted enough method.ToDo receiver
       → actions here method.ToDo enough (beginning receiver first second z) p ≡ counted code (run meant code enough) live site enough receiver first second p
   to_do (Int start) (Int last) second z p some fits = to_do_is here enough start last second z p fits.0 fits.1
   to_do (Int start) Nil second z p some fits = at_once enough method.ToDo (beginning (Int start) Nil second z) (Int start) p refl some
@@ -129,7 +129,7 @@ module _ (meant : Meant) (code : CodeProgram) (enough : ℕ) (live : List ℕ) (
   some_fuel zero named state p le fine = absurd fine
   some_fuel (suc fuel) named state p le fine = omega (arith, le)
 
-  by_method : (fuel : ℕ) (named : KMethod) (receiver first second : Value) (p : Progress) → fuel ≤ enough → AreCounted enough named receiver
+  by_method : (fuel : ℕ) (named : KMethod) (receiver first second : Value) (p : Progress) → fuel ≤ enough → TurnsAreCounted enough named receiver
       → IsEnough (run meant code fuel (method_begins named receiver first second site p) live)
       → run meant code fuel (method_begins named receiver first second site p) live
       ≡ method_row code (run meant code enough) live site enough named receiver first second p

@@ -15,7 +15,7 @@ use Rattle.ns_actions.specs.Sends.{sent_plain, own_sel}
 use Rattle.ns_actions.specs.Start.{start_made, manifest, platform, first_class}
 use Rattle.ns_actions.specs.Report.{report_line}
 use Rattle.ns_resolved.specs.Program.{Meant}
-use Rattle.ns_model.specs.Outcome.{Outcome, Yields, Returns, Ends, Spent, bind}
+use Rattle.ns_model.specs.Outcome.{Completion, Yields, Returns, Ends, Spent, bind}
 use Rattle.ns_model.specs.Run.{run, fuel_of}
 use Rattle.ns_model.specs.Whole.{opening_place, opening, opened, opened_after, concluded, ran, RunEnd, RunReport, status_of, report_of}
 use Rattle.ns_model.specs.Laws.{MoreFuel}
@@ -59,7 +59,7 @@ module _ (meant : Meant) (code other : CodeProgram) (same : SameTables code othe
       ((act_alike code other same).plain receiver (own_sel code own) values place progress
       ∙ ap (λ sel. sent_plain other receiver sel values place progress) (same_own own))
 
-  bind_on : {A B : Type 0} (o : Outcome A) (go go' : A → List Value → Progress → Outcome B)
+  bind_on : {A B : Type 0} (o : Completion A) (go go' : A → List Value → Progress → Completion B)
       → ((v : A) (ls : List Value) (p : Progress) → go v ls p ≡ go' v ls p) → bind o go ≡ bind o go'
   bind_on (Yields v ls p) go go' same = same v ls p
   bind_on (Returns h v p) go go' same = refl

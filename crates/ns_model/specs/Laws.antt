@@ -18,7 +18,7 @@ use Rattle.ns_facets.specs.declared.row.Grants.{Grants}
 use Rattle.ns_actions.specs.Sends.{sent_plain}
 use Rattle.ns_actions.specs.Start.{start_made}
 use Rattle.ns_resolved.specs.Program.{Meant}
-use Rattle.ns_model.specs.Outcome.{Outcome, Yields, Returns, Ends, Spent, is_live}
+use Rattle.ns_model.specs.Outcome.{Completion, Yields, Returns, Ends, Spent, is_live}
 use Rattle.ns_model.specs.Rows.{method_row}
 use Rattle.ns_model.specs.Run.{run}
 use Rattle.ns_model.specs.Whole.{opened}
@@ -26,7 +26,7 @@ use Rattle.ns_model.specs.Whole.{opened}
 -- ---- returns
 
 -- A return is on its way to a home that is live.
-abbrev pub GoesHome : {A : Type 0} → List ℕ → Outcome A → Type 0
+abbrev pub GoesHome : {A : Type 0} → List ℕ → Completion A → Type 0
 GoesHome live (Yields value locals progress) = Unit {0}
 GoesHome live (Returns home value progress) = is_live live home ≡ true
 GoesHome live (Ends ending progress) = Unit {0}
@@ -39,7 +39,7 @@ ReturnsGoHome meant code = (fuel : ℕ) (control : Control) (live : List ℕ) �
 -- ---- fuel
 
 -- The fuel didn't run out.
-abbrev pub IsEnough : {A : Type 0} → Outcome A → Type 0
+abbrev pub IsEnough : {A : Type 0} → Completion A → Type 0
 IsEnough (Yields value locals progress) = Unit {0}
 IsEnough (Returns home value progress) = Unit {0}
 IsEnough (Ends ending progress) = Unit {0}
@@ -75,9 +75,9 @@ MoreFuel meant code =
 -- ---- the kernel's methods that evaluate blocks
 
 -- The turns of `to:do:` can be counted by an Integer, as its receiver is one.
-abbrev pub AreCounted : ℕ → KMethod → Value → Type 0
-AreCounted turns method.ToDo (Int start) = FitsSigned w64 start × (turns < 2 ^ 63)
-AreCounted turns named receiver = Unit {0}
+abbrev pub TurnsAreCounted : ℕ → KMethod → Value → Type 0
+TurnsAreCounted turns method.ToDo (Int start) = FitsSigned w64 start × (turns < 2 ^ 63)
+TurnsAreCounted turns named receiver = Unit {0}
 
 -- where such a method begins, with its receiver and its arguments
 abbrev pub method_begins : KMethod → Value → Value → Value → Site → Progress → Control
@@ -88,7 +88,7 @@ method_begins named receiver first second site progress =
 abbrev pub MethodsAreRows : Meant → CodeProgram → Type 0
 MethodsAreRows meant code =
     (fuel enough : ℕ) (named : KMethod) (receiver first second : Value) (site : Site) (live : List ℕ) (progress : Progress)
-    → fuel ≤ enough → AreCounted enough named receiver
+    → fuel ≤ enough → TurnsAreCounted enough named receiver
     → IsEnough (run meant code fuel (method_begins named receiver first second site progress) live)
     → run meant code fuel (method_begins named receiver first second site progress) live
     ≡ method_row code (run meant code enough) live site enough named receiver first second progress

@@ -13,12 +13,12 @@ use Rattle.ns_actions.specs.declared.site.Site.{Site}
 use Rattle.ns_actions.specs.Site.{error}
 use Rattle.ns_actions.specs.Control.{Progress, charged, frame_left}
 use Rattle.ns_actions.specs.Blocks.{evaluated, listed, item_at}
-use Rattle.ns_model.specs.Outcome.{Outcome, Yields, Ends, Spent, bind, passed}
+use Rattle.ns_model.specs.Outcome.{Completion, Yields, Ends, Spent, bind, passed}
 use Rattle.ns_model.specs.Eval.{Call}
 
 module _ (code : CodeProgram) (call : Call) (live : List ℕ) (site : Site) where
   -- the run in which such a method stands
-  abbrev pub host : Host Progress (Outcome Value)
+  abbrev pub host : Host Progress (Completion Value)
   host = record {
     answers = λ value progress. Yields value [] (frame_left progress);
     fails = λ kind progress. Ends (error kind site) progress;
@@ -30,17 +30,17 @@ module _ (code : CodeProgram) (call : Call) (live : List ℕ) (site : Site) wher
   }
 
   -- `to:do:` and `timesRepeat:`, of at most so many turns; they have Integers, and answer their receiver
-  abbrev pub counted : ℕ → Value → Value → Value → Progress → Outcome Value
+  abbrev pub counted : ℕ → Value → Value → Value → Progress → Completion Value
   counted turns (Int start) (Int last) block progress = to_do_row host turns start start last block progress
   counted turns receiver last block progress = Yields receiver [] (frame_left progress)
 
   -- the turns of `timesRepeat:`, as many as its receiver says
-  abbrev pub repeated : ℕ → Value → Value → Progress → Outcome Value
+  abbrev pub repeated : ℕ → Value → Value → Progress → Completion Value
   repeated turns (Int (pos times)) block progress = times_row host turns times (Int (pos times)) block progress
   repeated turns receiver block progress = times_row host turns 0 receiver block progress
 
   -- what each method means, of at most so many turns
-  abbrev pub method_row : ℕ → KMethod → Value → Value → Value → Progress → Outcome Value
+  abbrev pub method_row : ℕ → KMethod → Value → Value → Value → Progress → Completion Value
   method_row turns method.And receiver first second progress = and_row host receiver first progress
   method_row turns method.Or receiver first second progress = or_row host receiver first progress
   method_row turns method.IfTrue receiver first second progress = if_true_row host receiver first progress

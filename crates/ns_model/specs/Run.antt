@@ -9,7 +9,7 @@ use Rattle.ns_actions.specs.Control.{Progress, Now, Enter, Evaluate, Begin, Perf
 use Rattle.ns_actions.specs.Blocks.{evaluated, method_next, taken}
 use Rattle.ns_actions.specs.Sends.{performed}
 use Rattle.ns_resolved.specs.Program.{Meant, Body, Does, as_method}
-use Rattle.ns_model.specs.Outcome.{Outcome, Yields, Ends, Spent, bind, settled, passed, homes_in, finish, finish_part}
+use Rattle.ns_model.specs.Outcome.{Completion, Yields, Ends, Spent, bind, settled, passed, homes_in, finish, finish_part}
 use Rattle.ns_model.specs.Eval.{Call, PartCall, eval_body}
 
 -- what the body of that number does; one that isn't there answers self
@@ -17,7 +17,7 @@ abbrev pub does_at : Meant → ℕ → Does
 does_at meant number = option_map_or (λ (body : Body). body.does) (slice_get meant.bodies number) (as_method [] [])
 
 -- A method of the kernel goes on: it ends, or it waits for a block's value and goes on with that.
-abbrev pub gone_on : CodeProgram → Call → KMethod → Site → Waiting → List ℕ → Outcome Value
+abbrev pub gone_on : CodeProgram → Call → KMethod → Site → Waiting → List ℕ → Completion Value
 gone_on code call named site (Finishes after) live = settled [] after
 gone_on code call named site (Waits block arguments state progress) live =
     bind (passed (call (evaluated code block arguments site progress) live)) λ value locals progress.

@@ -21,7 +21,7 @@ use Rattle.ns_actions.specs.Report.{report_line}
 use Rattle.ns_actions.specs.Start.{start_made, manifest, platform, first_class}
 use Rattle.ns_resolved.specs.Tables.{tables}
 use Rattle.ns_resolved.specs.Program.{Meant, Declaration, Does, as_initialiser}
-use Rattle.ns_model.specs.Outcome.{Outcome, Yields, Returns, Ends, Spent, bind}
+use Rattle.ns_model.specs.Outcome.{Completion, Yields, Returns, Ends, Spent, bind}
 use Rattle.ns_model.specs.Run.{does_at, run, fuel_of}
 
 -- ---- the sends that open a run
@@ -36,13 +36,13 @@ abbrev pub opening_place : Meant → Option Place
 opening_place meant = option_map_or (λ (class : Declaration). place_in (does_at meant class.initialiser)) (slice_get meant.classes 0) None
 
 -- a plain send that no code makes
-abbrev pub opening : Meant → CodeProgram → Value → Own → List Value → Progress → Outcome Value
+abbrev pub opening : Meant → CodeProgram → Value → Own → List Value → Progress → Completion Value
 opening meant code receiver own values progress =
     run meant code (fuel_of progress) (sent_plain code receiver (own_sel code own) values (opening_place meant) progress) []
 
 -- `packageUsing:` with the Manifest to the class of the first file, and then `main:args:` with the Platform and the
 -- array of arguments to its value (Modules as Objects in Newspeak; the selectors are this profile's)
-abbrev pub opened : Meant → CodeProgram → Value → Progress → Outcome Value
+abbrev pub opened : Meant → CodeProgram → Value → Progress → Completion Value
 opened meant code array progress =
     bind (opening meant code (first_class progress.world.cells) PackageUsing (manifest ∷ []) progress) λ module_object locals progress.
     opening meant code module_object MainArgs (platform ∷ array ∷ []) progress
@@ -55,7 +55,7 @@ pub record RunEnd : Type 0 where
   pub progress : Progress
 
 -- The end of a run that started so. No return goes past the opening sends, and the fuel is enough.
-abbrev pub concluded : Progress → Outcome Value → RunEnd
+abbrev pub concluded : Progress → Completion Value → RunEnd
 concluded start (Yields value locals progress) = record { ending = Done value; progress = progress }
 concluded start (Returns home value progress) = record { ending = Done value; progress = progress }
 concluded start (Ends ending progress) = record { ending = ending; progress = progress }

@@ -4,7 +4,7 @@ use Rattle.std.proofs.Common.{◌≡◌, ℕ, zero, suc, ◌+◌, ◌≤◌, ◌
 use Rattle.ns_tree.specs.declared.token.Kind.{Kind}
 use Rattle.ns_tree.specs.Rule.{Listed, none, last, next}
 use Rattle.ns_parse_tokens.specs.Read.{Outcome, Reader, got, fault, and_then, taken, read_one, begins, read_none, read_never, read_mapped, read_both, read_after, read_until, read_placed, read_or, read_maybe, read_turns, read_many, put, behind, put_next, read_list_turns, read_listed, Labelled, tail, item, read_label_turns, read_labelled, put_item}
-use Rattle.ns_parse_tokens.specs.laws.Takes.{Takes, Leaves}
+use Rattle.ns_parse_tokens.specs.laws.Takes.{Takes, LeavesTokens}
 
 -- Nothing is read backwards: what is left goes with the number of its first token, and a fault isn't before the start.
 abbrev pub Moved : {A : Type 0} → ℕ → List Kind → Outcome A → Type 0
@@ -87,11 +87,11 @@ module _ {A B : Type 0} (c d e : ℕ) (f : A → Reader B) (f' : A → Reader B)
   alike_by n w g g' a m us other (inl more) t less room room' x = within_then n w g g' a m us other t less room room' (x more)
   alike_by n w g g' a m us other (inr few) t less room room' x = alike_behind n w g g' m us (f a m us) (and_then other f') t.1 few ((F a).moves m us)
 
-  pub alike_then : (n : ℕ) (w g g' : List Kind) (o other : Outcome A) → Moved n (w ++ g) o → Leaves c (w ++ g) o → length (w ++ g) ≤ c + d → length (w ++ g') ≤ c + e → Alike n w g g' o other → Alike n w g g' (and_then o f) (and_then other f')
+  pub alike_then : (n : ℕ) (w g g' : List Kind) (o other : Outcome A) → Moved n (w ++ g) o → LeavesTokens c (w ++ g) o → length (w ++ g) ≤ c + d → length (w ++ g') ≤ c + e → Alike n w g g' o other → Alike n w g g' (and_then o f) (and_then other f')
   alike_then n w g g' (got a m us) other t less room room' h = alike_by n w g g' a m us other (longer_or_not (length g) (length us)) t less room room' h
   alike_then n w g g' (fault k) other t less room room' h = λ before. ap (λ o. and_then o f') (h before)
 
-leaves_none : {A : Type 0} (n : ℕ) (ts : List Kind) (o : Outcome A) → Moved n ts o → Leaves 0 ts o
+leaves_none : {A : Type 0} (n : ℕ) (ts : List Kind) (o : Outcome A) → Moved n ts o → LeavesTokens 0 ts o
 leaves_none n ts (got a m us) h = omega (arith, h.0, h.1)
 leaves_none n ts (fault k) h = tt
 

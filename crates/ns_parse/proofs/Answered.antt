@@ -9,7 +9,7 @@ use Rattle.ns_parse_tokens.specs.declared.fault.ParseFault.{ParseFault}
 use Rattle.ns_parse_tokens.specs.declared.fault.ParseFault.TheVariants.{TooDeep, Syntax, Memory}
 use Rattle.ns_parse_tokens.specs.Read.{Outcome, got, fault}
 use Rattle.ns_parse.specs.Parse as x
-use Rattle.ns_parse.specs.Answers.{Answers}
+use Rattle.ns_parse.specs.Answers.{ParsesAs}
 use Rattle.ns_parse.proofs.Whole.{parsed_trees}
 use Rattle.ns_parse.proofs.StopsAt.{stops_at}
 
@@ -32,19 +32,19 @@ memory_by : {A : Type 0} (d : Option ℕ) (o : Outcome p.SourceUnit) → x.parse
 memory_by (Some j) o e = absurd cc
 memory_by None o e = whole_finds o e
 
-answered : (ts : List Kind) (r : Result p.SourceUnit ParseFault) → AllHaveText ts → x.parse ts ≡ r → Answers ts r
+answered : (ts : List Kind) (r : Result p.SourceUnit ParseFault) → AllHaveText ts → x.parse ts ≡ r → ParsesAs ts r
 unfolding x.parse
 answered ts (Ok unit) told e = (parsed_trees ts unit told).0 e
 answered ts (Err (Syntax k)) told e = (stops_at ts k told).0 e
 answered ts (Err (TooDeep k)) told e = deep_by (deep ts) (x.unit ts) k e
 answered ts (Err Memory) told e = memory_by (deep ts) (x.unit ts) e
 
-told_so : (ts : List Kind) (r : Result p.SourceUnit ParseFault) → AllHaveText ts → Answers ts r → x.parse ts ≡ r
+told_so : (ts : List Kind) (r : Result p.SourceUnit ParseFault) → AllHaveText ts → ParsesAs ts r → x.parse ts ≡ r
 unfolding x.parse
 told_so ts (Ok unit) told h = (parsed_trees ts unit told).1 h
 told_so ts (Err (Syntax k)) told h = (stops_at ts k told).1 h
 told_so ts (Err (TooDeep k)) told h = ap (λ d. x.parse_by d (x.unit ts)) h
 told_so ts (Err Memory) told h = absurd h
 
-pub answers : (ts : List Kind) (r : Result p.SourceUnit ParseFault) → AllHaveText ts → x.parse ts ≡ r ↔ Answers ts r
+pub answers : (ts : List Kind) (r : Result p.SourceUnit ParseFault) → AllHaveText ts → x.parse ts ≡ r ↔ ParsesAs ts r
 answers ts r told = (answered ts r told, told_so ts r told)

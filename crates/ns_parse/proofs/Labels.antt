@@ -9,7 +9,7 @@ use Rattle.ns_parse_tokens.specs.declared.fault.ParseFault.TheVariants.{TooDeep,
 use Rattle.ns_parse.specs.Classes.{MemberForm, members_from, tail_from, side_from}
 use Rattle.ns_parse_tokens.specs.Left.{Left}
 use Rattle.ns_parse_tokens.specs.Read.{Outcome, Reader, got, fault, and_then, begins, read_mapped, read_labelled, read_label_turns, put_item, Labelled, tail, item}
-use Rattle.ns_parse_tokens.specs.Reads.{Fails, Gives, next_is}
+use Rattle.ns_parse_tokens.specs.Reads.{Fails, ReaderGives, next_is}
 use Rattle.ns_parse_tokens.specs.laws.Takes.{Takes, fewer, left_by}
 
 -- these items with their labels, before others
@@ -69,7 +69,7 @@ module _ {L A : Type 0} (labels : Reader L) (first : Kind → Bool) (p : Reader 
 
   -- one item more, and labels behind it
   pub labels_on : (xs ys : List (L × A)) (l : L) (now : Left) (l0 : L) (start : Left) (a : A) (new : Left) (l' : L) (behind : Left) → Takes 0 labels → Takes 1 p → Labels xs l now l0 start → next_is first now ≡ true
-      → Gives p a now new → Gives labels l' new behind → ys ≡ xs ++ (l, a) ∷ [] → Labels ys l' behind l0 start
+      → ReaderGives p a now new → ReaderGives labels l' new behind → ys ≡ xs ++ (l, a) ∷ [] → Labels ys l' behind l0 start
   labels_on xs ys l now l0 start a new l' behind R P g h e el grown =
       let t : ℕ = length start.kinds - length ys in
       let count : length ys ≡ length xs + 1 = ap length grown ∙ length-append xs ((l, a) ∷ []) in
@@ -91,13 +91,13 @@ module _ {L A : Type 0} (labels : Reader L) (first : Kind → Bool) (p : Reader 
     begins_with n ts l0 start us e = ap (λ o. made (and_then o (λ l m us. read_label_turns labels first p (length us) l m us))) e
 
     -- no more items
-    pub labels_end : (xs : List (L × A)) (l : L) (now : Left) (l0 : L) (start : Left) (old : Left) (b : B) → Gives labels l0 old start → Labels xs l now l0 start
-        → next_is first now ≡ false → b ≡ to (labelled xs (tail l)) → Gives (read_mapped to (read_labelled labels first p)) b old now
+    pub labels_end : (xs : List (L × A)) (l : L) (now : Left) (l0 : L) (start : Left) (old : Left) (b : B) → ReaderGives labels l0 old start → Labels xs l now l0 start
+        → next_is first now ≡ false → b ≡ to (labelled xs (tail l)) → ReaderGives (read_mapped to (read_labelled labels first p)) b old now
     labels_end xs l now l0 start old b e g h same =
         begins_with old.at old.kinds l0 start.at start.kinds e ∙ ap made (sym g.reads ∙ ap (prefixed xs) (turn_ends (length start.kinds - length xs) l now.at now.kinds h)) ∙ ap (λ v. got v now.at now.kinds) (sym same)
 
     -- an item can't be read
-    pub labels_stuck : (xs : List (L × A)) (l : L) (now : Left) (l0 : L) (start : Left) (old : Left) (e : ParseFault) → Gives labels l0 old start → Labels xs l now l0 start
+    pub labels_stuck : (xs : List (L × A)) (l : L) (now : Left) (l0 : L) (start : Left) (old : Left) (e : ParseFault) → ReaderGives labels l0 old start → Labels xs l now l0 start
         → next_is first now ≡ true → Fails (p now.at now.kinds) e → Fails (read_mapped to (read_labelled labels first p) old.at old.kinds) e
     labels_stuck xs l now l0 start old (Syntax k) e g h f =
         let t : ℕ = length start.kinds - length xs - 1 in
@@ -107,7 +107,7 @@ module _ {L A : Type 0} (labels : Reader L) (first : Kind → Bool) (p : Reader 
     labels_stuck xs l now l0 start old Memory e g h f = tt
 
     -- the labels behind an item can't be read
-    pub labels_lost : (xs : List (L × A)) (l : L) (now : Left) (l0 : L) (start : Left) (old : Left) (a : A) (m : ℕ) (us : List Kind) (e : ParseFault) → Gives labels l0 old start → Labels xs l now l0 start
+    pub labels_lost : (xs : List (L × A)) (l : L) (now : Left) (l0 : L) (start : Left) (old : Left) (a : A) (m : ℕ) (us : List Kind) (e : ParseFault) → ReaderGives labels l0 old start → Labels xs l now l0 start
         → next_is first now ≡ true → p now.at now.kinds ≡ got a m us → Fails (labels m us) e → Fails (read_mapped to (read_labelled labels first p) old.at old.kinds) e
     labels_lost xs l now l0 start old a m us (Syntax k) e g h ep f =
         let t : ℕ = length start.kinds - length xs - 1 in

@@ -1,6 +1,6 @@
 -- What the call `parse` says of tokens.
 use Rattle.std.specs.Prelude.{◌≡◌, ◌≢◌, List, Ok, Err}
-use Rattle.ns_parse.specs.Answers.{Answers}
+use Rattle.ns_parse.specs.Answers.{ParsesAs}
 use Rattle.ns_parse.specs.Parse.{parse}
 use Rattle.ns_parse_tokens.specs.declared.fault.ParseFault.{ParseFault}
 use Rattle.ns_parse_tokens.specs.declared.fault.ParseFault.TheVariants.{Memory}
@@ -10,11 +10,11 @@ use Rattle.ns_tree.specs.declared.tree.Unit as tree
 
 -- The grammar answers the tree.
 abbrev pub AnswersTree : List Kind → tree.Unit → Type 0
-AnswersTree ts unit = Answers ts (Ok (unit_of unit))
+AnswersTree ts unit = ParsesAs ts (Ok (unit_of unit))
 
 -- The grammar answers the fault. Want of memory says nothing of the tokens.
 abbrev pub AnswersFault : List Kind → ParseFault → Type 0
-AnswersFault ts fault = fault ≢ Memory → Answers ts (Err fault)
+AnswersFault ts fault = fault ≢ Memory → ParsesAs ts (Err fault)
 
 -- The tree is what the definition gives.
 abbrev pub GivesTree : List Kind → tree.Unit → Type 0

@@ -10,7 +10,7 @@ Stuck before [] = (unit : p.SourceUnit) → Spells before unit → ⊥
 Stuck before (kind ∷ rest) = Front (before ++ kind ∷ []) → ⊥
 
 -- What stands before token k begins a file, and what goes up to that token begins none.
-pub record StopsAt (kinds : List Kind) (k : ℕ) : Type 0 where
+pub record TokensStopAt (kinds : List Kind) (k : ℕ) : Type 0 where
   pub before : List Kind
   pub rest : List Kind
   pub cut : kinds ≡ before ++ rest

@@ -10,7 +10,7 @@ use Rattle.ns_parse_tokens.specs.declared.mark.Mark.{Mark}
 use Rattle.ns_parse_tokens.specs.Left.{Left}
 use Rattle.ns_parse_tokens.specs.Mark.{is_mark, skip, flag}
 use Rattle.ns_parse_tokens.specs.Read.{Outcome, Reader, got, fault, and_then, begins, read_mapped, read_listed, read_list_turns, behind, put_next, ends_there, ends_separated}
-use Rattle.ns_parse_tokens.specs.Reads.{Fails, Gives, next_is}
+use Rattle.ns_parse_tokens.specs.Reads.{Fails, ReaderGives, next_is}
 use Rattle.ns_parse_tokens.specs.laws.Takes.{Takes, fewer}
 use Rattle.ns_parse_tokens.specs.laws.TakesTokens.{takes_skip}
 
@@ -136,7 +136,7 @@ module _ {A : Type 0} (first : Kind → Bool) (sep : Mark) (p : Reader A) where
   room_left xs now start h room = omega (arith, begun_long first now.kinds h, room)
 
   -- one item and its separator more
-  pub lists_on : (xs ys : List A) (now start : Left) (a : A) (new past : Left) → Takes 1 p → Lists xs now start → next_is first now ≡ true → Gives p a now new → next_is (is_mark sep) new ≡ true → Gives (skip sep) tt new past → ys ≡ xs ++ a ∷ []
+  pub lists_on : (xs ys : List A) (now start : Left) (a : A) (new past : Left) → Takes 1 p → Lists xs now start → next_is first now ≡ true → ReaderGives p a now new → next_is (is_mark sep) new ≡ true → ReaderGives (skip sep) tt new past → ys ≡ xs ++ a ∷ []
       → Lists ys past start
   lists_on xs ys now start a new past P g h e s es grown =
       let t : ℕ = length start.kinds - length ys in
@@ -151,7 +151,7 @@ module _ {A : Type 0} (first : Kind → Bool) (sep : Mark) (p : Reader A) where
       }
 
   -- the same, where it is asked whether the separator is there
-  pub lists_flag : (xs ys : List A) (now start : Left) (a : A) (new past : Left) → Takes 1 p → Lists xs now start → next_is first now ≡ true → Gives p a now new → Gives (flag sep) true new past → ys ≡ xs ++ a ∷ [] → Lists ys past start
+  pub lists_flag : (xs ys : List A) (now start : Left) (a : A) (new past : Left) → Takes 1 p → Lists xs now start → next_is first now ≡ true → ReaderGives p a now new → ReaderGives (flag sep) true new past → ys ≡ xs ++ a ∷ [] → Lists ys past start
   lists_flag xs ys now start a new past P g h e f grown =
       lists_on xs ys now start a new past P g h e (flag_begins sep new.at new.kinds past.at past.kinds f) (flag_skips sep new.at new.kinds past.at past.kinds f) grown
 
@@ -165,8 +165,8 @@ module _ {A : Type 0} (first : Kind → Bool) (sep : Mark) (p : Reader A) where
         ap (λ o. and_then o (λ a m us. got (made a) m us)) e ∙ ap (λ v. got v n ts) (ap (λ ys. to ys (ends_separated l)) i ∙ ap (to xs) s ∙ sym same)
 
     -- a last item without a separator
-    pub lists_last : (xs : List A) (now start : Left) (a : A) (new : Left) (ys : List A) (b : B) → Lists xs now start → next_is first now ≡ true → Gives p a now new → next_is (is_mark sep) new ≡ false → ys ≡ xs ++ a ∷ [] → b ≡ to ys false
-        → Gives (read_mapped made (read_listed first (is_mark sep) p)) b start new
+    pub lists_last : (xs : List A) (now start : Left) (a : A) (new : Left) (ys : List A) (b : B) → Lists xs now start → next_is first now ≡ true → ReaderGives p a now new → next_is (is_mark sep) new ≡ false → ys ≡ xs ++ a ∷ [] → b ≡ to ys false
+        → ReaderGives (read_mapped made (read_listed first (is_mark sep) p)) b start new
     lists_last xs now start a new ys b g h e s grown same =
         let t : ℕ = length start.kinds - length xs - 1 in
         let turns : length start.kinds - length xs ≡ suc t = omega (arith, room_left xs now start h g.room) in
@@ -176,15 +176,15 @@ module _ {A : Type 0} (first : Kind → Bool) (sep : Mark) (p : Reader A) where
 
     -- no item behind the last separator, or none at all
     pub lists_end : (xs : List A) (now start : Left) (b : B) → Lists xs now start → next_is first now ≡ false → b ≡ to xs (is_some xs)
-        → Gives (read_mapped made (read_listed first (is_mark sep) p)) b start now
+        → ReaderGives (read_mapped made (read_listed first (is_mark sep) p)) b start now
     lists_end xs now start b g h same =
         made_of (read_listed first (is_mark sep) p start.at start.kinds) (nexts xs none) xs (is_some xs) b now.at now.kinds
         (sym g.reads ∙ ap (followed xs) (turn_ends (length start.kinds - length xs) now.at now.kinds h))
         (nexts_items xs none ∙ append-nil xs) (none_separated xs) same
 
     -- the same, where it is asked whether the separator is there
-    pub lists_last_flag : (xs : List A) (now start : Left) (a : A) (new past : Left) (ys : List A) (b : B) → Lists xs now start → next_is first now ≡ true → Gives p a now new → Gives (flag sep) false new past → ys ≡ xs ++ a ∷ [] → b ≡ to ys false
-        → Gives (read_mapped made (read_listed first (is_mark sep) p)) b start past
+    pub lists_last_flag : (xs : List A) (now start : Left) (a : A) (new past : Left) (ys : List A) (b : B) → Lists xs now start → next_is first now ≡ true → ReaderGives p a now new → ReaderGives (flag sep) false new past → ys ≡ xs ++ a ∷ [] → b ≡ to ys false
+        → ReaderGives (read_mapped made (read_listed first (is_mark sep) p)) b start past
     lists_last_flag xs now start a new past ys b g h e f grown same =
         lists_last xs now start a new ys b g h e (flag_lacks sep new.at new.kinds past.at past.kinds f) grown same
         ∙ flag_stays b sep new.at new.kinds past.at past.kinds f

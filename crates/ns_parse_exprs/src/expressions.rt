@@ -5,7 +5,7 @@
 ghost use Rattle.ns_tree.specs.PlainOf.{expr_of, message_of, key_expr_of, bin_of, un_of, primary_of, block_of, slot_of, init_of, statements_of};
 ghost use Rattle.ns_tree.specs.PlainOf.{statement_of, opers_of, keys_of, cascade_of, slots_of, bars_of};
 ghost use Rattle.ns_parse_exprs.specs.Expressions as spec;
-ghost use Rattle.ns_parse_tokens.specs.Reads.{Gives, Reads};
+ghost use Rattle.ns_parse_tokens.specs.Reads.{ReaderGives, Reads};
 ghost use Rattle.ns_parse_exprs.specs.Views.{oper_view, key_view, cascaded_view};
 
 use crate::fronts::{sees_expr, sees_leaf, sees_slot, sees_statement, sees_un};
@@ -33,7 +33,7 @@ pub enum Holder {
 
 /// Reads the access word of a slot, if it may have one and has it.
 fn slot_access(tokens: &mut Tokens<'_>, holder: Holder) -> Option<Access>
-    ensures { Gives (spec.slot_access holder) result tokens.old tokens.new }
+    ensures { ReaderGives (spec.slot_access holder) result tokens.old tokens.new }
 {
     match holder {
         Holder::Object => access(tokens),

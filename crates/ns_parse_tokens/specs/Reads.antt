@@ -18,8 +18,8 @@ Reads view reader (Ok x) old new = reader old.at old.kinds ≡ got (view x) new.
 Reads view reader (Err e) old new = Fails (reader old.at old.kinds) e
 
 -- The reader gives that value, and the tokens that are left behind it.
-abbrev pub Gives : {A : Type 0} → Reader A → A → Left → Left → Type 0
-Gives reader a old new = reader old.at old.kinds ≡ got a new.at new.kinds
+abbrev pub ReaderGives : {A : Type 0} → Reader A → A → Left → Left → Type 0
+ReaderGives reader a old new = reader old.at old.kinds ≡ got a new.at new.kinds
 
 -- The next token passes the test.
 abbrev pub next_is : (Kind → Bool) → Left → Bool

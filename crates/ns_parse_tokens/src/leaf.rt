@@ -4,7 +4,7 @@ ghost use Rattle.std.specs.Prelude.{◌≡◌, Some, None, MatchOption, IfOk};
 ghost use Rattle.ns_tree.specs.PlainOf.{primary_of};
 ghost use Rattle.ns_tree.specs.Grammar.{word_access, word_primary};
 ghost use Rattle.ns_parse_tokens.specs.Leaf as spec;
-ghost use Rattle.ns_parse_tokens.specs.Reads.{Gives, Reads, next_is};
+ghost use Rattle.ns_parse_tokens.specs.Reads.{ReaderGives, Reads, next_is};
 
 use crate::fault::ParseFault;
 use crate::mark::{Mark, is_mark, sees, skip};
@@ -110,7 +110,7 @@ pub fn is_access(kind: &Kind) -> bool
 
 /// Reads an access word, if there is one.
 pub fn access(tokens: &mut Tokens<'_>) -> Option<Access>
-    ensures { Gives spec.maybe_access result tokens.old tokens.new }
+    ensures { ReaderGives spec.maybe_access result tokens.old tokens.new }
 {
     let at = tokens.at;
     match tokens.rest {

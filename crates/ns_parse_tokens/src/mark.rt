@@ -2,7 +2,7 @@
 
 ghost use Rattle.std.specs.Prelude.{◌≡◌, IfOk};
 ghost use Rattle.ns_parse_tokens.specs.Mark as spec;
-ghost use Rattle.ns_parse_tokens.specs.Reads.{Gives, Reads, next_is};
+ghost use Rattle.ns_parse_tokens.specs.Reads.{ReaderGives, Reads, next_is};
 
 use crate::fault::ParseFault;
 use crate::tokens::Tokens;
@@ -145,7 +145,7 @@ pub fn skip(tokens: &mut Tokens<'_>, mark: Mark) -> Result<(), ParseFault>
 
 /// Reads the mark if it is next, and answers whether it was.
 pub fn skip_if(tokens: &mut Tokens<'_>, mark: Mark) -> bool
-    ensures { Gives (spec.flag mark) result tokens.old tokens.new }
+    ensures { ReaderGives (spec.flag mark) result tokens.old tokens.new }
 {
     let at = tokens.at;
     match tokens.rest {
@@ -164,7 +164,7 @@ pub fn skip_if(tokens: &mut Tokens<'_>, mark: Mark) -> bool
 
 /// Reads the mark if it is next, and answers its number.
 pub fn place_if(tokens: &mut Tokens<'_>, mark: Mark) -> Option<u32>
-    ensures { Gives (spec.maybe_place mark) result tokens.old tokens.new }
+    ensures { ReaderGives (spec.maybe_place mark) result tokens.old tokens.new }
 {
     let at = tokens.at;
     match tokens.rest {

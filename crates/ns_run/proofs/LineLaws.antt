@@ -14,7 +14,7 @@ use Rattle.ns_run_words.specs.Application.{AreApplications}
 use Rattle.ns_run_words.specs.Forms.{AreFiles, AreNames, IsSpelled}
 use Rattle.ns_run_words.specs.declared.form.Item.TheVariants.{File, Application}
 use Rattle.ns_run_words.specs.Table.{form_of}
-use Rattle.ns_run_words.specs.Words.{Line, limits_of, quantum_of}
+use Rattle.ns_run_words.specs.Words.{CommandLine, limits_of, quantum_of}
 use Rattle.ns_run_words.specs.declared.form.Verb.{Verb}
 use Rattle.ns_run_words.specs.declared.form.Verb.TheVariants.{Check, Show, Run, Build, Exec, Listing, Session, Sample, Help, Version}
 use Rattle.ns_session_files.specs.Answer.{OfSomeTexts}
@@ -49,56 +49,56 @@ within Help t = absurd t
 within Version t = absurd t
 
 -- The names of such a command are 1 to 16 files.
-pub are_files : (verb : Verb) (line : Line) → line.verb ≡ verb → TakesFiles verb → IsSpelled line → AreFiles line.names
+pub are_files : (verb : Verb) (line : CommandLine) → line.verb ≡ verb → TakesFiles verb → IsSpelled line → AreFiles line.names
 are_files verb line e t (words, f) =
     let w : NamesFiles line.verb = subst NamesFiles (sym e) (within verb t) in
     (omega (arith, w.0, f.enough), omega (arith, w.1, f.few), subst (λ item. AreNames item line.names) w.2 f.named)
 
 -- The names of a session are at most 16 applications.
-pub are_applications : (line : Line) → line.verb ≡ Session → IsSpelled line → AreApplications line.names
+pub are_applications : (line : CommandLine) → line.verb ≡ Session → IsSpelled line → AreApplications line.names
 are_applications line e (words, f) = all line.names (subst (λ verb. AreNames (form_of verb).item line.names) e f.named)
   where
     all : (names : List (List ℕ)) → AreNames Application names → AreApplications names
     all [] a = tt
     all (name ∷ names) a = (a.0, all names a.1)
 
-pub few_applications : (line : Line) → line.verb ≡ Session → IsSpelled line → length line.names ≤ 16
+pub few_applications : (line : CommandLine) → line.verb ≡ Session → IsSpelled line → length line.names ≤ 16
 few_applications line e (words, f) = subst (λ verb. length line.names ≤ (form_of verb).most) e f.few
 
 -- ---- what the reports of a line mean
 
-pub session_told : (line : Line) (limits : Limits) (quantum : ℕ) (files : Files) (result : Result Report Stop) → line.verb ≡ Session → limits ≡ limits_of line.given → quantum ≡ quantum_of line.given
+pub session_told : (line : CommandLine) (limits : Limits) (quantum : ℕ) (files : Files) (result : Result Report Stop) → line.verb ≡ Session → limits ≡ limits_of line.given → quantum ≡ quantum_of line.given
     → IfOk result (λ r. r ≡ of_session line.given.lib limits quantum line.names (map files (files_of Session line.names))) → IfOk result (λ r. r ≡ of_line line.verb line (map files (files_of line.verb line.names)))
 session_told line limits quantum files result e l q h =
     subst (λ v. IfOk result (λ r. r ≡ of_line v line (map files (files_of v line.names)))) (sym e)
     (subst (λ n. IfOk result (λ r. r ≡ of_session line.given.lib (limits_of line.given) n line.names (map files (files_of Session line.names)))) q
     (subst (λ l. IfOk result (λ r. r ≡ of_session line.given.lib l quantum line.names (map files (files_of Session line.names)))) l h))
 
-pub session_texts : (line : Line) (limits : Limits) (quantum : ℕ) (result : Result Report Stop) → line.verb ≡ Session → limits ≡ limits_of line.given → quantum ≡ quantum_of line.given
+pub session_texts : (line : CommandLine) (limits : Limits) (quantum : ℕ) (result : Result Report Stop) → line.verb ≡ Session → limits ≡ limits_of line.given → quantum ≡ quantum_of line.given
     → OfSomeTexts (files_of Session line.names) (λ texts. IfOk result (λ r. r ≡ of_session line.given.lib limits quantum line.names texts)) → OfSomeTexts (files_of line.verb line.names) (λ texts. IfOk result (λ r. r ≡ of_line line.verb line texts))
 session_texts line limits quantum result e l q h =
     subst (λ v. OfSomeTexts (files_of v line.names) (λ texts. IfOk result (λ r. r ≡ of_line v line texts))) (sym e)
     (subst (λ n. OfSomeTexts (files_of Session line.names) (λ texts. IfOk result (λ r. r ≡ of_session line.given.lib (limits_of line.given) n line.names texts))) q
     (subst (λ l. OfSomeTexts (files_of Session line.names) (λ texts. IfOk result (λ r. r ≡ of_session line.given.lib l quantum line.names texts))) l h))
 
-pub run_told : (line : Line) (limits : Limits) (files : Files) (result : Result Report Stop) → line.verb ≡ Run → limits ≡ limits_of line.given
+pub run_told : (line : CommandLine) (limits : Limits) (files : Files) (result : Result Report Stop) → line.verb ≡ Run → limits ≡ limits_of line.given
     → IfOk result (λ r. r ≡ of_files (Runs limits line.arguments None) line.names line.given.lib files) → IfOk result (λ r. r ≡ of_line line.verb line (map files (files_of line.verb line.names)))
 run_told line limits files result e l h =
     subst (λ v. IfOk result (λ r. r ≡ of_line v line (map files (files_of v line.names)))) (sym e)
     (subst (λ l. IfOk result (λ r. r ≡ of_files (Runs l line.arguments None) line.names line.given.lib files)) l h)
 
-pub exec_told : (line : Line) (limits : Limits) (files : Files) (result : Result Report Stop) → line.verb ≡ Exec → limits ≡ limits_of line.given
+pub exec_told : (line : CommandLine) (limits : Limits) (files : Files) (result : Result Report Stop) → line.verb ≡ Exec → limits ≡ limits_of line.given
     → IfOk result (λ r. r ≡ of_image (Executes limits line.arguments) line.names (map files line.names)) → IfOk result (λ r. r ≡ of_line line.verb line (map files (files_of line.verb line.names)))
 exec_told line limits files result e l h =
     subst (λ v. IfOk result (λ r. r ≡ of_line v line (map files (files_of v line.names)))) (sym e)
     (subst (λ l. IfOk result (λ r. r ≡ of_image (Executes l line.arguments) line.names (map files line.names))) l h)
 
-pub help_texts : (line : Line) (result : Result Report Stop) → line.verb ≡ Help → IfOk result (λ r. r ≡ told HELP.now) → OfSomeTexts (files_of line.verb line.names) (λ texts. IfOk result (λ r. r ≡ of_line line.verb line texts))
+pub help_texts : (line : CommandLine) (result : Result Report Stop) → line.verb ≡ Help → IfOk result (λ r. r ≡ told HELP.now) → OfSomeTexts (files_of line.verb line.names) (λ texts. IfOk result (λ r. r ≡ of_line line.verb line texts))
 help_texts line result e h =
     subst (λ v. OfSomeTexts (files_of v line.names) (λ texts. IfOk result (λ r. r ≡ of_line v line texts))) (sym e)
     (whatever_texts [] (IfOk result (λ r. r ≡ told HELP.now)) h)
 
-pub version_texts : (line : Line) (result : Result Report Stop) → line.verb ≡ Version → IfOk result (λ r. r ≡ told VERSION.now) → OfSomeTexts (files_of line.verb line.names) (λ texts. IfOk result (λ r. r ≡ of_line line.verb line texts))
+pub version_texts : (line : CommandLine) (result : Result Report Stop) → line.verb ≡ Version → IfOk result (λ r. r ≡ told VERSION.now) → OfSomeTexts (files_of line.verb line.names) (λ texts. IfOk result (λ r. r ≡ of_line line.verb line texts))
 version_texts line result e h =
     subst (λ v. OfSomeTexts (files_of v line.names) (λ texts. IfOk result (λ r. r ≡ of_line v line texts))) (sym e)
     (whatever_texts [] (IfOk result (λ r. r ≡ told VERSION.now)) h)

@@ -2,7 +2,7 @@
 use Rattle.std.proofs.Common.{◌≡◌, ℕ, List, Result, Ok, Err, IfOk, ap, sym, subst, ◌∙◌, codes, map}
 use Rattle.ns_base.specs.declared.status.Status.{Status}
 use Rattle.ns_base.specs.declared.status.Status.TheVariants.{Done, ProgramError, Refused, Limit, ReadFault, WriteFault, Memory}
-use Rattle.ns_session_files.specs.Answer.{IsMissingFile, IsRefusal, RefusesAs, Tells, OfSomeName}
+use Rattle.ns_session_files.specs.Answer.{IsMissingFile, IsThatRefusal, RefusesAs, Tells, OfSomeName}
 use Rattle.ns_session_files.specs.Joint.{Joint, stopped_for}
 use Rattle.ns_session_files.specs.declared.fault.JointFault.{JointFault}
 use Rattle.ns_session_files.specs.declared.fault.JointFault.TheVariants as fault
@@ -19,7 +19,7 @@ use Rattle.std.specs.Prelude.{string_bytes, Some}
 use Rattle.ns_run.specs.Run.{told_jointly}
 
 -- The report of a refusal is what the session means.
-pub refusal_means : (joint : Joint) (why : JointFault) (report : Report) → IsRefusal (λ refusal. joint ≡ stopped_for refusal) why → RefusesAs (λ refusal. report ≡ of_refusal refusal) why → report ≡ of_joint joint
+pub refusal_means : (joint : Joint) (why : JointFault) (report : Report) → IsThatRefusal (λ refusal. joint ≡ stopped_for refusal) why → RefusesAs (λ refusal. report ≡ of_refusal refusal) why → report ≡ of_joint joint
 refusal_means joint fault.Unread report i r = absurd r
 refusal_means joint (fault.Unloaded names cause file) report i r = r ∙ ap of_joint (sym i)
 refusal_means joint (fault.Unchecked names place cause) report i r = r ∙ ap of_joint (sym i)

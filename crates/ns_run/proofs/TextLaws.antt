@@ -18,7 +18,7 @@ use Rattle.ns_run.specs.Meaning.{files_read, meaning, of_fault, of_loading, of_r
 use Rattle.ns_run.specs.Outcome.{IsRefusal, NamesMissing, OverTexts}
 use Rattle.ns_run.specs.Task.{Task}
 use Rattle.ns_run.proofs.ReportLaws.{stop_keeps}
-use Rattle.ns_scope.specs.Whole.{IsFileName}
+use Rattle.ns_scope.specs.Whole.{NamesFile}
 use Rattle.ns_tree.specs.Plain as p
 use Rattle.ns_run_words.specs.Forms.{AreNames}
 use Rattle.ns_run_words.specs.declared.form.Item.TheVariants.{File}
@@ -27,14 +27,14 @@ use Rattle.ns_run_words.specs.Words.{Reading, reading_of}
 use Rattle.ns_session_files.specs.Answer.{OfSomeTexts}
 
 -- A word that can name a file does so.
-name_is_file : (name : List ℕ) → IsUtf8 name → is_file_name name ≡ true → IsFileName name
+name_is_file : (name : List ℕ) → IsUtf8 name → is_file_name name ≡ true → NamesFile name
 name_is_file [] u e = absurd (cc (e))
 name_is_file (b ∷ bs) u e = (u, (λ h. cc (h)), grind (arith, nat_tests, e))
 
-pub names_are_files : (names : List (List ℕ)) → All IsUtf8 names → AreNames File names → All IsFileName names
-names_are_files [] u a = All-nil IsFileName
+pub names_are_files : (names : List (List ℕ)) → All IsUtf8 names → AreNames File names → All NamesFile names
+names_are_files [] u a = All-nil NamesFile
 names_are_files (name ∷ names) u a =
-    All-cons IsFileName name names (name_is_file name (All-head IsUtf8 name names u) a.0) (names_are_files names (All-tail IsUtf8 name names u) a.1)
+    All-cons NamesFile name names (name_is_file name (All-head IsUtf8 name names u) a.0) (names_are_files names (All-tail IsUtf8 name names u) a.1)
 
 -- A refusal of texts is what they are loaded as.
 texts_refused : (texts : List (Option (List ℕ))) (lib : Bool) (fault : LoadFault) → IsRefusal fault → IsFaultOfTexts texts lib fault → loaded_texts texts lib ≡ stopped fault

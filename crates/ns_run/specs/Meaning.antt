@@ -31,7 +31,7 @@ use Rattle.ns_static_rules.specs.Least.{faults, least}
 use Rattle.ns_static_rules.specs.declared.fault.Placed.{Placed}
 use Rattle.ns_tree.specs.Flat.{flat}
 use Rattle.ns_tree.specs.Plain as p
-use Rattle.ns_run_words.specs.Words.{Line, Reading, says, bad, limits_of, nothing_given, quantum_of, reading_of, sample_number}
+use Rattle.ns_run_words.specs.Words.{CommandLine, Reading, says, bad, limits_of, nothing_given, quantum_of, reading_of, sample_number}
 use Rattle.ns_run_words.specs.declared.form.Verb.{Verb}
 use Rattle.ns_run_words.specs.declared.form.Verb.TheVariants.{Check, Show, Run, Build, Exec, Listing, Session, Sample, Help, Version}
 
@@ -137,7 +137,7 @@ abbrev pub session_over : Files → Bool → Limits → ℕ → List (List ℕ) 
 session_over files lib limits quantum words = of_session lib limits quantum words (map files (files_named words))
 
 -- what the command of a line writes over these texts of its files, and its status
-abbrev pub of_line : Verb → Line → List (Option (List ℕ)) → Report
+abbrev pub of_line : Verb → CommandLine → List (Option (List ℕ)) → Report
 of_line Check line texts = of_texts Checks line.names line.given.lib texts
 of_line Show line texts = of_texts Shows line.names line.given.lib texts
 of_line Run line texts = of_texts (Runs (limits_of line.given) line.arguments None) line.names line.given.lib texts

@@ -11,7 +11,7 @@ ghost use Rattle.ns_run.specs.Meaning as spec;
 ghost use Rattle.ns_run.specs.Outcome.{IsReadFault, IsRefusal, IsRefusedFor};
 ghost use Rattle.ns_run.specs.Stated.{MissingIsCounted, ReportsTexts, ReportsTold, UnreadIsThere};
 ghost use Rattle.ns_run.specs.Task.{RunsInRange, task_of};
-ghost use Rattle.ns_scope.specs.Whole.{IsFileName, IsWhole};
+ghost use Rattle.ns_scope.specs.Whole.{NamesFile, IsWhole};
 ghost use Rattle.ns_static.specs.Check.{fault_of};
 ghost use Rattle.ns_tree.specs.Flat.{flat};
 ghost use Rattle.ns_tree.specs.PlainOf.{unit_of};
@@ -73,7 +73,7 @@ fn on_texts<S: Shelf>(
 ) -> Result<Report, Stop>
     requires some { 1 ≤ length texts.now }
     requires few { length texts.now ≤ 16 }
-    requires named { All IsFileName texts.now }
+    requires named { All NamesFile texts.now }
     requires same { texts.now ≡ map string_bytes names.now }
     requires range { RunsInRange (task_of task) }
     ensures told { ReportsTold (S.holds shelf.old) (spec.of_files (task_of task.entry) texts.now lib) result }

@@ -16,12 +16,12 @@ use Rattle.ns_machine_moves.specs.Returns.{is_home, has_home, delivered, settled
 use Rattle.ns_machine_moves.specs.Starts.{started}
 use Rattle.ns_machine_moves.specs.State.{Leaving, Loud, Silent, Frame, Running, Looping, Sending, Performing, Evaluating}
 use Rattle.ns_machine_moves.specs.State.{Phase, Start, First, Second, Hosted, State, Unbegun, Going, Pends, Ended, Stuck}
-use Rattle.ns_machine_moves.specs.Steps.{Step, steps_from, literal}
+use Rattle.ns_machine_moves.specs.Steps.{PlacedInstr, steps_from, literal}
 use Rattle.ns_actions.specs.Blocks.{evaluated, method_next, new_block, new_text, new_array}
 use Rattle.ns_world.specs.Booleans.{is_boolean}
 use Rattle.ns_actions.specs.Classes.{body_ended, super_part}
 use Rattle.ns_actions.specs.Control.{Progress, Activation, After, Gives, Halts, Control, Now, Enter, Evaluate, Begin, Perform, charged, frame_left}
-use Rattle.ns_actions.specs.Control.{Part, Skip, Stop, EnterPart, Waiting, Waits, Finishes}
+use Rattle.ns_actions.specs.Control.{PartControl, Skip, Stop, EnterPart, Waiting, Waits, Finishes}
 use Rattle.ns_actions.specs.Sends.{To, ToPrivate, ToSuper, to_value, sent}
 use Rattle.ns_actions.specs.declared.site.Site.{Site}
 use Rattle.ns_world.specs.World.{World, stepped}
@@ -87,7 +87,7 @@ arrived_begun code phase (Evaluate block arguments site p) frames = refl
 arrived_begun code phase (Begin method state site p) frames = refl
 arrived_begun code phase (Perform receiver sel array site p) frames = refl
 
-part_begun : (code : CodeProgram) (phase : Phase) (part : Part) (frames : List Frame) → Begun (part_arrived code phase part frames)
+part_begun : (code : CodeProgram) (phase : Phase) (part : PartControl) (frames : List Frame) → Begun (part_arrived code phase part frames)
 part_begun code phase (Skip p) frames = refl
 part_begun code phase (Stop ending p) frames = refl
 part_begun code phase (EnterPart a ls p) frames = refl
@@ -113,17 +113,17 @@ home_begun code phase a v frames p = either_begun (has_home a.home frames) _ _ (
 
 -- ---- instructions
 
-module _ (code : CodeProgram) (phase : Phase) (leaving : Leaving) (a : Activation) (ls : List Value) (rest : List Step) (frames : List Frame)
+module _ (code : CodeProgram) (phase : Phase) (leaving : Leaving) (a : Activation) (ls : List Value) (rest : List PlacedInstr) (frames : List Frame)
     (p : Progress) where
-  charged_begun : (landing : List Step) (stack : List Value) (o : Option World)
+  charged_begun : (landing : List PlacedInstr) (stack : List Value) (o : Option World)
       → Begun (charged (λ ending progress. Ended ending phase progress) Steps o p (Going phase (Running leaving a ls landing stack ∷ frames)))
   charged_begun landing stack (Some world) = refl
   charged_begun landing stack None = refl
 
-  jumped_begun : (landing : List Step) (stack : List Value) → Begun (jumped phase leaving a ls rest landing stack frames p)
+  jumped_begun : (landing : List PlacedInstr) (stack : List Value) → Begun (jumped phase leaving a ls rest landing stack frames p)
   jumped_begun landing stack = either_begun (goes_back rest landing) _ _ (charged_begun landing stack (stepped p.world)) refl
 
-  jumped_on_begun : (wanted : Bool) (landing : List Step) (v : Value) (below : List Value)
+  jumped_on_begun : (wanted : Bool) (landing : List PlacedInstr) (v : Value) (below : List Value)
       → Begun (jumped_on phase wanted v leaving a ls rest landing below frames p)
   jumped_on_begun wanted landing v below =
       either_begun (is_boolean v) _ _ (either_begun (takes_jump wanted v) _ _ (jumped_begun landing below) refl) refl

@@ -9,17 +9,17 @@ use Rattle.ns_image.specs.declared.fault.ImageFault.TheVariants.{NotAnImage, Bad
 use Rattle.ns_image_list.specs.Listing.{listing}
 
 -- bytes that are no image, or the lines of a listing
-pub data Listed : Type 0 where
-  unlisted : (fault : ImageFault) → Listed
-  lines : (bytes : List ℕ) → Listed
+pub data ListingAnswer : Type 0 where
+  unlisted : (fault : ImageFault) → ListingAnswer
+  lines : (bytes : List ℕ) → ListingAnswer
 
 -- the listing of what was read
-abbrev pub of_read : Result CodeProgram ImageFault → Listed
+abbrev pub of_read : Result CodeProgram ImageFault → ListingAnswer
 of_read (Err fault) = unlisted fault
 of_read (Ok code) = lines (listing code)
 
 -- the listing of the code of an image, admitted or not
-abbrev pub listed : List ℕ → Listed
+abbrev pub listed : List ℕ → ListingAnswer
 listed bytes = of_read (read_image bytes)
 
 -- the fault of an image, apart from want of memory

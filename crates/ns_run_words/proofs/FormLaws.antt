@@ -5,7 +5,7 @@ use Rattle.std.proofs.lemmas.Bool.Decides.{nat_tests}
 use Rattle.ns_run_words.proofs.PartLaws.{arguments_read, dashes_are_no_item, dashes_are_no_option, name_is_no_option, names_read, options_read}
 use Rattle.ns_run_words.specs.Forms.{AreArguments, AreNames, IsForm}
 use Rattle.ns_run_words.specs.Table.{form_of, word_of}
-use Rattle.ns_run_words.specs.Words.{Line, Options, Names, Arguments, bad, says, nothing_given, option_or, part_or, read_from, reading_of, with_name, with_option}
+use Rattle.ns_run_words.specs.Words.{CommandLine, Options, Names, Arguments, bad, says, nothing_given, option_or, part_or, read_from, reading_of, with_name, with_option}
 use Rattle.ns_run_words.specs.declared.form.Verb.{Verb}
 use Rattle.ns_run_words.specs.declared.form.Verb.TheVariants.{Check, Show, Run, Build, Exec, Listing, Session, Sample, Help, Version}
 use Rattle.ns_run_words.specs.declared.words.Given.{Given}
@@ -61,7 +61,7 @@ names_behind_options verb given [] last arguments k a (inr (m, s, l, few)) =
 names_behind_options verb given (w ∷ ws) last arguments k a s = behind_options verb given w (ws ++ last) k (name_is_no_option (form_of verb) given w a.0)
 
 -- The words of a form are read as what they spell.
-pub form_is_read : (words : List (List ℕ)) (line : Line) → IsForm words line → reading_of words ≡ says line
+pub form_is_read : (words : List (List ℕ)) (line : CommandLine) → IsForm words line → reading_of words ≡ says line
 form_is_read words line f =
     let last : IsLast (form_of line.verb).arguments f.last line.arguments = is_last (form_of line.verb).arguments f.last line.arguments f.ends in
     let k : ℕ = 1 + length f.options in

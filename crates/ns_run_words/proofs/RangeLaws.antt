@@ -8,7 +8,7 @@ use Rattle.ns_base.specs.Limits.{InRange, IsFrom1To}
 use Rattle.ns_base.specs.declared.limits.Limits.{Limits}
 use Rattle.ns_run_words.specs.Forms.{IsForm, all_given}
 use Rattle.ns_run_words.specs.Table.{form_of}
-use Rattle.ns_run_words.specs.Words.{Line, begins_bad, in_range, limits_of, nothing_given, number_given, number_of, value_from, given_or, limit_where, quantum_of, quantum_where, with_cells, with_depth, with_lib, with_limit, with_option, with_out, with_quantum, with_steps}
+use Rattle.ns_run_words.specs.Words.{CommandLine, begins_bad, in_range, limits_of, nothing_given, number_given, number_of, value_from, given_or, limit_where, quantum_of, quantum_where, with_cells, with_depth, with_lib, with_limit, with_option, with_out, with_quantum, with_steps}
 use Rattle.ns_run_words.specs.declared.form.Form.{Form}
 use Rattle.ns_run_words.specs.declared.form.Verb.{Verb}
 use Rattle.ns_run_words.specs.declared.form.Verb.TheVariants.{Check, Show, Run, Build, Exec, Listing, Session, Sample, Help, Version}
@@ -147,11 +147,11 @@ forms_small Help = tt
 forms_small Version = tt
 
 -- What the options of a form give is within its ranges.
-pub form_within : (words : List (List ℕ)) (line : Line) → IsForm words line → AreWithin line.given
+pub form_within : (words : List (List ℕ)) (line : CommandLine) → IsForm words line → AreWithin line.given
 form_within words line f = all_within (form_of line.verb) nothing_given line.given f.options (forms_small line.verb) nothing_within f.given
 
 -- The steps of a turn are some.
-pub form_turns : (words : List (List ℕ)) (line : Line) → IsForm words line → 1 ≤ quantum_of line.given
+pub form_turns : (words : List (List ℕ)) (line : CommandLine) → IsForm words line → 1 ≤ quantum_of line.given
 form_turns words line f = some line.given.quantum (form_within words line f).quantum
   where
     some : (n : Option ℕ) → IsWithin 1000000 n → 1 ≤ unwrap_or n 1000
@@ -159,7 +159,7 @@ form_turns words line f = some line.given.quantum (form_within words line f).qua
     some (Some n) w = w.0
 
 -- The limits of a form are in their ranges.
-pub form_in_range : (words : List (List ℕ)) (line : Line) → IsForm words line → InRange (limits_of line.given)
+pub form_in_range : (words : List (List ℕ)) (line : CommandLine) → IsForm words line → InRange (limits_of line.given)
 form_in_range words line f = ranges line.given (form_within words line f)
   where
     within : (greatest other : ℕ) (n : Option ℕ) → IsWithin greatest n → 1 ≤ other → other ≤ greatest → IsFrom1To (unwrap_or n other) greatest

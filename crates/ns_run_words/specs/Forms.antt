@@ -1,7 +1,7 @@
 -- The forms of a command line as relations, apart from how words are read.
 use Rattle.std.specs.Prelude.{◌≡◌, ◌⊎◌, ℕ, ◌+◌, ◌<◌, ◌≤◌, List, [], ◌∷◌, ◌++◌, Option, Some, None, true, option_and_then, codes, take, length}
 use Rattle.ns_run_words.specs.Table.{form_of, word_of}
-use Rattle.ns_run_words.specs.Words.{Line, Reading, says, bad, is_item, nothing_given, with_option}
+use Rattle.ns_run_words.specs.Words.{CommandLine, Reading, says, bad, is_item, nothing_given, with_option}
 use Rattle.ns_run_words.specs.declared.form.Form.{Form}
 use Rattle.ns_run_words.specs.declared.form.Item.{Item}
 use Rattle.ns_run_words.specs.declared.form.Item.TheVariants.{File}
@@ -28,7 +28,7 @@ AreArguments (Some most) words arguments =
     ((words ≡ []) × (arguments ≡ [])) ⊎ ((words ≡ codes "--" ∷ arguments) × (length arguments ≤ most))
 
 -- The words are the first word of a command, options in any order, names, and arguments, as its form takes them.
-pub record IsForm (words : List (List ℕ)) (line : Line) : Type 0 where
+pub record IsForm (words : List (List ℕ)) (line : CommandLine) : Type 0 where
   pub options : List (List ℕ)
   pub last : List (List ℕ)
   pub spelled : words ≡ word_of line.verb ∷ options ++ line.names ++ last
@@ -39,12 +39,12 @@ pub record IsForm (words : List (List ℕ)) (line : Line) : Type 0 where
   pub ends : AreArguments (form_of line.verb).arguments last line.arguments
 
 -- The line is what some words spell.
-abbrev pub IsSpelled : Line → Type 0
+abbrev pub IsSpelled : CommandLine → Type 0
 IsSpelled line = (words : List (List ℕ)) × IsForm words line
 
 -- Some form begins with these words.
 abbrev pub Begins : List (List ℕ) → Type 0
-Begins words = (more : List (List ℕ)) × (line : Line) × IsForm (words ++ more) line
+Begins words = (more : List (List ℕ)) × (line : CommandLine) × IsForm (words ++ more) line
 
 -- What is read is what the words spell; or its bad word is the first, counted from 0, such that no form begins with
 -- the words up to it, and the number of words where some form begins with them all.

@@ -14,7 +14,7 @@ use Rattle.ns_run_words.specs.declared.form.Verb.{Verb}
 use Rattle.ns_run_words.specs.declared.words.Given.{Given}
 
 -- What a command line says: its command, what its options give, the names and the arguments.
-pub record Line : Type 0 where
+pub record CommandLine : Type 0 where
   pub verb : Verb
   pub given : Given
   pub names : List (List ℕ)
@@ -22,14 +22,14 @@ pub record Line : Type 0 where
 
 -- What the words of a command line are read as: what they say, or the first bad word.
 pub data Reading : Type 0 where
-  says : (line : Line) → Reading
+  says : (line : CommandLine) → Reading
   bad : (word : ℕ) → Reading
 
 -- What was read so far behind the first word: options; or also names; or also `--` and arguments.
-pub data Part : Type 0 where
-  Options : (given : Given) → Part
-  Names : (given : Given) (names : List (List ℕ)) → Part
-  Arguments : (given : Given) (names arguments : List (List ℕ)) → Part
+pub data WordsSoFar : Type 0 where
+  Options : (given : Given) → WordsSoFar
+  Names : (given : Given) (names : List (List ℕ)) → WordsSoFar
+  Arguments : (given : Given) (names arguments : List (List ℕ)) → WordsSoFar
 
 -- ---- numbers
 
@@ -144,7 +144,7 @@ has_room None count = false
 has_room (Some most) count = nat_lt count most
 
 -- what is read with an argument more
-abbrev pub with_argument : Form → Given → List (List ℕ) → List (List ℕ) → List ℕ → Option Part
+abbrev pub with_argument : Form → Given → List (List ℕ) → List (List ℕ) → List ℕ → Option WordsSoFar
 with_argument form given names arguments word =
     if has_room form.arguments (length arguments) then Some (Arguments given names (arguments ++ word ∷ [])) else None
 
@@ -153,58 +153,58 @@ abbrev pub arguments_behind : Form → ℕ → List ℕ → Option ℕ
 arguments_behind form count word = if bytes_eq word (codes "--") && nat_le form.least count then form.arguments else None
 
 -- what is read with `--` behind the names, where so many arguments may stand behind it
-abbrev pub with_dashes : Given → List (List ℕ) → Option ℕ → Option Part
+abbrev pub with_dashes : Given → List (List ℕ) → Option ℕ → Option WordsSoFar
 with_dashes given names None = None
 with_dashes given names (Some most) = Some (Arguments given names [])
 
 -- what is read with a word more behind names: another name, or `--`
-abbrev pub with_name : Form → Given → List (List ℕ) → List ℕ → Option Part
+abbrev pub with_name : Form → Given → List (List ℕ) → List ℕ → Option WordsSoFar
 with_name form given names word =
     if is_item form.item word && nat_lt (length names) form.most then Some (Names given (names ++ word ∷ []))
     else with_dashes given names (arguments_behind form (length names) word)
 
 -- an option more, or else the other
-abbrev pub option_or : Option Part → Option Given → Option Part
+abbrev pub option_or : Option WordsSoFar → Option Given → Option WordsSoFar
 option_or other None = other
 option_or other (Some given) = Some (Options given)
 
 -- what is read with a word more, where a form can go on so
-abbrev pub with_word : Form → Part → List ℕ → Option Part
+abbrev pub with_word : Form → WordsSoFar → List ℕ → Option WordsSoFar
 with_word form (Options given) word = option_or (with_name form given [] word) (with_option form given word)
 with_word form (Names given names) word = with_name form given names word
 with_word form (Arguments given names arguments) word = with_argument form given names arguments word
 
 -- ---- all words
 
-abbrev pub given_of : Part → Given
+abbrev pub given_of : WordsSoFar → Given
 given_of (Options given) = given
 given_of (Names given names) = given
 given_of (Arguments given names arguments) = given
 
-abbrev pub names_read : Part → List (List ℕ)
+abbrev pub names_read : WordsSoFar → List (List ℕ)
 names_read (Options given) = []
 names_read (Names given names) = names
 names_read (Arguments given names arguments) = names
 
-abbrev pub arguments_read : Part → List (List ℕ)
+abbrev pub arguments_read : WordsSoFar → List (List ℕ)
 arguments_read (Options given) = []
 arguments_read (Names given names) = []
 arguments_read (Arguments given names arguments) = arguments
 
 -- what all words say, of which this was read
-abbrev pub line_of : Verb → Part → Line
+abbrev pub line_of : Verb → WordsSoFar → CommandLine
 line_of verb part = record { verb = verb; given = given_of part; names = names_read part; arguments = arguments_read part }
 
 -- what the words are read as that end here, where the next would be number k
-abbrev pub ended : Verb → ℕ → Part → Reading
+abbrev pub ended : Verb → ℕ → WordsSoFar → Reading
 ended verb k part = if nat_le (form_of verb).least (length (names_read part)) then says (line_of verb part) else bad k
 
-abbrev pub part_or : Reading → (Part → Reading) → Option Part → Reading
+abbrev pub part_or : Reading → (WordsSoFar → Reading) → Option WordsSoFar → Reading
 part_or other next None = other
 part_or other next (Some part) = next part
 
 -- what the words are read as that stand behind those that were read, of which the first is number k
-abbrev pub read_from : Verb → Part → ℕ → List (List ℕ) → Reading
+abbrev pub read_from : Verb → WordsSoFar → ℕ → List (List ℕ) → Reading
 read_from verb part k [] = ended verb k part
 read_from verb part k (word ∷ words) =
     part_or (bad k) (λ more. read_from verb more (k + 1) words) (with_word (form_of verb) part word)

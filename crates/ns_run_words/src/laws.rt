@@ -3,11 +3,11 @@
 ghost use Rattle.std.specs.Prelude.{◌≡◌, ℕ, List};
 ghost use Rattle.ns_base.specs.Limits.{InRange};
 ghost use Rattle.ns_run_words.specs.Forms.{IsForm, IsReadingOf};
-ghost use Rattle.ns_run_words.specs.Words.{Line, bad, first_bad, limits_of, reading_of, says};
+ghost use Rattle.ns_run_words.specs.Words.{CommandLine, bad, first_bad, limits_of, reading_of, says};
 
 /// The words of a form are read as what they spell.
 pub fn forms_are_read()
-    ensures { (words : List (List ℕ)) (line : Line) → IsForm words line → reading_of words ≡ says line }
+    ensures { (words : List (List ℕ)) (line : CommandLine) → IsForm words line → reading_of words ≡ says line }
 {}
 
 /// What is read of words is what they spell, or the first bad word.
@@ -23,5 +23,5 @@ pub fn first_bad_word_of_a_cut_line()
 
 /// The limits of a form are in their ranges.
 pub fn limits_are_in_range()
-    ensures { (words : List (List ℕ)) (line : Line) → IsForm words line → InRange (limits_of line.given) }
+    ensures { (words : List (List ℕ)) (line : CommandLine) → IsForm words line → InRange (limits_of line.given) }
 {}

@@ -60,12 +60,12 @@ AreWholeUnits number [] (marks ∷ others) = ⊥
 AreWholeUnits number (unit ∷ units) [] = ⊥
 AreWholeUnits number (unit ∷ units) (marks ∷ others) = IsWholeUnit number unit marks × AreWholeUnits (number + 1) units others
 
-abbrev pub IsFileName : List ℕ → Type 0
-IsFileName name = IsUtf8 name × (name ≢ []) × (length name ≤ 4294967295)
+abbrev pub NamesFile : List ℕ → Type 0
+NamesFile name = IsUtf8 name × (name ≢ []) × (length name ≤ 4294967295)
 
 pub record IsWhole (program : Program) : Type 0 where
   pub some : 1 ≤ length program.units
   pub not_many : length program.units ≤ most_units
   pub units : AreWholeUnits 0 (map unit_of program.units) program.marks
   pub one_name_each : length program.files ≡ length program.units
-  pub names : All IsFileName program.files
+  pub names : All NamesFile program.files

@@ -9,10 +9,10 @@ use Rattle.ns_world.specs.declared.ending.LimitKind.TheVariants.{Steps}
 use Rattle.ns_world.specs.World.{World, stepped}
 use Rattle.ns_kcode.specs.declared.state.KMethod.{KMethod}
 use Rattle.ns_actions.specs.declared.site.Site.{Site}
-use Rattle.ns_actions.specs.Control.{Progress, Activation, After, Gives, Halts, Control, Now, Enter, Evaluate, Begin, Perform, Part, Skip, Stop, EnterPart, Waiting, Waits, Finishes, charged, frame_left}
+use Rattle.ns_actions.specs.Control.{Progress, Activation, After, Gives, Halts, Control, Now, Enter, Evaluate, Begin, Perform, PartControl, Skip, Stop, EnterPart, Waiting, Waits, Finishes, charged, frame_left}
 use Rattle.ns_actions.specs.Classes.{body_ended}
 use Rattle.ns_machine_moves.specs.State.{Leaving, Loud, Silent, Frame, Running, Looping, Sending, Performing, Evaluating, Phase, Start, First, Second, Hosted, State, Unbegun, Going, Pends, Ended, Stuck}
-use Rattle.ns_machine_moves.specs.Steps.{Step, steps_from}
+use Rattle.ns_machine_moves.specs.Steps.{PlacedInstr, steps_from}
 use Rattle.ns_machine_moves.specs.Operands.{on_top, taken_off, picked}
 use Rattle.ns_machine_moves.specs.Returns.{concluded, delivered, settled, returned, is_home, has_home, unwound, returned_home}
 use Rattle.ns_machine_moves.specs.Arrivals.{arrived, part_arrived, acted_on}
@@ -67,7 +67,7 @@ module _ (code : CodeProgram) (phase : Phase) where
   arrived_begun (Begin method state site p) frames = tt
   arrived_begun (Perform receiver sel array site p) frames = tt
 
-  part_begun : (part : Part) (frames : List Frame) → HasBegun (part_arrived code phase part frames)
+  part_begun : (part : PartControl) (frames : List Frame) → HasBegun (part_arrived code phase part frames)
   part_begun (Skip p) frames = tt
   part_begun (Stop ending p) frames = tt
   part_begun (EnterPart a ls p) frames = tt
@@ -94,18 +94,18 @@ module _ (code : CodeProgram) (phase : Phase) where
 
   -- ---- instructions
 
-  module _ (leaving : Leaving) (a : Activation) (ls : List Value) (rest : List Step) (frames : List Frame) (p : Progress) where
+  module _ (leaving : Leaving) (a : Activation) (ls : List Value) (rest : List PlacedInstr) (frames : List Frame) (p : Progress) where
     charged_begun : (o : Option World) (go : Progress → State) → ((q : Progress) → HasBegun (go q))
         → HasBegun (charged (λ ending q. Ended ending phase q) Steps o p go)
     charged_begun (Some world) go g = g _
     charged_begun None go g = tt
 
-    jumped_begun : (landing : List Step) (stack : List Value) → HasBegun (jumped phase leaving a ls rest landing stack frames p)
+    jumped_begun : (landing : List PlacedInstr) (stack : List Value) → HasBegun (jumped phase leaving a ls rest landing stack frames p)
     jumped_begun landing stack =
         cond_begun (goes_back rest landing) _ _
         (charged_begun (stepped p.world) (Going phase (Running leaving a ls landing stack ∷ frames)) (λ q. tt)) tt
 
-    jumped_on_begun : (wanted : Bool) (v : Value) (landing : List Step) (stack : List Value)
+    jumped_on_begun : (wanted : Bool) (v : Value) (landing : List PlacedInstr) (stack : List Value)
         → HasBegun (jumped_on phase wanted v leaving a ls rest landing stack frames p)
     jumped_on_begun wanted v landing stack =
         cond_begun (is_boolean v) _ _ (cond_begun (takes_jump wanted v) _ _ (jumped_begun landing stack) tt) tt

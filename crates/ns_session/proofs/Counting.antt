@@ -7,7 +7,7 @@ use Rattle.ns_machine_moves.specs.State.{State, progress_of, world_of}
 use Rattle.ns_machine_moves.specs.Move.{move, moves}
 use Rattle.ns_machine_moves.specs.Turn.{is_still, ends_with_steps, charges, one_if, charged_in, Turns}
 use Rattle.ns_machine_moves.specs.Charging.{will_charge}
-use Rattle.ns_machine_moves.specs.Charges.{Took, TakesAsTold, ChargesAsTold}
+use Rattle.ns_machine_moves.specs.Charges.{MoveTook, TakesAsTold, ChargesAsTold}
 use Rattle.ns_machine_moves.specs.Stated.{StaysStill}
 use Rattle.ns_machine_moves.specs.Standing.{MovesKeepValid}
 use Rattle.ns_machine_moves.specs.Valid.{Valid}
@@ -74,7 +74,7 @@ module _ (code : CodeProgram) (grants : Grants) (known : Known code grants) wher
       let most : charged_in code (suc count) s + used s ≤ taken (move code s) = omega (arith, charged, none, one, same) in
       subst (λ (t : State). Counted code (suc count) s t) (sym (known.stay (move code s) count still)) (record { least = least; most = most })
 
-  took_on : (b : Bool) (count : ℕ) (s : State) → charges code s ≡ b → Took b (progress_of s) (move code s)
+  took_on : (b : Bool) (count : ℕ) (s : State) → charges code s ≡ b → MoveTook b (progress_of s) (move code s)
       → Counted code count (move code s) (moves code count (move code s)) → Counted code (suc count) s (moves code count (move code s))
   took_on true count s e (inl one) c = step_more true count s e (omega (arith, one)) c
   took_on true count s e (inr none) c = none_left count s e none.ended (ap (λ (p : Progress). p.world.steps) none.same)

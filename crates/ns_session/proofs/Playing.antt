@@ -13,7 +13,7 @@ use Rattle.ns_machine_moves.specs.Stated.{TurnsAdd, TurnsLeaveOne}
 use Rattle.ns_session.specs.Member.{Application, MemberView, start_of, starting, taken, IsAlone, TurnOf}
 use Rattle.ns_session.specs.Session.{SessionView, Pair, PlaysAt, Plays, added}
 use Rattle.ns_session.specs.Play.{opened, Played, steps_for, given}
-use Rattle.ns_session.specs.Laws.{AreWithin, IsPlayed, WasGiven}
+use Rattle.ns_session.specs.Laws.{NameApplications, IsPlayed, WasGiven}
 use Rattle.ns_session.proofs.Lists.{set_here, set_there, get_before, set_before}
 
 -- ---- an application that comes later
@@ -42,7 +42,7 @@ added_plays application pair old new within plays =
     (sym (get_before old.members (starting application ∷ []) pair.number within))
     (added_at application (slice_get old.members pair.number) pair old new within plays)
 
-added_played : (application : Application) (pairs : List Pair) (old new : SessionView) → AreWithin (length old.members) pairs → Played pairs old new
+added_played : (application : Application) (pairs : List Pair) (old new : SessionView) → NameApplications (length old.members) pairs → Played pairs old new
     → Played pairs (added application old) (added application new)
 added_played application [] old new within is = ap (added application) is
 added_played application (pair ∷ pairs) old new within played =
@@ -51,11 +51,11 @@ added_played application (pair ∷ pairs) old new within played =
       added application next,
       (
         added_plays application pair old next within.0 played.1.0,
-        added_played application pairs next new (subst (λ n. AreWithin n pairs) (sym same) within.1) played.1.1,
+        added_played application pairs next new (subst (λ n. NameApplications n pairs) (sym same) within.1) played.1.1,
       ),
     )
 
-more_within : (count more : ℕ) (pairs : List Pair) → count < more → AreWithin count pairs → AreWithin more pairs
+more_within : (count more : ℕ) (pairs : List Pair) → count < more → NameApplications count pairs → NameApplications more pairs
 more_within count more [] less within = tt
 more_within count more (pair ∷ pairs) less within =
     let before = within.0 in
@@ -78,7 +78,7 @@ adding_plays application applications pairs session is =
       within = more_within (length applications) (length (applications ++ application ∷ [])) pairs more is.within;
       played = subst (λ (s : SessionView). Played pairs s (added application session)) (sym (opened_added applications application))
           (added_played application pairs (opened applications) session
-          (subst (λ n. AreWithin n pairs) (sym (opened_length applications)) is.within) is.played);
+          (subst (λ n. NameApplications n pairs) (sym (opened_length applications)) is.within) is.played);
     }
 
 -- ---- one more pair
@@ -88,7 +88,7 @@ then_plays pair [] first old new is plays = (new, (subst (λ (s : SessionView). 
 then_plays pair (each ∷ pairs) first old new played plays =
     (played.0, (played.1.0, then_plays pair pairs played.0 old new played.1.1 plays))
 
-then_within : (count : ℕ) (pair : Pair) (pairs : List Pair) → AreWithin count pairs → pair.number < count → AreWithin count (pairs ++ pair ∷ [])
+then_within : (count : ℕ) (pair : Pair) (pairs : List Pair) → NameApplications count pairs → pair.number < count → NameApplications count (pairs ++ pair ∷ [])
 then_within count pair [] within is = (is, tt)
 then_within count pair (each ∷ pairs) within is = (within.0, then_within count pair pairs within.1 is)
 

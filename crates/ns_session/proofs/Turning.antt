@@ -3,7 +3,7 @@ use Rattle.std.proofs.Common.{◌≡◌, ℕ, zero, suc, ◌+◌, ◌^◌, ◌�
 use Rattle.std.proofs.lemmas.Bool.{eqb-true}
 use Rattle.ns_code.specs.declared.program.CodeProgram.{CodeProgram}
 use Rattle.ns_facets.specs.declared.row.Grants.{Grants}
-use Rattle.ns_machine_moves.specs.Doubling.{Leads, times, until}
+use Rattle.ns_machine_moves.specs.Doubling.{StepsLead, times, until}
 use Rattle.ns_machine_moves.specs.Falling.{LeftIsBelowPower, MovesLower, power_left, run_left}
 use Rattle.ns_machine_moves.specs.laws.Doubling.{leads}
 use Rattle.ns_machine_moves.specs.Stated.{TurnsLeaveOne}
@@ -149,7 +149,7 @@ module _ (code : CodeProgram) (grants : Grants) (known : Known code grants) wher
     abbrev last : Underway
     last = until (is_over code) (moved_on code) 0 power (at_turn steps state)
 
-    over : Leads (is_over code) (moved_on code) 0 power (at_turn steps state) last → is_over code last ≡ true
+    over : StepsLead (is_over code) (moved_on code) 0 power (at_turn steps state) last → is_over code last ≡ true
     over led = by (is_over code last) refl
       where
         stopped : is_over code last ≡ false → (is_over code last ≡ true) ⊎ (2 ^ (0 + power) ≤ led.count + 2 ^ 0) → is_over code last ≡ true

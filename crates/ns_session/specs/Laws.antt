@@ -10,7 +10,7 @@ use Rattle.ns_machine_moves.specs.Move.{moves}
 use Rattle.ns_machine_moves.specs.Turn.{Turns, is_still}
 use Rattle.ns_link.specs.Stated.{HasFirst, IsOnTheWay}
 use Rattle.ns_session.specs.Member.{Application, MayStart, start_of, IsAlone, TurnOf}
-use Rattle.ns_session.specs.Reached.{IsReached, left_for}
+use Rattle.ns_session.specs.Reached.{StateIsReached, left_for}
 use Rattle.ns_session.specs.Session.{SessionView, Pair, Plays, added}
 use Rattle.ns_session.specs.Play.{opened, Played, given}
 
@@ -32,14 +32,14 @@ pub record ComesToRest (application : Application) (last : State) : Type 0 where
   pub still : is_still last ≡ true
 
 -- What was printed by one state begins what was printed by the last, and a state that moves no more is the last.
-pub record LeadsTo (state last : State) : Type 0 where
+pub record PrintsOn (state last : State) : Type 0 where
   pub more : List ℕ
   pub printed : (world_of last).output ≡ (world_of state).output ++ more
   pub at_rest : is_still state ≡ true → state ≡ last
 
 -- So each state of a run on its own leads to where that run comes to rest.
 abbrev pub AloneLeads : Application → Type 0
-AloneLeads application = (state last : State) → IsAlone application state → ComesToRest application last → LeadsTo state last
+AloneLeads application = (state last : State) → IsAlone application state → ComesToRest application last → PrintsOn state last
 
 -- A turn of more steps than the limit comes to rest.
 abbrev pub LongTurnsRest : Application → Type 0
@@ -57,31 +57,31 @@ SourceLeads meant =
 
 -- Its start is a state that it reaches.
 abbrev pub StartsReached : Application → Type 0
-StartsReached application = MayStart application → IsReached application (start_of application)
+StartsReached application = MayStart application → StateIsReached application (start_of application)
 
 -- A turn, with the board or without, leads from such a state to such a state.
 abbrev pub TurnsReach : Application → Type 0
 TurnsReach application =
     (granted : Bool) (steps : ℕ) (old : State) (shared : Board) (new : State) (left : Board) → TurnOf granted application.code steps old shared new left
-    → IsReached application old → IsReached application new
+    → StateIsReached application old → StateIsReached application new
 
 -- A turn of at least one step of a run that hasn't ended leaves less to do.
 abbrev pub TurnsLower : Application → Type 0
 TurnsLower application =
     (granted : Bool) (steps : ℕ) (old : State) (shared : Board) (new : State) (left : Board) → TurnOf granted application.code steps old shared new left
-    → IsReached application old → 1 ≤ steps → ending_of old ≡ None
+    → StateIsReached application old → 1 ≤ steps → ending_of old ≡ None
     → left_for (record { application = application; state = new }) < left_for (record { application = application; state = old })
 
 -- ---- schedules
 
 -- Each pair names one of so many applications.
-abbrev pub AreWithin : ℕ → List Pair → Type 0
-AreWithin count [] = Unit {0}
-AreWithin count (pair ∷ pairs) = (pair.number < count) × AreWithin count pairs
+abbrev pub NameApplications : ℕ → List Pair → Type 0
+NameApplications count [] = Unit {0}
+NameApplications count (pair ∷ pairs) = (pair.number < count) × NameApplications count pairs
 
 -- A session of these applications, in which this schedule was played.
 pub record IsPlayed (applications : List Application) (pairs : List Pair) (session : SessionView) : Type 0 where
-  pub within : AreWithin (length applications) pairs
+  pub within : NameApplications (length applications) pairs
   pub played : Played pairs (opened applications) session
 
 -- An application that is added comes to a session as if it had been there from the beginning.

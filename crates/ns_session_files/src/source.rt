@@ -7,7 +7,7 @@ ghost use Rattle.ns_base.specs.Shelf.{OnlyRead};
 ghost use Rattle.ns_facets.specs.declared.row.Grants.{Grants as AnyGrants};
 ghost use Rattle.ns_resolved.specs.Classes.{meant};
 ghost use Rattle.ns_load.specs.Loaded.{loaded, loaded_texts};
-ghost use Rattle.ns_scope.specs.Whole.{IsFileName, IsWhole};
+ghost use Rattle.ns_scope.specs.Whole.{NamesFile, IsWhole};
 ghost use Rattle.ns_static.specs.Check.{fault_of};
 ghost use Rattle.ns_tree.specs.PlainOf.{unit_of};
 ghost use Rattle.ns_run_words.specs.Application.{are_few, names_in};
@@ -88,7 +88,7 @@ fn of_files<S: Shelf>(
 ) -> Result<Verified, JointFault>
     requires some { 1 ≤ length texts.now }
     requires few { length texts.now ≤ 16 }
-    requires named { All IsFileName texts.now }
+    requires named { All NamesFile texts.now }
     requires same { texts.now ≡ map string_bytes names.items }
     ensures told { (grants : AnyGrants) (files : Files) → S.holds shelf.old ≡ Some files →
         IsMadeAs grants (spec.of_loading texts.now grants lib (loaded texts.now lib files)) result }

@@ -16,6 +16,6 @@ abbrev pub IsFaultless : Program → Type 0
 IsFaultless program = fault_of program ≡ None
 
 -- A fault that is told is the least one; want of memory is told of any program.
-abbrev pub Told : Option Placed → StaticFault → Type 0
-Told least (At cause place) = least ≡ Some (record { place = place; cause = cause })
-Told least Memory = Unit {0}
+abbrev pub FaultIsTold : Option Placed → StaticFault → Type 0
+FaultIsTold least (At cause place) = least ≡ Some (record { place = place; cause = cause })
+FaultIsTold least Memory = Unit {0}

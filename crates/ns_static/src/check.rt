@@ -2,7 +2,7 @@
 
 ghost use Rattle.std.specs.Prelude.{◌≡◌, None, IfOk, MatchResult};
 ghost use Rattle.ns_scope.specs.Whole.{IsWhole};
-ghost use Rattle.ns_static.specs.Check.{fault_of, IsFaultless, Told};
+ghost use Rattle.ns_static.specs.Check.{fault_of, IsFaultless, FaultIsTold};
 
 use crate::fault::StaticFault;
 use crate::units::{Before, unit_faults};
@@ -51,7 +51,7 @@ impl Checked {
 pub fn check(alloc: Global, program: Program) -> Result<Checked, StaticFault>
     requires whole { IsWhole program }
     ensures program { IfOk result (λ checked. checked ≡ program) }
-    ensures exact { MatchResult result (λ _. fault_of program ≡ None) (λ fault. Told (fault_of program) fault) }
+    ensures exact { MatchResult result (λ _. fault_of program ≡ None) (λ fault. FaultIsTold (fault_of program) fault) }
 {
     match least_fault(alloc, &program) {
         Ok(None) => Ok(Checked { program }),

@@ -10,7 +10,7 @@ use Rattle.ns_world.specs.Words.{word_of, value_in, words_of, laid_out}
 use Rattle.ns_world.proofs.LaidOut.{value_in-word_of, value_in-word_beside, length-laid_out}
 use Rattle.ns_world.specs.laws.Standing.{stands-within}
 use Rattle.ns_world.proofs.Standing.{word_of_cell, set_word_of_cell}
-use Rattle.ns_world.specs.lemmas.Replacing.{Replaces, Stays, set_cell_stays}
+use Rattle.ns_world.specs.lemmas.Replacing.{Replaces, StaysReplaced, set_cell_stays}
 
 -- a value among many that were laid out
 mapped : (values : List Value) (k : ℕ) (d : Word) → k < length values → value_in (get_or (map word_of values) k d) ≡ get_or values k Nil
@@ -111,7 +111,7 @@ open_fits (MessageCell sel args) = omega arith
 pub record WritesWord (heap : Heap) (words : List Word) (n k : ℕ) (value : Value) : Type 0 where
   pub inside : n + 1 + k < length words
   pub after : laid_out (write_word heap n k value) ≡ set words (n + 1 + k) (word_of value)
-  pub stays : Stays heap (write_word heap n k value)
+  pub stays : StaysReplaced heap (write_word heap n k value)
 
 pub writes_word : (heap : Heap) (words : List Word) (n k : ℕ) (value : Value) → laid_out heap ≡ words → k < length (open_words_at heap n) → WritesWord heap words n k value
 writes_word heap words n k value laid h = found (find_cell heap n) refl

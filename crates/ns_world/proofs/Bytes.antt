@@ -10,7 +10,7 @@ use Rattle.ns_world.specs.Words.{eight, packed, words_of, laid_out}
 use Rattle.ns_world.proofs.LaidOut.{length-laid_out}
 use Rattle.ns_world.specs.laws.Standing.{stands-within}
 use Rattle.ns_world.proofs.Standing.{word_of_cell, set_word_of_cell}
-use Rattle.ns_world.specs.lemmas.Replacing.{Replaces, Stays, set_cell_stays}
+use Rattle.ns_world.specs.lemmas.Replacing.{Replaces, StaysReplaced, set_cell_stays}
 
 -- the bytes of the word of that place
 abbrev pub word_bytes : ℕ → List ℕ → List ℕ
@@ -61,7 +61,7 @@ pub record ReadsByte (heap : Heap) (words : List Word) (n p : ℕ) : Type 0 wher
   pub word : (d : Word) → get_or words (n + 1 + p / 8) d ≡ BytesWord row
   pub byte : get_or row (p % 8) 0 ≡ byte_at heap n p
   pub after : (b : ℕ) → laid_out (write_byte heap n p b) ≡ set words (n + 1 + p / 8) (BytesWord (set row (p % 8) b))
-  pub stays : (b : ℕ) → Stays heap (write_byte heap n p b)
+  pub stays : (b : ℕ) → StaysReplaced heap (write_byte heap n p b)
 
 reads_text : (heap : Heap) (words : List Word) (n p : ℕ) (bytes : List ℕ) → laid_out heap ≡ words → find_cell heap n ≡ Some (TextCell bytes) → p < length bytes → ReadsByte heap words n p
 reads_text heap words n p bytes laid e h =

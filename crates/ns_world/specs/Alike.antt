@@ -8,7 +8,7 @@ use Rattle.ns_world.specs.declared.cell.FacetKind.TheVariants.{Manifest, Platfor
 use Rattle.ns_world.specs.Cell.{Cell, ObjectCell, ClassCell, BlockCell, EnvironmentCell, ArrayCell, TextCell, FacetCell, MirrorCell, MessageCell}
 use Rattle.ns_world.specs.Heap.{Heap, heap_size, find_cell, no_class}
 use Rattle.ns_world.specs.Seek.{first_such, is_facet, is_top}
-use Rattle.ns_world.specs.Reach.{Reach, all_referred}
+use Rattle.ns_world.specs.Reach.{IsInReach, all_referred}
 use Rattle.ns_world.specs.World.{World}
 
 -- pairs of cells of two worlds
@@ -74,11 +74,11 @@ pub record AlikePairs (pairs : Renaming) (first second : Heap) (number other : �
 pub record Alike (pairs : Renaming) (first second : World) (firsts seconds : List Value) : Type 0 where
   pub once_first : AllPairs (λ p q. p.0 ≢ q.0) pairs
   pub once_second : AllPairs (λ p q. p.1 ≢ q.1) pairs
-  pub onto : (number : ℕ) → Reach first.cells (all_referred firsts) number
-      → (other : ℕ) × Contains pairs (number, other) × Reach second.cells (all_referred seconds) other
-  pub back : (other : ℕ) → Reach second.cells (all_referred seconds) other
-      → (number : ℕ) × Contains pairs (number, other) × Reach first.cells (all_referred firsts) number
-  pub cells : (number other : ℕ) → Contains pairs (number, other) → Reach first.cells (all_referred firsts) number
+  pub onto : (number : ℕ) → IsInReach first.cells (all_referred firsts) number
+      → (other : ℕ) × Contains pairs (number, other) × IsInReach second.cells (all_referred seconds) other
+  pub back : (other : ℕ) → IsInReach second.cells (all_referred seconds) other
+      → (number : ℕ) × Contains pairs (number, other) × IsInReach first.cells (all_referred firsts) number
+  pub cells : (number other : ℕ) → Contains pairs (number, other) → IsInReach first.cells (all_referred firsts) number
       → AlikePairs pairs first.cells second.cells number other
   pub roots : AlikeValues pairs firsts seconds
   pub steps : first.limits.steps - first.steps ≡ second.limits.steps - second.steps

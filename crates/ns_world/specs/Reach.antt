@@ -64,7 +64,7 @@ held heap (MirrorCell mirrored) = referred mirrored
 held heap (MessageCell sel args) = referred args
 
 -- The cells that are reached: the roots, and each cell that a reached one holds.
-pub data Reach (heap : Heap) (roots : List ℕ) : (number : ℕ) → Type 0 where
-  IsRoot : (number : ℕ) → Contains roots number → IsSome (find_cell heap number) → Reach heap roots number
-  IsHeld : (from number : ℕ) (cell : Cell) → Reach heap roots from → find_cell heap from ≡ Some cell
-      → Contains (held heap cell) number → IsSome (find_cell heap number) → Reach heap roots number
+pub data IsInReach (heap : Heap) (roots : List ℕ) : (number : ℕ) → Type 0 where
+  IsRoot : (number : ℕ) → Contains roots number → IsSome (find_cell heap number) → IsInReach heap roots number
+  IsHeld : (from number : ℕ) (cell : Cell) → IsInReach heap roots from → find_cell heap from ≡ Some cell
+      → Contains (held heap cell) number → IsSome (find_cell heap number) → IsInReach heap roots number

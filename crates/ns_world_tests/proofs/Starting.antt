@@ -11,14 +11,14 @@ use Rattle.ns_world.specs.World.{WorldView}
 use Rattle.ns_world.specs.Starts.{start_of, start_of_cell, is_receiver, is_receiver_cell}
 use Rattle.ns_world.specs.Keeping.{IsEnclosed}
 use Rattle.ns_find.specs.Find.{is_start}
-use Rattle.ns_find.specs.Memo.{IsEmpty, IsRight}
+use Rattle.ns_find.specs.Memo.{IsEmpty, PlaceIsRight}
 use Rattle.ns_find.specs.declared.memo.Kept.{Kept}
 use Rattle.ns_world_tests.specs.Program.{program_code, class_base}
-use Rattle.ns_world_tests.specs.Ready.{IsReady}
+use Rattle.ns_world_tests.specs.Ready.{WorldIsReady}
 use Rattle.ns_world_tests.proofs.Stages.{at_top}
 
 -- the lookup of a send to a receiver can start
-pub starts_there : (view : WorldView) (value : Value) → IsReady view → is_receiver view.world.cells value ≡ true → is_start view.world.cells (start_of view.world.cells value) ≡ true
+pub starts_there : (view : WorldView) (value : Value) → WorldIsReady view → is_receiver view.world.cells value ≡ true → is_start view.world.cells (start_of view.world.cells value) ≡ true
 starts_there view Nil ready r = refl
 starts_there view True ready r = refl
 starts_there view False ready r = refl
@@ -40,8 +40,8 @@ starts_there view (Ref at) ready r = told (find_cell view.world.cells at) refl r
     told (Some (MessageCell sel args)) e r = refl
 
 -- a memo that keeps nothing is right
-pub empty_is_right : (heap : Heap) (code : CodeProgram) (places : List (Option Kept)) → All IsEmpty places → All (IsRight heap code) places
-empty_is_right heap code places all = λ k d lt. subst (IsRight heap code) (sym (all k d lt)) tt
+pub empty_is_right : (heap : Heap) (code : CodeProgram) (places : List (Option Kept)) → All IsEmpty places → All (PlaceIsRight heap code) places
+empty_is_right heap code places all = λ k d lt. subst (PlaceIsRight heap code) (sym (all k d lt)) tt
 
 -- Base is a top-level declaration
 pub base_at_top : (heap : Heap) (code : CodeProgram) → code ≡ program_code → IsEnclosed heap code 0 Nil Nil

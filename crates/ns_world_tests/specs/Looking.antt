@@ -28,5 +28,5 @@ is_no_environment (Environment parent locals) = false
 is_no_environment cell = true
 
 -- Where a number is below the cells used, a cell has it.
-abbrev pub IsNext : Heap → ℕ → Type 0
-IsNext heap number = number < heap_size heap → IsSome (find_cell heap number)
+abbrev pub HasCell : Heap → ℕ → Type 0
+HasCell heap number = number < heap_size heap → IsSome (find_cell heap number)

@@ -5,7 +5,7 @@ use Rattle.ns_world.specs.Lawful.{IsLawful}
 use Rattle.ns_world_tests.specs.Program.{program_code}
 
 -- A world is lawful for the program, and has room for all its cells and all its output.
-pub record IsReady (view : WorldView) : Type 0 where
+pub record WorldIsReady (view : WorldView) : Type 0 where
   pub lawful : IsLawful view.world program_code
   pub cells : view.world.limits.cells ≤ view.cell_room
   pub out : view.world.limits.out ≤ view.out_room

@@ -2,9 +2,9 @@
 //! live, answers none.
 
 ghost use Rattle.std.specs.Prelude.{◌≡◌, All};
-ghost use Rattle.ns_find.specs.Memo.{IsRight};
+ghost use Rattle.ns_find.specs.Memo.{PlaceIsRight};
 ghost use Rattle.ns_world_tests.specs.Program.{program_code as the_code};
-ghost use Rattle.ns_world_tests.specs.Ready.{IsReady};
+ghost use Rattle.ns_world_tests.specs.Ready.{WorldIsReady};
 
 use crate::looking::{are_live, is_cell, is_class, is_live};
 use crate::setting::Setting;
@@ -33,7 +33,7 @@ pub fn ask_datum(
     args: &[Value],
 ) -> Option<Result<Value, Fault>>
     requires code { w.old.code ≡ the_code }
-    requires ready { IsReady w.old.world }
+    requires ready { WorldIsReady w.old.world }
 {
     if !is_live(&w.world, receiver) {
         return None;
@@ -54,7 +54,7 @@ pub fn ask_facet(
     board: &mut Board,
 ) -> Option<Result<Value, Fault>>
     requires code { w.old.code ≡ the_code }
-    requires ready { IsReady w.old.world }
+    requires ready { WorldIsReady w.old.world }
 {
     if !are_live(&w.world, args) {
         return None;
@@ -71,7 +71,7 @@ pub fn ask_mirror(
     args: &[Value],
 ) -> Option<Result<Mirrored, Fault>>
     requires code { w.old.code ≡ the_code }
-    requires ready { IsReady w.old.world }
+    requires ready { WorldIsReady w.old.world }
 {
     if !is_cell(&w.world, receiver) {
         return None;
@@ -86,7 +86,7 @@ pub fn ask_mirror(
 #[tactic(auto, using(crate::proofs::Readiness::lawful_for, crate::proofs::Starting::starts_there))]
 pub fn ask_lookup(w: &Setting, receiver: Value, sel: u32, kind: Sending) -> Option<Found>
     requires code { w.now.code ≡ the_code }
-    requires ready { IsReady w.now.world }
+    requires ready { WorldIsReady w.now.world }
 {
     if !is_live(&w.world, receiver) {
         return None;
@@ -105,9 +105,9 @@ pub fn ask_kept_lookup(
     kind: Sending,
 ) -> Option<Found>
     requires code { w.now.code ≡ the_code }
-    requires ready { IsReady w.now.world }
-    requires memo { All (IsRight w.now.world.world.cells w.now.code) memo.old }
-    ensures memo { All (IsRight w.now.world.world.cells w.now.code) memo.new }
+    requires ready { WorldIsReady w.now.world }
+    requires memo { All (PlaceIsRight w.now.world.world.cells w.now.code) memo.old }
+    ensures memo { All (PlaceIsRight w.now.world.world.cells w.now.code) memo.new }
 {
     if !is_live(&w.world, receiver) {
         return None;
@@ -120,7 +120,7 @@ pub fn ask_kept_lookup(
 #[tactic(auto, using(crate::proofs::Readiness::lawful_for))]
 pub fn ask_kernel_lookup(w: &Setting, row: KernelRow, sel: u32) -> Found
     requires code { w.now.code ≡ the_code }
-    requires ready { IsReady w.now.world }
+    requires ready { WorldIsReady w.now.world }
 {
     find(
         &w.world,
@@ -135,7 +135,7 @@ pub fn ask_kernel_lookup(w: &Setting, row: KernelRow, sel: u32) -> Found
 #[tactic(auto, using(crate::proofs::Readiness::lawful_for))]
 pub fn ask_super_lookup(w: &Setting, holder: u32, class_side: bool, sel: u32) -> Option<Found>
     requires code { w.now.code ≡ the_code }
-    requires ready { IsReady w.now.world }
+    requires ready { WorldIsReady w.now.world }
 {
     if !is_class(&w.world, holder) {
         return None;
@@ -148,7 +148,7 @@ pub fn ask_super_lookup(w: &Setting, holder: u32, class_side: bool, sel: u32) ->
 #[tactic(auto, using(crate::proofs::Readiness::lawful_for))]
 pub fn ask_private(w: &Setting, holder: u32, sel: u32) -> Option<Found>
     requires code { w.now.code ≡ the_code }
-    requires ready { IsReady w.now.world }
+    requires ready { WorldIsReady w.now.world }
 {
     if !is_class(&w.world, holder) {
         return None;
@@ -160,7 +160,7 @@ pub fn ask_private(w: &Setting, holder: u32, sel: u32) -> Option<Found>
 #[tactic(auto, using(crate::proofs::Readiness::lawful_for, crate::proofs::Telling::live_for, crate::proofs::Starting::base_at_top))]
 pub fn ask_class(w: &mut Setting, over: Value) -> Option<Result<u32, MakeFault>>
     requires code { w.old.code ≡ the_code }
-    requires ready { IsReady w.old.world }
+    requires ready { WorldIsReady w.old.world }
 {
     if !is_live(&w.world, over) {
         return None;

@@ -2,7 +2,7 @@
 
 ghost use Rattle.std.specs.Prelude.{◌≡◌, IfSome};
 ghost use Rattle.ns_world_tests.specs.Program.{program_code as the_code};
-ghost use Rattle.ns_world_tests.specs.Ready.{IsReady};
+ghost use Rattle.ns_world_tests.specs.Ready.{WorldIsReady};
 
 use crate::asking::ask_facet;
 use crate::setting::{
@@ -65,7 +65,7 @@ fn are_given(alloc: Global) -> bool {
 /// Whether a row answers that, and makes no cell.
 fn gives(w: Option<Setting>, row: FacetRow, receiver: u32, want: Value) -> bool
     requires code { IfSome w (λ w. w.code ≡ the_code) }
-    requires ready { IfSome w (λ w. IsReady w.world) }
+    requires ready { IfSome w (λ w. WorldIsReady w.world) }
 {
     let Some(mut w) = w else {
         return false;
@@ -235,7 +235,7 @@ fn is_printed(alloc: Global, row: &Print) -> bool {
 /// The program and its world, in which that was printed.
 fn with_output(alloc: Global, before: &str) -> Option<Setting>
     ensures code { IfSome result (λ w. w.code ≡ the_code) }
-    ensures ready { IfSome result (λ w. IsReady w.world) }
+    ensures ready { IfSome result (λ w. WorldIsReady w.world) }
 {
     let mut w = set_up(alloc)?;
     match print(&mut w.world, before.as_bytes()) {

@@ -39,7 +39,7 @@ pub fn is_cell(world: &World, number: u32) -> bool
 /// The number behind a cell.
 fn next_cell(world: &World, at: u32) -> Option<u32>
     requires { IsSome (find_cell world.now.world.cells at) }
-    ensures { IfSome result (λ next. spec.IsNext world.now.world.cells next) }
+    ensures { IfSome result (λ next. spec.HasCell world.now.world.cells next) }
 {
     let shape = world.cell(at);
     number_of(u64::from(at) + size_of_shape(shape))

@@ -3,7 +3,7 @@
 
 ghost use Rattle.std.specs.Prelude.{◌≡◌};
 ghost use Rattle.ns_world_tests.specs.Program.{program_code as the_code};
-ghost use Rattle.ns_world_tests.specs.Ready.{IsReady};
+ghost use Rattle.ns_world_tests.specs.Ready.{WorldIsReady};
 
 use crate::asking::{
     ask_kept_lookup, ask_kernel_lookup, ask_lookup, ask_private, ask_super_lookup,
@@ -300,7 +300,7 @@ fn are_rows(alloc: Global) -> bool {
 
 fn row_asked(w: &Setting, receiver: Value, sel: u32) -> Option<Row>
     requires code { w.now.code ≡ the_code }
-    requires ready { IsReady w.now.world }
+    requires ready { WorldIsReady w.now.world }
 {
     match ask_lookup(w, receiver, sel, INNER) {
         Some(Found::Kernel(number)) => Some(row_of(number)),

@@ -3,7 +3,7 @@
 
 ghost use Rattle.std.specs.Prelude.{◌≡◌};
 ghost use Rattle.ns_world_tests.specs.Program.{program_code as the_code};
-ghost use Rattle.ns_world_tests.specs.Ready.{IsReady};
+ghost use Rattle.ns_world_tests.specs.Ready.{WorldIsReady};
 
 use crate::asking::ask_datum;
 use crate::looking::{item, says, shape};
@@ -127,7 +127,7 @@ fn is_too_large(alloc: Global, row: &NewText) -> bool {
 /// Whether a row has no room, and takes none.
 fn is_refused(w: &mut Setting, row: DataRow, receiver: Value, args: &[Value]) -> bool
     requires code { w.old.code ≡ the_code }
-    requires ready { IsReady w.old.world }
+    requires ready { WorldIsReady w.old.world }
 {
     let used = w.world.counters().cells;
     ask_datum(w, row, receiver, args) == Some(NO_CELL) && w.world.counters().cells == used

@@ -2,7 +2,7 @@
 
 ghost use Rattle.std.specs.Prelude.{◌≡◌, IfSome};
 ghost use Rattle.ns_world_tests.specs.Program.{program_code as the_code};
-ghost use Rattle.ns_world_tests.specs.Ready.{IsReady};
+ghost use Rattle.ns_world_tests.specs.Ready.{WorldIsReady};
 
 use crate::asking::ask_mirror;
 use crate::looking::{lists, says, shape, word_of};
@@ -47,7 +47,7 @@ struct Mirroring {
 
 fn mirror_with_room(alloc: Global, value: Value, room: u64) -> Option<Mirroring>
     ensures code { IfSome result (λ m. m.setting.code ≡ the_code) }
-    ensures ready { IfSome result (λ m. IsReady m.setting.world) }
+    ensures ready { IfSome result (λ m. WorldIsReady m.setting.world) }
 {
     let mut setting = set_up(alloc)?;
     let mirror = make_mirror(&mut setting.world, value)?;
@@ -65,7 +65,7 @@ fn mirror_with_room(alloc: Global, value: Value, room: u64) -> Option<Mirroring>
 /// Whether a row has no room, and takes none.
 fn is_refused(m: &mut Mirroring, row: MirrorRow) -> bool
     requires code { m.old.setting.code ≡ the_code }
-    requires ready { IsReady m.old.setting.world }
+    requires ready { WorldIsReady m.old.setting.world }
 {
     ask_mirror(&mut m.setting, row, m.mirror, &[]) == NO_CELL
         && m.setting.world.counters().cells == m.used

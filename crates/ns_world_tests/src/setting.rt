@@ -8,7 +8,7 @@ ghost use Rattle.ns_world.specs.declared.value.Value.TheVariants.{Ref};
 ghost use Rattle.ns_kdata.specs.Arguments as arguments;
 ghost use Rattle.ns_world.specs.Lawful.{IsLiveValue};
 ghost use Rattle.ns_world_tests.specs.Program.{program_code as the_code};
-ghost use Rattle.ns_world_tests.specs.Ready.{IsReady};
+ghost use Rattle.ns_world_tests.specs.Ready.{WorldIsReady};
 
 use crate::cells::{empty_world, tried_world};
 use crate::looking::{is_cell, is_live};
@@ -90,7 +90,7 @@ pub struct Setting {
 /// The program and a world of 200 cells that holds the values above and all facets.
 pub fn set_up(alloc: Global) -> Option<Setting>
     ensures code { IfSome result (λ w. w.code ≡ the_code) }
-    ensures ready { IfSome result (λ w. IsReady w.world) }
+    ensures ready { IfSome result (λ w. WorldIsReady w.world) }
 {
     let world = filled_world(alloc)?;
     match program_code(alloc) {
@@ -102,7 +102,7 @@ pub fn set_up(alloc: Global) -> Option<Setting>
 /// The program and a world without cells.
 pub fn set_up_bare(alloc: Global) -> Option<Setting>
     ensures code { IfSome result (λ w. w.code ≡ the_code) }
-    ensures ready { IfSome result (λ w. IsReady w.world) }
+    ensures ready { IfSome result (λ w. WorldIsReady w.world) }
 {
     let world = bare_world(alloc)?;
     match program_code(alloc) {
@@ -113,13 +113,13 @@ pub fn set_up_bare(alloc: Global) -> Option<Setting>
 
 #[tactic(auto, using(crate::proofs::Readiness::empty_ready))]
 fn bare_world(alloc: Global) -> Option<World>
-    ensures { IfSome result (λ w. IsReady w) }
+    ensures { IfSome result (λ w. WorldIsReady w) }
 {
     empty_world(alloc)
 }
 
 fn filled_world(alloc: Global) -> Option<World>
-    ensures { IfSome result (λ w. IsReady w) }
+    ensures { IfSome result (λ w. WorldIsReady w) }
 {
     let mut world = first_world(alloc)?;
     match fill(&mut world) {
@@ -130,15 +130,15 @@ fn filled_world(alloc: Global) -> Option<World>
 
 #[tactic(auto, using(crate::proofs::Readiness::tried_ready))]
 fn first_world(alloc: Global) -> Option<World>
-    ensures { IfSome result (λ w. IsReady w) }
+    ensures { IfSome result (λ w. WorldIsReady w) }
 {
     tried_world(alloc)
 }
 
 /// Makes the texts, the other arrays and the mirror, and fills the arrays.
 fn fill(world: &mut World) -> Result<(), CellLimit>
-    requires { IsReady world.old }
-    ensures { IsReady world.new }
+    requires { WorldIsReady world.old }
+    ensures { WorldIsReady world.new }
 {
     'texts: for bytes in [
         b"Ann".as_slice(),
@@ -165,8 +165,8 @@ fn fill(world: &mut World) -> Result<(), CellLimit>
 }
 
 fn make_text(world: &mut World, bytes: &[u8]) -> Result<(), CellLimit>
-    requires { IsReady world.old }
-    ensures { IsReady world.new }
+    requires { WorldIsReady world.old }
+    ensures { WorldIsReady world.new }
 {
     let text = make(
         world,
@@ -185,18 +185,18 @@ fn make_text(world: &mut World, bytes: &[u8]) -> Result<(), CellLimit>
 /// Makes a cell that may be made.
 #[tactic(auto, using(crate::proofs::Readiness::made_ready))]
 fn make(world: &mut World, cell: NewCell) -> Result<u32, CellLimit>
-    requires ready { IsReady world.old }
+    requires ready { WorldIsReady world.old }
     requires superclass { IsTrue (has_superclass world.old.world.cells (fresh cell)) }
     requires may { MayBeMade world.old.world.cells the_code cell }
-    ensures { IsReady world.new }
+    ensures { WorldIsReady world.new }
 {
     world.make(cell)
 }
 
 /// Writes a byte, if there is such a text.
 fn set_byte(world: &mut World, text: u32, place: u32, byte: u8)
-    requires { IsReady world.old }
-    ensures { IsReady world.new }
+    requires { WorldIsReady world.old }
+    ensures { WorldIsReady world.new }
 {
     if is_cell(world, text) {
         set_byte_of_cell(world, text, place, byte);
@@ -204,9 +204,9 @@ fn set_byte(world: &mut World, text: u32, place: u32, byte: u8)
 }
 
 fn set_byte_of_cell(world: &mut World, text: u32, place: u32, byte: u8)
-    requires ready { IsReady world.old }
+    requires ready { WorldIsReady world.old }
     requires there { IsSome (find_cell world.old.world.cells text) }
-    ensures { IsReady world.new }
+    ensures { WorldIsReady world.new }
 {
     if place < text_size(world, Value::Ref(text)) {
         write_byte(world, text, place, byte);
@@ -214,17 +214,17 @@ fn set_byte_of_cell(world: &mut World, text: u32, place: u32, byte: u8)
 }
 
 fn write_byte(world: &mut World, text: u32, place: u32, byte: u8)
-    requires ready { IsReady world.old }
+    requires ready { WorldIsReady world.old }
     requires inside { place < length (bytes_at world.old.world.cells text) }
-    ensures { IsReady world.new }
+    ensures { WorldIsReady world.new }
 {
     world.set_byte(text, place, byte);
 }
 
 /// Writes an element, if there is such an array and the value is live.
 fn set_item(world: &mut World, array: Value, place: u32, value: Value)
-    requires { IsReady world.old }
-    ensures { IsReady world.new }
+    requires { WorldIsReady world.old }
+    ensures { WorldIsReady world.new }
 {
     match array {
         Value::Ref(at) => {
@@ -237,10 +237,10 @@ fn set_item(world: &mut World, array: Value, place: u32, value: Value)
 }
 
 fn set_item_of_cell(world: &mut World, array: u32, place: u32, value: Value)
-    requires ready { IsReady world.old }
+    requires ready { WorldIsReady world.old }
     requires there { IsSome (find_cell world.old.world.cells array) }
     requires live { IsLiveValue world.old.world.cells the_code value }
-    ensures { IsReady world.new }
+    ensures { WorldIsReady world.new }
 {
     if is_array(world, Value::Ref(array)) {
         set_item_of_array(world, array, place, value);
@@ -248,11 +248,11 @@ fn set_item_of_cell(world: &mut World, array: u32, place: u32, value: Value)
 }
 
 fn set_item_of_array(world: &mut World, array: u32, place: u32, value: Value)
-    requires ready { IsReady world.old }
+    requires ready { WorldIsReady world.old }
     requires there { IsSome (find_cell world.old.world.cells array) }
     requires array { arguments.is_array world.old.world.cells (Ref array) ≡ true }
     requires live { IsLiveValue world.old.world.cells the_code value }
-    ensures { IsReady world.new }
+    ensures { WorldIsReady world.new }
 {
     if place < array_size(world, Value::Ref(array)) {
         write_item(world, array, place, value);
@@ -261,11 +261,11 @@ fn set_item_of_array(world: &mut World, array: u32, place: u32, value: Value)
 
 #[tactic(auto, using(ns_kdata::specs::laws::Items::items_are_words))]
 fn write_item(world: &mut World, array: u32, place: u32, value: Value)
-    requires ready { IsReady world.old }
+    requires ready { WorldIsReady world.old }
     requires array { arguments.is_array world.old.world.cells (Ref array) ≡ true }
     requires inside { place < length (arguments.items_of world.old.world.cells (Ref array)) }
     requires live { IsLiveValue world.old.world.cells the_code value }
-    ensures { IsReady world.new }
+    ensures { WorldIsReady world.new }
 {
     world.write(array, place, value);
 }
@@ -273,7 +273,7 @@ fn write_item(world: &mut World, array: u32, place: u32, value: Value)
 /// The same, with an array that leaves so many cells of the 200, which are at most 100.
 pub fn with_room(alloc: Global, cells: u64) -> Option<Setting>
     ensures code { IfSome result (λ w. w.code ≡ the_code) }
-    ensures ready { IfSome result (λ w. IsReady w.world) }
+    ensures ready { IfSome result (λ w. WorldIsReady w.world) }
 {
     let mut w = set_up(alloc)?;
     if leave(&mut w.world, cells) {
@@ -285,8 +285,8 @@ pub fn with_room(alloc: Global, cells: u64) -> Option<Setting>
 
 /// Makes an array that leaves so many cells of the 200, which are at most 100.
 pub fn leave(world: &mut World, cells: u64) -> bool
-    requires { IsReady world.old }
-    ensures { IsReady world.new }
+    requires { WorldIsReady world.old }
+    ensures { WorldIsReady world.new }
 {
     let used = world.counters().cells;
     let size = 199_u64.saturating_sub(used).saturating_sub(cells);
@@ -295,8 +295,8 @@ pub fn leave(world: &mut World, cells: u64) -> bool
 
 /// A mirror of a value, if it is live.
 pub fn make_mirror(world: &mut World, value: Value) -> Option<u32>
-    requires { IsReady world.old }
-    ensures { IsReady world.new }
+    requires { WorldIsReady world.old }
+    ensures { WorldIsReady world.new }
 {
     if !is_live(world, value) {
         return None;
@@ -310,8 +310,8 @@ pub fn make_mirror(world: &mut World, value: Value) -> Option<u32>
 /// Prints bytes, if they fit.
 #[tactic(auto, using(crate::proofs::Readiness::printed_ready))]
 pub fn print(world: &mut World, bytes: &[u8]) -> Result<(), LimitKind>
-    requires { IsReady world.old }
-    ensures { IsReady world.new }
+    requires { WorldIsReady world.old }
+    ensures { WorldIsReady world.new }
 {
     world.print(bytes)
 }

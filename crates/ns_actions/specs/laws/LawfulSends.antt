@@ -23,7 +23,7 @@ use Rattle.ns_find.specs.declared.found.Sending.TheVariants.{Plain, Inner}
 use Rattle.ns_find.specs.declared.members.Side.{Side}
 use Rattle.ns_find.specs.declared.members.Side.TheVariants.{Instance as InstanceSide, Class as ClassSide}
 use Rattle.ns_find.specs.Find.{found_from, found_private, super_start}
-use Rattle.ns_find.specs.Belonging.{HasSlot, HasNested}
+use Rattle.ns_find.specs.Belonging.{IsSlotOf, HasNested}
 use Rattle.ns_classes.specs.laws.Lawfully.{slot_filled}
 use Rattle.ns_kdata.specs.Arguments.{items_of}
 use Rattle.ns_kdata.specs.laws.Filled.{filled_keeps}
@@ -46,12 +46,12 @@ use Rattle.ns_actions.specs.lemmas.Suiting.{found_suits, private_suits, super_su
 use Rattle.ns_actions.specs.lemmas.Places.{places_fit}
 
 -- Arguments that are live; those that go into a Message are as many as its selector takes.
-abbrev pub FitsArguments : Heap → CodeProgram → Arguments → Type 0
-FitsArguments heap code (Listed values) = All (IsLiveValue heap code) values
-FitsArguments heap code (Wrapped sel values) = FitsSelector heap code sel values
+abbrev pub ArgumentsAreLive : Heap → CodeProgram → Arguments → Type 0
+ArgumentsAreLive heap code (Listed values) = All (IsLiveValue heap code) values
+ArgumentsAreLive heap code (Wrapped sel values) = FitsSelector heap code sel values
 
 -- arguments that are given live
-given_lawful : (code : CodeProgram) (arguments : Arguments) (progress : Progress) (go : List Value → Progress → Control) → LawfulRun code progress → FitsArguments progress.world.cells code arguments
+given_lawful : (code : CodeProgram) (arguments : Arguments) (progress : Progress) (go : List Value → Progress → Control) → LawfulRun code progress → ArgumentsAreLive progress.world.cells code arguments
     → ((values : List Value) (world : World) → Later code progress.world world → All (IsLiveValue world.cells code) values → LawfulControl code (go values (in_world progress world))) → LawfulControl code (given arguments progress go)
 given_lawful code (Listed values) progress go lawful live goes = goes values progress.world (later_not code progress.world lawful) live
 given_lawful code (Wrapped sel values) progress go lawful fits goes =
@@ -70,13 +70,13 @@ given_lawful code (Wrapped sel values) progress go lawful fits goes =
         goes (value.Ref (heap_size world.cells) ∷ []) next (later_on code progress.world world next later further)
         (one_live next.cells code (value.Ref (heap_size world.cells)) (new_live code world next (MessageCell sel (value.Ref (heap_size progress.world.cells))) refl m)))
 
-arguments_later : (code : CodeProgram) (old new : World) (arguments : Arguments) → Later code old new → FitsArguments old.cells code arguments → FitsArguments new.cells code arguments
+arguments_later : (code : CodeProgram) (old new : World) (arguments : Arguments) → Later code old new → ArgumentsAreLive old.cells code arguments → ArgumentsAreLive new.cells code arguments
 arguments_later code old new (Listed values) later fits = all_live code old new values later fits
 arguments_later code old new (Wrapped sel values) later fits = record { selector = fits.selector; arity = fits.arity; live = all_live code old new values later fits.live }
 
 -- ---- members
 
-method_lawful : (code : CodeProgram) (body holder : ℕ) (receiver : Value) (arguments : Arguments) (site : Site) (progress : Progress) → LawfulRun code progress → IsLiveValue progress.world.cells code receiver → FitsArguments progress.world.cells code arguments
+method_lawful : (code : CodeProgram) (body holder : ℕ) (receiver : Value) (arguments : Arguments) (site : Site) (progress : Progress) → LawfulRun code progress → IsLiveValue progress.world.cells code receiver → ArgumentsAreLive progress.world.cells code arguments
     → LawfulControl code (method_entered code body holder receiver arguments site progress)
 method_lawful code body holder receiver arguments site progress lawful live fits =
     frame_lawful code progress _ lawful (λ world later.
@@ -85,7 +85,7 @@ method_lawful code body holder receiver arguments site progress lawful live fits
     (record { self = receiver; holder = holder; body = body; home = progress.begun; env = value.Nil; site = site }) values (in_world progress next) further.lawful
     (record { self = further.live receiver (later.live receiver live); env = tt; locals = all }) further.lawful (λ running locals last more fine. (more.lawful, fine))))
 
-factory_lawful : (code : CodeProgram) (class : ℕ) (arguments : Arguments) (site : Site) (progress : Progress) → LawfulRun code progress → is_class (find_cell progress.world.cells class) ≡ true → FitsArguments progress.world.cells code arguments
+factory_lawful : (code : CodeProgram) (class : ℕ) (arguments : Arguments) (site : Site) (progress : Progress) → LawfulRun code progress → is_class (find_cell progress.world.cells class) ≡ true → ArgumentsAreLive progress.world.cells code arguments
     → LawfulControl code (factory_entered code class arguments site progress)
 factory_lawful code class arguments site progress lawful is fits =
     frame_lawful code progress _ lawful (λ world later.
@@ -93,7 +93,7 @@ factory_lawful code class arguments site progress lawful is fits =
     instance_lawful code class values site (in_world progress next) further.lawful (further.class class (later.class class is)) all))
 
 -- a slot of a receiver that is written
-stored_lawful : (code : CodeProgram) (old new : World) (receiver : Value) (holder word : ℕ) (v : Value) → HasHolder old.cells receiver holder → is_class (find_cell old.cells holder) ≡ true → HasSlot old.cells code holder word → Later code old new → IsLiveValue new.cells code v
+stored_lawful : (code : CodeProgram) (old new : World) (receiver : Value) (holder word : ℕ) (v : Value) → HasHolder old.cells receiver holder → is_class (find_cell old.cells holder) ≡ true → IsSlotOf old.cells code holder word → Later code old new → IsLiveValue new.cells code v
     → IsLawful (stored new receiver word v) code
 stored_lawful code old new (value.Ref at) holder word v has is slot later live =
     let declared : slice_get code.classes (declaration_of new.cells holder) ≡ Some slot.class = ap (slice_get code.classes) (later.declaration holder is) ∙ slot.class_is in
@@ -119,8 +119,8 @@ first_is_live : (heap : Heap) (code : CodeProgram) (values : List Value) → All
 first_is_live heap code [] all = (tt, refl)
 first_is_live heap code (v ∷ values) all = all 0 v (omega arith)
 
-set_lawful : (code : CodeProgram) (holder word : ℕ) (receiver : Value) (arguments : Arguments) (progress : Progress) → LawfulRun code progress → IsLiveValue progress.world.cells code receiver → FitsArguments progress.world.cells code arguments
-    → HasHolder progress.world.cells receiver holder → is_class (find_cell progress.world.cells holder) ≡ true → HasSlot progress.world.cells code holder word → LawfulControl code (set word receiver arguments progress)
+set_lawful : (code : CodeProgram) (holder word : ℕ) (receiver : Value) (arguments : Arguments) (progress : Progress) → LawfulRun code progress → IsLiveValue progress.world.cells code receiver → ArgumentsAreLive progress.world.cells code arguments
+    → HasHolder progress.world.cells receiver holder → is_class (find_cell progress.world.cells holder) ≡ true → IsSlotOf progress.world.cells code holder word → LawfulControl code (set word receiver arguments progress)
 set_lawful code holder word receiver arguments progress lawful live fits has is slot =
     given_lawful code arguments progress _ lawful fits (λ values world later all.
     let first = first_is_live world.cells code values all in

@@ -22,11 +22,11 @@ use Rattle.ns_classes.specs.Nested.{kept_class}
 use Rattle.ns_kint.specs.Integer.{integer}
 use Rattle.ns_kdata.specs.declared.row.DataRow.{DataRow}
 use Rattle.ns_kdata.specs.declared.row.DataRow.TheVariants as values
-use Rattle.ns_kdata.specs.Outcome.{Outcome, Answers, Fails}
+use Rattle.ns_kdata.specs.Outcome.{RowOutcome, Answers, Fails}
 use Rattle.ns_kdata.specs.Arguments.{argument, number_of, items_of, shape_of_value}
 use Rattle.ns_kdata.specs.Rows.{message_selector}
 use Rattle.ns_kdata.specs.Datum.{datum}
-use Rattle.ns_kdata.specs.Leading.{LeadsTo}
+use Rattle.ns_kdata.specs.Leading.{HoldsAfter}
 use Rattle.ns_kdata.specs.laws.Leading.{data_leads}
 use Rattle.ns_facets.specs.declared.row.FacetRow.{FacetRow}
 use Rattle.ns_facets.specs.declared.row.FacetRow.TheVariants as facet
@@ -54,7 +54,7 @@ use Rattle.ns_actions.specs.laws.BlocksOnward.{array_onward, begun_onward}
 
 -- ---- rows of the kernel
 
-outcome_onward : (named : List Value) (outcome : Outcome) (site : Site) (old progress : Progress) → Going named old progress → LeadsTo (Moving named old.world) outcome → old.begun ≤ progress.begun → progress.world ≡ old.world → Going named old (reached (outcome_reached outcome site progress))
+outcome_onward : (named : List Value) (outcome : RowOutcome) (site : Site) (old progress : Progress) → Going named old progress → HoldsAfter (Moving named old.world) outcome → old.begun ≤ progress.begun → progress.world ≡ old.world → Going named old (reached (outcome_reached outcome site progress))
 outcome_onward named (Answers answer world) site old progress here grown begun same = record { world = grown; begun = begun }
 outcome_onward named (Fails fault) site old progress here grown begun same = here
 
@@ -67,12 +67,12 @@ reflected_onward named (Reflects (Answer answer) world) site progress grown = on
 reflected_onward named (Reflects (Perform receiver sel array) world) site progress grown = onward_in named progress world grown
 reflected_onward named (Refuses fault) site progress grown = onward_not named progress
 
-refused_onward : (named : List Value) (outcome : Outcome) (selector : Value) (site : Site) (progress : Progress) → LeadsTo (Moving named progress.world) outcome → Going named progress (reached (message_refused outcome selector site progress))
+refused_onward : (named : List Value) (outcome : RowOutcome) (selector : Value) (site : Site) (progress : Progress) → HoldsAfter (Moving named progress.world) outcome → Going named progress (reached (message_refused outcome selector site progress))
 refused_onward named (Answers answer world) selector site progress grown = onward_in named progress world grown
 refused_onward named (Fails fault) selector site progress grown = onward_not named progress
 
 -- where the rest of a run is as it was
-plain_onward : (named : List Value) (outcome : Outcome) (site : Site) (progress : Progress) → LeadsTo (Moving named progress.world) outcome → Going named progress (reached (outcome_reached outcome site progress))
+plain_onward : (named : List Value) (outcome : RowOutcome) (site : Site) (progress : Progress) → HoldsAfter (Moving named progress.world) outcome → Going named progress (reached (outcome_reached outcome site progress))
 plain_onward named outcome site progress grown = outcome_onward named outcome site progress progress (onward_not named progress) grown (omega arith) refl
 
 facet_onward : (named : List Value) (code : CodeProgram) (r : FacetRow) (arguments : List Value) (site : Site) (progress : Progress) → Going named progress (reached (facet_reached code r arguments site progress))
@@ -82,7 +82,7 @@ facet_onward named code r arguments site progress =
     outcome_onward named (facet_outcome progress.world code r arguments progress.board) site progress next here
     (facet_leads (Moving named progress.world) progress.world (allows named progress.world) code r (argument arguments 0) (argument arguments 1) progress.board) (omega arith) refl
 
-datum_leads : (named : List Value) (code : CodeProgram) (r : DataRow) (receiver : Value) (arguments : List Value) (progress : Progress) → Contains named receiver → LeadsTo (Moving named progress.world) (datum progress.world code r receiver arguments)
+datum_leads : (named : List Value) (code : CodeProgram) (r : DataRow) (receiver : Value) (arguments : List Value) (progress : Progress) → Contains named receiver → HoldsAfter (Moving named progress.world) (datum progress.world code r receiver arguments)
 datum_leads named code r receiver arguments progress has =
     data_leads (Moving named progress.world) progress.world (allows named progress.world) code r receiver (argument arguments 0) (argument arguments 1) (writes named progress.world receiver has)
 

@@ -31,11 +31,11 @@ use Rattle.ns_find.specs.Find.{found_from}
 use Rattle.ns_kint.specs.Integer.{integer}
 use Rattle.ns_kdata.specs.declared.row.DataRow.{DataRow}
 use Rattle.ns_kdata.specs.declared.row.DataRow.TheVariants as values
-use Rattle.ns_kdata.specs.Outcome.{Outcome, Answers, Fails}
+use Rattle.ns_kdata.specs.Outcome.{RowOutcome, Answers, Fails}
 use Rattle.ns_kdata.specs.Arguments.{argument, number_of, items_of, is_array, shape_of_value}
 use Rattle.ns_kdata.specs.Rows.{message_selector}
 use Rattle.ns_kdata.specs.Datum.{datum}
-use Rattle.ns_kdata.specs.Leading.{LeadsTo}
+use Rattle.ns_kdata.specs.Leading.{HoldsAfter}
 use Rattle.ns_kdata.specs.laws.Leading.{data_leads}
 use Rattle.ns_facets.specs.declared.row.FacetRow.{FacetRow}
 use Rattle.ns_facets.specs.declared.row.FacetRow.TheVariants as facet
@@ -72,7 +72,7 @@ use Rattle.ns_actions.specs.laws.Counting.{still_charged, step_charged, frame_ch
 
 -- ---- rows of the kernel
 
-outcome_spends : (steps : ℕ) (old : Progress) (outcome : Outcome) (site : Site) (progress : Progress) → Charged steps 0 0 old progress → LeadsTo (SameCounts progress.world) outcome → ControlSpends steps old (outcome_reached outcome site progress)
+outcome_spends : (steps : ℕ) (old : Progress) (outcome : RowOutcome) (site : Site) (progress : Progress) → Charged steps 0 0 old progress → HoldsAfter (SameCounts progress.world) outcome → ControlSpends steps old (outcome_reached outcome site progress)
 outcome_spends steps old (Answers answer world) site progress was same = still_charged steps 0 0 old progress world was same
 outcome_spends steps old (Fails fault) site progress was same = stopped_here steps old progress was
 
@@ -85,11 +85,11 @@ reflected_spends steps old (Reflects (Answer answer) world) site progress was sa
 reflected_spends steps old (Reflects (Perform receiver sel array) world) site progress was same = still_charged steps 0 0 old progress world was same
 reflected_spends steps old (Refuses fault) site progress was same = stopped_here steps old progress was
 
-refused_spends : (steps : ℕ) (old : Progress) (outcome : Outcome) (selector : Value) (site : Site) (progress : Progress) → Charged steps 0 0 old progress → LeadsTo (SameCounts progress.world) outcome → ControlSpends steps old (message_refused outcome selector site progress)
+refused_spends : (steps : ℕ) (old : Progress) (outcome : RowOutcome) (selector : Value) (site : Site) (progress : Progress) → Charged steps 0 0 old progress → HoldsAfter (SameCounts progress.world) outcome → ControlSpends steps old (message_refused outcome selector site progress)
 refused_spends steps old (Answers answer world) selector site progress was same = still_charged steps 0 0 old progress world was same
 refused_spends steps old (Fails fault) selector site progress was same = stopped_here steps old progress was
 
-datum_counts : (code : CodeProgram) (r : DataRow) (receiver : Value) (arguments : List Value) (progress : Progress) → LeadsTo (SameCounts progress.world) (datum progress.world code r receiver arguments)
+datum_counts : (code : CodeProgram) (r : DataRow) (receiver : Value) (arguments : List Value) (progress : Progress) → HoldsAfter (SameCounts progress.world) (datum progress.world code r receiver arguments)
 datum_counts code r receiver arguments progress =
     data_leads (SameCounts progress.world) progress.world (counts_allow progress.world) code r receiver (argument arguments 0) (argument arguments 1) (counts_write progress.world receiver)
 

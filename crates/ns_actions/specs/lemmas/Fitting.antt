@@ -13,7 +13,7 @@ use Rattle.ns_world.specs.laws.Leading.{later_same, later_on, later_made, later_
 use Rattle.ns_world.specs.laws.Lasting.{declaration_lasts}
 use Rattle.ns_world.specs.laws.Twins.{twins_of_shape}
 use Rattle.ns_find.specs.Belonging.{HasNested}
-use Rattle.ns_find.specs.Named.{HasInitialiser}
+use Rattle.ns_find.specs.Named.{IsInitialiserOf}
 use Rattle.ns_find.specs.laws.SoundBodies.{clause_there}
 use Rattle.ns_kdata.specs.laws.LivingItems.{get_live, cell_items_live}
 use Rattle.ns_mirror.specs.Living.{ReflectsLive}
@@ -35,7 +35,7 @@ use Rattle.ns_actions.specs.Blocks.{is_block}
 use Rattle.ns_actions.specs.Fitting.{belongs_to, counts_fit, FitsMethod}
 use Rattle.ns_actions.specs.Suiting.{RowSuits, FoundSuits}
 use Rattle.ns_actions.specs.lemmas.Counts.{first_within, same_within}
-use Rattle.ns_actions.specs.lemmas.Running.{RunsBody, Runs, body_runs, instance_fits, found_runs}
+use Rattle.ns_actions.specs.lemmas.Running.{BodyRuns, Runs, body_runs, instance_fits, found_runs}
 use Rattle.ns_actions.specs.lemmas.Lasting.{block_lasts, belonging_lasts, activation_lasts, exit_lasts, arguments_last, array_size_lasts}
 use Rattle.ns_base.specs.declared.selector.Sel.{Sel}
 use Rattle.ns_code.specs.declared.program.CodeProgram.{CodeProgram}
@@ -58,7 +58,7 @@ use Rattle.ns_find.specs.Find.{found_from}
 use Rattle.ns_kint.specs.Integer.{integer}
 use Rattle.ns_kdata.specs.declared.row.DataRow.{DataRow}
 use Rattle.ns_kdata.specs.declared.row.DataRow.TheVariants as values
-use Rattle.ns_kdata.specs.Outcome.{Outcome, Answers, Fails}
+use Rattle.ns_kdata.specs.Outcome.{RowOutcome, Answers, Fails}
 use Rattle.ns_kdata.specs.Arguments.{argument, number_of, items_of, is_array}
 use Rattle.ns_kdata.specs.Rows.{message_selector}
 use Rattle.ns_kdata.specs.Datum.{datum}
@@ -83,24 +83,24 @@ use Rattle.ns_actions.specs.Kernel.{outcome_reached, answer_reached, reflected_r
 use Rattle.ns_actions.specs.Sends.{Arguments, Listed, Wrapped, given, one_more, method_entered, factory_entered, set, nested_in, done_with, not_found, answered_by}
 use Rattle.ns_code.specs.Selector.{own_number, selector_arity}
 use Rattle.ns_actions.specs.lemmas.OwnSelector.{one_message}
-use Rattle.ns_actions.specs.lemmas.Opening.{Around, IsOpened, nothing_around, opened_bare, opened_over}
+use Rattle.ns_actions.specs.lemmas.Opening.{FitsAround, IsOpened, nothing_around, opened_bare, opened_over}
 
 -- What is to be shown of where control goes from a world, where it goes on lawfully.
-abbrev pub Later : ℕ → World → CodeProgram → Control → Type 0
-Later own old code (Now after) = Unit {0}
-Later own old code (Enter exit activation locals progress) = RunsOn code old progress.world → FitsEntered progress.world.cells code activation locals × FitsEnd own progress.world.cells code exit activation
-Later own old code (Evaluate block arguments site progress) = RunsOn code old progress.world → is_block progress.world.cells block ≡ true
-Later own old code (Begin method state site progress) = RunsOn code old progress.world → FitsMethod progress.world.cells method state
-Later own old code (WaitsToPerform receiver sel array site progress) =
+abbrev pub ShownLater : ℕ → World → CodeProgram → Control → Type 0
+ShownLater own old code (Now after) = Unit {0}
+ShownLater own old code (Enter exit activation locals progress) = RunsOn code old progress.world → FitsEntered progress.world.cells code activation locals × FitsEnd own progress.world.cells code exit activation
+ShownLater own old code (Evaluate block arguments site progress) = RunsOn code old progress.world → is_block progress.world.cells block ≡ true
+ShownLater own old code (Begin method state site progress) = RunsOn code old progress.world → FitsMethod progress.world.cells method state
+ShownLater own old code (WaitsToPerform receiver sel array site progress) =
     RunsOn code old progress.world → FitsSelector progress.world.cells code sel (items_of progress.world.cells (value.Ref array)) × (is_array progress.world.cells (value.Ref array) ≡ true)
 
 -- the same of a send
 abbrev pub FitsLater : World → CodeProgram → Control → Type 0
-FitsLater old code control = Later initialiser_kind old code control
+FitsLater old code control = ShownLater initialiser_kind old code control
 
 -- ---- rows of the kernel
 
-outcome_fits : (old : World) (code : CodeProgram) (outcome : Outcome) (site : Site) (progress : Progress) → FitsLater old code (outcome_reached outcome site progress)
+outcome_fits : (old : World) (code : CodeProgram) (outcome : RowOutcome) (site : Site) (progress : Progress) → FitsLater old code (outcome_reached outcome site progress)
 outcome_fits old code (Answers answer world) site progress = tt
 outcome_fits old code (Fails fault) site progress = tt
 
@@ -120,7 +120,7 @@ reflected_fits old code (Reflects (Perform receiver sel array) world) site progr
 )
 reflected_fits old code (Refuses fault) site progress live = tt
 
-refused_fits : (old : World) (code : CodeProgram) (outcome : Outcome) (selector : Value) (site : Site) (progress : Progress) → FitsLater old code (message_refused outcome selector site progress)
+refused_fits : (old : World) (code : CodeProgram) (outcome : RowOutcome) (selector : Value) (site : Site) (progress : Progress) → FitsLater old code (message_refused outcome selector site progress)
 refused_fits old code (Answers answer world) selector site progress = tt
 refused_fits old code (Fails fault) selector site progress = tt
 
@@ -216,8 +216,8 @@ row_fits code row.NumArgs sel receiver arguments site progress lawful all suits 
 
 -- a body that begins keeps self, holder and body, and has all of its locals
 pub opened_fits : (own : ℕ) (old : World) (code : CodeProgram) (go : Activation → List Value → Progress → Control) (activation : Activation) (arguments : List Value) (progress : Progress) → IsLater old progress.world
-    → ((env : Value) (locals : List Value) (world : World) → IsLater progress.world world → IsOpened world.cells code activation.body activation.env arguments env locals → Later own old code (go (record activation { env = env }) locals (in_world progress world)))
-    → Later own old code (opened code halts go activation arguments progress)
+    → ((env : Value) (locals : List Value) (world : World) → IsLater progress.world world → IsOpened world.cells code activation.body activation.env arguments env locals → ShownLater own old code (go (record activation { env = env }) locals (in_world progress world)))
+    → ShownLater own old code (opened code halts go activation arguments progress)
 opened_fits own old code go activation arguments progress later goes = tested (has_environment code activation.body) refl
   where
     locals : List Value
@@ -229,19 +229,19 @@ opened_fits own old code go activation arguments progress later goes = tested (h
     cell : Cell
     cell = EnvironmentCell activation.env locals
 
-    tested : (b : Bool) → has_environment code activation.body ≡ b → Later own old code (cond b (charged halts Cells (made progress.world cell) progress (go inner [])) (go activation locals progress))
-    tested true b = charged_all (Later own old code) halts Cells (made progress.world cell) progress (go inner []) tt
+    tested : (b : Bool) → has_environment code activation.body ≡ b → ShownLater own old code (cond b (charged halts Cells (made progress.world cell) progress (go inner [])) (go activation locals progress))
+    tested true b = charged_all (ShownLater own old code) halts Cells (made progress.world cell) progress (go inner []) tt
         (λ world e. goes (value.Ref (heap_size progress.world.cells)) [] world (later_made progress.world world cell (may_come progress.world.cells cell refl refl) e)
         (opened_over code progress.world world activation.body activation.env arguments b e))
     tested false b = goes activation.env locals progress.world (later_same progress.world) (opened_bare progress.world.cells code activation.body activation.env arguments b)
 
 -- a body that runs lasts
-runs_last : (code : CodeProgram) (old new : World) (activation : Activation) (kind params : ℕ) → RunsBody old.cells code activation.self activation.holder activation.body kind params → RunsOn code old new → FitsActivation new.cells code activation
+runs_last : (code : CodeProgram) (old new : World) (activation : Activation) (kind params : ℕ) → BodyRuns old.cells code activation.self activation.holder activation.body kind params → RunsOn code old new → FitsActivation new.cells code activation
 runs_last code old new activation kind params runs run = activation_lasts activation code old new run (record { live = runs.live; there = runs.there; fits = runs.fits })
 
 -- so it fits where it is entered
-pub entered_here : (own : ℕ) (code : CodeProgram) (world : World) (exit : Exit) (activation : Activation) (around : Value) (arguments locals : List Value) (kind params : ℕ) → RunsBody world.cells code activation.self activation.holder activation.body kind params
-    → length arguments ≡ params → IsOpened world.cells code activation.body around arguments activation.env locals → (StandsWell code activation.body → Around world.cells code activation.body around)
+pub entered_here : (own : ℕ) (code : CodeProgram) (world : World) (exit : Exit) (activation : Activation) (around : Value) (arguments locals : List Value) (kind params : ℕ) → BodyRuns world.cells code activation.self activation.holder activation.body kind params
+    → length arguments ≡ params → IsOpened world.cells code activation.body around arguments activation.env locals → (StandsWell code activation.body → FitsAround world.cells code activation.body around)
     → (kind ≡ initialiser_kind → HasHolder world.cells activation.self activation.holder)
     → FitsExit world.cells code exit → ends_kind own exit kind ≡ true → EndsOwn code exit activation → FitsEntered world.cells code activation locals × FitsEnd own world.cells code exit activation
 entered_here own code world exit activation around arguments locals kind params runs count opens outer object met ends ends_own =
@@ -258,8 +258,8 @@ entered_here own code world exit activation around arguments locals kind params 
     )
 
 -- a body that runs lasts
-pub body_lasts : (code : CodeProgram) (old new : World) (activation : Activation) (kind params : ℕ) → RunsBody old.cells code activation.self activation.holder activation.body kind params → RunsOn code old new
-    → RunsBody new.cells code activation.self activation.holder activation.body kind params
+pub body_lasts : (code : CodeProgram) (old new : World) (activation : Activation) (kind params : ℕ) → BodyRuns old.cells code activation.self activation.holder activation.body kind params → RunsOn code old new
+    → BodyRuns new.cells code activation.self activation.holder activation.body kind params
 body_lasts code old new activation kind params runs run =
     let fits = runs_last code old new activation kind params runs run in
     record { live = fits.live; there = fits.there; fits = fits.fits; kind_is = runs.kind_is; params_are = runs.params_are }
@@ -279,7 +279,7 @@ given_fits old code (Wrapped sel values) progress go goes =
     charged_all (FitsLater old code) halts Cells (made world message) (in_world progress world) _ tt
     (λ next m. goes _ next (later_on progress.world world next one (later_made world next message (may_come world.cells message refl refl) m)) refl))
 
-method_fits : (code : CodeProgram) (body holder params : ℕ) (receiver : Value) (arguments : Arguments) (site : Site) (progress : Progress) → RunsBody progress.world.cells code receiver holder body method_kind params → count_of arguments ≡ params
+method_fits : (code : CodeProgram) (body holder params : ℕ) (receiver : Value) (arguments : Arguments) (site : Site) (progress : Progress) → BodyRuns progress.world.cells code receiver holder body method_kind params → count_of arguments ≡ params
     → FitsLater progress.world code (method_entered code body holder receiver arguments site progress)
 method_fits code body holder params receiver arguments site progress runs count =
     charged_all (FitsLater progress.world code) halts Depth (entered progress.world) progress _ tt
@@ -325,10 +325,10 @@ made_has code old mid new class number entries is after run there =
     object = let s = after.cells.cells number (ObjectCell class entries) there in ap class_of_object s.there ∙ (twins_of_shape (ObjectCell class entries) s.now s.shape).object
 
 -- it runs the initialiser of its class
-new_runs : (code : CodeProgram) (old mid new : World) (class number params : ℕ) (entries : List Value) → HasInitialiser old.cells code class params → is_class (find_cell old.cells class) ≡ true → IsLater old mid → IsLater mid new → RunsOn code old new → find_cell mid.cells number ≡ Some (ObjectCell class entries)
-    → RunsBody new.cells code (value.Ref number) class (initialiser_of code (declaration_of old.cells class)) initialiser_kind params
+new_runs : (code : CodeProgram) (old mid new : World) (class number params : ℕ) (entries : List Value) → IsInitialiserOf old.cells code class params → is_class (find_cell old.cells class) ≡ true → IsLater old mid → IsLater mid new → RunsOn code old new → find_cell mid.cells number ≡ Some (ObjectCell class entries)
+    → BodyRuns new.cells code (value.Ref number) class (initialiser_of code (declaration_of old.cells class)) initialiser_kind params
 new_runs code old mid new class number params entries begins is before after run there =
-    subst (λ n. RunsBody new.cells code (value.Ref number) class n initialiser_kind params) (sym (ap (λ o. option_map_or (λ (c : ClassCode). c.init) o 0) begins.class_is))
+    subst (λ n. BodyRuns new.cells code (value.Ref number) class n initialiser_kind params) (sym (ap (λ o. option_map_or (λ (c : ClassCode). c.init) o 0) begins.class_is))
     (body_runs new.cells code (value.Ref number) class begins.declared.init initialiser_kind instance_side (declaration_of old.cells class) params begins.body (object_live new.cells code number has.1)
     (instance_fits new.cells code number class begins.body.body is' (begins.body.class_is ∙ sym decl) begins.body.side_is has))
   where
@@ -341,7 +341,7 @@ new_runs code old mid new class number params entries begins is before after run
     has : HasHolder new.cells (value.Ref number) class
     has = made_has code old mid new class number entries is after run there
 
-instance_enters : (code : CodeProgram) (old : World) (class params : ℕ) (arguments : List Value) (site : Site) (progress : Progress) → HasInitialiser old.cells code class params → length arguments ≡ params → is_class (find_cell old.cells class) ≡ true → IsLater old progress.world → FitsLater old code (instance code class arguments site progress)
+instance_enters : (code : CodeProgram) (old : World) (class params : ℕ) (arguments : List Value) (site : Site) (progress : Progress) → IsInitialiserOf old.cells code class params → length arguments ≡ params → is_class (find_cell old.cells class) ≡ true → IsLater old progress.world → FitsLater old code (instance code class arguments site progress)
 instance_enters code old class params arguments site progress begins count is later =
     charged_all (FitsLater old code) halts Cells (made progress.world object) progress (opened code halts (Enter FromBody) inner arguments) tt
     (λ world e.
@@ -352,8 +352,8 @@ instance_enters code old class params arguments site progress begins count is la
     let fresh = heap_size progress.world.cells in
     let here = new_runs code old world last class fresh params (replicate (layout_of progress.world.cells code class) value.Nil) begins is so_far more run (new_found progress.world world object e) in
     let same = sym (declaration_stays old.cells progress.world.cells class (class_same old.cells progress.world.cells class later.cells is)) in
-    let here' : RunsBody last.cells code (value.Ref fresh) class (initialiser_of code (declaration_of progress.world.cells class)) initialiser_kind params =
-    subst (λ n. RunsBody last.cells code (value.Ref fresh) class (initialiser_of code n) initialiser_kind params) same here in
+    let here' : BodyRuns last.cells code (value.Ref fresh) class (initialiser_of code (declaration_of progress.world.cells class)) initialiser_kind params =
+    subst (λ n. BodyRuns last.cells code (value.Ref fresh) class (initialiser_of code n) initialiser_kind params) same here in
     entered_here initialiser_kind code last FromBody (record inner { env = env }) value.Nil arguments locals initialiser_kind params here' count all
     (nothing_around last.cells code inner.body initialiser_kind here'.kind_is (λ e. let q : 2 ≡ 1 = e in omega (arith, q)))
     (λ is_one. made_has code old world last class fresh (replicate (layout_of progress.world.cells code class) value.Nil) is more run (new_found progress.world world object e)) tt refl tt))
@@ -364,7 +364,7 @@ instance_enters code old class params arguments site progress begins count is la
     inner : Activation
     inner = record { self = value.Ref (heap_size progress.world.cells); holder = class; body = initialiser_of code (declaration_of progress.world.cells class); home = no_home; env = value.Nil; site = site }
 
-factory_fits : (code : CodeProgram) (class params : ℕ) (arguments : Arguments) (site : Site) (progress : Progress) → HasInitialiser progress.world.cells code class params → count_of arguments ≡ params → is_class (find_cell progress.world.cells class) ≡ true → FitsLater progress.world code (factory_entered code class arguments site progress)
+factory_fits : (code : CodeProgram) (class params : ℕ) (arguments : Arguments) (site : Site) (progress : Progress) → IsInitialiserOf progress.world.cells code class params → count_of arguments ≡ params → is_class (find_cell progress.world.cells class) ≡ true → FitsLater progress.world code (factory_entered code class arguments site progress)
 factory_fits code class params arguments site progress begins count is =
     charged_all (FitsLater progress.world code) halts Depth (entered progress.world) progress _ tt
     (λ world e. given_fits progress.world code arguments (in_world progress world) (λ values progress. instance code class values site progress)
@@ -374,7 +374,7 @@ set_fits : (code : CodeProgram) (word : ℕ) (receiver : Value) (arguments : Arg
 set_fits code word receiver arguments progress = given_fits progress.world code arguments progress _ (λ values world same many. tt)
 
 -- the clause of a nested class runs with the object that keeps it
-clause_runs : (world : World) (code : CodeProgram) (object holder class clause : ℕ) → IsLawful world code → HasClass world.cells code object holder class → clause_of code class ≡ Some clause → RunsBody world.cells code (value.Ref object) holder clause clause_kind 0
+clause_runs : (world : World) (code : CodeProgram) (object holder class clause : ℕ) → IsLawful world code → HasClass world.cells code object holder class → clause_of code class ≡ Some clause → BodyRuns world.cells code (value.Ref object) holder clause clause_kind 0
 clause_runs world code object holder class clause lawful has e =
     let n = has.nested in
     let inner = nested_inner code (declaration_of world.cells holder) n.place n.class n.nested lawful.classes n.class_is n.nested_is in
@@ -456,7 +456,7 @@ answered_fits code found.NotPublic sel receiver values site progress lawful live
 -- ---- plain sends
 
 -- what holds later holds of a run that goes on lawfully
-pub fits_now : (own : ℕ) (old : World) (code : CodeProgram) (control : Control) → IsLawful old code → IsLater old (reached control).world → LawfulControl code control → Later own old code control → FitsNext own code control
+pub fits_now : (own : ℕ) (old : World) (code : CodeProgram) (control : Control) → IsLawful old code → IsLater old (reached control).world → LawfulControl code control → ShownLater own old code control → FitsNext own code control
 fits_now own old code (Now after) before later lawful fits = tt
 fits_now own old code (Enter exit activation locals progress) before later lawful fits = fits (record { before = before; after = lawful.0; later = later })
 fits_now own old code (Evaluate block arguments site progress) before later lawful fits = fits (record { before = before; after = lawful.0; later = later })

@@ -21,7 +21,7 @@ use Rattle.ns_kint.specs.Integer.{is_integer, integer_of, divisor_of, fitting, g
 use Rattle.ns_world.specs.Booleans.{truth}
 use Rattle.ns_kdata.specs.declared.row.DataRow.{DataRow}
 use Rattle.ns_kdata.specs.declared.row.DataRow.TheVariants as values
-use Rattle.ns_kdata.specs.Outcome.{Outcome, Answers, Fails}
+use Rattle.ns_kdata.specs.Outcome.{RowOutcome, Answers, Fails}
 use Rattle.ns_kdata.specs.Arguments.{argument, number_of}
 use Rattle.ns_kdata.specs.Rows.{message_selector}
 use Rattle.ns_kdata.specs.Datum.{datum}
@@ -55,7 +55,7 @@ use Rattle.ns_actions.specs.laws.LawfulBlocks.{array_lawful, begun_lawful}
 argument_live : (heap : Heap) (code : CodeProgram) (arguments : List Value) (place : ℕ) → All (IsLiveValue heap code) arguments → IsLiveValue heap code (argument arguments place)
 argument_live heap code arguments place live = get_live (IsLiveValue heap code) arguments place live (tt, refl)
 
-outcome_lawful : (code : CodeProgram) (outcome : Outcome) (site : Site) (progress : Progress) → LawfulRun code progress → LeavesLawful code outcome → AnswersLive code outcome → LawfulControl code (outcome_reached outcome site progress)
+outcome_lawful : (code : CodeProgram) (outcome : RowOutcome) (site : Site) (progress : Progress) → LawfulRun code progress → LeavesLawful code outcome → AnswersLive code outcome → LawfulControl code (outcome_reached outcome site progress)
 outcome_lawful code (Answers answer world) site progress lawful after live = (after, live)
 outcome_lawful code (Fails fault) site progress lawful after live = lawful
 
@@ -119,7 +119,7 @@ reflected_lawful code (Refuses fault) site progress lawful after live = lawful
 
 -- ---- data
 
-refused_lawful : (code : CodeProgram) (outcome : Outcome) (selector : Value) (site : Site) (progress : Progress) → LawfulRun code progress → LeavesLawful code outcome → AnswersLive code outcome → LawfulControl code (message_refused outcome selector site progress)
+refused_lawful : (code : CodeProgram) (outcome : RowOutcome) (selector : Value) (site : Site) (progress : Progress) → LawfulRun code progress → LeavesLawful code outcome → AnswersLive code outcome → LawfulControl code (message_refused outcome selector site progress)
 refused_lawful code (Answers answer world) selector site progress lawful after live = (after, live)
 refused_lawful code (Fails fault) selector site progress lawful after live = lawful
 

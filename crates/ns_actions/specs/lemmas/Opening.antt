@@ -19,11 +19,11 @@ use Rattle.ns_actions.specs.lemmas.LawfulBodies.{new_found}
 -- ---- what stands around a body
 
 -- The environment around a body fits its parent.
-abbrev pub Around : Heap → CodeProgram → ℕ → Value → Type 0
-Around heap code body env = (depth : ℕ) → body ≤ depth → FitsEnvironment depth heap code (parent_of code body) env
+abbrev pub FitsAround : Heap → CodeProgram → ℕ → Value → Type 0
+FitsAround heap code body env = (depth : ℕ) → body ≤ depth → FitsEnvironment depth heap code (parent_of code body) env
 
 -- a body that is no block has nothing around it
-pub nothing_around : (heap : Heap) (code : CodeProgram) (body kind : ℕ) → kind_of code body ≡ kind → kind ≢ block_kind → StandsWell code body → Around heap code body Nil
+pub nothing_around : (heap : Heap) (code : CodeProgram) (body kind : ℕ) → kind_of code body ≡ kind → kind ≢ block_kind → StandsWell code body → FitsAround heap code body Nil
 nothing_around heap code body kind is other stands =
     λ depth deep. subst (λ o. FitsEnvironment depth heap code o Nil) (sym (stands.alone (λ e. other (sym is ∙ e)))) refl
 
@@ -32,7 +32,7 @@ nothing_around heap code body kind is other stands =
 -- A body began: all of its locals stand beside it where it has no environment, and in that where it has one.
 pub record IsOpened (heap : Heap) (code : CodeProgram) (body : ℕ) (around : Value) (arguments : List Value) (env : Value) (locals : List Value) : Type 0 where
   pub beside : length arguments ≡ parameters_of code body → StandsWell code body → length locals ≡ locals_beside code body
-  pub environment : length arguments ≡ parameters_of code body → StandsWell code body → Around heap code body around → FitsEnvironment (suc body) heap code (environment_body code body) env
+  pub environment : length arguments ≡ parameters_of code body → StandsWell code body → FitsAround heap code body around → FitsEnvironment (suc body) heap code (environment_body code body) env
 
 -- a body has all of its locals
 all_locals : (code : CodeProgram) (body : ℕ) (arguments : List Value) → length arguments ≡ parameters_of code body → StandsWell code body → length (first_locals code body arguments) ≡ locals_of code body
@@ -68,7 +68,7 @@ opened_over code old new body around arguments b made_is = record {
     there : environment_in (find_cell new.cells fresh) ≡ Some (around, locals)
     there = ap environment_in (new_found old new (EnvironmentCell around locals) made_is)
 
-    own : length arguments ≡ parameters_of code body → StandsWell code body → Around new.cells code body around → FitsEnvironment (suc body) new.cells code (Some body) (Ref fresh)
+    own : length arguments ≡ parameters_of code body → StandsWell code body → FitsAround new.cells code body around → FitsEnvironment (suc body) new.cells code (Some body) (Ref fresh)
     own count stands outer = (
       λ e g b c.
           let both : Some (around, locals) ≡ Some e = sym there ∙ g in

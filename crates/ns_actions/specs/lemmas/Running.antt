@@ -26,7 +26,7 @@ use Rattle.ns_find.specs.declared.found.Sending.{Sending}
 use Rattle.ns_find.specs.declared.members.Side.TheVariants.{Instance as InstanceSide, Class as ClassSide}
 use Rattle.ns_find.specs.Find.{found_from}
 use Rattle.ns_find.specs.Belonging.{Belongs}
-use Rattle.ns_find.specs.Named.{IsBody, HasInitialiser, TakesArguments}
+use Rattle.ns_find.specs.Named.{IsBody, IsInitialiserOf, TakesArguments}
 use Rattle.ns_find.specs.laws.Belonging.{instance_belongs, class_belongs, kernel_belongs}
 use Rattle.ns_find.specs.laws.SoundBodies.{found_by}
 use Rattle.ns_actions.specs.Bodies.{parameters_of}
@@ -34,14 +34,14 @@ use Rattle.ns_actions.specs.Fitting.{kind_of}
 use Rattle.ns_actions.specs.lemmas.Suiting.{no_holder, object_holders}
 
 -- A body of a kind and with so many parameters runs with a self and a holder.
-pub record RunsBody (heap : Heap) (code : CodeProgram) (self : Value) (holder body kind params : ℕ) : Type 0 where
+pub record BodyRuns (heap : Heap) (code : CodeProgram) (self : Value) (holder body kind params : ℕ) : Type 0 where
   pub live : IsLiveValue heap code self
   pub there : IsSome (slice_get code.bodies body)
   pub fits : ForSome (slice_get code.bodies body) (λ (b : BodyCode). FitsBody heap code b self holder)
   pub kind_is : kind_of code body ≡ kind
   pub params_are : parameters_of code body ≡ params
 
-pub body_runs : (heap : Heap) (code : CodeProgram) (self : Value) (holder number kind side class params : ℕ) (has : IsBody code number kind side class params) → IsLiveValue heap code self → FitsBody heap code has.body self holder → RunsBody heap code self holder number kind params
+pub body_runs : (heap : Heap) (code : CodeProgram) (self : Value) (holder number kind side class params : ℕ) (has : IsBody code number kind side class params) → IsLiveValue heap code self → FitsBody heap code has.body self holder → BodyRuns heap code self holder number kind params
 body_runs heap code self holder number kind side class params has live fits = record {
   live = live;
   there = rw (has.body_is) refl;
@@ -52,8 +52,8 @@ body_runs heap code self holder number kind side class params has live fits = re
 
 -- What is found for a selector can run with a receiver as its self, and takes as many arguments.
 abbrev pub Runs : Heap → CodeProgram → Value → ℕ → Found → Type 0
-Runs heap code self sel (found.Method body holder) = RunsBody heap code self holder body method_kind (selector_arity code sel)
-Runs heap code self sel (found.Factory class) = HasInitialiser heap code class (selector_arity code sel)
+Runs heap code self sel (found.Method body holder) = BodyRuns heap code self holder body method_kind (selector_arity code sel)
+Runs heap code self sel (found.Factory class) = IsInitialiserOf heap code class (selector_arity code sel)
 Runs heap code self sel other = Unit {0}
 
 pub instance_fits : (heap : Heap) (code : CodeProgram) (at holder : ℕ) (body : BodyCode) → is_class (find_cell heap holder) ≡ true → body.class ≡ declaration_of heap holder → body.side ≡ instance_side → HasHolder heap (value.Ref at) holder → FitsBody heap code body (value.Ref at) holder

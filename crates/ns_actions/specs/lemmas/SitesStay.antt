@@ -23,7 +23,7 @@ use Rattle.ns_find.specs.Find.{found_from}
 use Rattle.ns_kint.specs.Integer.{integer}
 use Rattle.ns_kdata.specs.declared.row.DataRow.{DataRow}
 use Rattle.ns_kdata.specs.declared.row.DataRow.TheVariants as values
-use Rattle.ns_kdata.specs.Outcome.{Outcome, Answers, Fails}
+use Rattle.ns_kdata.specs.Outcome.{RowOutcome, Answers, Fails}
 use Rattle.ns_kdata.specs.Arguments.{argument, number_of, items_of, is_array}
 use Rattle.ns_kdata.specs.Rows.{message_selector}
 use Rattle.ns_kdata.specs.Datum.{datum}
@@ -48,7 +48,7 @@ use Rattle.ns_code.specs.Selector.{own_number}
 use Rattle.ns_actions.specs.Fitting.{GoesOnAt}
 use Rattle.std.proofs.lemmas.Bool.{ltb-false}
 
-outcome_at : (Few : Type 0) (outcome : Outcome) (site : Site) (progress : Progress) → GoesOnAt Few site no_home (outcome_reached outcome site progress)
+outcome_at : (Few : Type 0) (outcome : RowOutcome) (site : Site) (progress : Progress) → GoesOnAt Few site no_home (outcome_reached outcome site progress)
 outcome_at Few (Answers answer world) site progress = tt
 outcome_at Few (Fails fault) site progress = tt
 
@@ -61,7 +61,7 @@ reflected_at Few (Reflects (Answer answer) world) site progress = tt
 reflected_at Few (Reflects (Perform receiver sel array) world) site progress = refl
 reflected_at Few (Refuses fault) site progress = tt
 
-refused_at : (Few : Type 0) (outcome : Outcome) (selector : Value) (site : Site) (progress : Progress) → GoesOnAt Few site no_home (message_refused outcome selector site progress)
+refused_at : (Few : Type 0) (outcome : RowOutcome) (selector : Value) (site : Site) (progress : Progress) → GoesOnAt Few site no_home (message_refused outcome selector site progress)
 refused_at Few (Answers answer world) selector site progress = tt
 refused_at Few (Fails fault) selector site progress = tt
 

@@ -12,7 +12,7 @@ use Rattle.ns_world.specs.Heap.{find_cell, is_chain_start, chain_of, superclass_
 use Rattle.ns_world.specs.World.{World}
 use Rattle.ns_world.specs.Layout.{declaration_of, entries_of, layout_of, entry_word}
 use Rattle.ns_world.specs.Lawful.{IsLawful, HasHolder, class_of_object}
-use Rattle.ns_world.specs.laws.Above.{GoesOn}
+use Rattle.ns_world.specs.laws.Above.{ChainGoesOn}
 use Rattle.ns_world.specs.laws.Classes.{lawful_order, started as goes_on_from}
 use Rattle.ns_classes.specs.Nested.{place_of, has_nested, nested_entry}
 use Rattle.ns_classes.specs.laws.Bounds.{layout_step}
@@ -38,7 +38,7 @@ nested_entry_within code decl class h = found (slice_get code.classes decl) refl
     found (Some c) e h = rw e (omega (arith, place_within c.nested class h))
 
 -- What is known of the class at which a chain that isn't empty starts.
-pub started : (world : World) (code : CodeProgram) (class k : ℕ) → IsLawful world code → is_chain_start world.cells class ≡ true → k < length (chain_of world.cells class) → GoesOn world.cells class
+pub started : (world : World) (code : CodeProgram) (class k : ℕ) → IsLawful world code → is_chain_start world.cells class ≡ true → k < length (chain_of world.cells class) → ChainGoesOn world.cells class
 started world code class k lawful s h = (goes_on_from world.cells class k (lawful_order world code lawful) s h).0
 
 -- the entries of a class in a chain, and of those above it, are among those of the chain

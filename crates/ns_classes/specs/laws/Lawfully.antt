@@ -20,12 +20,12 @@ use Rattle.ns_classes.specs.Apply.{chain_fault, class_fault}
 use Rattle.ns_classes.specs.lemmas.Apart.{meet}
 
 -- What is known of a superclass without a fault.
-pub record Fits (heap : Heap) (over : Value) : Type 0 where
+pub record SuperclassFits (heap : Heap) (over : Value) : Type 0 where
   pub superclass : is_superclass heap over ≡ true
   pub short : length (chain_above over (chain_of heap)) ≤ 255
 
 -- A superclass without a fault fits.
-pub fits : (heap : Heap) (over : Value) → class_fault heap over ≡ None → Fits heap over
+pub fits : (heap : Heap) (over : Value) → class_fault heap over ≡ None → SuperclassFits heap over
 fits heap (Kernel kernel.Object) e = record { superclass = refl; short = omega arith }
 fits heap (Kernel kernel.Array) e = absurd (cc)
 fits heap (Ref class) e = tested (is_class (find_cell heap class)) refl e
@@ -34,7 +34,7 @@ fits heap (Ref class) e = tested (is_class (find_cell heap class)) refl e
     short true t e = absurd (cc)
     short false t e = omega (arith, ltb-false 255 (length (chain_of heap class)) t)
 
-    tested : (b : Bool) → is_class (find_cell heap class) ≡ b → cond b (chain_fault (chain_of heap class)) (Some NotAClass) ≡ None → Fits heap (Ref class)
+    tested : (b : Bool) → is_class (find_cell heap class) ≡ b → cond b (chain_fault (chain_of heap class)) (Some NotAClass) ≡ None → SuperclassFits heap (Ref class)
     tested true t e = record { superclass = t; short = short (nat_lt 255 (length (chain_of heap class))) refl e }
     tested false t e = absurd (cc)
 fits heap Nil e = absurd (cc)

@@ -25,7 +25,7 @@ use Rattle.ns_find.specs.Members.{Member, Numbered, is_named, allowed, search, s
 use Rattle.ns_code.specs.Access.{public_access}
 use Rattle.ns_find.specs.Rows.{open_rows, top_rows, kernel_rows, object_class_texts, array_class_texts, class_texts, undefined_object_texts, boolean_texts, integer_texts, string_texts, symbol_texts, array_texts, block_texts, kernel_texts, console_texts, board_texts, mirrors_texts, mirror_texts, message_texts}
 use Rattle.ns_find.specs.Find.{members_from, found_from, found_private}
-use Rattle.ns_find.specs.Belonging.{Belongs, factories_at, HasSlot, HasNested, HasMethod, methods_on}
+use Rattle.ns_find.specs.Belonging.{Belongs, factories_at, IsSlotOf, HasNested, IsMethodOf, methods_on}
 
 -- what is found with each member of a list that is there has a property
 abbrev Each : (Found → Type 0) → List Member → Type 0
@@ -81,7 +81,7 @@ slots_belong : (heap : Heap) (code : CodeProgram) (wanted : Wanted) (chain facto
     → Each (Belongs heap code InstanceSide chain factories) (slots_members heap code wanted holder entry slots)
 slots_belong heap code wanted chain factories holder class entry [] holds e = tt
 slots_belong heap code wanted chain factories holder class entry (slot ∷ slots) holds e =
-    let has : HasSlot heap code holder (entry_word heap code holder entry) =
+    let has : IsSlotOf heap code holder (entry_word heap code holder entry) =
     record { class = class; class_is = holds.class_is; entry = entry; inside = left_inside class.slots entry slot slots e; word_is = refl } in
     ((λ t. (tt, holds.contained, has)), ((λ t. (tt, holds.contained, has)), slots_belong heap code wanted chain factories holder class (entry + 1) slots holds (next_left class.slots entry slot slots e)))
 
@@ -97,7 +97,7 @@ methods_belong : (heap : Heap) (code : CodeProgram) (wanted : Wanted) (side : Si
     → Each (Belongs heap code side chain factories) (method_members wanted holder methods)
 methods_belong heap code wanted side chain factories holder class k [] holds e = tt
 methods_belong heap code wanted side chain factories holder class k (method ∷ methods) holds e =
-    let has : HasMethod heap code side holder method.body =
+    let has : IsMethodOf heap code side holder method.body =
     record { class = class; class_is = holds.class_is; place = k; method = method; method_is = first_left (methods_on side class) k method methods e; body_is = refl } in
     ((λ t. (holds.contained, has)), methods_belong heap code wanted side chain factories holder class (k + 1) methods holds (next_left (methods_on side class) k method methods e))
 

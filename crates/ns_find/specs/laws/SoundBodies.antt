@@ -25,7 +25,7 @@ use Rattle.ns_find.specs.declared.found.Sending.{Sending}
 use Rattle.ns_find.specs.Find.{found_from, found_private}
 use Rattle.ns_find.specs.laws.Named.{instance_named, class_named, kernel_named, private_named}
 use Rattle.ns_find.specs.Belonging.{methods_on}
-use Rattle.ns_find.specs.Named.{HasNamed, HasFactory, IsNamedBy, IsBody, HasInitialiser, side_from, side_number, TakesArguments, FoundBy, FindsBy}
+use Rattle.ns_find.specs.Named.{HasNamed, HasFactory, IsNamedBy, IsBody, IsInitialiserOf, side_from, side_number, TakesArguments, FoundBy, FindsBy}
 
 not_true : (b : Bool) → not b ≡ true → b ≡ false
 not_true true e = absurd (cc)
@@ -168,7 +168,7 @@ named_method heap code side holder sel body s has = sided side (has.class) has.c
         (method_there code class_side (declaration_of heap holder) class.side_methods place method names.side_methods names.side_named m))
 
 -- and so does the initialiser of a factory's class
-pub named_factory : (heap : Heap) (code : CodeProgram) (class sel : ℕ) → has_sound_classes code ≡ true → HasFactory heap code class sel → HasInitialiser heap code class (selector_arity code sel)
+pub named_factory : (heap : Heap) (code : CodeProgram) (class sel : ℕ) → has_sound_classes code ≡ true → HasFactory heap code class sel → IsInitialiserOf heap code class (selector_arity code sel)
 named_factory heap code class sel s has =
     let names = names_of code (declaration_of heap class) has.declared (fine_at code (declaration_of heap class) has.declared s has.class_is) in
     let arity : has.declared.params ≡ selector_arity code sel = counted code has.declared.factory has.declared.params names.factory names.params ∙ ap (selector_arity code) has.sel_is in

@@ -1,7 +1,7 @@
 //! Bodies.
 
 ghost use Rattle.ns_image.specs.Reading as spec;
-ghost use Rattle.ns_image.specs.Reads.{Reads, ReadsAs};
+ghost use Rattle.ns_image.specs.Reads.{ReadsBytes, ReadsAs};
 
 use crate::fault::Fault;
 use crate::read::format::{Format, times, up_to};
@@ -43,7 +43,7 @@ impl Format for Body {
     }
 }
 
-/// Reads the names of a body's locals, and the places that follow them, into the body.
+/// ReadsBytes the names of a body's locals, and the places that follow them, into the body.
 #[tactic(auto, unfolding(crate::specs::Reading::with_local_names))]
 fn read_local_names(
     alloc: Global,
@@ -58,7 +58,7 @@ fn read_local_names(
     read_places(alloc, input, files, body)
 }
 
-/// Reads the places into a body.
+/// ReadsBytes the places into a body.
 #[tactic(auto, unfolding(crate::specs::Reading::with_places))]
 fn read_places(
     alloc: Global,
@@ -91,7 +91,7 @@ impl Format for OldBody {
 /// What both versions have of a body: all but the names of its locals and its places.
 #[tactic(auto, unfolding(crate::specs::Reading::head))]
 fn head(alloc: Global, input: &mut Input<'_>) -> Result<BodyCode, Fault>
-    ensures { Reads (spec.head input.old.rest.now) result input.new.rest.now }
+    ensures { ReadsBytes (spec.head input.old.rest.now) result input.new.rest.now }
 {
     let kind = input.byte_up_to(CLAUSE)?;
     let side = input.byte_up_to(CLASS)?;
@@ -110,7 +110,7 @@ fn head_from_params(
     class: u32,
     parent: Option<u32>,
 ) -> Result<BodyCode, Fault>
-    ensures { Reads (spec.head_from_params kind side class parent input.old.rest.now) result input.new.rest.now }
+    ensures { ReadsBytes (spec.head_from_params kind side class parent input.old.rest.now) result input.new.rest.now }
 {
     let params = input.byte()?;
     let locals = input.byte()?;

@@ -1,7 +1,7 @@
 //! Class records.
 
 ghost use Rattle.ns_image.specs.Reading as spec;
-ghost use Rattle.ns_image.specs.Reads.{Reads, ReadsAs};
+ghost use Rattle.ns_image.specs.Reads.{ReadsBytes, ReadsAs};
 
 use crate::fault::Fault;
 use crate::read::format::{Format, times};
@@ -72,7 +72,7 @@ fn counted<F: Format>(
     input: &mut Input<'_>,
     format: &F,
 ) -> Result<Items<F::Value>, Fault>
-    ensures { Reads (spec.counted_half (F.reader format.now) input.old.rest.now) result input.new.rest.now }
+    ensures { ReadsBytes (spec.counted_half (F.reader format.now) input.old.rest.now) result input.new.rest.now }
 {
     let count = input.half()?;
     times(alloc, input, format, u32::from(count))
@@ -106,7 +106,7 @@ fn class_from_clause(
     factory: Sel,
     params: u8,
 ) -> Result<ClassCode, Fault>
-    ensures { Reads (spec.class_from_clause name outer factory params input.old.rest.now) result input.new.rest.now }
+    ensures { ReadsBytes (spec.class_from_clause name outer factory params input.old.rest.now) result input.new.rest.now }
 {
     let clause = input.reference()?;
     let init = input.word()?;
@@ -133,7 +133,7 @@ fn class_from_clause(
     }
 }
 
-/// Reads the members into a class record.
+/// ReadsBytes the members into a class record.
 #[tactic(auto, unfolding(crate::specs::Reading::with_members))]
 fn read_members(alloc: Global, input: &mut Input<'_>, class: &mut ClassCode) -> Result<(), Fault>
     ensures { ReadsAs (λ _. class.new) (spec.with_members class.old input.old.rest.now) result input.new.rest.now }
@@ -143,7 +143,7 @@ fn read_members(alloc: Global, input: &mut Input<'_>, class: &mut ClassCode) -> 
     read_methods(alloc, input, class)
 }
 
-/// Reads the methods of both sides into a class record.
+/// ReadsBytes the methods of both sides into a class record.
 #[tactic(auto, unfolding(crate::specs::Reading::with_methods))]
 fn read_methods(alloc: Global, input: &mut Input<'_>, class: &mut ClassCode) -> Result<(), Fault>
     ensures { ReadsAs (λ _. class.new) (spec.with_methods class.old input.old.rest.now) result input.new.rest.now }

@@ -2,7 +2,7 @@
 
 ghost use Rattle.ns_image.specs.Read as spec;
 ghost use Rattle.ns_image.specs.Reading.{up_to};
-ghost use Rattle.ns_image.specs.Reads.{Reads};
+ghost use Rattle.ns_image.specs.Reads.{ReadsBytes};
 
 use crate::fault::Fault;
 use crate::read::input::Input;
@@ -15,19 +15,19 @@ pub trait Format {
 
     ghost reader: { Self → spec.Reader Self.Value };
 
-    /// Reads one.
+    /// ReadsBytes one.
     fn read(&self, alloc: Global, input: &mut Input<'_>) -> Result<Self::Value, Fault>
-        ensures { Reads (reader self.now input.old.rest.now) result input.new.rest.now };
+        ensures { ReadsBytes (reader self.now input.old.rest.now) result input.new.rest.now };
 }
 
-/// Reads so many, one behind the other.
+/// ReadsBytes so many, one behind the other.
 pub fn times<F: Format>(
     alloc: Global,
     input: &mut Input<'_>,
     format: &F,
     count: u32,
 ) -> Result<Items<F::Value>, Fault>
-    ensures { Reads (spec.times count (F.reader format.now) input.old.rest.now) result input.new.rest.now }
+    ensures { ReadsBytes (spec.times count (F.reader format.now) input.old.rest.now) result input.new.rest.now }
 {
     let mut items = Vec::new(alloc);
     'items: for _ in 0..count {
@@ -44,7 +44,7 @@ pub fn up_to<F: Format>(
     format: &F,
     most: u32,
 ) -> Result<Items<F::Value>, Fault>
-    ensures { Reads (up_to most (F.reader format.now) input.old.rest.now) result input.new.rest.now }
+    ensures { ReadsBytes (up_to most (F.reader format.now) input.old.rest.now) result input.new.rest.now }
 {
     let count = input.word_up_to(most)?;
     times(alloc, input, format, count)

@@ -2,7 +2,7 @@
 
 ghost use Rattle.ns_image.specs.Read as spec;
 ghost use Rattle.ns_image.specs.Reading.{selector};
-ghost use Rattle.ns_image.specs.Reads.{Reads, ReadsAs};
+ghost use Rattle.ns_image.specs.Reads.{ReadsBytes, ReadsAs};
 
 use crate::fault::Fault;
 use ns_base::selector::Sel;
@@ -28,7 +28,7 @@ impl<'a> Input<'a> {
 
     /// A number of one byte.
     pub fn byte(&mut self) -> Result<u8, Fault>
-        ensures { Reads (spec.byte self.old.rest.now) result self.new.rest.now }
+        ensures { ReadsBytes (spec.byte self.old.rest.now) result self.new.rest.now }
     {
         let bytes = self.taken(1)?;
         Ok(u8::from_be_bytes([bytes[0]]))
@@ -36,7 +36,7 @@ impl<'a> Input<'a> {
 
     /// A number of two bytes.
     pub fn half(&mut self) -> Result<u16, Fault>
-        ensures { Reads (spec.half self.old.rest.now) result self.new.rest.now }
+        ensures { ReadsBytes (spec.half self.old.rest.now) result self.new.rest.now }
     {
         let bytes = self.taken(2)?;
         Ok(u16::from_be_bytes([bytes[0], bytes[1]]))
@@ -44,7 +44,7 @@ impl<'a> Input<'a> {
 
     /// A number of four bytes.
     pub fn word(&mut self) -> Result<u32, Fault>
-        ensures { Reads (spec.word self.old.rest.now) result self.new.rest.now }
+        ensures { ReadsBytes (spec.word self.old.rest.now) result self.new.rest.now }
     {
         let bytes = self.taken(4)?;
         Ok(u32::from_be_bytes([bytes[0], bytes[1], bytes[2], bytes[3]]))
@@ -52,7 +52,7 @@ impl<'a> Input<'a> {
 
     /// A signed number of eight bytes.
     pub fn long(&mut self) -> Result<i64, Fault>
-        ensures { Reads (spec.long self.old.rest.now) result self.new.rest.now }
+        ensures { ReadsBytes (spec.long self.old.rest.now) result self.new.rest.now }
     {
         let bytes = self.taken(8)?;
         Ok(i64::from_be_bytes([
@@ -62,7 +62,7 @@ impl<'a> Input<'a> {
 
     /// A number of one byte, which is bad above the greatest.
     pub fn byte_up_to(&mut self, most: u8) -> Result<u8, Fault>
-        ensures { Reads (spec.byte_up_to most self.old.rest.now) result self.new.rest.now }
+        ensures { ReadsBytes (spec.byte_up_to most self.old.rest.now) result self.new.rest.now }
     {
         let left = self.rest.len();
         let number = self.byte()?;
@@ -74,7 +74,7 @@ impl<'a> Input<'a> {
 
     /// A number of four bytes, which is bad above the greatest.
     pub fn word_up_to(&mut self, most: u32) -> Result<u32, Fault>
-        ensures { Reads (spec.word_up_to most self.old.rest.now) result self.new.rest.now }
+        ensures { ReadsBytes (spec.word_up_to most self.old.rest.now) result self.new.rest.now }
     {
         let left = self.rest.len();
         let number = self.word()?;
@@ -87,7 +87,7 @@ impl<'a> Input<'a> {
     /// 0 for false, 1 for true.
     #[tactic(auto, unfolding(crate::specs::Read::flag))]
     pub fn flag(&mut self) -> Result<bool, Fault>
-        ensures { Reads (spec.flag self.old.rest.now) result self.new.rest.now }
+        ensures { ReadsBytes (spec.flag self.old.rest.now) result self.new.rest.now }
     {
         let number = self.byte_up_to(1)?;
         Ok(number == 1)
@@ -96,7 +96,7 @@ impl<'a> Input<'a> {
     /// 0 for none, else a number and 1.
     #[tactic(auto, unfolding(crate::specs::Read::reference))]
     pub fn reference(&mut self) -> Result<Option<u32>, Fault>
-        ensures { Reads (spec.reference self.old.rest.now) result self.new.rest.now }
+        ensures { ReadsBytes (spec.reference self.old.rest.now) result self.new.rest.now }
     {
         let number = self.word()?;
         Ok(number.checked_sub(1))
@@ -104,7 +104,7 @@ impl<'a> Input<'a> {
 
     /// The number of a name.
     pub fn sel(&mut self) -> Result<Sel, Fault>
-        ensures { Reads (selector self.old.rest.now) result self.new.rest.now }
+        ensures { ReadsBytes (selector self.old.rest.now) result self.new.rest.now }
     {
         let number = self.word()?;
         Ok(Sel(number))

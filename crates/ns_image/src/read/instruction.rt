@@ -2,7 +2,7 @@
 
 ghost use Rattle.ns_code.specs.declared.instruction.Instr.TheVariants as i;
 ghost use Rattle.ns_image.specs.Reading as spec;
-ghost use Rattle.ns_image.specs.Reads.{Reads};
+ghost use Rattle.ns_image.specs.Reads.{ReadsBytes};
 
 use crate::fault::Fault;
 use crate::read::format::Format;
@@ -28,7 +28,7 @@ impl Format for Instruction {
 
 /// What follows a code. So many bytes were left where the code stands.
 fn behind(input: &mut Input<'_>, left: usize, code: u8) -> Result<Instr, Fault>
-    ensures { Reads (spec.behind left (spec.operands_of code) input.old.rest.now) result input.new.rest.now }
+    ensures { ReadsBytes (spec.behind left (spec.operands_of code) input.old.rest.now) result input.new.rest.now }
 {
     match code {
         1 => Ok(Instr::PushNil),
@@ -62,7 +62,7 @@ fn behind(input: &mut Input<'_>, left: usize, code: u8) -> Result<Instr, Fault>
 }
 
 fn push_local(input: &mut Input<'_>) -> Result<Instr, Fault>
-    ensures { Reads (spec.operands (spec.two_bytes i.PushLocal) input.old.rest.now) result input.new.rest.now }
+    ensures { ReadsBytes (spec.operands (spec.two_bytes i.PushLocal) input.old.rest.now) result input.new.rest.now }
 {
     let hops = input.byte()?;
     let index = input.byte()?;
@@ -70,7 +70,7 @@ fn push_local(input: &mut Input<'_>) -> Result<Instr, Fault>
 }
 
 fn store_local(input: &mut Input<'_>) -> Result<Instr, Fault>
-    ensures { Reads (spec.operands (spec.two_bytes i.StoreLocal) input.old.rest.now) result input.new.rest.now }
+    ensures { ReadsBytes (spec.operands (spec.two_bytes i.StoreLocal) input.old.rest.now) result input.new.rest.now }
 {
     let hops = input.byte()?;
     let index = input.byte()?;
@@ -78,7 +78,7 @@ fn store_local(input: &mut Input<'_>) -> Result<Instr, Fault>
 }
 
 fn send(input: &mut Input<'_>) -> Result<Instr, Fault>
-    ensures { Reads (spec.operands (spec.sending i.Send) input.old.rest.now) result input.new.rest.now }
+    ensures { ReadsBytes (spec.operands (spec.sending i.Send) input.old.rest.now) result input.new.rest.now }
 {
     let sel = input.sel()?;
     let argc = input.byte()?;
@@ -86,7 +86,7 @@ fn send(input: &mut Input<'_>) -> Result<Instr, Fault>
 }
 
 fn send_inner(input: &mut Input<'_>) -> Result<Instr, Fault>
-    ensures { Reads (spec.operands (spec.sending i.SendInner) input.old.rest.now) result input.new.rest.now }
+    ensures { ReadsBytes (spec.operands (spec.sending i.SendInner) input.old.rest.now) result input.new.rest.now }
 {
     let sel = input.sel()?;
     let argc = input.byte()?;
@@ -94,7 +94,7 @@ fn send_inner(input: &mut Input<'_>) -> Result<Instr, Fault>
 }
 
 fn send_private(input: &mut Input<'_>) -> Result<Instr, Fault>
-    ensures { Reads (spec.operands spec.sending_at input.old.rest.now) result input.new.rest.now }
+    ensures { ReadsBytes (spec.operands spec.sending_at input.old.rest.now) result input.new.rest.now }
 {
     let level = input.byte()?;
     let sel = input.sel()?;
@@ -103,7 +103,7 @@ fn send_private(input: &mut Input<'_>) -> Result<Instr, Fault>
 }
 
 fn send_super(input: &mut Input<'_>) -> Result<Instr, Fault>
-    ensures { Reads (spec.operands (spec.sending i.SendSuper) input.old.rest.now) result input.new.rest.now }
+    ensures { ReadsBytes (spec.operands (spec.sending i.SendSuper) input.old.rest.now) result input.new.rest.now }
 {
     let sel = input.sel()?;
     let argc = input.byte()?;

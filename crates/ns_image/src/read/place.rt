@@ -3,7 +3,7 @@
 ghost use Rattle.std.specs.Prelude.{◌≡◌};
 ghost use Rattle.ns_image.specs.Read as fields;
 ghost use Rattle.ns_image.specs.Reading as spec;
-ghost use Rattle.ns_image.specs.Reads.{Reads};
+ghost use Rattle.ns_image.specs.Reads.{ReadsBytes};
 
 use crate::fault::Fault;
 use crate::read::input::Input;
@@ -21,7 +21,7 @@ fn is_carrier(instrs: &Instructions, number: u32) -> bool
 
 /// The number of an instruction that carries a place, and at least this one.
 fn carrier(input: &mut Input<'_>, instrs: &Instructions, least: u64) -> Result<u32, Fault>
-    ensures { Reads (spec.carrier instrs.now least input.old.rest.now) result input.new.rest.now }
+    ensures { ReadsBytes (spec.carrier instrs.now least input.old.rest.now) result input.new.rest.now }
 {
     let left = input.rest.len();
     let number = input.word()?;
@@ -36,7 +36,7 @@ fn carrier(input: &mut Input<'_>, instrs: &Instructions, least: u64) -> Result<u
 
 /// A number below that of the files.
 fn file(input: &mut Input<'_>, files: usize) -> Result<u32, Fault>
-    ensures { Reads (spec.file files input.old.rest.now) result input.new.rest.now }
+    ensures { ReadsBytes (spec.file files input.old.rest.now) result input.new.rest.now }
 {
     let left = input.rest.len();
     let number = input.word()?;
@@ -48,7 +48,7 @@ fn file(input: &mut Input<'_>, files: usize) -> Result<u32, Fault>
 
 /// A line or a column, which are counted from 1.
 fn from_one(input: &mut Input<'_>) -> Result<u32, Fault>
-    ensures { Reads (spec.from_one input.old.rest.now) result input.new.rest.now }
+    ensures { ReadsBytes (spec.from_one input.old.rest.now) result input.new.rest.now }
 {
     let left = input.rest.len();
     let number = input.word()?;
@@ -66,7 +66,7 @@ fn place(
     instrs: &Instructions,
     least: u64,
 ) -> Result<(u32, Place), Fault>
-    ensures { Reads (spec.place files instrs.now least input.old.rest.now) result input.new.rest.now }
+    ensures { ReadsBytes (spec.place files instrs.now least input.old.rest.now) result input.new.rest.now }
 {
     let number = carrier(input, instrs, least)?;
     let file = file(input, files)?;
@@ -82,7 +82,7 @@ pub fn places(
     files: usize,
     instrs: &Instructions,
 ) -> Result<Items<(u32, Place)>, Fault>
-    ensures { Reads (spec.places files instrs.now input.old.rest.now) result input.new.rest.now }
+    ensures { ReadsBytes (spec.places files instrs.now input.old.rest.now) result input.new.rest.now }
 {
     let count = input.word()?;
     places_of(alloc, input, files, instrs, count)
@@ -95,7 +95,7 @@ fn places_of(
     instrs: &Instructions,
     count: u32,
 ) -> Result<Items<(u32, Place)>, Fault>
-    ensures { Reads (fields.chained (spec.place files instrs.now) spec.behind_place count 0 input.old.rest.now) result input.new.rest.now }
+    ensures { ReadsBytes (fields.chained (spec.place files instrs.now) spec.behind_place count 0 input.old.rest.now) result input.new.rest.now }
 {
     let mut least = 0;
     let mut places = Vec::new(alloc);

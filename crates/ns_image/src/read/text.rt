@@ -3,7 +3,7 @@
 ghost use Rattle.std.specs.Prelude.{◌≡◌, IfOk};
 ghost use Rattle.ns_image.specs.Read as fields;
 ghost use Rattle.ns_image.specs.Reading as spec;
-ghost use Rattle.ns_image.specs.Reads.{Reads, ReadsAs};
+ghost use Rattle.ns_image.specs.Reads.{ReadsBytes, ReadsAs};
 
 use crate::fault::Fault;
 use crate::read::format::Format;
@@ -89,7 +89,7 @@ fn name<'a>(alloc: Global, input: &mut Input<'a>, earlier: &mut TextSet) -> Resu
 
 /// Names behind their count: each has a selector's form, and no two are equal.
 pub fn names(alloc: Global, input: &mut Input<'_>) -> Result<Items<Text>, Fault>
-    ensures { Reads (spec.names input.old.rest.now) result input.new.rest.now }
+    ensures { ReadsBytes (spec.names input.old.rest.now) result input.new.rest.now }
 {
     let count = input.word_up_to(MOST_NAMES as u32)?;
     let mut earlier = TextSet::new(alloc, key_of(input.rest, count));
@@ -119,7 +119,7 @@ fn names_of(
     earlier: &mut TextSet,
     count: u32,
 ) -> Result<Items<Text>, Fault>
-    ensures { Reads (fields.chained spec.name_after spec.with_name count earlier.old input.old.rest.now) result input.new.rest.now }
+    ensures { ReadsBytes (fields.chained spec.name_after spec.with_name count earlier.old input.old.rest.now) result input.new.rest.now }
 {
     let mut names = Vec::new(alloc);
     'names: for _ in 0..count {

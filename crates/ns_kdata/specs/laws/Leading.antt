@@ -20,7 +20,7 @@ use Rattle.ns_kdata.specs.Datum.{row_outcome}
 use Rattle.ns_world.specs.Seek.{may_be_first}
 use Rattle.ns_world.specs.Later.{MayCome, IsLater}
 use Rattle.ns_world.specs.laws.Leading.{later_same, later_made, later_printed, later_written}
-use Rattle.ns_kdata.specs.Leading.{LeadsTo, is_common}
+use Rattle.ns_kdata.specs.Leading.{HoldsAfter, is_common}
 use Rattle.std.specs.Prelude.{Result, Ok, Err, int_lt, pos, ◌||◌, ℤ, codes, replicate, unsigned_abs}
 
 -- It holds of the world itself, with a common cell more that may come, and with more output.
@@ -48,31 +48,31 @@ writes_later world (value.Sym sel) word item = later_same world
 writes_later world (value.Kernel class) word item = later_same world
 
 -- A row that changes nothing leads to a world that may come.
-pub unchanged_leads : (holds : World → Type 0) (world : World) (may : Allows holds world) (r : Result Value Fault) → LeadsTo holds (unchanged world r)
+pub unchanged_leads : (holds : World → Type 0) (world : World) (may : Allows holds world) (r : Result Value Fault) → HoldsAfter holds (unchanged world r)
 unchanged_leads holds world may (Ok value) = may.same
 unchanged_leads holds world may (Err fault) = tt
 
 -- A row that makes a common cell leads to a world that may come.
-pub cell_leads : (holds : World → Type 0) (world : World) (may : Allows holds world) (cell : Cell) → has_superclass world.cells cell ≡ true → may_be_first world.cells (shape_of cell) ≡ false → is_common (shape_of cell) ≡ true → LeadsTo holds (making world cell)
+pub cell_leads : (holds : World → Type 0) (world : World) (may : Allows holds world) (cell : Cell) → has_superclass world.cells cell ≡ true → may_be_first world.cells (shape_of cell) ≡ false → is_common (shape_of cell) ≡ true → HoldsAfter holds (making world cell)
 cell_leads holds world may cell super first common = found (made world cell) refl
   where
-    found : (o : Option World) → made world cell ≡ o → LeadsTo holds (made_as (heap_size world.cells) o)
+    found : (o : Option World) → made world cell ≡ o → HoldsAfter holds (made_as (heap_size world.cells) o)
     found (Some after) e = may.cell after cell (record { superclass = super; no_first = first }) common e
     found None e = tt
 
-copied_leads : (holds : World → Type 0) (world : World) (may : Allows holds world) (bytes : List ℕ) (part : Result Part Fault) → LeadsTo holds (copied world bytes part)
+copied_leads : (holds : World → Type 0) (world : World) (may : Allows holds world) (bytes : List ℕ) (part : Result Part Fault) → HoldsAfter holds (copied world bytes part)
 copied_leads holds world may bytes (Ok part) = cell_leads holds world may (TextCell (bytes_in bytes part)) refl refl refl
 copied_leads holds world may bytes (Err fault) = tt
 
-joined_leads : (holds : World → Type 0) (world : World) (may : Allows holds world) (bytes : List ℕ) (b : Bool) → LeadsTo holds (cond b (making world (TextCell bytes)) (Fails wrong_kind))
+joined_leads : (holds : World → Type 0) (world : World) (may : Allows holds world) (bytes : List ℕ) (b : Bool) → HoldsAfter holds (cond b (making world (TextCell bytes)) (Fails wrong_kind))
 joined_leads holds world may bytes true = cell_leads holds world may (TextCell bytes) refl refl refl
 joined_leads holds world may bytes false = tt
 
-sized_leads : (holds : World → Type 0) (world : World) (may : Allows holds world) (size : ℤ) (b : Bool) → LeadsTo holds (cond b (Fails out_of_range) (making world (ArrayCell (replicate (unsigned_abs size) value.Nil))))
+sized_leads : (holds : World → Type 0) (world : World) (may : Allows holds world) (size : ℤ) (b : Bool) → HoldsAfter holds (cond b (Fails out_of_range) (making world (ArrayCell (replicate (unsigned_abs size) value.Nil))))
 sized_leads holds world may size true = tt
 sized_leads holds world may size false = cell_leads holds world may (ArrayCell (replicate (unsigned_abs size) value.Nil)) refl refl refl
 
-array_leads : (holds : World → Type 0) (world : World) (may : Allows holds world) (size : Value) → LeadsTo holds (new_array world size)
+array_leads : (holds : World → Type 0) (world : World) (may : Allows holds world) (size : Value) → HoldsAfter holds (new_array world size)
 array_leads holds world may (value.Int size) = sized_leads holds world may size (int_lt size (pos 0) || int_lt (pos 64000000) size)
 array_leads holds world may value.Nil = tt
 array_leads holds world may value.True = tt
@@ -81,12 +81,12 @@ array_leads holds world may (value.Sym sel) = tt
 array_leads holds world may (value.Kernel class) = tt
 array_leads holds world may (value.Ref at) = tt
 
-put_leads : (holds : World → Type 0) (world : World) (may : Allows holds world) (array : Value) (place : Result ℕ Fault) (item : Value) → Writes holds world array → LeadsTo holds (put_at_place world array place item)
+put_leads : (holds : World → Type 0) (world : World) (may : Allows holds world) (array : Value) (place : Result ℕ Fault) (item : Value) → Writes holds world array → HoldsAfter holds (put_at_place world array place item)
 put_leads holds world may array (Ok place) item has = has place item
 put_leads holds world may array (Err fault) item has = tt
 
 -- the rows of data write their receiver alone
-pub data_leads : (holds : World → Type 0) (world : World) (may : Allows holds world) (code : CodeProgram) (r : DataRow) (receiver first second : Value) → Writes holds world receiver → LeadsTo holds (row_outcome world code r receiver first second)
+pub data_leads : (holds : World → Type 0) (world : World) (may : Allows holds world) (code : CodeProgram) (r : DataRow) (receiver first second : Value) → Writes holds world receiver → HoldsAfter holds (row_outcome world code r receiver first second)
 data_leads holds world may code row.Identical receiver first second has = may.same
 data_leads holds world may code row.Equal receiver first second has = may.same
 data_leads holds world may code row.IsNil receiver first second has = may.same
@@ -119,5 +119,5 @@ data_leads holds world may code row.MessageSelector receiver first second has = 
 data_leads holds world may code row.MessageArguments receiver first second has = may.same
 
 -- so each leads to a later world
-pub rows_lead_on : (world : World) (code : CodeProgram) (r : DataRow) (receiver first second : Value) → LeadsTo (IsLater world) (row_outcome world code r receiver first second)
+pub rows_lead_on : (world : World) (code : CodeProgram) (r : DataRow) (receiver first second : Value) → HoldsAfter (IsLater world) (row_outcome world code r receiver first second)
 rows_lead_on world code r receiver first second = data_leads (IsLater world) world (allows_later world) code r receiver first second (writes_later world receiver)

@@ -9,7 +9,7 @@ use Rattle.ns_world.specs.Heap.{Heap}
 use Rattle.ns_world.specs.World.{WorldView}
 use Rattle.ns_world.specs.Lawful.{IsLive}
 use Rattle.ns_kdata.specs.Outcome.{Gives, unchanged}
-use Rattle.ns_kdata.specs.Arguments.{IsThere, argument}
+use Rattle.ns_kdata.specs.Arguments.{CellIsThere, argument}
 
 -- what a row answers that changes nothing is its outcome
 pub gives_unchanged : (view : WorldView) (r : Result Value Fault) → Gives (unchanged view.world r) view r view
@@ -17,7 +17,7 @@ gives_unchanged view (Ok value) = (refl, refl, (refl, refl))
 gives_unchanged view (Err fault) = (refl, refl)
 
 -- a live value is there
-pub live_there : (heap : Heap) (code : CodeProgram) (value : Value) → IsLive heap code value → IsThere heap value
+pub live_there : (heap : Heap) (code : CodeProgram) (value : Value) → IsLive heap code value → CellIsThere heap value
 live_there heap code (Ref at) live = live
 live_there heap code Nil live = tt
 live_there heap code True live = tt
@@ -27,7 +27,7 @@ live_there heap code (Sym sel) live = tt
 live_there heap code (Kernel class) live = tt
 
 -- and so is each argument
-pub argument_there : (heap : Heap) (code : CodeProgram) (args : List Value) (place : ℕ) → All (IsLive heap code) args → IsThere heap (argument args place)
+pub argument_there : (heap : Heap) (code : CodeProgram) (args : List Value) (place : ℕ) → All (IsLive heap code) args → CellIsThere heap (argument args place)
 argument_there heap code [] place live = tt
 argument_there heap code (value ∷ args) zero live = live_there heap code value (live 0 value (omega arith))
 argument_there heap code (value ∷ args) (suc place) live = argument_there heap code args place (λ k d h. live (suc k) d (omega (arith, h)))

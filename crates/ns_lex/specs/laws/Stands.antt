@@ -2,11 +2,11 @@
 use Rattle.ns_tree.specs.declared.token.Kind.{Kind}
 use Rattle.ns_tree.specs.declared.token.Kind.TheVariants as k
 use Rattle.ns_lex.specs.Piece.{Text}
-use Rattle.ns_lex.specs.Spells.{Spells}
-use Rattle.ns_lex.specs.Lexes.{Stands}
+use Rattle.ns_lex.specs.Spells.{SpellsToken}
+use Rattle.ns_lex.specs.Lexes.{SpellsInText}
 
 -- a text that stands spells its token
-pub stands_spells : (w q : Text) (t : Kind) → Stands w q t → Spells w t
+pub stands_spells : (w q : Text) (t : Kind) → SpellsInText w q t → SpellsToken w t
 stands_spells w q (k.Ident s) h = h
 stands_spells w q (k.Word r) h = h
 stands_spells w q (k.Key s) h = h

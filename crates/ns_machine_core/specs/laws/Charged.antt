@@ -16,7 +16,7 @@ use Rattle.ns_machine_frames.specs.View.{leaving_shown, activation_shown, frames
 use Rattle.ns_machine_core.specs.declared.state.Core.{Core}
 use Rattle.ns_machine_core.specs.declared.state.Next.TheVariants.{On}
 use Rattle.ns_machine_core.specs.Shown.{phase_shown, shown}
-use Rattle.ns_machine_core.specs.Straight.{RunsBody, StaysIn, StaysOnTop}
+use Rattle.ns_machine_core.specs.Straight.{TopRunsBody, StaysIn, StaysOnTop}
 use Rattle.ns_machine_core.specs.laws.Straight.{shown_in}
 use Rattle.ns_machine_core.specs.laws.Worlds.{in_other}
 
@@ -42,7 +42,7 @@ pub given_on_top : (code : CodeProgram) (charged : ℕ) (old new : Core) (at to 
     → StaysOnTop charged old new
 given_on_top code charged old new at to value progress spent e body runs = by_frames old.stack.frames.items runs e
   where
-    by_frames : (frames : List Frame) → RunsBody body frames
+    by_frames : (frames : List Frame) → TopRunsBody body frames
         → shown code new (On to)
         ≡ settled code (phase_shown old.phase) (Gives value progress) (frames_shown code old.places (standing (at_next at.next frames) (in_use old.stack at)))
         → StaysIn body charged old new

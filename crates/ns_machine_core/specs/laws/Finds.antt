@@ -12,25 +12,25 @@ use Rattle.ns_machine_frames.specs.Standing.{standing, at_next, below, locals_in
 use Rattle.ns_machine_frames.specs.Stack.{stood}
 use Rattle.ns_machine_core.specs.declared.state.Core.{Core}
 use Rattle.ns_machine_core.specs.Shown.{progress_in}
-use Rattle.ns_machine_core.specs.Doing.{FindsIn, Finds, CanDo, running_of}
+use Rattle.ns_machine_core.specs.Doing.{FindsWhatItTakes, Finds, CanDo, running_of}
 
 -- what an instruction finds in the topmost frame
 pub finds_in : (code : CodeProgram) (core : Core) (at : Registers) (instr : Instr) (running : RunningFrame) → CanDo code core at instr
     → core.stack.frames.items ≡ Running running ∷ below core.stack.frames.items
-    → FindsIn code core.places instr (record running { next = at.next }) (locals_in (stood core.stack at)) (operands_in (stood core.stack at)) (progress_in core)
+    → FindsWhatItTakes code core.places instr (record running { next = at.next }) (locals_in (stood core.stack at)) (operands_in (stood core.stack at)) (progress_in core)
 finds_in code core at instr running can top =
     by_frames core.stack.frames.items top can.finds
   where
     by_frames : (frames : List Frame) → frames ≡ Running running ∷ below core.stack.frames.items
         → Finds code core.places instr (standing (at_next at.next frames) (take at.top core.stack.values.items)) (progress_in core)
-        → FindsIn code core.places instr (record running { next = at.next })
+        → FindsWhatItTakes code core.places instr (record running { next = at.next })
         (locals_in (standing (at_next at.next frames) (take at.top core.stack.values.items)))
         (operands_in (standing (at_next at.next frames) (take at.top core.stack.values.items))) (progress_in core)
     by_frames [] e finds = absurd finds
     by_frames (Looping frame ∷ frames) e finds = absurd finds
     by_frames (Running frame ∷ frames) e finds =
         let same : frame ≡ running = cc in
-        subst (λ (f : RunningFrame). FindsIn code core.places instr (record f { next = at.next })
+        subst (λ (f : RunningFrame). FindsWhatItTakes code core.places instr (record f { next = at.next })
         (locals_in (standing (at_next at.next (Running frame ∷ frames)) (take at.top core.stack.values.items)))
         (operands_in (standing (at_next at.next (Running frame ∷ frames)) (take at.top core.stack.values.items))) (progress_in core)) same finds
 

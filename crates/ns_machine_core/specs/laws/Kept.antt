@@ -18,7 +18,7 @@ use Rattle.ns_machine_core.specs.declared.state.Next.{Next}
 use Rattle.ns_machine_core.specs.declared.state.Next.TheVariants as next
 use Rattle.ns_machine_frames.specs.View.{state_shown}
 use Rattle.ns_machine_core.specs.Shown.{phase_shown, progress_in, shown}
-use Rattle.ns_machine_core.specs.Standing.{HasRooms, Stays}
+use Rattle.ns_machine_core.specs.Standing.{HasRooms, KeepsRooms}
 
 -- ---- worlds of valid states
 
@@ -45,7 +45,7 @@ ready_lawful code grants core n valid =
 -- ---- moves
 
 -- A machine keeps its rooms where what else is changed stays.
-pub rooms_stay : (code : CodeProgram) (old new : Core) → HasRooms code old → Stays old new → HasRooms code new
+pub rooms_stay : (code : CodeProgram) (old new : Core) → HasRooms code old → KeepsRooms old new → HasRooms code new
 rooms_stay code old new rooms stays = record {
   cells = rw (stays.world.limits, stays.world.room.0) rooms.cells;
   out = rw (stays.world.limits, stays.world.room.1) rooms.out;
@@ -56,7 +56,7 @@ rooms_stay code old new rooms stays = record {
 }
 
 -- What stays, and stays again, stays.
-pub stays_on : (first second third : Core) → Stays first second → Stays second third → Stays first third
+pub stays_on : (first second third : Core) → KeepsRooms first second → KeepsRooms second third → KeepsRooms first third
 stays_on first second third one two = record {
   world = record {
     limits = two.world.limits ∙ one.world.limits;

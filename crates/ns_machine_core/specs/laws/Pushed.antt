@@ -12,18 +12,18 @@ use Rattle.ns_machine_frames.specs.declared.registers.Registers.{Registers}
 use Rattle.ns_machine_frames.specs.declared.stack.Stack.{Stack}
 use Rattle.ns_machine_frames.specs.Standing.{Stood, Runs, standing, at_next, below, AreLaid}
 use Rattle.ns_machine_frames.specs.Stack.{stood}
-use Rattle.ns_machine_frames.specs.Room.{AreWithin}
+use Rattle.ns_machine_frames.specs.Room.{FramesFitWithin}
 use Rattle.ns_machine_frames.specs.declared.frame.Pending.{Pending}
 use Rattle.ns_world.specs.declared.ending.Ending.{Ending}
 use Rattle.ns_machine_core.specs.declared.state.Core.{Core}
 use Rattle.ns_machine_core.specs.Shown.{progress_in}
-use Rattle.ns_machine_core.specs.Standing.{Stays}
+use Rattle.ns_machine_core.specs.Standing.{KeepsRooms}
 use Rattle.ns_actions.specs.Bodies.{height_in, greatest_of}
 use Rattle.ns_machine_core.specs.Doing.{Finds, CanDo, IsRunning}
 
 -- what stays where the stack alone has changed
 pub stack_stays : (core : Core) (stack : Stack) → stack.values.room ≡ core.stack.values.room → stack.frames.room ≡ core.stack.frames.room
-    → Stays core (record core { stack = stack })
+    → KeepsRooms core (record core { stack = stack })
 stack_stays core stack values frames = record {
   world = record { limits = refl; room = (refl, refl) };
   values = values;
@@ -33,11 +33,11 @@ stack_stays core stack values frames = record {
 }
 
 -- or where a run has ended, or something waits in it
-pub ended_stays : (core : Core) (ending : Ending) → Stays core (record core { ending = ending })
+pub ended_stays : (core : Core) (ending : Ending) → KeepsRooms core (record core { ending = ending })
 ended_stays core ending = record { world = record { limits = refl; room = (refl, refl) }; values = refl; frames = refl; places = refl; arguments = refl }
 
 -- All but what waits stays where what waits is set.
-pub waiting_stays : (core : Core) (waiting : Pending) → Stays core (record core { waiting = waiting })
+pub waiting_stays : (core : Core) (waiting : Pending) → KeepsRooms core (record core { waiting = waiting })
 waiting_stays core waiting = record { world = record { limits = refl; room = (refl, refl) }; values = refl; frames = refl; places = refl; arguments = refl }
 
 -- how many operands the topmost frame has
@@ -52,7 +52,7 @@ pub one_more : (code : CodeProgram) (core : Core) (at : Registers) (instr : Inst
 one_more code core at instr can on = by_frames core.stack.frames.items can.stands.frames.laid.frames can.stands.frames.within can.finds
   where
     by_frames : (frames : List Frame) → AreLaid frames at.top
-        → AreWithin (height_in code) (greatest_of code.bodies) (length core.stack.values.items) frames
+        → FramesFitWithin (height_in code) (greatest_of code.bodies) (length core.stack.values.items) frames
         → Finds code core.places instr (standing (at_next at.next frames) (take at.top core.stack.values.items)) (progress_in core)
         → (takes instr ≤ at.top) × (at.top - takes instr + leaves instr ≤ length core.stack.values.items)
     by_frames [] laid within finds = absurd finds

@@ -18,7 +18,7 @@ use Rattle.ns_actions.specs.Bodies.{enclosing, environment_at, is_beside, local_
 use Rattle.ns_actions.specs.Classes.{slot_filled}
 use Rattle.ns_machine_moves.specs.State as state
 use Rattle.ns_machine_moves.specs.State.{State, Going, Stuck, Leaving, Phase}
-use Rattle.ns_machine_moves.specs.Steps.{Step, steps_from}
+use Rattle.ns_machine_moves.specs.Steps.{PlacedInstr, steps_from}
 use Rattle.ns_machine_moves.specs.Operands.{picked}
 use Rattle.ns_machine_moves.specs.Instructions.{executed}
 use Rattle.ns_machine_moves.specs.Returns.{settled}
@@ -32,30 +32,30 @@ use Rattle.ns_machine_frames.specs.View.{leaving_shown, activation_shown, frames
 use Rattle.ns_machine_core.specs.declared.state.Core.{Core}
 use Rattle.ns_machine_core.specs.declared.state.Next.TheVariants.{On}
 use Rattle.ns_machine_core.specs.Shown.{phase_shown, progress_in, shown}
-use Rattle.ns_machine_core.specs.Doing.{done, Does}
-use Rattle.ns_machine_core.specs.Tried.{DoesOrNot, Leads, led_straight, led_on}
-use Rattle.ns_machine_core.specs.Straight.{RunsBody, StaysIn, StaysOnTop, GoesStraight, is_plain}
+use Rattle.ns_machine_core.specs.Doing.{done, IsDone}
+use Rattle.ns_machine_core.specs.Tried.{DoesOrNot, LeadsOrChangesNothing, led_straight, led_on}
+use Rattle.ns_machine_core.specs.Straight.{TopRunsBody, StaysIn, StaysOnTop, GoesStraight, is_plain}
 
 -- ---- the topmost frame
 
 -- It is one of its body.
-pub runs_top : (frames : List Frame) (frame : RunningFrame) → frames ≡ Running frame ∷ below frames → RunsBody frame.activation.body frames
-runs_top frames frame e = subst (λ (all : List Frame). RunsBody frame.activation.body all) (sym e) refl
+pub runs_top : (frames : List Frame) (frame : RunningFrame) → frames ≡ Running frame ∷ below frames → TopRunsBody frame.activation.body frames
+runs_top frames frame e = subst (λ (all : List Frame). TopRunsBody frame.activation.body all) (sym e) refl
 
 -- The body of a frame that is on top is the one that runs.
-pub top_is : (body : ℕ) (frames others : List Frame) (frame : RunningFrame) → RunsBody body frames → frames ≡ Running frame ∷ others
+pub top_is : (body : ℕ) (frames others : List Frame) (frame : RunningFrame) → TopRunsBody body frames → frames ≡ Running frame ∷ others
     → frame.activation.body ≡ body
-top_is body frames others frame runs e = subst (λ (all : List Frame). RunsBody body all) e runs
+top_is body frames others frame runs e = subst (λ (all : List Frame). TopRunsBody body all) e runs
 
 -- ---- a body that goes on
 
 -- A state in which a body runs on top, after so many steps.
-pub record IsIn (body steps : ℕ) (s : State) : Type 0 where
+pub record BodyIsOnTop (body steps : ℕ) (s : State) : Type 0 where
   pub phase : Phase
   pub leaving : Leaving
   pub activation : Activation
   pub locals : List Value
-  pub rest : List Step
+  pub rest : List PlacedInstr
   pub stack : List Value
   pub frames : List state.Frame
   pub progress : Progress
@@ -64,14 +64,14 @@ pub record IsIn (body steps : ℕ) (s : State) : Type 0 where
   pub none : progress.world.steps ≡ steps
 
 -- where such a state is shown that body runs
-pub shown_in : (code : CodeProgram) (body steps : ℕ) (new : Core) (to : Registers) → IsIn body steps (shown code new (On to))
-    → RunsBody body new.stack.frames.items × (new.run.world.world.steps ≡ steps)
+pub shown_in : (code : CodeProgram) (body steps : ℕ) (new : Core) (to : Registers) → BodyIsOnTop body steps (shown code new (On to))
+    → TopRunsBody body new.stack.frames.items × (new.run.world.world.steps ≡ steps)
 shown_in code body steps new to is = by_frames new.stack.frames.items is.is
   where
     by_frames : (frames : List Frame)
         → Going (phase_shown new.phase) (frames_shown code new.places (standing (at_next to.next frames) (in_use new.stack to))) (progress_in new)
         ≡ Going is.phase (state.Running is.leaving is.activation is.locals is.rest is.stack ∷ is.frames) is.progress
-        → RunsBody body frames × (new.run.world.world.steps ≡ steps)
+        → TopRunsBody body frames × (new.run.world.world.steps ≡ steps)
     by_frames [] e = absurd (cc)
     by_frames (Looping frame ∷ frames) e = absurd (cc)
     by_frames (Running frame ∷ frames) e =
@@ -107,11 +107,11 @@ slot_charges_none world (Kernel class) word value = refl
 slot_charges_none world (Ref at) word value = refl
 
 module _ (code : CodeProgram) (phase going : Phase) (place : Option SourcePlace) (leaving : Leaving) (activation : Activation) (locals : List Value)
-    (rest : List Step) (frames here : List state.Frame) (progress after : Progress) where
+    (rest : List PlacedInstr) (frames here : List state.Frame) (progress after : Progress) where
   -- the body goes on with these locals and operands, and as many steps
   goes_in : (kept stack : List Value) (next : Progress)
       → Going going here after ≡ Going phase (state.Running leaving activation kept rest stack ∷ frames) next → next.world.steps ≡ progress.world.steps
-      → IsIn activation.body progress.world.steps (Going going here after)
+      → BodyIsOnTop activation.body progress.world.steps (Going going here after)
   goes_in kept stack next e none = record {
     phase = phase;
     leaving = leaving;
@@ -130,7 +130,7 @@ module _ (code : CodeProgram) (phase going : Phase) (place : Option SourcePlace)
   picked_in : (number : ℕ) (among stack : List Value)
       → Going going here after
       ≡ picked (Stuck progress) number among (λ value. Going phase (state.Running leaving activation locals rest (value ∷ stack) ∷ frames) progress)
-      → IsIn activation.body progress.world.steps (Going going here after)
+      → BodyIsOnTop activation.body progress.world.steps (Going going here after)
   picked_in number [] stack e = absurd (cc)
   picked_in zero (value ∷ among) stack e = goes_in locals (value ∷ stack) progress e refl
   picked_in (suc number) (value ∷ among) stack e = picked_in number among stack e
@@ -138,7 +138,7 @@ module _ (code : CodeProgram) (phase going : Phase) (place : Option SourcePlace)
   -- a cell is made, if there is room for it
   made_in : (cell : Cell) (stack : List Value)
       → Going going here after ≡ settled code phase (new_cell cell progress) (state.Running leaving activation locals rest stack ∷ frames)
-      → IsIn activation.body progress.world.steps (Going going here after)
+      → BodyIsOnTop activation.body progress.world.steps (Going going here after)
   made_in cell stack = by_room (nat_le (heap_size progress.world.cells + cell_size cell) progress.world.limits.cells)
     where
       by_room : (b : Bool)
@@ -147,7 +147,7 @@ module _ (code : CodeProgram) (phase going : Phase) (place : Option SourcePlace)
           (charged Halts Cells (if b then Some (record progress.world { cells = cell ∷ progress.world.cells }) else None) progress
           (Gives (Ref (heap_size progress.world.cells))))
           (state.Running leaving activation locals rest stack ∷ frames)
-          → IsIn activation.body progress.world.steps (Going going here after)
+          → BodyIsOnTop activation.body progress.world.steps (Going going here after)
       by_room true e =
           goes_in locals (Ref (heap_size progress.world.cells) ∷ stack)
           (in_world progress (record progress.world { cells = cell ∷ progress.world.cells })) e refl
@@ -155,7 +155,7 @@ module _ (code : CodeProgram) (phase going : Phase) (place : Option SourcePlace)
 
   executed_in : (i : Instr) (stack : List Value) → is_plain i ≡ true
       → Going going here after ≡ executed code phase i place leaving activation locals rest stack frames progress
-      → IsIn activation.body progress.world.steps (Going going here after)
+      → BodyIsOnTop activation.body progress.world.steps (Going going here after)
   executed_in instr.PushNil stack plain e = goes_in locals (Nil ∷ stack) progress e refl
   executed_in instr.PushTrue stack plain e = goes_in locals (True ∷ stack) progress e refl
   executed_in instr.PushFalse stack plain e = goes_in locals (False ∷ stack) progress e refl
@@ -196,13 +196,13 @@ module _ (code : CodeProgram) (phase going : Phase) (place : Option SourcePlace)
 
 -- Where a plain instruction is done and leads on, the body that runs goes straight on.
 pub plain_straight : (code : CodeProgram) (i : Instr) (place : Option SourcePlace) (old new : Core) (at to : Registers) → is_plain i ≡ true
-    → Does code i place old at new (On to) → GoesStraight code 0 i place old at new to
+    → IsDone code i place old at new (On to) → GoesStraight code 0 i place old at new to
 plain_straight code i place old new at to plain does = record {
   does = does;
   stays = λ body runs. by_frames body old.stack.frames.items runs does.state;
 }
   where
-    by_frames : (body : ℕ) (frames : List Frame) → RunsBody body frames
+    by_frames : (body : ℕ) (frames : List Frame) → TopRunsBody body frames
         → shown code new (On to)
         ≡ done code old.places (phase_shown old.phase) i place (standing (at_next at.next frames) (in_use old.stack at)) (progress_in old)
         → StaysIn body 0 old new
@@ -217,34 +217,34 @@ plain_straight code i place old new at to plain does = record {
         (frames_shown code new.places (stood new.stack to)) (progress_in old) (progress_in new) i
         (reverse (drop frame.operands (in_use old.stack at))) plain e) in
         let steps = is.1 in
-        record { runs = subst (λ (b : ℕ). RunsBody b new.stack.frames.items) runs is.0; steps = omega (arith, steps) }
+        record { runs = subst (λ (b : ℕ). TopRunsBody b new.stack.frames.items) runs is.0; steps = omega (arith, steps) }
 
 -- Where nothing but the registers has changed, it does so too.
 pub same_straight : (code : CodeProgram) (i : Instr) (place : Option SourcePlace) (old new : Core) (at to : Registers) → new ≡ old
-    → Does code i place old at new (On to) → GoesStraight code 0 i place old at new to
+    → IsDone code i place old at new (On to) → GoesStraight code 0 i place old at new to
 same_straight code i place old new at to same does = record {
   does = does;
   stays = λ body runs. record {
-    runs = subst (λ (core : Core). RunsBody body core.stack.frames.items) (sym same) runs;
+    runs = subst (λ (core : Core). TopRunsBody body core.stack.frames.items) (sym same) runs;
     steps = let steps = ap (λ (core : Core). core.run.world.world.steps) same in omega (arith, steps);
   };
 }
 
 -- Where one step was charged and the body that runs stays on top, it does so too.
 pub charged_straight : (code : CodeProgram) (i : Instr) (place : Option SourcePlace) (old new : Core) (at to : Registers) → StaysOnTop 1 old new
-    → Does code i place old at new (On to) → GoesStraight code 1 i place old at new to
+    → IsDone code i place old at new (On to) → GoesStraight code 1 i place old at new to
 charged_straight code i place old new at to stays does = record { does = does; stays = stays }
 
 -- ---- what was tried
 
 -- What was tried leads on with the topmost frame.
 pub tried_on : (code : CodeProgram) (i : Instr) (place : Option SourcePlace) (old : Core) (at : Registers) (new : Core) (done : Option Registers)
-    → DoesOrNot code i place old at new done → Leads code i place old at new (led_on done)
+    → DoesOrNot code i place old at new done → LeadsOrChangesNothing code i place old at new (led_on done)
 tried_on code i place old at new (Some to) does = does
 tried_on code i place old at new None untouched = untouched
 
 -- Plain instructions that were tried lead straight on.
 pub tried_straight : (code : CodeProgram) (i : Instr) (place : Option SourcePlace) (old : Core) (at : Registers) (new : Core) (done : Option Registers)
-    → is_plain i ≡ true → DoesOrNot code i place old at new done → Leads code i place old at new (led_straight done)
+    → is_plain i ≡ true → DoesOrNot code i place old at new done → LeadsOrChangesNothing code i place old at new (led_straight done)
 tried_straight code i place old at new (Some to) plain does = plain_straight code i place old new at to plain does
 tried_straight code i place old at new None plain untouched = untouched

@@ -1,6 +1,6 @@
 -- Steps until nothing is left to do are so many steps.
 use Rattle.std.proofs.Common.{◌≡◌, ℕ, zero, suc, ◌+◌, ◌^◌, ◌≤◌, ◌⊎◌, inl, inr, refl, sym, ap, ◌∙◌, arith, Bool, true, false, if◌then◌else◌}
-use Rattle.ns_machine_moves.specs.Doubling.{times, doubled, until, Leads}
+use Rattle.ns_machine_moves.specs.Doubling.{times, doubled, until, StepsLead}
 use Rattle.ns_machine_moves.specs.lemmas.Powers.{pow_more}
 
 module _ {S : Type 0} (is_done : S → Bool) (step : S → S) where
@@ -29,7 +29,7 @@ module _ {S : Type 0} (is_done : S → Bool) (step : S → S) where
       inr (omega (arith, many, double, same))
 
   -- Steps that double in number lead to where the run is done, or as far as they go.
-  pub leads : (power more : ℕ) (s : S) → Leads is_done step power more s (until is_done step power more s)
+  pub leads : (power more : ℕ) (s : S) → StepsLead is_done step power more s (until is_done step power more s)
   leads power zero s =
       let all : power + zero ≡ power = omega arith in
       let same = ap (λ n. 2 ^ n) all in
@@ -37,8 +37,8 @@ module _ {S : Type 0} (is_done : S → Bool) (step : S → S) where
   leads power (suc more) s = tested (is_done s) refl (leads (power + 1) more (doubled step power s))
     where
       tested : (b : Bool) → is_done s ≡ b
-          → Leads is_done step (power + 1) more (doubled step power s) (until is_done step (power + 1) more (doubled step power s))
-          → Leads is_done step power (suc more) s (if b then s else until is_done step (power + 1) more (doubled step power s))
+          → StepsLead is_done step (power + 1) more (doubled step power s) (until is_done step (power + 1) more (doubled step power s))
+          → StepsLead is_done step power (suc more) s (if b then s else until is_done step (power + 1) more (doubled step power s))
       tested true e next = record { count = 0; is = refl; done = inl e }
       tested false e next =
           record {

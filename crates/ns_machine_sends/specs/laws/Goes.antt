@@ -13,7 +13,7 @@ use Rattle.ns_actions.specs.Lawful.{LawfulRun, LawfulControl, FitsTarget, FitsSe
 use Rattle.ns_actions.specs.Fitting.{GoesOnAt, Asks, HandsOn}
 use Rattle.ns_actions.specs.Spending.{ControlSpends, Spends}
 use Rattle.ns_actions.specs.Sends.{Target, receiver_of, site_at, sent}
-use Rattle.ns_machine_sends.specs.Going.{HasRoomAbove, GoesOn}
+use Rattle.ns_machine_sends.specs.Going.{HasRoomAbove, ControlGoesOn}
 
 -- A frame that was charged is within the limit, and few arguments stay few.
 pub room_above : (code : CodeProgram) (frames steps home : ℕ) (Few : Type 0) (old : Progress) (site : Site) (c : Control) → ControlSpends steps old c → LawfulControl code c
@@ -43,7 +43,7 @@ pub record SendsKnown : Type 0 where
 
 pub send_goes : SendsKnown → (code : CodeProgram) (activation : Activation) (target : Target) (sel : Sel) (values : List Value) (place : Option SourcePlace) (frames : ℕ)
     (progress : Progress) → LawfulRun code progress → FitsTarget progress.world.cells code activation target → FitsSelector progress.world.cells code sel values
-    → length values ≤ 255 → progress.world.depth ≡ frames → GoesOn code frames (sent code activation target sel values place progress)
+    → length values ≤ 255 → progress.world.depth ≡ frames → ControlGoesOn code frames (sent code activation target sel values place progress)
 send_goes known code activation target sel values place frames progress lawful fits selector few depth =
     let after = known.lawful code activation target sel values place progress lawful fits selector in
     record {

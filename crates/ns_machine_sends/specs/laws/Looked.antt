@@ -3,7 +3,7 @@ use Rattle.std.proofs.Common.{◌≡◌, List, length, ap, sym, ◌∙◌, subst
 use Rattle.ns_code.specs.declared.program.CodeProgram.{CodeProgram}
 use Rattle.ns_world.specs.declared.value.Value.{Value}
 use Rattle.ns_find.specs.declared.memo.Kept.{Kept}
-use Rattle.ns_find.specs.Memo.{IsRight}
+use Rattle.ns_find.specs.Memo.{PlaceIsRight}
 use Rattle.ns_actions.specs.Control.{Control}
 use Rattle.ns_machine_moves.specs.Arrivals.{arrived}
 use Rattle.ns_act.specs.declared.run.Run.{Run}
@@ -17,7 +17,7 @@ use Rattle.ns_machine_core.specs.declared.state.Next.{Next}
 use Rattle.ns_machine_core.specs.Shown.{phase_shown}
 use Rattle.ns_machine_core.specs.Arriving.{Arrives}
 use Rattle.ns_machine_sends.specs.declared.sent.Sent.{Sent}
-use Rattle.ns_machine_sends.specs.Going.{GoesOn, answered_at, Leads}
+use Rattle.ns_machine_sends.specs.Going.{ControlGoesOn, answered_at, Leads}
 use Rattle.ns_machine_sends.specs.Sending.{Sends}
 
 -- nothing but the lookups that are kept has changed
@@ -31,13 +31,13 @@ comes_leads code old new at sent control next is = record { state = is.state; st
 
 -- What a lookup answered can go on where control can, and has led there.
 pub answer_goes : (code : CodeProgram) (core : Core) (at : Registers) (sent : Sent) (receiver : Value) (run : Run) (answer : Answered) (control : Control)
-    → answered_at code (record core { run = run }) at sent receiver answer ≡ control → GoesOn code (length core.stack.frames.items) control
-    → GoesOn code (length core.stack.frames.items) (answered_at code (record core { run = run }) at sent receiver answer)
-answer_goes code core at sent receiver run answer control e goes = subst (λ (c : Control). GoesOn code (length core.stack.frames.items) c) (sym e) goes
+    → answered_at code (record core { run = run }) at sent receiver answer ≡ control → ControlGoesOn code (length core.stack.frames.items) control
+    → ControlGoesOn code (length core.stack.frames.items) (answered_at code (record core { run = run }) at sent receiver answer)
+answer_goes code core at sent receiver run answer control e goes = subst (λ (c : Control). ControlGoesOn code (length core.stack.frames.items) c) (sym e) goes
 
 pub answer_sends : (code : CodeProgram) (core new : Core) (at : Registers) (sent : Sent) (receiver : Value) (run : Run) (answer : Answered) (control : Control) (next : Next)
     → answered_at code (record core { run = run }) at sent receiver answer ≡ control → SameRest core.run.world run.world
-    → All (IsRight core.run.world.world.cells code) run.memo
+    → All (PlaceIsRight core.run.world.world.cells code) run.memo
     → Leads code (record core { run = run }) at sent.floor (answered_at code (record core { run = run }) at sent receiver answer) new next
     → Sends code core at sent.floor control new next
 answer_sends code core new at sent receiver run answer control next e rest kept is = record {
@@ -54,5 +54,5 @@ answer_sends code core new at sent receiver run answer control next e rest kept 
     places = is.stays.places;
     arguments = is.stays.arguments;
   };
-  kept = subst (λ (memo : List (Option Kept)). All (IsRight core.run.world.world.cells code) memo) (sym is.memo) kept;
+  kept = subst (λ (memo : List (Option Kept)). All (PlaceIsRight core.run.world.world.cells code) memo) (sym is.memo) kept;
 }

@@ -11,7 +11,7 @@ use Rattle.ns_world.specs.Lawful.{IsLawful, IsLiveValue}
 use Rattle.ns_machine_frames.specs.declared.frame.Frame.{Frame}
 use Rattle.ns_machine_frames.specs.declared.frame.Frame.TheVariants.{Running, Looping}
 use Rattle.ns_machine_frames.specs.declared.registers.Registers.{Registers}
-use Rattle.ns_machine_frames.specs.Room.{AreWithin, bound}
+use Rattle.ns_machine_frames.specs.Room.{FramesFitWithin, bound}
 use Rattle.ns_machine_frames.specs.Standing.{Stood, Runs, Loops, standing, at_next, AreLaid, pushed, pushed_all, operands_in}
 use Rattle.ns_machine_frames.specs.Stack.{in_use, stood, with_top, IsLaid}
 use Rattle.ns_machine_frames.specs.laws.Taking.{taken_laid}
@@ -67,7 +67,7 @@ reach_on : (code : CodeProgram) (core : Core) (at : Registers) (instr : Instr) �
 reach_on code core at instr can on = by_frames core.stack.frames.items can.stands.frames.laid.frames can.stands.frames.within can.finds
   where
     by_frames : (frames : List Frame) → AreLaid frames at.top
-        → AreWithin (height_in code) (greatest_of code.bodies) (length core.stack.values.items) frames
+        → FramesFitWithin (height_in code) (greatest_of code.bodies) (length core.stack.values.items) frames
         → Finds code core.places instr (standing (at_next at.next frames) (take at.top core.stack.values.items)) (progress_in core)
         → at.top - takes instr + leaves instr ≤ bound (greatest_of code.bodies) frames
     by_frames [] laid within finds = absurd finds

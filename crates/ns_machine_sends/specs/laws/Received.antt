@@ -16,8 +16,8 @@ use Rattle.ns_actions.specs.Control.{Activation}
 use Rattle.ns_actions.specs.Sends.{To, sent}
 use Rattle.ns_machine_moves.specs.Arrivals.{arrived}
 use Rattle.ns_machine_moves.specs.State.{State, Stuck}
-use Rattle.ns_machine_moves.specs.WorldAsks.{TakesArguments}
-use Rattle.ns_machine_frames.specs.Stated.{AreTaken}
+use Rattle.ns_machine_moves.specs.WorldAsks.{SelectorTakes}
+use Rattle.ns_machine_frames.specs.Stated.{ComeOffAgain}
 use Rattle.ns_machine_frames.specs.declared.frame.RunningFrame.{RunningFrame}
 use Rattle.ns_machine_frames.specs.declared.registers.Registers.{Registers}
 use Rattle.ns_machine_frames.specs.Standing.{Stood, Runs, Loops, pushed, pushed_all, operands_in}
@@ -27,7 +27,7 @@ use Rattle.ns_machine_frames.specs.laws.Taking.{taken_stood, taken_length}
 use Rattle.ns_machine_core.specs.declared.state.Core.{Core}
 use Rattle.ns_machine_core.specs.declared.state.Next.{Next}
 use Rattle.ns_machine_core.specs.Shown.{phase_shown, progress_in}
-use Rattle.ns_machine_core.specs.Doing.{done, Finds, CanDo, Does}
+use Rattle.ns_machine_core.specs.Doing.{done, Finds, CanDo, IsDone}
 use Rattle.ns_machine_core.specs.laws.Pushed.{runs, one_more}
 use Rattle.ns_machine_core.specs.laws.Taken.{some_operand}
 use Rattle.ns_machine_sends.specs.declared.sent.Sent.{Sent}
@@ -115,7 +115,7 @@ send_operands code core at sel argc can = record {
   fits = by_stood (stood core.stack at) can.finds;
 }
   where
-    by_stood : (s : List Stood) → Finds code core.places (instr.Send sel argc) s (progress_in core) → TakesArguments code sel argc
+    by_stood : (s : List Stood) → Finds code core.places (instr.Send sel argc) s (progress_in core) → SelectorTakes code sel argc
     by_stood [] finds = absurd finds
     by_stood (Loops frame ∷ s) finds = absurd finds
     by_stood (Runs frame locals stack ∷ s) finds = finds.asks
@@ -131,7 +131,7 @@ inner_operands code core at sel argc can = record {
   fits = by_stood (stood core.stack at) can.finds;
 }
   where
-    by_stood : (s : List Stood) → Finds code core.places (instr.SendInner sel argc) s (progress_in core) → TakesArguments code sel argc
+    by_stood : (s : List Stood) → Finds code core.places (instr.SendInner sel argc) s (progress_in core) → SelectorTakes code sel argc
     by_stood [] finds = absurd finds
     by_stood (Loops frame ∷ s) finds = absurd finds
     by_stood (Runs frame locals stack ∷ s) finds = finds.asks
@@ -160,7 +160,7 @@ sent_by code old instr place sel values receiver kind (Runs frame locals stack �
     record { activation = activation_shown old.places frame.activation; is = does frame locals stack s }
 
 -- each kind of instruction is
-send_is : ((missing : State) → AreTaken missing) → (code : CodeProgram) (old : Core) (at : Registers) (sel : Sel) (argc : ℕ) (place : Option SourcePlace)
+send_is : ((missing : State) → ComeOffAgain missing) → (code : CodeProgram) (old : Core) (at : Registers) (sel : Sel) (argc : ℕ) (place : Option SourcePlace)
     (receiver : Value) (kind : Sending) → length (topmost old at argc) ≡ argc
     → DoesSend code old (send_instr kind sel argc) place sel (topmost old at argc) receiver kind
 send_is taken code old at sel argc place receiver Plain many frame locals stack others =
@@ -178,7 +178,7 @@ send_is taken code old at sel argc place receiver Inner many frame locals stack 
     (pushed_all (topmost old at argc) (pushed receiver (Runs frame locals stack ∷ others))) (progress_in old)) many
     (sym (taken (Stuck (progress_in old)) (topmost old at argc) (receiver ∷ stack) _))
 
-module _ (taken : (missing : State) → AreTaken missing) (code : CodeProgram) (old new : Core) (at : Registers) (sel : Sel) (argc place : ℕ) where
+module _ (taken : (missing : State) → ComeOffAgain missing) (code : CodeProgram) (old new : Core) (at : Registers) (sel : Sel) (argc place : ℕ) where
   module _ (kind : Sending) (can : CanDo code old at (send_instr kind sel argc)) (receiver : Value) (under : List Stood)
       (is : stood old.stack at ≡ pushed_all (topmost old at argc) (pushed receiver under)) (many : length (topmost old at argc) ≡ argc) where
     pub by : IsSentBy code old (send_instr kind sel argc) (slice_get old.places place) sel (topmost old at argc) receiver kind under
@@ -193,7 +193,7 @@ module _ (taken : (missing : State) → AreTaken missing) (code : CodeProgram) (
         ∙ ap (λ (s : List Stood). done code old.places (phase_shown old.phase) (send_instr kind sel argc) (slice_get old.places place) s (progress_in old)) (sym is)
 
   pub kind_does : (kind : Sending) (next : Next) → CanDo code old at (send_instr kind sel argc) → SendsToTop code old at sel argc place kind new next
-      → Does code (send_instr kind sel argc) (slice_get old.places place) old at new next
+      → IsDone code (send_instr kind sel argc) (slice_get old.places place) old at new next
   kind_does kind next can is = record {
     state = is.state (by kind can is.receiver is.under is.is is.many).activation ∙ leads_so kind can is.receiver is.under is.is is.many;
     stand = is.stand;

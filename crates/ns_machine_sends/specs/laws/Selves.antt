@@ -14,13 +14,13 @@ use Rattle.ns_actions.specs.Lawful.{FitsActivation, declaration_at}
 use Rattle.ns_actions.specs.Sends.{Target, ToPrivate, sent}
 use Rattle.ns_machine_moves.specs.Arrivals.{arrived}
 use Rattle.ns_machine_moves.specs.State.{State, Stuck}
-use Rattle.ns_machine_moves.specs.WorldAsks.{TakesArguments}
+use Rattle.ns_machine_moves.specs.WorldAsks.{SelectorTakes}
 use Rattle.ns_act.specs.declared.running.Running.{Running as RunningCode}
 use Rattle.ns_act.specs.Running.{code_of}
 use Rattle.ns_machine_frames.specs.declared.frame.Frame.TheVariants.{Running}
 use Rattle.ns_machine_frames.specs.declared.frame.RunningFrame.{RunningFrame}
 use Rattle.ns_machine_frames.specs.declared.registers.Registers.{Registers}
-use Rattle.ns_machine_frames.specs.Stated.{AreTaken}
+use Rattle.ns_machine_frames.specs.Stated.{ComeOffAgain}
 use Rattle.ns_machine_frames.specs.Standing.{Stood, Runs, Loops, pushed_all, operands_in, below}
 use Rattle.ns_machine_frames.specs.Stack.{stood, with_top}
 use Rattle.ns_machine_frames.specs.View.{activation_shown, frames_shown}
@@ -28,7 +28,7 @@ use Rattle.ns_machine_frames.specs.laws.Taking.{taken_stood, taken_length}
 use Rattle.ns_machine_core.specs.declared.state.Core.{Core}
 use Rattle.ns_machine_core.specs.declared.state.Next.{Next}
 use Rattle.ns_machine_core.specs.Shown.{phase_shown, progress_in}
-use Rattle.ns_machine_core.specs.Doing.{done, Finds, CanDo, running_of, Does}
+use Rattle.ns_machine_core.specs.Doing.{done, Finds, CanDo, running_of, IsDone}
 use Rattle.ns_machine_core.specs.laws.Pushed.{runs, one_more, top_stands}
 use Rattle.ns_machine_core.specs.laws.Taken.{some_operand}
 use Rattle.ns_machine_core.specs.laws.Finds.{finds_in, fits_anywhere}
@@ -90,7 +90,7 @@ private_operands code core at level sel argc can = record {
   fits = by_stood (stood core.stack at) can.finds;
 }
   where
-    by_stood : (s : List Stood) → Finds code core.places (instr.SendPrivate level sel argc) s (progress_in core) → TakesArguments code sel argc
+    by_stood : (s : List Stood) → Finds code core.places (instr.SendPrivate level sel argc) s (progress_in core) → SelectorTakes code sel argc
     by_stood [] finds = absurd finds
     by_stood (Loops frame ∷ s) finds = absurd finds
     by_stood (Runs frame locals stack ∷ s) finds = finds.asks.0
@@ -124,7 +124,7 @@ pub own_does : (code : CodeProgram) (old new : Core) (at : Registers) (instr : I
     → old.stack.frames.items ≡ Running running ∷ below old.stack.frames.items
     → Sends code old at (at.top - argc) (sent_at code old at (own_sent at argc place class sel) (code_of here) target) new next
     → DoesOwn code old at instr (slice_get old.places place) sel (topmost old at argc) target here running
-    → Does code instr (slice_get old.places place) old at new next
+    → IsDone code instr (slice_get old.places place) old at new next
 own_does code old new at instr sel argc place class target here running next can apart top is does = record {
   state = is.state ∙ (by_stood (stood old.stack (with_top (at.top - argc) at)) refl
       (subst (λ (s : List Stood). Finds code old.places instr s (progress_in old)) apart can.finds)
@@ -147,11 +147,11 @@ own_does code old new at instr sel argc place class target here running next can
         ≡ done code old.places (phase_shown old.phase) instr (slice_get old.places place) (pushed_all (topmost old at argc) (Runs f locals stack ∷ s)) (progress_in old))
         (sym same) (does locals stack s)
 
-pub private_does : ((missing : State) → AreTaken missing) → (code : CodeProgram) (old new : Core) (at : Registers) (level : ℕ) (sel : Sel) (argc place : ℕ) (class : ClassName)
+pub private_does : ((missing : State) → ComeOffAgain missing) → (code : CodeProgram) (old new : Core) (at : Registers) (level : ℕ) (sel : Sel) (argc place : ℕ) (class : ClassName)
     (here : RunningCode) (running : RunningFrame) (next : Next) → CanDo code old at (instr.SendPrivate level sel argc)
     → old.stack.frames.items ≡ Running running ∷ below old.stack.frames.items → here ≡ running_of running.activation
     → Sends code old at (at.top - argc) (sent_at code old at (own_sent at argc place class sel) (code_of here) (ToPrivate level)) new next
-    → Does code (instr.SendPrivate level sel argc) (slice_get old.places place) old at new next
+    → IsDone code (instr.SendPrivate level sel argc) (slice_get old.places place) old at new next
 private_does taken code old new at level sel argc place class here running next can top e is =
     own_does code old new at (instr.SendPrivate level sel argc) sel argc place class (ToPrivate level) here running next can
     (own_apart code old at sel argc (private_operands code old at level sel argc can)) top is

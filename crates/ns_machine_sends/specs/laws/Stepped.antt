@@ -10,7 +10,7 @@ use Rattle.ns_world.specs.declared.kernel.ClassName.{ClassName}
 use Rattle.ns_world.specs.Heap.{Heap}
 use Rattle.ns_world.specs.Starts.{class_name_of}
 use Rattle.ns_world.specs.World.{World, WorldView, SameRoom, stepped}
-use Rattle.ns_find.specs.Memo.{IsRight}
+use Rattle.ns_find.specs.Memo.{PlaceIsRight}
 use Rattle.ns_actions.specs.declared.site.Site.{Site}
 use Rattle.ns_actions.specs.Control.{Progress, Activation, Control, halts, charged}
 use Rattle.ns_actions.specs.Lawful.{FitsTarget}
@@ -24,11 +24,11 @@ use Rattle.ns_machine_frames.specs.View.{site_shown, frames_shown}
 use Rattle.ns_machine_core.specs.declared.state.Core.{Core}
 use Rattle.ns_machine_core.specs.declared.state.Next.{Next}
 use Rattle.ns_machine_core.specs.Shown.{phase_shown, progress_in}
-use Rattle.ns_machine_core.specs.Standing.{Stays, KeepsRightIn}
+use Rattle.ns_machine_core.specs.Standing.{KeepsRooms, KeepsRightIn}
 use Rattle.ns_machine_core.specs.laws.Charged.{step_is}
 use Rattle.ns_machine_core.specs.laws.Worlds.{in_other}
 use Rattle.ns_machine_sends.specs.declared.sent.Sent.{Sent}
-use Rattle.ns_machine_sends.specs.Going.{arguments_in, GoesOn}
+use Rattle.ns_machine_sends.specs.Going.{arguments_in, ControlGoesOn}
 use Rattle.ns_machine_sends.specs.Sending.{CanSend, looked_up, sent_at, Sends}
 use Rattle.ns_machine_sends.specs.laws.Goes.{SendsKnown, send_goes}
 
@@ -64,16 +64,16 @@ sent_stepped steps code core at sent receiver activation target world e to named
 pub step_goes : SendsKnown → StepAndAnswer → (code : CodeProgram) (core : Core) (at : Registers) (sent : Sent) (receiver : Value) (activation : Activation) (target : Target)
     (world : WorldView) → stepped core.run.world.world ≡ Some world.world → receiver_of core.run.world.world.cells activation target ≡ receiver
     → FitsTarget core.run.world.world.cells code activation target → CanSend code core at sent receiver
-    → GoesOn code (length core.stack.frames.items) (looked_up code (in_other core world) at sent activation target)
+    → ControlGoesOn code (length core.stack.frames.items) (looked_up code (in_other core world) at sent activation target)
 step_goes known steps code core at sent receiver activation target world e to fits can =
-    subst (λ (c : Control). GoesOn code (length core.stack.frames.items) c)
+    subst (λ (c : Control). ControlGoesOn code (length core.stack.frames.items) c)
     (sent_stepped steps code core at sent receiver activation target world e to can.named)
     (send_goes known code activation target sent.site.sel (arguments_in core at sent) (site_shown core.places sent.site).place (length core.stack.frames.items)
     (progress_in core) can.lawful fits can.selector can.few can.depth)
 
 -- what stays after its step stays
 pub step_stays : (core new : Core) (world : WorldView) → stepped core.run.world.world ≡ Some world.world → SameRoom core.run.world world
-    → Stays (in_other core world) new → Stays core new
+    → KeepsRooms (in_other core world) new → KeepsRooms core new
 step_stays core new world e room stays = record {
   world = record {
     limits = stays.world.limits ∙ ap (λ (w : World). w.limits) (step_is core.run.world.world world.world e);
@@ -88,7 +88,7 @@ step_stays core new world e room stays = record {
 pub step_kept : (code : CodeProgram) (core new : Core) (world : WorldView) → stepped core.run.world.world ≡ Some world.world
     → KeepsRightIn code (in_other core world) new → KeepsRightIn code core new
 step_kept code core new world e kept =
-    subst (λ (h : Heap). All (IsRight h code) new.run.memo) (ap (λ (w : World). w.cells) (step_is core.run.world.world world.world e)) kept
+    subst (λ (h : Heap). All (PlaceIsRight h code) new.run.memo) (ap (λ (w : World). w.cells) (step_is core.run.world.world world.world e)) kept
 
 -- with the step it is the send
 pub step_sends : StepAndAnswer → (code : CodeProgram) (core new : Core) (at : Registers) (sent : Sent) (receiver : Value) (activation : Activation) (target : Target)

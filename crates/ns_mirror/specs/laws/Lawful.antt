@@ -12,7 +12,7 @@ use Rattle.ns_world.specs.Heap.{chain_of, cell_number}
 use Rattle.ns_world.specs.Starts.{class_name_of}
 use Rattle.ns_world.specs.World.{World}
 use Rattle.ns_world.specs.Lawful.{IsLawful, IsLiveValue}
-use Rattle.ns_kdata.specs.Outcome.{Outcome, Answers, Fails, making, unchanged, wrong_kind}
+use Rattle.ns_kdata.specs.Outcome.{RowOutcome, Answers, Fails, making, unchanged, wrong_kind}
 use Rattle.ns_kdata.specs.Arguments.{is_array, items_of, shape_of_value}
 use Rattle.ns_kdata.specs.Lawful.{LeavesLawful}
 use Rattle.ns_kdata.specs.laws.Leaving.{making_lawful, unchanged_lawful, text_lawful, items_lawful}
@@ -28,7 +28,7 @@ use Rattle.ns_mirror.specs.Lawful.{ReflectsLawful}
 use Rattle.ns_mirror.specs.lemmas.Named.{slot_names_live, shown_selectors_live}
 use Rattle.ns_mirror.specs.lemmas.Written.{slot_put_lawful}
 
-reflected_lawful : (code : CodeProgram) (outcome : Outcome) → LeavesLawful code outcome → ReflectsLawful code (reflected outcome)
+reflected_lawful : (code : CodeProgram) (outcome : RowOutcome) → LeavesLawful code outcome → ReflectsLawful code (reflected outcome)
 reflected_lawful code (Answers value world) lawful = lawful
 reflected_lawful code (Fails fault) lawful = tt
 

@@ -11,7 +11,7 @@ use Rattle.ns_world.specs.Cell.{ArrayCell, TextCell, MirrorCell}
 use Rattle.ns_world.specs.Heap.{chain_of, cell_number}
 use Rattle.ns_world.specs.Starts.{class_name_of}
 use Rattle.ns_world.specs.World.{World, stored}
-use Rattle.ns_kdata.specs.Outcome.{Outcome, Answers, Fails, making, unchanged, wrong_kind}
+use Rattle.ns_kdata.specs.Outcome.{RowOutcome, Answers, Fails, making, unchanged, wrong_kind}
 use Rattle.ns_kdata.specs.Arguments.{is_array, shape_of_value, items_of}
 use Rattle.ns_mirror.specs.declared.row.MirrorRow.{MirrorRow}
 use Rattle.ns_mirror.specs.declared.row.MirrorRow.TheVariants as row
@@ -23,23 +23,23 @@ use Rattle.ns_mirror.specs.Selectors.{selectors, public_selectors, methods_of_sh
 use Rattle.ns_mirror.specs.Slots.{slot, slot_names, slot_names_along, write_slot, slot_put, slot_of}
 use Rattle.ns_mirror.specs.Mirror.{Reflects, Refuses, reflected, perform, row_outcome}
 use Rattle.ns_world.specs.Later.{IsLater}
-use Rattle.ns_kdata.specs.Leading.{LeadsTo}
+use Rattle.ns_kdata.specs.Leading.{HoldsAfter}
 use Rattle.ns_kdata.specs.laws.Leading.{Allows, Writes, allows_later, writes_later, cell_leads, unchanged_leads}
 use Rattle.ns_mirror.specs.Leading.{ReflectsTo}
 
-reflected_leads : (holds : World → Type 0) (outcome : Outcome) → LeadsTo holds outcome → ReflectsTo holds (reflected outcome)
+reflected_leads : (holds : World → Type 0) (outcome : RowOutcome) → HoldsAfter holds outcome → ReflectsTo holds (reflected outcome)
 reflected_leads holds (Answers answer after) grown = grown
 reflected_leads holds (Fails fault) grown = tt
 
-slot_leads : (holds : World → Type 0) (world : World) (may : Allows holds world) (object item : Value) (place : Option SlotPlace) → Writes holds world object → LeadsTo holds (write_slot world object item place)
+slot_leads : (holds : World → Type 0) (world : World) (may : Allows holds world) (object item : Value) (place : Option SlotPlace) → Writes holds world object → HoldsAfter holds (write_slot world object item place)
 slot_leads holds world may object item None has = tt
 slot_leads holds world may object item (Some place) has = tested place.mutable
   where
-    tested : (b : Bool) → LeadsTo holds (cond b (Answers item (stored world object place.word item)) (Fails (Kind kind.FixedSlot)))
+    tested : (b : Bool) → HoldsAfter holds (cond b (Answers item (stored world object place.word item)) (Fails (Kind kind.FixedSlot)))
     tested true = has place.word item
     tested false = tt
 
-put_slot_leads : (holds : World → Type 0) (world : World) (may : Allows holds world) (code : CodeProgram) (object name item : Value) → Writes holds world object → LeadsTo holds (slot_put world code object name item)
+put_slot_leads : (holds : World → Type 0) (world : World) (may : Allows holds world) (code : CodeProgram) (object name item : Value) → Writes holds world object → HoldsAfter holds (slot_put world code object name item)
 put_slot_leads holds world may code object (value.Sym sel) item has = slot_leads holds world may object item (slot_of world.cells code object sel) has
 put_slot_leads holds world may code object value.Nil item has = tt
 put_slot_leads holds world may code object value.True item has = tt

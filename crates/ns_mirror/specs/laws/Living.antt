@@ -15,7 +15,7 @@ use Rattle.ns_world.specs.Heap.{Heap, find_cell, chain_of, cell_number}
 use Rattle.ns_world.specs.Starts.{class_name_of}
 use Rattle.ns_world.specs.World.{World}
 use Rattle.ns_world.specs.Lawful.{IsLawful, IsLiveValue}
-use Rattle.ns_kdata.specs.Outcome.{Outcome, Answers, Fails, making, unchanged, wrong_kind}
+use Rattle.ns_kdata.specs.Outcome.{RowOutcome, Answers, Fails, making, unchanged, wrong_kind}
 use Rattle.ns_kdata.specs.Arguments.{is_array, is_array_shape, items_of, array_items, shape_of_value}
 use Rattle.ns_kdata.specs.Living.{AnswersLive}
 use Rattle.ns_kdata.specs.laws.LivingValues.{making_live, unchanged_live}
@@ -31,7 +31,7 @@ use Rattle.ns_mirror.specs.Living.{ReflectsLive}
 use Rattle.ns_mirror.specs.lemmas.LivingSlots.{slot_live, slot_put_live}
 use Rattle.ns_mirror.specs.lemmas.LivingEnclosing.{enclosing_live}
 
-reflected_live : (code : CodeProgram) (outcome : Outcome) → AnswersLive code outcome → ReflectsLive code (reflected outcome)
+reflected_live : (code : CodeProgram) (outcome : RowOutcome) → AnswersLive code outcome → ReflectsLive code (reflected outcome)
 reflected_live code (Answers value world) live = live
 reflected_live code (Fails fault) live = tt
 

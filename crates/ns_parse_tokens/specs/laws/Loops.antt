@@ -6,7 +6,7 @@ use Rattle.ns_parse_tokens.specs.declared.fault.ParseFault.{ParseFault}
 use Rattle.ns_parse_tokens.specs.declared.fault.ParseFault.TheVariants.{TooDeep, Syntax, Memory}
 use Rattle.ns_parse_tokens.specs.Left.{Left}
 use Rattle.ns_parse_tokens.specs.Read.{Outcome, Reader, got, fault, and_then, begins, read_mapped, read_many, read_turns, put}
-use Rattle.ns_parse_tokens.specs.Reads.{Fails, Gives, next_is}
+use Rattle.ns_parse_tokens.specs.Reads.{Fails, ReaderGives, next_is}
 use Rattle.ns_parse_tokens.specs.laws.Takes.{Takes, fewer}
 
 begun_long : (first : Kind → Bool) (ts : List Kind) → begins first ts ≡ true → 0 < length ts
@@ -60,7 +60,7 @@ module _ {A : Type 0} (first : Kind → Bool) (p : Reader A) where
 
   -- one item more
   pub goes_on : (xs ys : List A) (now start : Left) (a : A) (new : Left) → Takes 1 p → Goes xs now start → next_is first now ≡ true
-      → Gives p a now new → ys ≡ xs ++ a ∷ [] → Goes ys new start
+      → ReaderGives p a now new → ys ≡ xs ++ a ∷ [] → Goes ys new start
   goes_on xs ys now start a new P g h e grown =
       let t : ℕ = length start.kinds - length ys in
       let count : length ys ≡ length xs + 1 = ap length grown ∙ length-append xs (a ∷ []) in
@@ -74,7 +74,7 @@ module _ {A : Type 0} (first : Kind → Bool) (p : Reader A) where
       }
 
   -- no more items
-  pub goes_end : (xs : List A) (now start : Left) → Goes xs now start → next_is first now ≡ false → Gives (read_many first p) xs start now
+  pub goes_end : (xs : List A) (now start : Left) → Goes xs now start → next_is first now ≡ false → ReaderGives (read_many first p) xs start now
   goes_end xs now start g h = sym g.reads ∙ ap (before xs) (turn_ends (length start.kinds - length xs) now.at now.kinds h)
       ∙ ap (λ v. got v now.at now.kinds) (append-nil xs)
 
@@ -90,7 +90,7 @@ module _ {A : Type 0} (first : Kind → Bool) (p : Reader A) where
 
   -- the same for another value of the items
   pub goes_end_mapped : {B : Type 0} (to : List A → B) (xs : List A) (b : B) (now start : Left) → Goes xs now start → next_is first now ≡ false → b ≡ to xs
-      → Gives (read_mapped to (read_many first p)) b start now
+      → ReaderGives (read_mapped to (read_many first p)) b start now
   goes_end_mapped to xs b now start g h e = ap (λ o. and_then o (λ a m us. got (to a) m us)) (goes_end xs now start g h)
       ∙ ap (λ v. got v now.at now.kinds) (sym e)
 

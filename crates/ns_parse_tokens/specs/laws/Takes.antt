@@ -6,24 +6,24 @@ use Rattle.ns_parse_tokens.specs.Left.{Left}
 use Rattle.ns_parse_tokens.specs.Read.{Outcome, Reader, got, fault, and_then, taken, read_one, begins, read_none, read_never, read_mapped, read_both}
 use Rattle.ns_parse_tokens.specs.Read.{read_after, read_until, read_placed, read_or, read_maybe, read_turns, read_many, behind, read_list_turns, read_listed}
 use Rattle.ns_parse_tokens.specs.Read.{tail, item, read_label_turns, read_labelled}
-use Rattle.ns_parse_tokens.specs.Reads.{Gives}
+use Rattle.ns_parse_tokens.specs.Reads.{ReaderGives}
 
 -- The outcome has so many tokens fewer, or is a fault.
-abbrev pub Leaves : {A : Type 0} → ℕ → List Kind → Outcome A → Type 0
-Leaves d ts (got a m us) = d + length us ≤ length ts
-Leaves d ts (fault k) = Unit {0}
+abbrev pub LeavesTokens : {A : Type 0} → ℕ → List Kind → Outcome A → Type 0
+LeavesTokens d ts (got a m us) = d + length us ≤ length ts
+LeavesTokens d ts (fault k) = Unit {0}
 
 -- The reader takes so many tokens at least.
 pub record Takes {A : Type 0} (d : ℕ) (p : Reader A) : Type 0 where
-  pub takes : (n : ℕ) (ts : List Kind) → Leaves d ts (p n ts)
+  pub takes : (n : ℕ) (ts : List Kind) → LeavesTokens d ts (p n ts)
 
 -- what is left behind a reader
 pub left_by : {A : Type 0} (d : ℕ) (p : Reader A) (n : ℕ) (ts : List Kind) (a : A) (m : ℕ) (us : List Kind) → Takes d p → p n ts ≡ got a m us
     → d + length us ≤ length ts
-left_by d p n ts a m us P e = subst (Leaves d ts) e (P.takes n ts)
+left_by d p n ts a m us P e = subst (LeavesTokens d ts) e (P.takes n ts)
 
 -- A reader that takes a token leaves fewer.
-pub fewer : {A : Type 0} (p : Reader A) (old new : Left) (a : A) → Takes 1 p → Gives p a old new → length new.kinds < length old.kinds
+pub fewer : {A : Type 0} (p : Reader A) (old new : Left) (a : A) → Takes 1 p → ReaderGives p a old new → length new.kinds < length old.kinds
 fewer p old new a P e = omega (arith, left_by 1 p old.at old.kinds a new.at new.kinds P e)
 
 -- ---- no token, or one
@@ -34,11 +34,11 @@ takes_none a = record { takes = λ n ts. omega arith }
 pub takes_never : {A : Type 0} (d : ℕ) → Takes d (read_never {A = A})
 takes_never d = record { takes = λ n ts. tt }
 
-one_leaves : {A : Type 0} (o : Option A) (n : ℕ) (k : Kind) (ts : List Kind) → Leaves 1 (k ∷ ts) (taken o n ts)
+one_leaves : {A : Type 0} (o : Option A) (n : ℕ) (k : Kind) (ts : List Kind) → LeavesTokens 1 (k ∷ ts) (taken o n ts)
 one_leaves (Some a) n k ts = omega arith
 one_leaves None n k ts = tt
 
-one_takes : {A : Type 0} (make : ℕ → Kind → Option A) (n : ℕ) (ts : List Kind) → Leaves 1 ts (read_one make n ts)
+one_takes : {A : Type 0} (make : ℕ → Kind → Option A) (n : ℕ) (ts : List Kind) → LeavesTokens 1 ts (read_one make n ts)
 one_takes make n [] = tt
 one_takes make n (k ∷ ts) = one_leaves (make n k) n k ts
 
@@ -47,7 +47,7 @@ takes_one make = record { takes = one_takes make }
 
 -- ---- fewer than it takes
 
-less_leaves : {A : Type 0} (d e : ℕ) (ts : List Kind) (o : Outcome A) → e ≤ d → Leaves d ts o → Leaves e ts o
+less_leaves : {A : Type 0} (d e : ℕ) (ts : List Kind) (o : Outcome A) → e ≤ d → LeavesTokens d ts o → LeavesTokens e ts o
 less_leaves d e ts (got a m us) h l = omega (arith, h, l)
 less_leaves d e ts (fault k) h l = tt
 
@@ -61,23 +61,23 @@ takes_some P = takes_less 1 (omega arith) P
 pub takes_any : {A : Type 0} {p : Reader A} {d : ℕ} → Takes d p → Takes 0 p
 takes_any P = takes_less 0 (omega arith) P
 
-longer : {A : Type 0} (k : Kind) (ts : List Kind) (o : Outcome A) → Leaves 0 ts o → Leaves 0 (k ∷ ts) o
+longer : {A : Type 0} (k : Kind) (ts : List Kind) (o : Outcome A) → LeavesTokens 0 ts o → LeavesTokens 0 (k ∷ ts) o
 longer k ts (got a m us) l = omega (arith, l)
 longer k ts (fault i) l = tt
 
 -- ---- put together
 
-beyond : {A : Type 0} (d e : ℕ) (ts us : List Kind) (o : Outcome A) → d + length us ≤ length ts → Leaves e us o → Leaves (d + e) ts o
+beyond : {A : Type 0} (d e : ℕ) (ts us : List Kind) (o : Outcome A) → d + length us ≤ length ts → LeavesTokens e us o → LeavesTokens (d + e) ts o
 beyond d e ts us (got a m vs) l l' = omega (arith, l, l')
 beyond d e ts us (fault k) l l' = tt
 
-mapped_leaves : {A B : Type 0} (d : ℕ) (ts : List Kind) (to : A → B) (o : Outcome A) → Leaves d ts o → Leaves d ts (and_then o (λ a m us. got (to a) m us))
+mapped_leaves : {A B : Type 0} (d : ℕ) (ts : List Kind) (to : A → B) (o : Outcome A) → LeavesTokens d ts o → LeavesTokens d ts (and_then o (λ a m us. got (to a) m us))
 mapped_leaves d ts to (got a m us) l = l
 mapped_leaves d ts to (fault k) l = tt
 
 -- What comes behind an outcome takes more.
-then_leaves : {A B : Type 0} (d e : ℕ) (ts : List Kind) (o : Outcome A) (f : A → Reader B) → Leaves d ts o → ((a : A) → Takes e (f a))
-    → Leaves (d + e) ts (and_then o f)
+then_leaves : {A B : Type 0} (d e : ℕ) (ts : List Kind) (o : Outcome A) (f : A → Reader B) → LeavesTokens d ts o → ((a : A) → Takes e (f a))
+    → LeavesTokens (d + e) ts (and_then o f)
 then_leaves d e ts (got a m us) f l F = beyond d e ts us (f a m us) l ((F a).takes m us)
 then_leaves d e ts (fault k) f l F = tt
 
@@ -98,8 +98,8 @@ takes_until {q = q} P Q = record { takes = λ n ts. then_leaves _ _ ts _ _ (P.ta
 
 -- ---- one or another
 
-cond_leaves : {A : Type 0} (d : ℕ) (ts : List Kind) (test : Bool) (o o' : Outcome A) → (test ≡ true → Leaves d ts o) → Leaves d ts o'
-    → Leaves d ts (cond test o o')
+cond_leaves : {A : Type 0} (d : ℕ) (ts : List Kind) (test : Bool) (o o' : Outcome A) → (test ≡ true → LeavesTokens d ts o) → LeavesTokens d ts o'
+    → LeavesTokens d ts (cond test o o')
 cond_leaves d ts true o o' l l' = l refl
 cond_leaves d ts false o o' l l' = l'
 
@@ -122,12 +122,12 @@ module _ {A : Type 0} (first : Kind → Bool) (p : Reader A) (P : Takes 0 p) whe
 pub takes_many : {A : Type 0} {p : Reader A} (first : Kind → Bool) → Takes 0 p → Takes 0 (read_many first p)
 takes_many {p = p} first P = record { takes = λ n ts. (turns_take first p P (length ts)).takes n ts }
 
-true_leaves : {A : Type 0} (d : ℕ) (ts : List Kind) (test : Bool) (o o' : Outcome A) → test ≡ true → Leaves d ts o → Leaves d ts (cond test o o')
+true_leaves : {A : Type 0} (d : ℕ) (ts : List Kind) (test : Bool) (o o' : Outcome A) → test ≡ true → LeavesTokens d ts o → LeavesTokens d ts (cond test o o')
 true_leaves d ts true o o' e l = l
 true_leaves d ts false o o' e l = absurd cc
 
 module _ {A : Type 0} (first : Kind → Bool) (p : Reader A) (d : ℕ) (P : Takes d p) where
-  begun_leaves : (n : ℕ) (ts : List Kind) → begins first ts ≡ true → Leaves d ts (read_many first p n ts)
+  begun_leaves : (n : ℕ) (ts : List Kind) → begins first ts ≡ true → LeavesTokens d ts (read_many first p n ts)
   begun_leaves n [] e = absurd cc
   begun_leaves n (k ∷ ts) e =
       true_leaves d (k ∷ ts) (first k) _ _ e
@@ -144,7 +144,7 @@ takes_begun {p = p} {q = q} {d = d} first to as_one P Q = record {
 
 -- with separators
 module _ {A : Type 0} (first separates : Kind → Bool) (p : Reader A) (P : Takes 0 p) where
-  behind_leaves : (again : Reader (Listed A)) → Takes 0 again → (a : A) (n : ℕ) (ts : List Kind) → Leaves 0 ts (behind first separates p again a n ts)
+  behind_leaves : (again : Reader (Listed A)) → Takes 0 again → (a : A) (n : ℕ) (ts : List Kind) → LeavesTokens 0 ts (behind first separates p again a n ts)
   behind_leaves again R a n [] = omega arith
   behind_leaves again R a n (k ∷ ts) =
       cond_leaves 0 (k ∷ ts) (separates k) _ _ (λ e. longer k ts _ (mapped_leaves 0 ts (λ rest. next a rest) (again (n + 1) ts) (R.takes (n + 1) ts)))
@@ -172,7 +172,7 @@ module _ {L A : Type 0} (labels : Reader L) (first : Kind → Bool) (p : Reader 
         (omega arith);
   }
 
-  labelled_leaves : (n : ℕ) (ts : List Kind) → Leaves 0 ts (read_labelled labels first p n ts)
+  labelled_leaves : (n : ℕ) (ts : List Kind) → LeavesTokens 0 ts (read_labelled labels first p n ts)
   labelled_leaves n ts = then_leaves 0 0 ts (labels n ts) _ (R.takes n ts) (λ l. record { takes = λ m us. (label_turns_take (length us) l).takes m us })
 
 pub takes_labelled : {L A : Type 0} {labels : Reader L} {p : Reader A} (first : Kind → Bool) → Takes 0 labels → Takes 0 p

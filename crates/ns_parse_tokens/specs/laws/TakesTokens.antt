@@ -12,22 +12,22 @@ use Rattle.ns_parse_tokens.specs.Mark.{is_mark, skip, place, flag, maybe_place}
 use Rattle.ns_parse_tokens.specs.Name.{is_name, make_name, name, names}
 use Rattle.ns_parse_tokens.specs.Pattern as patterns
 use Rattle.ns_parse_tokens.specs.Read.{got, fault}
-use Rattle.ns_parse_tokens.specs.laws.Takes.{Leaves, Takes, takes_none, takes_never, takes_one, takes_some, takes_any, takes_mapped, takes_both, takes_after, takes_until, takes_or, takes_maybe, takes_many}
+use Rattle.ns_parse_tokens.specs.laws.Takes.{LeavesTokens, Takes, takes_none, takes_never, takes_one, takes_some, takes_any, takes_mapped, takes_both, takes_after, takes_until, takes_or, takes_maybe, takes_many}
 
 -- ---- marks
 
-mark_leaves : {A : Type 0} (a : A) (there : Bool) (n : ℕ) (k : Kind) (ts : List Kind) → Leaves 1 (k ∷ ts) (cond there (got a (n + 1) ts) (fault n))
+mark_leaves : {A : Type 0} (a : A) (there : Bool) (n : ℕ) (k : Kind) (ts : List Kind) → LeavesTokens 1 (k ∷ ts) (cond there (got a (n + 1) ts) (fault n))
 mark_leaves a true n k ts = omega arith
 mark_leaves a false n k ts = tt
 
-skip_leaves : (mark : Mark) (n : ℕ) (ts : List Kind) → Leaves 1 ts (skip mark n ts)
+skip_leaves : (mark : Mark) (n : ℕ) (ts : List Kind) → LeavesTokens 1 ts (skip mark n ts)
 skip_leaves mark n [] = tt
 skip_leaves mark n (k ∷ ts) = mark_leaves tt (is_mark mark k) n k ts
 
 pub takes_skip : (mark : Mark) → Takes 1 (skip mark)
 takes_skip mark = record { takes = skip_leaves mark }
 
-place_leaves : (mark : Mark) (n : ℕ) (ts : List Kind) → Leaves 1 ts (place mark n ts)
+place_leaves : (mark : Mark) (n : ℕ) (ts : List Kind) → LeavesTokens 1 ts (place mark n ts)
 place_leaves mark n [] = tt
 place_leaves mark n (k ∷ ts) = mark_leaves n (is_mark mark k) n k ts
 

@@ -6,7 +6,7 @@ use Rattle.ns_parse_tokens.specs.declared.fault.ParseFault.{ParseFault}
 use Rattle.ns_parse_tokens.specs.declared.fault.ParseFault.TheVariants.{TooDeep, Syntax, Memory}
 use Rattle.ns_parse_tokens.specs.Left.{Left}
 use Rattle.ns_parse_tokens.specs.Read.{Outcome, Reader, got, and_then, read_or, read_after, read_until}
-use Rattle.ns_parse_tokens.specs.Reads.{Fails, Gives, Reads, next_is}
+use Rattle.ns_parse_tokens.specs.Reads.{Fails, ReaderGives, Reads, next_is}
 
 -- Nothing is read behind a fault.
 pub stops : {A B : Type 0} (o : Outcome A) (f : A → Reader B) (e : ParseFault) → Fails o e → Fails (and_then o f) e
@@ -33,7 +33,7 @@ reads_second view first p q r old new t h = reads_same view q (read_or first p q
 
 -- What is read behind something is what the whole reads.
 pub reads_after : {X A B : Type 0} (view : X → A) (p : Reader B) (q : Reader A) (b : B) (r : Result X ParseFault) (old mid new : Left)
-    → Gives p b old mid → Reads view q r mid new → Reads view (read_after p q) r old new
+    → ReaderGives p b old mid → Reads view q r mid new → Reads view (read_after p q) r old new
 reads_after view p q b (Ok x) old mid new e h = ap (λ o. and_then o (λ a m us. q m us)) e ∙ h
 reads_after view p q b (Err (Syntax k)) old mid new e h = ap (λ o. and_then o (λ a m us. q m us)) e ∙ h
 reads_after view p q b (Err (TooDeep k)) old mid new e h = h
@@ -41,7 +41,7 @@ reads_after view p q b (Err Memory) old mid new e h = tt
 
 -- What closes a part is read, and the part is kept.
 pub reads_closed : {X A B : Type 0} (view : X → A) (p : Reader A) (q : Reader B) (b : B) (x : X) (r : Result X ParseFault) (old mid new : Left)
-    → Gives p (view x) old mid → Reads (λ _. b) q r mid new → IfOk r (λ it. it ≡ x) → Reads view (read_until p q) r old new
+    → ReaderGives p (view x) old mid → Reads (λ _. b) q r mid new → IfOk r (λ it. it ≡ x) → Reads view (read_until p q) r old new
 reads_closed view p q b x (Ok y) old mid new e h same =
     ap (λ o. and_then o (λ a m us. and_then (q m us) (λ b l vs. got a l vs))) e ∙ ap (λ o. and_then o (λ b l vs. got (view x) l vs)) h
     ∙ ap (λ v. got (view v) new.at new.kinds) (sym same)

@@ -17,7 +17,7 @@ chain_past (cell ∷ earlier) n h = tested (eqb n (heap_size earlier)) refl (cha
     tested false t e = rw t e
 
 -- What is known of a class: its superclass stands at its third word, and the chain goes on there.
-pub record GoesOn (heap : Heap) (class : ℕ) : Type 0 where
+pub record ChainGoesOn (heap : Heap) (class : ℕ) : Type 0 where
   pub words : length (words_at heap class) ≡ 3
   pub over : word_at heap class 2 ≡ superclass_in (find_cell heap class)
   pub chain : chain_of heap class ≡ class ∷ chain_of heap (superclass_of heap class)
@@ -47,7 +47,7 @@ starts heap (Kernel class) e = no_start (is_class (find_cell heap no_class))
     no_start true = refl
     no_start false = refl
 
-class_goes_on : (heap : Heap) (class decl base : ℕ) (encl holder over : Value) → is_ordered heap ≡ true → heap_size heap ≤ no_class → find_cell heap class ≡ Some (ClassCell decl base encl holder over) → GoesOn heap class
+class_goes_on : (heap : Heap) (class decl base : ℕ) (encl holder over : Value) → is_ordered heap ≡ true → heap_size heap ≤ no_class → find_cell heap class ≡ Some (ClassCell decl base encl holder over) → ChainGoesOn heap class
 class_goes_on heap class decl base encl holder over ordered small e =
     let l = linked heap class decl base encl holder over ordered e in
     let is : superclass_in (find_cell heap class) ≡ over = rw e refl in
@@ -59,10 +59,10 @@ class_goes_on heap class decl base encl holder over ordered small e =
     }
 
 -- In an ordered heap a class's chain goes on with its superclass's.
-pub goes_on : (heap : Heap) (class : ℕ) → is_ordered heap ≡ true → heap_size heap ≤ no_class → is_class (find_cell heap class) ≡ true → GoesOn heap class
+pub goes_on : (heap : Heap) (class : ℕ) → is_ordered heap ≡ true → heap_size heap ≤ no_class → is_class (find_cell heap class) ≡ true → ChainGoesOn heap class
 goes_on heap class ordered small h = found (find_cell heap class) refl h
   where
-    found : (o : Option Cell) → find_cell heap class ≡ o → is_class o ≡ true → GoesOn heap class
+    found : (o : Option Cell) → find_cell heap class ≡ o → is_class o ≡ true → ChainGoesOn heap class
     found None e h = absurd (cc)
     found (Some (ClassCell decl base encl holder over)) e h = class_goes_on heap class decl base encl holder over ordered small e
     found (Some (ObjectCell class' entries)) e h = absurd (cc)

@@ -96,7 +96,7 @@ pub record ChangesPlainly (change : Cell → Cell) : Type 0 where
   pub plain : (cell : Cell) → is_class (Some cell) ≡ false → is_class (Some (change cell)) ≡ false
 
 -- What such a change leaves.
-pub record Leaves (before after : Heap) (at : ℕ) : Type 0 where
+pub record ChangeLeaves (before after : Heap) (at : ℕ) : Type 0 where
   pub others : (number : ℕ) → number ≢ at → find_cell after number ≡ find_cell before number
   pub classes : (number : ℕ) → is_class (find_cell before number) ≡ true → find_cell after number ≡ find_cell before number
   pub chains : (class : ℕ) → chain_of after class ≡ chain_of before class
@@ -111,13 +111,13 @@ set_same (first ∷ earlier) at cell e = tested (eqb at (heap_size earlier)) e (
     tested true e below = ap (λ c. c ∷ earlier) (let is : cell ≡ first = cc in is)
     tested false e below = ap (λ cs. first ∷ cs) (below e)
 
-pub changing_leaves : (heap : Heap) (at : ℕ) (change : Cell → Cell) → ChangesPlainly change → Leaves heap (change_cell heap at change) at
+pub changing_leaves : (heap : Heap) (at : ℕ) (change : Cell → Cell) → ChangesPlainly change → ChangeLeaves heap (change_cell heap at change) at
 changing_leaves heap at change plainly = found (find_cell heap at) refl
   where
-    unchanged : change_cell heap at change ≡ heap → Leaves heap (change_cell heap at change) at
+    unchanged : change_cell heap at change ≡ heap → ChangeLeaves heap (change_cell heap at change) at
     unchanged e = record { others = λ n h. ap (λ c. find_cell c n) e; classes = λ n h. ap (λ c. find_cell c n) e; chains = λ n. ap (λ c. chain_of c n) e; size = ap heap_size e; order = ap is_ordered e }
 
-    plain_one : (cell : Cell) → find_cell heap at ≡ Some cell → is_class (Some cell) ≡ false → change_cell heap at change ≡ set_cell heap at (change cell) → Leaves heap (change_cell heap at change) at
+    plain_one : (cell : Cell) → find_cell heap at ≡ Some cell → is_class (Some cell) ≡ false → change_cell heap at change ≡ set_cell heap at (change cell) → ChangeLeaves heap (change_cell heap at change) at
     plain_one cell e p is =
         let stays = set_cell_stays heap at cell (change cell) e (record { size_stays = plainly.size cell; old_plain = p; new_plain = plainly.plain cell p }) in
         let others : (n : ℕ) → n ≢ at → find_cell (change_cell heap at change) n ≡ find_cell heap n = λ n h. ap (λ c. find_cell c n) is ∙ set_other heap at cell (change cell) n e (plainly.size cell) h in
@@ -129,11 +129,11 @@ changing_leaves heap at change plainly = found (find_cell heap at) refl
           order = ap is_ordered is ∙ stays.order_stays;
         }
 
-    one : (cell : Cell) (b : Bool) → is_class (Some cell) ≡ b → find_cell heap at ≡ Some cell → change_cell heap at change ≡ set_cell heap at (change cell) → Leaves heap (change_cell heap at change) at
+    one : (cell : Cell) (b : Bool) → is_class (Some cell) ≡ b → find_cell heap at ≡ Some cell → change_cell heap at change ≡ set_cell heap at (change cell) → ChangeLeaves heap (change_cell heap at change) at
     one cell true t e is = unchanged (is ∙ (ap (set_cell heap at) (plainly.class cell t) ∙ set_same heap at cell e))
     one cell false t e is = plain_one cell e t is
 
-    found : (o : Option Cell) → find_cell heap at ≡ o → Leaves heap (change_cell heap at change) at
+    found : (o : Option Cell) → find_cell heap at ≡ o → ChangeLeaves heap (change_cell heap at change) at
     found None e = unchanged (rw e refl)
     found (Some cell) e = one cell (is_class (Some cell)) refl e (rw e refl)
 
@@ -212,9 +212,9 @@ pub byte_plainly : (place byte : ℕ) → ChangesPlainly (λ cell. with_byte cel
 byte_plainly place byte = record { size = byte_size place byte; class = byte_class place byte; plain = byte_plain place byte }
 
 -- writing a word leaves all else
-pub writing_leaves : (heap : Heap) (at word : ℕ) (value : Value) → Leaves heap (write_word heap at word value) at
+pub writing_leaves : (heap : Heap) (at word : ℕ) (value : Value) → ChangeLeaves heap (write_word heap at word value) at
 writing_leaves heap at word value = changing_leaves heap at (λ cell. with_word cell word value) (word_plainly word value)
 
 -- writing a byte leaves all else
-pub byte_leaves : (heap : Heap) (at place byte : ℕ) → Leaves heap (write_byte heap at place byte) at
+pub byte_leaves : (heap : Heap) (at place byte : ℕ) → ChangeLeaves heap (write_byte heap at place byte) at
 byte_leaves heap at place byte = changing_leaves heap at (λ cell. with_byte cell place byte) (byte_plainly place byte)

@@ -11,7 +11,7 @@ use Rattle.ns_world.specs.Starts.{declaration_in}
 use Rattle.ns_world.specs.World.{World}
 use Rattle.ns_world.specs.Lawful.{IsLawful}
 use Rattle.ns_world.specs.Layout.{declaration_of, entries_of, entries_along, layout_of, layout_above, entry_word}
-use Rattle.ns_world.specs.laws.Above.{GoesOn, goes_on, chain_none, class_of_start}
+use Rattle.ns_world.specs.laws.Above.{ChainGoesOn, goes_on, chain_none, class_of_start}
 use Rattle.ns_world.specs.laws.Chains.{class_below, found_in_more, chain_in_more}
 use Rattle.ns_world.specs.laws.Changing.{ChangesPlainly, changing_leaves, found_old, differs}
 use Rattle.ns_world.specs.laws.Firsts.{found_past}
@@ -60,13 +60,13 @@ start_stays before after n same s = tested (is_class (find_cell before n)) refl 
     tested false e s = either (is_class (find_cell after n)) s
 
 -- What is known of the class at which a chain that isn't empty starts.
-pub started : (heap : Heap) (class k : ℕ) → IsInOrder heap → is_chain_start heap class ≡ true → k < length (chain_of heap class) → GoesOn heap class × (is_class (find_cell heap class) ≡ true)
+pub started : (heap : Heap) (class k : ℕ) → IsInOrder heap → is_chain_start heap class ≡ true → k < length (chain_of heap class) → ChainGoesOn heap class × (is_class (find_cell heap class) ≡ true)
 started heap class k order s h = tested (eqb class no_class) refl
   where
     small : heap_size heap ≤ no_class
     small = omega (arith, order.small)
 
-    tested : (b : Bool) → eqb class no_class ≡ b → GoesOn heap class × (is_class (find_cell heap class) ≡ true)
+    tested : (b : Bool) → eqb class no_class ≡ b → ChainGoesOn heap class × (is_class (find_cell heap class) ≡ true)
     tested true e = absurd (omega (arith, h, ap length (chain_none heap class small e)))
     tested false e = let is : is_class (find_cell heap class) ≡ true = class_of_start heap class s (λ t. cc) in (goes_on heap class order.ordered small is, is)
 

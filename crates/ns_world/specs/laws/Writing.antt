@@ -13,7 +13,7 @@ use Rattle.ns_world.specs.World.{World, written, byte_written}
 use Rattle.ns_world.specs.Layout.{entry_word}
 use Rattle.ns_world.specs.Lawful.{IsLiveValue, class_of_object, IsKept, ObjectIsLawful, CellIsLawful, IsLawful}
 use Rattle.ns_world.specs.Keeping.{KeepsWord, MayBeWritten}
-use Rattle.ns_world.specs.laws.Changing.{ChangesPlainly, Leaves, changing_leaves, word_plainly, byte_plainly}
+use Rattle.ns_world.specs.laws.Changing.{ChangesPlainly, ChangeLeaves, changing_leaves, word_plainly, byte_plainly}
 use Rattle.ns_world.specs.laws.Classes.{lawful_order}
 use Rattle.ns_world.specs.laws.Twins.{Twins, KeepsCells, word_twins, byte_twins, found_changed, changing_keeps_cells}
 use Rattle.ns_world.specs.laws.Staying.{value_stays}
@@ -87,7 +87,7 @@ changed_lawful world code at change lawful plainly twins here = record {
     after : Heap
     after = change_cell world.cells at change
 
-    leaves : Leaves world.cells after at
+    leaves : ChangeLeaves world.cells after at
     leaves = changing_leaves world.cells at change plainly
 
     keeps : KeepsCells world.cells after

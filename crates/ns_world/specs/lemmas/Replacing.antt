@@ -118,13 +118,13 @@ chain_replaced (cell ∷ later) earlier old new n r =
     here false e = e n
 
 -- what stays where a cell is replaced
-pub record Stays (before after : Heap) : Type 0 where
+pub record StaysReplaced (before after : Heap) : Type 0 where
   pub size_stays : heap_size after ≡ heap_size before
   pub order_stays : is_ordered after ≡ is_ordered before
   pub classes_stay : (n : ℕ) → is_class (find_cell after n) ≡ is_class (find_cell before n)
   pub chains_stay : (n : ℕ) → chain_of after n ≡ chain_of before n
 
-pub set_cell_stays : (heap : Heap) (number : ℕ) (old new : Cell) → find_cell heap number ≡ Some old → Replaces old new → Stays heap (set_cell heap number new)
+pub set_cell_stays : (heap : Heap) (number : ℕ) (old new : Cell) → find_cell heap number ≡ Some old → Replaces old new → StaysReplaced heap (set_cell heap number new)
 set_cell_stays heap number old new e r =
     let s = stands heap number old e in
     record {

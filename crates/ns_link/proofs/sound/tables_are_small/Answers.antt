@@ -15,7 +15,7 @@ not_empty : (name : List ℕ) → name ≢ [] → 1 ≤ length name
 not_empty [] h = absurd (h refl)
 not_empty (byte ∷ bytes) h = omega arith
 
-file_named : (name : List ℕ) → whole.IsFileName name → IsFileName name
+file_named : (name : List ℕ) → whole.NamesFile name → IsFileName name
 file_named name h = let few = h.2 in record { short = omega (few, arith); some = not_empty name h.1; utf8 = h.0 }
 
 pub returns-clause-file_count : goal.returns-clause-file_count
@@ -25,7 +25,7 @@ returns-clause-file_count c program accepted =
     omega (same, few, arith)
 
 pub returns-clause-files : goal.returns-clause-files
-returns-clause-files c program accepted = All-weaker whole.IsFileName IsFileName file_named program.files accepted.whole.names
+returns-clause-files c program accepted = All-weaker whole.NamesFile IsFileName file_named program.files accepted.whole.names
 
 pub returns-clause-name_count : goal.returns-clause-name_count
 returns-clause-name_count c program accepted = (sizes_within (code_of (meant program)) accepted.small).names

@@ -4,12 +4,12 @@ use Rattle.std.proofs.lemmas.List.Elements.{All-get_or}
 use Rattle.ns_load.proofs.Loads.{next_fault, next_file, next_name, next_read, one_longer, read_on}
 use Rattle.ns_load.proofs.Told.{fault_texts, memory_result}
 use Rattle.ns_load.proofs.load.load_files.Goals as goal
-use Rattle.ns_scope.specs.Whole.{IsFileName}
+use Rattle.ns_scope.specs.Whole.{NamesFile}
 use Rattle.ns_tree.specs.PlainOf.{unit_of}
 
 pub load_file-requires : goal.load_file-requires
 load_file-requires g c =
-    subst IsUtf8 (sym c.name-item.is) (All-get_or IsFileName c.args.names.now c.files.name-index c.name-item.result c.files-test.true c.requires.named).0
+    subst IsUtf8 (sym c.name-item.is) (All-get_or NamesFile c.args.names.now c.files.name-index c.name-item.result c.files-test.true c.requires.named).0
 
 pub returns-in-Err-clause-told : goal.returns-in-Err-clause-told
 returns-in-Err-clause-told g c = λ files e.

@@ -3,7 +3,7 @@ use Rattle.ns_actions.specs.declared.site.Site.{Site}
 use Rattle.ns_actions.specs.Control.{Progress, in_world}
 use Rattle.ns_actions.specs.Bodies.{has_environment, is_beside, local_stored}
 use Rattle.ns_act.specs.declared.running.Running.{Running}
-use Rattle.ns_act.specs.Locals.{HasLocal}
+use Rattle.ns_act.specs.Locals.{LocalIsReadable}
 use Rattle.ns_act.specs.Running.{activation_at, code_of}
 use Rattle.ns_machine_core.proofs.LocalsDone.{stored_there, outside_stored, known_there}
 use Rattle.ns_machine_core.proofs.locals.store_local_of.Goals as goal
@@ -16,7 +16,7 @@ stands_beside-requires c =
 pub store_local-requires : goal.store_local-requires
 store_local-requires c =
     let core = c.args.core.now in
-    subst (λ (here : Running). HasLocal core.run.world.world.cells c.args.code.now (code_of here) c.args.hops c.args.index) (sym c.running_code-here.ensures)
+    subst (λ (here : Running). LocalIsReadable core.run.world.world.cells c.args.code.now (code_of here) c.args.hops c.args.index) (sym c.running_code-here.ensures)
     (stored_there c.args.code.now core c.args.at c.args.hops c.args.index c.running.result c.requires.can c.running.ensures).outside
 
 pub returns : goal.returns

@@ -3,7 +3,7 @@ use Rattle.ns_actions.specs.Control.{Control}
 use Rattle.ns_actions.specs.Sends.{To}
 use Rattle.ns_machine_core.specs.declared.state.Next.TheVariants.{On}
 use Rattle.ns_machine_core.specs.laws.Worlds.{in_other}
-use Rattle.ns_machine_sends.specs.Going.{GoesOn}
+use Rattle.ns_machine_sends.specs.Going.{ControlGoesOn}
 use Rattle.ns_machine_sends.specs.Sending.{Sends}
 use Rattle.ns_machine_sends.specs.laws.Stepped.{step_goes, step_sends, no_one}
 use Rattle.ns_machine_quick.proofs.Opened.{found_later}
@@ -11,7 +11,7 @@ use Rattle.ns_machine_quick.proofs.opening.send_method.Goals as goal
 
 pub begin-requires-clause-goes : goal.begin-requires-clause-goes
 begin-requires-clause-goes c =
-    subst (λ (control : Control). GoesOn c.args.code.now (length c.args.core.now.stack.frames.items) control)
+    subst (λ (control : Control). ControlGoesOn c.args.code.now (length c.args.core.now.stack.frames.items) control)
     (found_later c.args.code.now c.args.core.now c.args.at c.args.sent c.args.receiver c.args.body c.args.holder no_one (To c.args.receiver c.args.kind)
     c.step.new.self c.in-Ok.ensures.charges.0 c.requires.finds refl)
     (step_goes (record { lawful = c.sends_keep_lawful.ensures.sent; hands = c.what_is_handed_on_fits.ensures; spends = c.actions_spend_exactly.ensures; stays = c.sites_stay.ensures.sent })

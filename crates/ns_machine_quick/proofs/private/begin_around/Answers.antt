@@ -4,7 +4,7 @@ use Rattle.ns_actions.specs.Sends.{ToPrivate}
 use Rattle.ns_act.specs.Running.{code_of}
 use Rattle.ns_machine_core.specs.declared.state.Next.TheVariants.{On}
 use Rattle.ns_machine_core.specs.laws.Worlds.{in_other}
-use Rattle.ns_machine_sends.specs.Going.{GoesOn}
+use Rattle.ns_machine_sends.specs.Going.{ControlGoesOn}
 use Rattle.ns_machine_sends.specs.Sending.{Sends}
 use Rattle.ns_machine_sends.specs.laws.Stepped.{step_goes, step_sends}
 use Rattle.ns_machine_quick.proofs.Opened.{found_later}
@@ -12,7 +12,7 @@ use Rattle.ns_machine_quick.proofs.private.begin_around.Goals as goal
 
 pub begin-requires-clause-goes : goal.begin-requires-clause-goes
 begin-requires-clause-goes c =
-    subst (λ (control : Control). GoesOn c.args.code.now (length c.args.core.now.stack.frames.items) control)
+    subst (λ (control : Control). ControlGoesOn c.args.code.now (length c.args.core.now.stack.frames.items) control)
     (found_later c.args.code.now c.args.core.now c.args.at c.args.sent c.args.receiver c.args.body c.args.holder (code_of c.args.running) (ToPrivate c.args.level)
     c.step.new.self c.in-Ok.ensures.charges.0 (sym c.requires.finds) (sym c.requires.receiver))
     (step_goes (record { lawful = c.sends_keep_lawful.ensures.sent; hands = c.what_is_handed_on_fits.ensures; spends = c.actions_spend_exactly.ensures; stays = c.sites_stay.ensures.sent })

@@ -2,7 +2,7 @@ use Rattle.std.proofs.Common.{ℕ, ap, sym, ◌∙◌, subst}
 use Rattle.ns_world.specs.Heap.{find_cell, is_class}
 use Rattle.ns_world.specs.Layout.{declaration_of, entries_of}
 use Rattle.ns_act.specs.Running.{code_of}
-use Rattle.ns_machine_plan.specs.Privates.{IsAmong, found_in}
+use Rattle.ns_machine_plan.specs.Privates.{SlotIsAmong, found_in}
 use Rattle.ns_machine_quick.proofs.Members.{member_among, member_found}
 use Rattle.ns_machine_quick.proofs.private.found_around.Goals as goal
 
@@ -14,7 +14,7 @@ found_with-requires-clause-holder c =
 
 pub found_with-requires-clause-among : goal.found_with-requires-clause-among
 found_with-requires-clause-among c =
-    subst (λ (h : ℕ). IsAmong (entries_of c.args.code.now (declaration_of c.args.world.now.world.cells h)) c.args.member) (sym c.requires.holder)
+    subst (λ (h : ℕ). SlotIsAmong (entries_of c.args.code.now (declaration_of c.args.world.now.world.cells h)) c.args.member) (sym c.requires.holder)
     (member_among c.args.code.now (c.members_are_found.ensures.entries c.args.code.now) c.args.world.now.world (code_of c.args.running) c.args.level c.args.sel c.args.member
     c.requires.lawful c.requires.runs c.requires.level c.requires.member)
 

@@ -1,7 +1,7 @@
 use Rattle.std.proofs.Common.{sym, subst}
 use Rattle.ns_world.specs.declared.ending.Ending.{Ending}
 use Rattle.ns_machine_core.specs.declared.state.Next.TheVariants as next
-use Rattle.ns_machine_core.specs.Doing.{Does}
+use Rattle.ns_machine_core.specs.Doing.{IsDone}
 use Rattle.ns_code.specs.declared.instruction.Instr.TheVariants as instr
 use Rattle.ns_machine_returns.proofs.HomeReturned.{can_unwind, home_returned, dead_returned}
 use Rattle.ns_machine_returns.proofs.homes.return_home.Goals as goal
@@ -18,6 +18,6 @@ returns-in-Some c place =
 
 pub returns-in-None : goal.returns-in-None
 returns-in-None c place =
-    subst (λ (ending : Ending). Does c.args.code.now instr.ReturnHome place c.args.core.now c.args.at (record c.args.core.now { ending = ending }) next.Ended) (sym c.ending_at-core.ensures)
+    subst (λ (ending : Ending). IsDone c.args.code.now instr.ReturnHome place c.args.core.now c.args.at (record c.args.core.now { ending = ending }) next.Ended) (sym c.ending_at-core.ensures)
     (dead_returned c.returns_unwind.ensures.finds c.args.code.now c.args.core.now c.args.at c.pop-value.result.1 c.running-frame.result
     c.pop-value.result.0 place c.requires.can c.running-frame.ensures c.pop-value.ensures.stood (sym c.in-None.ensures))

@@ -14,7 +14,7 @@ use Rattle.ns_machine_frames.specs.Stack.{stood, with_top}
 use Rattle.ns_machine_frames.specs.View.{site_shown}
 use Rattle.ns_machine_core.specs.declared.state.Next.TheVariants as next
 use Rattle.ns_machine_core.specs.Shown.{progress_in}
-use Rattle.ns_machine_core.specs.Doing.{Does}
+use Rattle.ns_machine_core.specs.Doing.{IsDone}
 use Rattle.ns_machine_core.specs.laws.Worlds.{in_other}
 use Rattle.ns_machine_returns.proofs.PartFound.{part_finds}
 use Rattle.ns_machine_returns.proofs.PartEntered.{holder_is_class, enters}
@@ -58,7 +58,7 @@ returns-in-Skips c place =
 
 pub returns-in-Fails : goal.returns-in-Fails
 returns-in-Fails c place =
-    subst (λ (ending : Ending). Does c.args.code.now (instr.InitSuper c.args.count) place c.args.core.now c.args.at
+    subst (λ (ending : Ending). IsDone c.args.code.now (instr.InitSuper c.args.count) place c.args.core.now c.args.at
     (record (in_other c.args.core.now c.super_part-reached.new.world) { ending = ending }) next.Ended) (sym c.ending_at-core.ensures)
     (part_failed c.operands_are_taken.ensures.taken c.args.code.now c.args.core.now c.super_part-reached.new.world c.args.at c.args.count place c.running-frame.result
     c.operands-arguments.result.now c.in-Fails.fault c.requires c.running-frame.ensures c.operands-arguments.ensures.stood c.operands-arguments.ensures.length

@@ -2,7 +2,7 @@ use Rattle.std.proofs.Common.{subst, sym, slice_get}
 use Rattle.ns_machine_plan.specs.Steps.{send_instr}
 use Rattle.ns_machine_core.specs.declared.state.Core.{Core}
 use Rattle.ns_machine_core.specs.Doing.{CanDo}
-use Rattle.ns_machine_core.specs.Tried.{Leads}
+use Rattle.ns_machine_core.specs.Tried.{LeadsOrChangesNothing}
 use Rattle.ns_machine_turns.proofs.performing.send_as.Goals as goal
 
 pub send_found-requires : goal.send_found-requires
@@ -12,5 +12,5 @@ send_found-requires c =
 pub returns-in-Nowhere : goal.returns-in-Nowhere
 returns-in-Nowhere c =
     subst (λ (core : Core).
-    Leads c.args.code.now (send_instr c.args.kind c.args.sel c.args.argc) (slice_get core.places c.args.place) core c.args.at c.send_found.new.core
+    LeadsOrChangesNothing c.args.code.now (send_instr c.args.kind c.args.sel c.args.argc) (slice_get core.places c.args.place) core c.args.at c.send_found.new.core
     c.send_found.result) c.in-Nowhere.ensures c.send_found.ensures

@@ -1,7 +1,7 @@
 use Rattle.std.proofs.Common.{◌≡◌, ◌-◌, ◌≤◌}
 use Rattle.ns_machine_core.specs.declared.state.Next.TheVariants.{On}
 use Rattle.ns_machine_core.specs.Shown.{shown}
-use Rattle.ns_machine_core.specs.Straight.{RunsBody}
+use Rattle.ns_machine_core.specs.Straight.{TopRunsBody}
 use Rattle.ns_machine_moves.specs.Falling.{run_left}
 use Rattle.ns_machine_turns.specs.Turning.{GoesAlong}
 use Rattle.ns_machine_turns.proofs.turning.go_straight.Given as goal
@@ -11,7 +11,7 @@ invariant-straight l = record {
   along : GoesAlong l.code l.plan l.own l.left l.fn.core (On l.fn.at) l.core (On l.here);
   rest : l.rest ≡ l.left - (l.core.run.world.world.steps - l.fn.core.run.world.world.steps);
   some : 1 ≤ l.rest;
-  runs : RunsBody l.body l.core.stack.frames.items;
+  runs : TopRunsBody l.body l.core.stack.frames.items;
 }
 
 abbrev pub decreases-straight : goal.decreases-straight

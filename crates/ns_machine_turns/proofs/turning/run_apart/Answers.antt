@@ -3,7 +3,7 @@ use Rattle.ns_world.specs.declared.ending.Counters.{Counters}
 use Rattle.ns_machine_moves.specs.Turn.{is_still}
 use Rattle.ns_machine_core.specs.declared.state.Next.{Next}
 use Rattle.ns_machine_core.specs.declared.state.Next.TheVariants.{On}
-use Rattle.ns_machine_core.specs.Ready.{Moves}
+use Rattle.ns_machine_core.specs.Ready.{MakesMove}
 use Rattle.ns_machine_core.specs.Shown.{shown}
 use Rattle.ns_machine_turns.specs.Turning.{HasGone, RunsBy}
 use Rattle.ns_machine_turns.proofs.Along.{none_gone, waits_goes}
@@ -51,7 +51,7 @@ returns-in-Waits c =
     let counted = ap (λ (used : Counters). used.steps) c.counters.ensures in
     c.moves_go_along.ensures c.args.code.now c.args.plan.now c.args.own c.args.left c.args.core.now c.run_on-moved.new.core c.take_up.new.core (On c.args.at)
     c.run_on-moved.result c.take_up.result gone.along refl goes (omega (arith, begun, counted, c.if-left-counters.false))
-    (subst (λ (next : Next). Moves c.args.code.now c.run_on-moved.new.core next c.take_up.new.core c.take_up.result) (sym c.in-Waits.is) c.take_up.ensures)
+    (subst (λ (next : Next). MakesMove c.args.code.now c.run_on-moved.new.core next c.take_up.new.core c.take_up.result) (sym c.in-Waits.is) c.take_up.ensures)
 
 pub returns-in-On : goal.returns-in-On
 returns-in-On c =

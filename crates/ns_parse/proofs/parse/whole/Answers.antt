@@ -9,7 +9,7 @@ use Rattle.ns_parse.specs.Classes.{file}
 use Rattle.ns_parse_tokens.specs.Left.{Left, all_of}
 use Rattle.ns_parse.specs.Parse.{unit, whole}
 use Rattle.ns_parse_tokens.specs.Read.{Outcome, got}
-use Rattle.ns_parse_tokens.specs.Reads.{Gives}
+use Rattle.ns_parse_tokens.specs.Reads.{ReaderGives}
 use Rattle.ns_parse.proofs.parse.whole.Goals as goal
 
 left_over : (o : Outcome p.SourceUnit) (u : p.SourceUnit) (n : ℕ) (rest : List Token) → o ≡ got u n (kinds rest) → 1 ≤ length rest → whole o ≡ Err (Syntax n)
@@ -17,7 +17,7 @@ left_over o u n [] e h = absurd (omega (arith, h))
 left_over o u n (t ∷ ts) e h = ap whole e
 
 -- Tokens are left behind the file.
-not_ended : (ts : List Token) (u : p.SourceUnit) (old new : Left) (n : ℕ) (rest : List Token) → old ≡ all_of (kinds ts) → Gives (file (length ts)) u old new → record { at = n; kinds = kinds rest } ≡ new → 1 ≤ length rest
+not_ended : (ts : List Token) (u : p.SourceUnit) (old new : Left) (n : ℕ) (rest : List Token) → old ≡ all_of (kinds ts) → ReaderGives (file (length ts)) u old new → record { at = n; kinds = kinds rest } ≡ new → 1 ≤ length rest
     → whole (unit (kinds ts)) ≡ Err (Syntax n)
 not_ended ts u old new n rest begins reads left h =
     left_over (unit (kinds ts)) u n rest

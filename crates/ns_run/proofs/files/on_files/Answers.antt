@@ -5,13 +5,13 @@ use Rattle.ns_run_outcome.specs.Outcome.{IsMissing}
 use Rattle.ns_run.proofs.ReportLaws.{some_of}
 use Rattle.ns_run.proofs.TextLaws.{empty_texts, names_are_files}
 use Rattle.ns_run.proofs.files.on_files.Goals as goal
-use Rattle.ns_scope.specs.Whole.{IsFileName}
+use Rattle.ns_scope.specs.Whole.{NamesFile}
 use Rattle.ns_run_words.specs.Forms.{AreNames}
 use Rattle.ns_run_words.specs.declared.form.Item.TheVariants.{File}
 
 pub on_texts-requires-clause-named : goal.on_texts-requires-clause-named
 on_texts-requires-clause-named g c =
-    subst (All IsFileName) (sym c.as_slice.ensures.value)
+    subst (All NamesFile) (sym c.as_slice.ensures.value)
     (names_are_files c.in-Ok.texts.items c.in-Ok.ensures.text (subst (AreNames File) (sym c.in-Ok.ensures.names) c.requires.files.2))
 
 pub returns-in-Err-clause-texts : goal.returns-in-Err-clause-texts

@@ -8,9 +8,9 @@ use Rattle.ns_machine_plan.specs.Steps.{no_place}
 use Rattle.ns_machine_core.specs.declared.state.Phase.TheVariants.{Hosted}
 use Rattle.std.specs.List.{slice_get}
 use Rattle.ns_machine_core.specs.Shown.{shown}
-use Rattle.ns_machine_alike.specs.Underway.{Underway}
+use Rattle.ns_machine_alike.specs.Underway.{SendIsUnderway}
 use Rattle.ns_machine.specs.Machine.{MachineView, stage_shown}
-use Rattle.ns_machine.specs.Waiting.{SendWaits}
+use Rattle.ns_machine.specs.Waiting.{HostSendWaits}
 use Rattle.ns_machine.proofs.Standing.{stage_lawful, with_phase, host_shown, host_machine}
 use Rattle.ns_machine.proofs.machine.Machine.begin.Goals as goal
 
@@ -26,7 +26,7 @@ invariant_of-self c =
     host_machine m.code m.grants m.plan m.core c.wait_for_send-next.new.core m.own m.stage c.wait_for_send-next.result c.args.receiver c.args.sel c.args.arguments.now
     (c.sends_of_a_host_are_valid.ensures m.code m.grants) c.self.invariant
     (subst (λ (shown : MachineView). MayBegin shown.code c.args.receiver c.args.sel c.args.arguments.now shown.state) (sym c.self.view_is) c.requires)
-    (subst (λ (code : CodeProgram). SendWaits code (with_phase m.core Hosted) c.args.receiver c.args.sel (slice_get m.core.places no_place) c.args.arguments.now
+    (subst (λ (code : CodeProgram). HostSendWaits code (with_phase m.core Hosted) c.args.receiver c.args.sel (slice_get m.core.places no_place) c.args.arguments.now
     c.wait_for_send-next.new.core c.wait_for_send-next.result)
     c.code.ensures.code c.wait_for_send-next.ensures)
 
@@ -37,7 +37,7 @@ returns-clause-began c =
     (host_shown m.code m.grants m.plan m.core c.wait_for_send-next.new.core m.own m.stage c.wait_for_send-next.result c.args.receiver c.args.sel c.args.arguments.now
     c.self.invariant
     (subst (λ (shown : MachineView). MayBegin shown.code c.args.receiver c.args.sel c.args.arguments.now shown.state) (sym c.self.view_is) c.requires)
-    (subst (λ (code : CodeProgram). SendWaits code (with_phase m.core Hosted) c.args.receiver c.args.sel (slice_get m.core.places no_place) c.args.arguments.now
+    (subst (λ (code : CodeProgram). HostSendWaits code (with_phase m.core Hosted) c.args.receiver c.args.sel (slice_get m.core.places no_place) c.args.arguments.now
     c.wait_for_send-next.new.core c.wait_for_send-next.result)
     c.code.ensures.code c.wait_for_send-next.ensures))
     ∙ ap (λ (shown : MachineView). record shown { state = begun c.args.receiver c.args.sel c.args.arguments.now shown.state }) c.self.view_is
@@ -49,9 +49,9 @@ returns-clause-underway c =
     let may = subst (λ (shown : MachineView). MayBegin shown.code c.args.receiver c.args.sel c.args.arguments.now shown.state) (sym c.self.view_is) c.requires in
     let begins = host_shown m.code m.grants m.plan m.core c.wait_for_send-next.new.core m.own m.stage c.wait_for_send-next.result c.args.receiver c.args.sel c.args.arguments.now
     c.self.invariant may
-    (subst (λ (code : CodeProgram). SendWaits code (with_phase m.core Hosted) c.args.receiver c.args.sel (slice_get m.core.places no_place) c.args.arguments.now
+    (subst (λ (code : CodeProgram). HostSendWaits code (with_phase m.core Hosted) c.args.receiver c.args.sel (slice_get m.core.places no_place) c.args.arguments.now
     c.wait_for_send-next.new.core c.wait_for_send-next.result)
     c.code.ensures.code c.wait_for_send-next.ensures) in
     let after = shown m.code c.wait_for_send-next.new.core c.wait_for_send-next.result in
-    subst (λ (view : MachineView). Underway view.code view.grants c.args.receiver c.args.sel c.args.arguments.now view.state [] after) c.self.view_is
+    subst (λ (view : MachineView). SendIsUnderway view.code view.grants c.args.receiver c.args.sel c.args.arguments.now view.state [] after) c.self.view_is
     (record { valid = c.self.invariant.valid; may = may; leads = sym begins })

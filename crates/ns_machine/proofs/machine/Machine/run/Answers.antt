@@ -4,7 +4,7 @@ use Rattle.ns_machine_moves.specs.State.{State}
 use Rattle.ns_machine_moves.specs.Starts.{started}
 use Rattle.ns_machine_moves.specs.Valid.{Valid}
 use Rattle.ns_machine_moves.specs.Living.{KeepsLive}
-use Rattle.ns_machine_core.specs.Ready.{IsReady}
+use Rattle.ns_machine_core.specs.Ready.{MachineIsReady}
 use Rattle.ns_machine_core.specs.Shown.{shown}
 use Rattle.ns_machine_core.specs.declared.state.Next.TheVariants as next
 use Rattle.ns_machine_turns.specs.Turning.{RunsBy}
@@ -27,8 +27,8 @@ invariant_of-self c =
     let m = c.self.inside in
     let is = subst (λ (s : Stage). IsMachine m.code m.grants m.plan m.core m.own s) c.in-Begun.is c.self.invariant in
     machine_on m.code m.grants m.plan m.core c.run_out-ending.new.core m.own c.in-Begun.from next.Ended is
-    (subst (λ (code : CodeProgram). IsReady code m.grants m.core c.in-Begun.from
-    → IsReady code m.grants c.run_out-ending.new.core next.Ended) c.code.ensures.code (c.run_out-ending.ensures.ready m.grants)
+    (subst (λ (code : CodeProgram). MachineIsReady code m.grants m.core c.in-Begun.from
+    → MachineIsReady code m.grants c.run_out-ending.new.core next.Ended) c.code.ensures.code (c.run_out-ending.ensures.ready m.grants)
     (machine_ready m.code m.grants m.plan m.core m.own c.in-Begun.from is))
     c.run_out-ending.ensures.stays
 

@@ -6,7 +6,7 @@ use Rattle.ns_machine_moves.specs.Living.{KeepsLive}
 use Rattle.ns_machine_reach.specs.Reached.{StaysInReach}
 use Rattle.ns_machine_alike.specs.Underway.{GoesOnAlike}
 use Rattle.ns_machine_core.specs.Shown.{shown}
-use Rattle.ns_machine_core.specs.Ready.{IsReady}
+use Rattle.ns_machine_core.specs.Ready.{MachineIsReady}
 use Rattle.ns_machine_turns.specs.Turning.{RunsBy}
 use Rattle.ns_machine.specs.Machine.{MachineView, IsMachine, stage_shown}
 use Rattle.ns_machine.specs.declared.stage.Stage.{Stage}
@@ -25,7 +25,7 @@ invariant_of-self c =
     let m = c.self.inside in
     let is = subst (λ (s : Stage). IsMachine m.code m.grants m.plan m.core m.own s) c.in-Begun.is c.self.invariant in
     machine_on m.code m.grants m.plan m.core c.turn-next.new.core m.own c.in-Begun.from c.turn-next.result is
-    (subst (λ (code : CodeProgram). IsReady code m.grants m.core c.in-Begun.from → IsReady code m.grants c.turn-next.new.core c.turn-next.result)
+    (subst (λ (code : CodeProgram). MachineIsReady code m.grants m.core c.in-Begun.from → MachineIsReady code m.grants c.turn-next.new.core c.turn-next.result)
     c.code.ensures.code (c.turn-next.ensures.ready m.grants) (machine_ready m.code m.grants m.plan m.core m.own c.in-Begun.from is))
     c.turn-next.ensures.stays
 

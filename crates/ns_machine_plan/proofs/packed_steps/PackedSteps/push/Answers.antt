@@ -1,5 +1,5 @@
 use Rattle.std.proofs.Common.{◌∷◌, [], ◌++◌, All, map, ap, subst, sym, ◌∙◌}
-use Rattle.ns_machine_plan.specs.Packed.{IsWithin, unpacked}
+use Rattle.ns_machine_plan.specs.Packed.{EntryIsThere, unpacked}
 use Rattle.ns_machine_plan.proofs.Packing.{same_steps, one_more_step, one_more_within, also_refused}
 use Rattle.ns_machine_plan.proofs.packed_steps.PackedSteps.push.Goals as goal
 
@@ -15,7 +15,7 @@ returns-in_err-push-clause-err c =
 
 pub invariant_of-self-2 : goal.invariant_of-self-2
 invariant_of-self-2 c =
-    subst (All (IsWithin c.pack.new.self)) (sym c.in_ok-push.ensures.items)
+    subst (All (EntryIsThere c.pack.new.self)) (sym c.in_ok-push.ensures.items)
     (one_more_within c.self.inside.tables c.pack.new.self c.pack.ensures.keeps c.self.inside.packed.items c.self.invariant c.args.step c.in_ok-packed.packed c.in_ok-packed.ensures.packed)
 
 pub returns-clause-ok : goal.returns-clause-ok
