@@ -94,7 +94,10 @@ fn agreeing(twins: &mut Twins, common: Common, from: i64) -> Option<i64> {
 /// Two machines that haven't begun, of which the second has as much more as the module's waste takes.
 fn twins_of(alloc: Global, module: &str) -> Option<Twins> {
     let limits = limits_with_waste(alloc, module)?;
-    match (machine(alloc, module, LIMITS), machine(alloc, module, limits)) {
+    match (
+        machine(alloc, module, LIMITS),
+        machine(alloc, module, limits),
+    ) {
         (Some(near), Some(far)) => Some(Twins { near, far }),
         _ => None,
     }
