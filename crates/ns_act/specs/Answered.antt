@@ -8,7 +8,7 @@ use Rattle.ns_find.specs.declared.found.Found.{Found}
 use Rattle.ns_find.specs.declared.found.Found.TheVariants as found
 use Rattle.ns_actions.specs.declared.site.Site.{Site}
 use Rattle.ns_actions.specs.Control.{Progress, Activation, Control}
-use Rattle.ns_actions.specs.Rows.{row_at}
+use Rattle.ns_kernel.specs.Table.{row_at}
 use Rattle.ns_actions.specs.Kernel.{row_reached}
 use Rattle.ns_actions.specs.Sends.{Target, receiver_of, found_at, answered_by}
 use Rattle.ns_actions.specs.Shown.{reached_shown}

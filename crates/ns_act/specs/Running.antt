@@ -1,6 +1,6 @@
 -- Running code by the site of the send that it answers.
 use Rattle.std.specs.Prelude.{None}
-use Rattle.ns_world.specs.declared.kernel.KernelRow.TheVariants.{Object}
+use Rattle.ns_kernel.specs.declared.class.KernelRow.TheVariants.{Object}
 use Rattle.ns_world.specs.declared.kernel.ClassName.TheVariants.{Kernel}
 use Rattle.ns_actions.specs.declared.site.Site.{Site}
 use Rattle.ns_actions.specs.Control.{Activation}

@@ -9,8 +9,9 @@ ghost use Rattle.ns_act.specs.Stated.{WaitsAs};
 
 use ns_actions::control::Answer;
 use ns_kcode::next::next;
-use ns_kcode::state::{KAction, KMethod, KState};
+use ns_kcode::state::{KAction, KState};
 use ns_kdata::arguments::{array_item, array_size};
+use ns_kernel::parts::KMethod;
 use ns_world::ending::Fault;
 use ns_world::value::Value;
 use ns_world::world::World;

@@ -13,4 +13,3 @@ pub mod SitesStay
 pub mod PartsStay
 pub mod LocalsFit
 pub mod BlocksFit
-pub mod Tabled

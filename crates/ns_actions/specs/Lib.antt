@@ -4,8 +4,6 @@ pub mod Shown
 pub mod Bodies
 pub mod Classes
 pub mod Blocks
-pub mod Rows
-pub mod Tabled
 pub mod Kernel
 pub mod Sends
 pub mod Report

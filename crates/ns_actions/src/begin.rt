@@ -5,8 +5,9 @@ ghost use Rattle.ns_kdata.specs.Arguments.{CellIsThere};
 ghost use Rattle.ns_kcode.specs.Rows as rows;
 ghost use Rattle.ns_actions.specs.Blocks as spec;
 
-use ns_kcode::state::{KMethod, KState};
+use ns_kcode::state::KState;
 use ns_kdata::arguments::{array_size, shape_of_value};
+use ns_kernel::parts::KMethod;
 use ns_world::cell::NewCell;
 use ns_world::value::Value;
 use ns_world::world::World;

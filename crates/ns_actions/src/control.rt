@@ -1,7 +1,8 @@
 //! What an action comes to, in the form in which a machine takes it: nothing is listed or copied.
 
 use ns_base::selector::Sel;
-use ns_kcode::state::{KMethod, KState};
+use ns_kcode::state::KState;
+use ns_kernel::parts::KMethod;
 use ns_world::ending::Fault;
 use ns_world::value::Value;
 

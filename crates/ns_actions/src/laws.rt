@@ -6,7 +6,6 @@ ghost use Rattle.ns_code.specs.declared.program.CodeProgram.{CodeProgram};
 ghost use Rattle.ns_code.specs.declared.own.Own.{Own};
 ghost use Rattle.ns_code.specs.Own.{own_text};
 ghost use Rattle.ns_code.specs.Selector.{is_selector_number, selector_arity, text_arity, own_number};
-ghost use Rattle.ns_world.specs.declared.kernel.KernelRow.{KernelRow};
 ghost use Rattle.ns_world.specs.declared.value.Value.{Value};
 ghost use Rattle.ns_world.specs.Cell.{Cell};
 ghost use Rattle.ns_world.specs.Heap.{Heap};
@@ -18,7 +17,7 @@ ghost use Rattle.ns_find.specs.declared.found.Sending.TheVariants.{Inner};
 ghost use Rattle.ns_find.specs.declared.members.Side.{Side};
 ghost use Rattle.ns_find.specs.Find.{found_from, found_private, super_start};
 ghost use Rattle.ns_kdata.specs.Arguments.{items_of, is_array};
-ghost use Rattle.ns_kcode.specs.declared.state.KMethod.{KMethod};
+ghost use Rattle.ns_kernel.specs.declared.parts.KMethod.{KMethod};
 ghost use Rattle.ns_kcode.specs.declared.state.KState.{KState};
 ghost use Rattle.ns_actions.specs.declared.site.Site.{Site};
 ghost use Rattle.ns_actions.specs.Control.{Progress, Activation, Exit};
@@ -33,7 +32,6 @@ ghost use Rattle.ns_actions.specs.Ending.{HasSite, EndsFitly};
 ghost use Rattle.ns_actions.specs.Spending.{Spends};
 ghost use Rattle.ns_actions.specs.Fitting.{FitsMethod, Asks, HandsOn};
 ghost use Rattle.ns_actions.specs.Suiting.{FoundSuits};
-ghost use Rattle.ns_actions.specs.Tabled.{RowsAreTabled, RowsAnswer};
 ghost use Rattle.ns_actions.specs.Stated.{WaitedIsLawful, WaitedFits, WaitedStays, WaitedLeadsOn, WaitedSpends, EnclosingIsLive, LocalStands, LocalIsLive, BlockMayBeMade, BlockIsEntered, PartStays};
 ghost use Rattle.ns_actions.specs.StatedSends.{SentGoesOnward, PlainGoesOnward, PerformedGoesOnward, SentKeepsLawful, PlainKeepsLawful};
 ghost use Rattle.ns_actions.specs.StatedSends.{PerformedKeepsLawful, EvaluatedKeepsLawful, SiteFits, SentStays, PlainStays, EvaluatedStays};
@@ -216,12 +214,4 @@ pub fn rows_that_are_found_suit()
         FoundSuits heap receiver (found_from heap code (super_start heap holder side) sel Inner) }
     ensures own { (heap : Heap) (code : CodeProgram) (receiver : Value) (holder : ℕ) (side : Side) (sel : ℕ) →
         FoundSuits heap receiver (found_private heap code holder side sel) }
-{}
-
-/// The rows of the kernel's classes that a lookup looks through are those of the kernel's table, under the
-/// numbers that they have there, and what answers a number is what the table says.
-#[tactic(auto, using(crate::proofs::Tabled::rows_are_tabled, crate::proofs::Tabled::rows_answer))]
-pub fn rows_are_those_of_the_table()
-    ensures found { (heap : Heap) (code : CodeProgram) (class : KernelRow) → RowsAreTabled heap code class }
-    ensures answers { RowsAnswer }
 {}

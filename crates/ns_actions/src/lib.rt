@@ -8,5 +8,4 @@ pub mod begin;
 pub mod control;
 pub mod finding;
 pub mod laws;
-pub mod row;
 pub mod site;

@@ -1,12 +1,12 @@
 -- A lookup finds the same in two worlds with the same classes and the same rows.
-use Rattle.std.proofs.Common.{◌≡◌, ℕ, ◌+◌, List, [], ◌∷◌, ◌++◌, length, slice_get, refl, ap, sym, ◌∙◌, arith, Option, Some, None, Bool, true, false, eqb, ◌||◌, ◌&&◌, is_some, is_none, unwrap_or}
+use Rattle.std.proofs.Common.{◌≡◌, ℕ, ◌+◌, List, [], ◌∷◌, ◌++◌, length, slice_get, refl, ap, sym, ◌∙◌, arith, Option, Some, None, Bool, true, false, eqb, ◌||◌, ◌&&◌, is_some, is_none, unwrap_or, flat_map}
 use Rattle.std.specs.Option.{option_map_or}
 use Rattle.std.proofs.lemmas.Bool.{eqb-true}
 use Rattle.ns_code.specs.declared.program.CodeProgram.{CodeProgram}
 use Rattle.ns_code.specs.declared.class.ClassCode.{ClassCode}
 use Rattle.ns_code.specs.declared.class.SlotCode.{SlotCode}
-use Rattle.ns_world.specs.declared.kernel.KernelRow.{KernelRow}
-use Rattle.ns_world.specs.declared.kernel.KernelRow.TheVariants as row
+use Rattle.ns_kernel.specs.declared.class.KernelRow.{KernelRow}
+use Rattle.ns_kernel.specs.declared.class.KernelRow.TheVariants as row
 use Rattle.ns_world.specs.declared.kernel.Start.{Start}
 use Rattle.ns_world.specs.declared.kernel.Start.TheVariants as start
 use Rattle.ns_world.specs.declared.cell.FacetKind.{FacetKind}
@@ -24,9 +24,10 @@ use Rattle.ns_find.specs.declared.members.Wanted.{Wanted}
 use Rattle.ns_find.specs.declared.members.Wanted.TheVariants.{Visible, Private}
 use Rattle.ns_find.specs.declared.members.Side.{Side}
 use Rattle.ns_find.specs.declared.members.Side.TheVariants.{Instance, Class}
-use Rattle.ns_find.specs.Members.{Member, Numbered, SetterOf, search, is_wanted, slots_members, nested_members, method_members, side_members, holder_members, members_along, factory_member}
+use Rattle.ns_find.specs.Members.{Member, Numbered, SetterOf, Spelled, search, is_wanted, slots_members, nested_members, method_members, side_members, holder_members, members_along, factory_member}
 use Rattle.ns_code.specs.Access.{public_access}
-use Rattle.ns_find.specs.Rows.{kernel_rows, top_rows, manifest_row}
+use Rattle.ns_kernel.specs.Table.{Numbered as NumberedRow, rows_of}
+use Rattle.ns_find.specs.Rows.{facet_asked, is_granted, top_rows, called_by, row_members, kernel_rows}
 use Rattle.ns_find.specs.Find.{members_from, found_from, found_private, is_start}
 
 -- Each class, each chain and each row of one world is the same in another.
@@ -72,32 +73,29 @@ chain_stays : (w : World) (code : CodeProgram) (after : Heap) → IsLawful w cod
 chain_stays w code after l same side class s =
     ap (members_along after code side) (same.same.chains class s) ∙ along_stays w code after l same side (chain_of w.cells class) class refl s
 
-tops_stay : (before after : Heap) → SameRows before after → (n : ℕ) (classes : List ClassCode) → top_rows after n classes ≡ top_rows before n classes
-tops_stay before after same n [] = refl
-tops_stay before after same n (class ∷ classes) =
-    let at : Option ℕ → Member = λ o. record { there = is_none class.outer && is_some o; name = Numbered class.name.0; access = public_access; found = Kernel manifest_row } in
-    ap (λ o. at o ∷ top_rows after (n + 1) classes) (same.tops n) ∙ ap (λ ms. at (first_such (is_top n) before) ∷ ms) (tops_stay before after same (n + 1) classes)
+tops_stay : (before after : Heap) → SameRows before after → (row n : ℕ) (classes : List ClassCode) → top_rows after row n classes ≡ top_rows before row n classes
+tops_stay before after same row n [] = refl
+tops_stay before after same row n (class ∷ classes) =
+    let at : Option ℕ → Member = λ o. record { there = is_none class.outer && is_some o; name = Numbered class.name.0; access = public_access; found = Kernel row } in
+    ap (λ o. at o ∷ top_rows after row (n + 1) classes) (same.tops n) ∙ ap (λ ms. at (first_such (is_top n) before) ∷ ms) (tops_stay before after same row (n + 1) classes)
+
+granted_stays : (before after : Heap) → SameRows before after → (asked : Option FacetKind) → is_granted after asked ≡ is_granted before asked
+granted_stays before after same (Some kind) = ap is_some (same.facets kind)
+granted_stays before after same None = refl
+
+row_stays : (before after : Heap) (code : CodeProgram) → SameRows before after → (row : NumberedRow) (text : Option (List ℕ)) → called_by after code row text ≡ called_by before code row text
+row_stays before after code same row (Some text) =
+    ap (λ there. record { there = there; name = Spelled text; access = row.line.access; found = Kernel row.number } ∷ []) (granted_stays before after same (facet_asked row.line.answer))
+row_stays before after code same row None = tops_stay before after same row.number 0 code.classes
+
+each_stays : (before after : Heap) (code : CodeProgram) → SameRows before after → (rows : List NumberedRow) → flat_map (row_members after code) rows ≡ flat_map (row_members before code) rows
+each_stays before after code same [] = refl
+each_stays before after code same (row ∷ rows) =
+    ap (λ ms. ms ++ flat_map (row_members after code) rows) (row_stays before after code same row row.line.text)
+    ∙ ap (λ ms. row_members before code row ++ ms) (each_stays before after code same rows)
 
 rows_stay : (before after : Heap) (code : CodeProgram) → SameRows before after → (kernel : KernelRow) → kernel_rows after code kernel ≡ kernel_rows before code kernel
-rows_stay before after code same row.Platform = rw (same.facets facet.Console, same.facets facet.Kernel, same.facets facet.Mirrors, same.facets facet.Board) refl
-rows_stay before after code same row.Manifest = tops_stay before after same 0 code.classes
-rows_stay before after code same row.Object = refl
-rows_stay before after code same row.ObjectClass = refl
-rows_stay before after code same row.ArrayClass = refl
-rows_stay before after code same row.Class = refl
-rows_stay before after code same row.UndefinedObject = refl
-rows_stay before after code same row.Boolean = refl
-rows_stay before after code same row.Integer = refl
-rows_stay before after code same row.String = refl
-rows_stay before after code same row.Symbol = refl
-rows_stay before after code same row.Array = refl
-rows_stay before after code same row.Block = refl
-rows_stay before after code same row.Kernel = refl
-rows_stay before after code same row.Console = refl
-rows_stay before after code same row.Board = refl
-rows_stay before after code same row.Mirrors = refl
-rows_stay before after code same row.Mirror = refl
-rows_stay before after code same row.Message = refl
+rows_stay before after code same kernel = each_stays before after code same (rows_of kernel)
 
 found_at_start : (w : World) (after : Heap) → SameRows w.cells after → (class : ℕ) → is_chain_start w.cells class ≡ true → find_cell after class ≡ find_cell w.cells class
 found_at_start w after same class s = tested (is_class (find_cell w.cells class)) refl s

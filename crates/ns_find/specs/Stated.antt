@@ -2,7 +2,8 @@
 use Rattle.std.specs.Prelude.{◌≡◌, ℕ, ◌∷◌, List, Option, Some}
 use Rattle.ns_code.specs.declared.program.CodeProgram.{CodeProgram}
 use Rattle.ns_code.specs.Selector.{selector_text}
-use Rattle.ns_world.specs.declared.kernel.KernelRow.TheVariants.{Boolean, Integer}
+use Rattle.ns_kernel.specs.declared.class.KernelRow.TheVariants.{Boolean, Integer}
+use Rattle.ns_kernel.specs.Table.{row_called}
 use Rattle.ns_world.specs.declared.kernel.Start.{Start}
 use Rattle.ns_world.specs.declared.kernel.Start.TheVariants as start
 use Rattle.ns_world.specs.Cell.{Cell}
@@ -16,7 +17,6 @@ use Rattle.ns_find.specs.declared.members.Side.{Side}
 use Rattle.ns_find.specs.Find.{found_from}
 use Rattle.ns_find.specs.Belonging.{Belongs}
 use Rattle.ns_find.specs.Memo.{PlaceIsRight, AddsNoRow}
-use Rattle.ns_find.specs.Rows.{spelled_row, boolean_texts, integer_texts}
 
 -- A lookup that is kept in a lawful world is right in the cells that a change leaves.
 abbrev pub StaysRight : (Heap → Heap) → Type 0
@@ -35,14 +35,14 @@ abbrev pub FromBelongs : Heap → CodeProgram → Start → Side → List ℕ �
 FromBelongs heap code start side chain factories =
     (sel : ℕ) (kind : Sending) → Belongs heap code side chain factories (found_from heap code start sel kind)
 
--- An Integer finds the row of Integer that a selector spells.
+-- An Integer finds the row of Integer that a selector calls.
 abbrev pub IntegersFind : Heap → CodeProgram → ℕ → Sending → Type 0
 IntegersFind heap code sel kind =
-    (number : ℕ) → spelled_row (selector_text code sel) 20 integer_texts ≡ Some (Kernel number)
+    (number : ℕ) → row_called Integer (selector_text code sel) ≡ Some number
     → found_from heap code (start.Kernel Integer) sel kind ≡ Kernel number
 
--- A Boolean finds the row of Boolean that a selector spells.
+-- A Boolean finds the row of Boolean that a selector calls.
 abbrev pub BooleansFind : Heap → CodeProgram → ℕ → Sending → Type 0
 BooleansFind heap code sel kind =
-    (number : ℕ) → spelled_row (selector_text code sel) 10 boolean_texts ≡ Some (Kernel number)
+    (number : ℕ) → row_called Boolean (selector_text code sel) ≡ Some number
     → found_from heap code (start.Kernel Boolean) sel kind ≡ Kernel number

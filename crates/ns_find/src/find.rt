@@ -11,12 +11,13 @@ ghost use Rattle.ns_find.specs.declared.members.Side.TheVariants as side_is;
 ghost use Rattle.ns_world.specs.declared.kernel.Start.TheVariants as start_is;
 
 use crate::found::{Found, Sending};
-use crate::kernel::row_of;
+use crate::kernel::row_named;
 use crate::members::{Asked, Side, Wanted, method, nested, slots};
 use ns_base::selector::Sel;
 use ns_code::class::ClassCode;
 use ns_code::program::CodeProgram;
-use ns_world::kernel::{KernelRow, Start};
+use ns_kernel::class::KernelRow;
+use ns_world::kernel::Start;
 use ns_world::world::World;
 
 /// What a selector finds from a start: the first member of that name that isn't private, or a
@@ -109,7 +110,7 @@ fn from_instance(world: &World, code: &CodeProgram, class: u32, asked: Asked) ->
 {
     match along(world, code, class, Side::Instance, asked) {
         Some(found) => Some(found),
-        None => row_of(world, code, KernelRow::Object, asked.sel, asked.kind),
+        None => row_named(world, code, KernelRow::Object, asked.sel, asked.kind),
     }
 }
 
@@ -154,9 +155,9 @@ fn from_kernel(world: &World, code: &CodeProgram, row: KernelRow, asked: Asked) 
     requires { length code.now.classes ≤ 4096 }
     ensures { result ≡ spec.search code.now asked.sel.0 asked.kind (members_from world.now.world.cells code.now (start_is.Kernel row)) }
 {
-    match row_of(world, code, row, asked.sel, asked.kind) {
+    match row_named(world, code, row, asked.sel, asked.kind) {
         Some(found) => Some(found),
-        None => row_of(world, code, KernelRow::Object, asked.sel, asked.kind),
+        None => row_named(world, code, KernelRow::Object, asked.sel, asked.kind),
     }
 }
 

@@ -3,7 +3,7 @@
 ghost use Rattle.std.specs.Prelude.{ℕ, [], ◌∷◌, List, Option, Bool, All};
 ghost use Rattle.ns_code.specs.declared.program.CodeProgram.{CodeProgram};
 ghost use Rattle.ns_world.specs.declared.value.Value.{Value};
-ghost use Rattle.ns_world.specs.declared.kernel.KernelRow.{KernelRow};
+ghost use Rattle.ns_kernel.specs.declared.class.KernelRow.{KernelRow};
 ghost use Rattle.ns_world.specs.declared.kernel.Start.{Start};
 ghost use Rattle.ns_world.specs.declared.kernel.Start.TheVariants.{Instance, ClassSide, Kernel};
 ghost use Rattle.ns_world.specs.Heap.{Heap, chain_of, write_word, write_byte};

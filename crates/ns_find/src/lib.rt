@@ -9,4 +9,3 @@ mod kernel;
 pub mod laws;
 pub mod members;
 pub mod memo;
-pub mod rows;

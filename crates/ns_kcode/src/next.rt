@@ -4,7 +4,8 @@ ghost use Rattle.std.specs.Prelude.{◌≡◌};
 ghost use Rattle.ns_kcode.specs.Next.{next, evaluate, value_of, and_next, or_next, if_true_next, if_false_next, choice_next, tested, while_turn};
 ghost use Rattle.ns_kcode.specs.Next.{while_true_next, while_false_next, to_do_next, times_next, do_next};
 
-use crate::state::{KAction, KMethod, KState};
+use crate::state::{KAction, KState};
+use ns_kernel::parts::KMethod;
 use ns_world::ending::Kind;
 use ns_world::value::Value;
 

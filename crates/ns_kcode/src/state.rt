@@ -3,23 +3,6 @@
 use ns_world::ending::Kind;
 use ns_world::value::Value;
 
-/// One for each selector: `and: or: ifTrue: ifFalse: ifTrue:ifFalse: ifFalse:ifTrue: whileTrue:
-/// whileFalse: to:do: timesRepeat: do:`.
-#[derive(Clone, Copy, PartialEq, Eq)]
-pub enum KMethod {
-    And,
-    Or,
-    IfTrue,
-    IfFalse,
-    IfTrueIfFalse,
-    IfFalseIfTrue,
-    WhileTrue,
-    WhileFalse,
-    ToDo,
-    TimesRepeat,
-    Do,
-}
-
 /// Where a method stands between two of its actions. The arguments that are to be blocks are
 /// blocks, and the end of `to:do:` is an Integer: that is checked before the method begins.
 #[derive(Clone, Copy)]

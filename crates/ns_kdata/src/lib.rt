@@ -13,6 +13,5 @@ pub mod laws;
 pub mod making;
 mod messages;
 mod objects;
-pub mod row;
 mod symbols;
 pub mod texts;

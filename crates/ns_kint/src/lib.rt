@@ -6,4 +6,3 @@
 mod division;
 pub mod integer;
 pub mod laws;
-pub mod row;

@@ -1,6 +1,6 @@
 -- Lookups from paired starts find the same members, of partners; and sites name the same classes.
 use Rattle.std.proofs.Common.{◌≡◌, ℕ, ◌+◌, List, [], ◌∷◌, ◌++◌, Option, Some, None, Bool, false, cond, refl, ap, ◌∙◌, subst}
-use Rattle.std.specs.Prelude.{◌==◌, ◌&&◌, is_none, is_some, unwrap_or, slice_get, codes}
+use Rattle.std.specs.Prelude.{◌==◌, ◌&&◌, is_none, is_some, unwrap_or, slice_get, flat_map}
 use Rattle.std.specs.Option.{option_map_or}
 use Rattle.ns_base.specs.declared.place.Place.{Place as SourcePlace}
 use Rattle.ns_base.specs.declared.selector.Sel.{Sel}
@@ -15,8 +15,8 @@ use Rattle.ns_world.specs.declared.value.Value.TheVariants.{Nil, True, False, In
 use Rattle.ns_world.specs.declared.value.KClass.TheVariants as kernel_class
 use Rattle.ns_world.specs.declared.kernel.Start.{Start}
 use Rattle.ns_world.specs.declared.kernel.Start.TheVariants as start
-use Rattle.ns_world.specs.declared.kernel.KernelRow.{KernelRow}
-use Rattle.ns_world.specs.declared.kernel.KernelRow.TheVariants as row
+use Rattle.ns_kernel.specs.declared.class.KernelRow.{KernelRow}
+use Rattle.ns_kernel.specs.declared.class.KernelRow.TheVariants as row
 use Rattle.ns_world.specs.declared.kernel.ClassName.TheVariants as name
 use Rattle.ns_world.specs.declared.cell.FacetKind.{FacetKind}
 use Rattle.ns_world.specs.declared.cell.FacetKind.TheVariants as facet
@@ -35,6 +35,7 @@ use Rattle.ns_find.specs.declared.members.Side.TheVariants.{Instance as Instance
 use Rattle.ns_find.specs.declared.members.Wanted.{Wanted}
 use Rattle.ns_find.specs.declared.members.Wanted.TheVariants.{Visible, Private}
 use Rattle.ns_find.specs.Members.{Member, Numbered, is_named, allowed, search, slots_members, nested_members, method_members, side_members, holder_members, members_along, factory_member}
+use Rattle.ns_kernel.specs.Table.{Numbered as NumberedRow, rows_of}
 use Rattle.ns_find.specs.Rows as rows
 use Rattle.ns_find.specs.Find.{members_from, found_from, found_private, super_start}
 use Rattle.ns_actions.specs.Suiting.{is_reference}
@@ -82,18 +83,6 @@ module _ (Pair : ℕ → ℕ → Type 0) where
       (λ t. allowed_paired kind member.access other.access member.found other.found p.0.access p.0.found) (λ t. search_paired code sel kind members others p.1)
   search_paired code sel kind [] (other ∷ others) p = absurd p
   search_paired code sel kind (member ∷ members) [] p = absurd p
-
-  -- ---- rows of the kernel that don't read the world
-
-  open_like : (number : ℕ) (texts : List (List ℕ)) → AllLike (rows.open_rows number texts) (rows.open_rows number texts)
-  open_like number [] = tt
-  open_like number (text ∷ texts) = (record { there = refl; name = refl; access = refl; found = refl }, open_like (number + 1) texts)
-
-  object_like : AllLike rows.object_rows rows.object_rows
-  object_like =
-      like_append (rows.open_rows 0 (codes "==" ∷ codes "=" ∷ codes "isNil" ∷ codes "notNil" ∷ [])) (rows.inner_row 4 (codes "Object") ∷ rows.inner_row 5 (codes "doesNotUnderstand:") ∷ [])
-      (rows.open_rows 0 (codes "==" ∷ codes "=" ∷ codes "isNil" ∷ codes "notNil" ∷ [])) (rows.inner_row 4 (codes "Object") ∷ rows.inner_row 5 (codes "doesNotUnderstand:") ∷ [])
-      (open_like 0 (codes "==" ∷ codes "=" ∷ codes "isNil" ∷ codes "notNil" ∷ [])) (record { there = refl; name = refl; access = refl; found = refl }, (record { there = refl; name = refl; access = refl; found = refl }, tt))
 
   same_some : (o o' : Option ℕ) → NumberPaired Pair o o' → is_some o ≡ is_some o'
   same_some (Some n) (Some m) p = refl
@@ -177,43 +166,61 @@ module _ (Pair : ℕ → ℕ → Type 0) (first second : Progress) (pairing : Is
     RowReads row.Mirror = Unit {0}
     RowReads row.Message = Unit {0}
 
-    tops_like : (number : ℕ) (classes : List ClassCode) → FacetPaired Pair heap other facet.Manifest → AllLike Pair (rows.top_rows heap number classes) (rows.top_rows other number classes)
-    tops_like number [] p = tt
-    tops_like number (class ∷ classes) p =
-        (record { there = ap (λ b. is_none class.outer && b) (same_some Pair (first_such (is_top number) heap) (first_such (is_top number) other) (p number)); name = refl; access = refl; found = refl }, tops_like (number + 1) classes p)
+    tops_like : (number place : ℕ) (classes : List ClassCode) → FacetPaired Pair heap other facet.Manifest → AllLike Pair (rows.top_rows heap number place classes) (rows.top_rows other number place classes)
+    tops_like number place [] p = tt
+    tops_like number place (class ∷ classes) p =
+        (record { there = ap (λ b. is_none class.outer && b) (same_some Pair (first_such (is_top place) heap) (first_such (is_top place) other) (p place)); name = refl; access = refl; found = refl }, tops_like number (place + 1) classes p)
 
-    granted_like : (kind : FacetKind) (number : ℕ) (text : List ℕ) → NumberPaired Pair (first_such (is_facet kind) heap) (first_such (is_facet kind) other) → Likes Pair (rows.granted_row heap kind number text) (rows.granted_row other kind number text)
-    granted_like kind number text p = record { there = same_some Pair (first_such (is_facet kind) heap) (first_such (is_facet kind) other) p; name = refl; access = refl; found = refl }
+    -- the first facet of a kind that a row answers, and the top-level classes where a row has no text
+    abbrev AskedPaired : Option FacetKind → Type 0
+    AskedPaired (Some kind) = NumberPaired Pair (first_such (is_facet kind) heap) (first_such (is_facet kind) other)
+    AskedPaired None = Unit {0}
+
+    abbrev NamesPaired : Option (List ℕ) → Type 0
+    NamesPaired (Some text) = Unit {0}
+    NamesPaired None = FacetPaired Pair heap other facet.Manifest
+
+    abbrev AllRead : List NumberedRow → Type 0
+    AllRead [] = Unit {0}
+    AllRead (one ∷ more) = (AskedPaired (rows.facet_asked one.line.answer) × NamesPaired one.line.text) × AllRead more
+
+    granted_like : (asked : Option FacetKind) → AskedPaired asked → rows.is_granted heap asked ≡ rows.is_granted other asked
+    granted_like (Some kind) p = same_some Pair (first_such (is_facet kind) heap) (first_such (is_facet kind) other) p
+    granted_like None p = refl
+
+    row_like : (code : CodeProgram) (one : NumberedRow) (text : Option (List ℕ)) → AskedPaired (rows.facet_asked one.line.answer) → NamesPaired text → AllLike Pair (rows.called_by heap code one text) (rows.called_by other code one text)
+    row_like code one (Some text) asked names = (record { there = granted_like (rows.facet_asked one.line.answer) asked; name = refl; access = refl; found = refl }, tt)
+    row_like code one None asked names = tops_like one.number 0 code.classes names
+
+    all_like : (code : CodeProgram) (all : List NumberedRow) → AllRead all → AllLike Pair (flat_map (rows.row_members heap code) all) (flat_map (rows.row_members other code) all)
+    all_like code [] p = tt
+    all_like code (one ∷ more) (p, q) =
+        like_append Pair (rows.row_members heap code one) (flat_map (rows.row_members heap code) more) (rows.row_members other code one) (flat_map (rows.row_members other code) more)
+        (row_like code one one.line.text p.0 p.1) (all_like code more q)
+
+    reads : (named : KernelRow) → RowReads named → AllRead (rows_of named)
+    reads row.Object p = ((tt, tt), ((tt, tt), ((tt, tt), ((tt, tt), ((tt, tt), ((tt, tt), tt))))))
+    reads row.ObjectClass p = ((tt, tt), tt)
+    reads row.ArrayClass p = ((tt, tt), tt)
+    reads row.Class p = ((tt, tt), tt)
+    reads row.UndefinedObject p = ((tt, tt), tt)
+    reads row.Boolean p = ((tt, tt), ((tt, tt), ((tt, tt), ((tt, tt), ((tt, tt), ((tt, tt), ((tt, tt), ((tt, tt), ((tt, tt), ((tt, tt), tt))))))))))
+    reads row.Integer p = ((tt, tt), ((tt, tt), ((tt, tt), ((tt, tt), ((tt, tt), ((tt, tt), ((tt, tt), ((tt, tt), ((tt, tt), ((tt, tt), ((tt, tt), ((tt, tt), ((tt, tt), ((tt, tt), ((tt, tt), ((tt, tt), ((tt, tt), tt)))))))))))))))))
+    reads row.String p = ((tt, tt), ((tt, tt), ((tt, tt), ((tt, tt), ((tt, tt), ((tt, tt), ((tt, tt), tt)))))))
+    reads row.Symbol p = ((tt, tt), ((tt, tt), ((tt, tt), ((tt, tt), tt))))
+    reads row.Array p = ((tt, tt), ((tt, tt), ((tt, tt), ((tt, tt), tt))))
+    reads row.Block p = ((tt, tt), ((tt, tt), ((tt, tt), ((tt, tt), ((tt, tt), ((tt, tt), ((tt, tt), ((tt, tt), tt))))))))
+    reads row.Manifest p = ((tt, p), tt)
+    reads row.Platform p = ((p facet.Console tt, tt), ((p facet.Kernel tt, tt), ((p facet.Mirrors tt, tt), ((p facet.Board tt, tt), tt))))
+    reads row.Kernel p = ((tt, tt), ((tt, tt), tt))
+    reads row.Console p = ((tt, tt), ((tt, tt), tt))
+    reads row.Board p = ((tt, tt), ((tt, tt), tt))
+    reads row.Mirrors p = ((tt, tt), tt)
+    reads row.Mirror p = ((tt, tt), ((tt, tt), ((tt, tt), ((tt, tt), ((tt, tt), ((tt, tt), ((tt, tt), tt)))))))
+    reads row.Message p = ((tt, tt), ((tt, tt), tt))
 
     kernel_like : (code : CodeProgram) (named : KernelRow) → RowReads named → AllLike Pair (rows.kernel_rows heap code named) (rows.kernel_rows other code named)
-    kernel_like code row.Manifest p = tops_like 0 code.classes p
-    kernel_like code row.Platform p = (
-      granted_like facet.Console 61 (codes "console") (p facet.Console tt),
-      (
-        granted_like facet.Kernel 62 (codes "kernel") (p facet.Kernel tt),
-        (
-          granted_like facet.Mirrors 63 (codes "mirrors") (p facet.Mirrors tt),
-          (granted_like facet.Board 64 (codes "board") (p facet.Board tt), tt),
-        ),
-      ),
-    )
-    kernel_like code row.Object p = object_like Pair
-    kernel_like code row.ObjectClass p = open_like Pair 6 rows.object_class_texts
-    kernel_like code row.ArrayClass p = open_like Pair 7 rows.array_class_texts
-    kernel_like code row.Class p = open_like Pair 8 rows.class_texts
-    kernel_like code row.UndefinedObject p = open_like Pair 9 rows.undefined_object_texts
-    kernel_like code row.Boolean p = open_like Pair 10 rows.boolean_texts
-    kernel_like code row.Integer p = open_like Pair 20 rows.integer_texts
-    kernel_like code row.String p = open_like Pair 37 rows.string_texts
-    kernel_like code row.Symbol p = open_like Pair 44 rows.symbol_texts
-    kernel_like code row.Array p = open_like Pair 48 rows.array_texts
-    kernel_like code row.Block p = open_like Pair 52 rows.block_texts
-    kernel_like code row.Kernel p = open_like Pair 65 rows.kernel_texts
-    kernel_like code row.Console p = open_like Pair 67 rows.console_texts
-    kernel_like code row.Board p = open_like Pair 69 rows.board_texts
-    kernel_like code row.Mirrors p = open_like Pair 71 rows.mirrors_texts
-    kernel_like code row.Mirror p = open_like Pair 72 rows.mirror_texts
-    kernel_like code row.Message p = open_like Pair 79 rows.message_texts
+    kernel_like code named p = all_like code (rows_of named) (reads named p)
 
     -- ---- starts
 
@@ -261,17 +268,19 @@ module _ (Pair : ℕ → ℕ → Type 0) (first second : Progress) (pairing : Is
 
     from_like : (code : CodeProgram) (one two : Start) → StartsAlike one two → AllLike Pair (members_from heap code one) (members_from other code two)
     from_like code (start.Instance class) (start.Instance class') s =
-        like_append Pair (members_along heap code InstanceSide (chain_of heap class)) rows.object_rows (members_along other code InstanceSide (chain_of other class')) rows.object_rows
-        (along_like code InstanceSide (chain_of heap class) (chain_of other class') (h.chains class class' s)) (object_like Pair)
+        like_append Pair (members_along heap code InstanceSide (chain_of heap class)) (rows.kernel_rows heap code row.Object) (members_along other code InstanceSide (chain_of other class')) (rows.kernel_rows other code row.Object)
+        (along_like code InstanceSide (chain_of heap class) (chain_of other class') (h.chains class class' s)) (kernel_like code row.Object tt)
     from_like code (start.ClassSide class factory) (start.ClassSide class' factory') s =
-        like_append Pair (factory_member heap code class factory) (members_along heap code ClassSide (chain_of heap class) ++ (rows.open_rows 8 rows.class_texts ++ rows.object_rows)) (factory_member other code class' factory')
-        (members_along other code ClassSide (chain_of other class') ++ (rows.open_rows 8 rows.class_texts ++ rows.object_rows)) (factory_like code class class' factory factory' s.0 s.1)
-        (like_append Pair (members_along heap code ClassSide (chain_of heap class)) (rows.open_rows 8 rows.class_texts ++ rows.object_rows) (members_along other code ClassSide (chain_of other class')) (rows.open_rows 8 rows.class_texts ++ rows.object_rows)
+        let behind : Heap → List Member = λ heap. rows.kernel_rows heap code row.Class ++ rows.kernel_rows heap code row.Object in
+        like_append Pair (factory_member heap code class factory) (members_along heap code ClassSide (chain_of heap class) ++ behind heap) (factory_member other code class' factory')
+        (members_along other code ClassSide (chain_of other class') ++ behind other) (factory_like code class class' factory factory' s.0 s.1)
+        (like_append Pair (members_along heap code ClassSide (chain_of heap class)) (behind heap) (members_along other code ClassSide (chain_of other class')) (behind other)
         (along_like code ClassSide (chain_of heap class) (chain_of other class') (h.chains class class' s.0))
-        (like_append Pair (rows.open_rows 8 rows.class_texts) rows.object_rows (rows.open_rows 8 rows.class_texts) rows.object_rows (open_like Pair 8 rows.class_texts) (object_like Pair)))
+        (like_append Pair (rows.kernel_rows heap code row.Class) (rows.kernel_rows heap code row.Object) (rows.kernel_rows other code row.Class) (rows.kernel_rows other code row.Object)
+        (kernel_like code row.Class tt) (kernel_like code row.Object tt)))
     from_like code (start.Kernel named) (start.Kernel named') s =
         subst (λ n. AllLike Pair (members_from heap code (start.Kernel named)) (members_from other code (start.Kernel n))) s.0
-        (like_append Pair (rows.kernel_rows heap code named) rows.object_rows (rows.kernel_rows other code named) rows.object_rows (kernel_like code named s.1) (object_like Pair))
+        (like_append Pair (rows.kernel_rows heap code named) (rows.kernel_rows heap code row.Object) (rows.kernel_rows other code named) (rows.kernel_rows other code row.Object) (kernel_like code named s.1) (kernel_like code row.Object tt))
     from_like code one two s = absurd s
 
     found_paired : (code : CodeProgram) (one two : Start) (sel : ℕ) (kind : Sending) → StartsAlike one two → MemberPaired Pair (found_from heap code one sel kind) (found_from other code two sel kind)

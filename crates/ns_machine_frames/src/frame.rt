@@ -1,7 +1,8 @@
 //! Frames, as the machine keeps them, and what waits to be done.
 
 use ns_base::selector::Sel;
-use ns_kcode::state::{KMethod, KState};
+use ns_kcode::state::KState;
+use ns_kernel::parts::KMethod;
 use ns_world::kernel::ClassName;
 use ns_world::value::Value;
 

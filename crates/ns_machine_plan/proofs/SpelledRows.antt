@@ -7,21 +7,19 @@ use Rattle.std.proofs.lemmas.Option.{none-some, same_Some, slice_get_within, get
 use Rattle.ns_base.specs.declared.selector.Sel.{Sel}
 use Rattle.ns_code.specs.declared.program.CodeProgram.{CodeProgram}
 use Rattle.ns_code.specs.Selector.{selector_text, own_text_at}
-use Rattle.ns_world.specs.declared.kernel.KernelRow.{KernelRow}
-use Rattle.ns_world.specs.declared.kernel.KernelRow.TheVariants as class
+use Rattle.ns_kernel.specs.declared.class.KernelRow.{KernelRow}
+use Rattle.ns_kernel.specs.declared.class.KernelRow.TheVariants as class
 use Rattle.ns_world.specs.declared.kernel.Start.TheVariants as start
 use Rattle.ns_world.specs.Heap.{Heap}
-use Rattle.ns_find.specs.declared.found.Found.{Found}
-use Rattle.ns_find.specs.declared.found.Found.TheVariants.{Method, Getter, Setter, Nested, Factory, Kernel, NotPublic, Absent}
+use Rattle.ns_find.specs.declared.found.Found.TheVariants.{Kernel}
 use Rattle.ns_find.specs.declared.found.Sending.{Sending}
 use Rattle.ns_find.specs.Find.{found_from}
-use Rattle.ns_find.specs.Rows.{spelled_row, boolean_texts, integer_texts}
 use Rattle.ns_find.specs.Stated.{BooleansFind, IntegersFind}
-use Rattle.ns_kcode.specs.declared.state.KMethod.{KMethod}
-use Rattle.ns_kint.specs.declared.row.IntRow.{IntRow}
-use Rattle.ns_actions.specs.declared.row.Row.{Row}
-use Rattle.ns_actions.specs.declared.row.Row.TheVariants.{Data, Integer, Top, Facet, Mirror, Method as MethodRow, Apply, Value, ValueWithArguments, NumArgs}
-use Rattle.ns_actions.specs.Rows.{row_at}
+use Rattle.ns_kernel.specs.declared.parts.KMethod.{KMethod}
+use Rattle.ns_kernel.specs.declared.parts.IntRow.{IntRow}
+use Rattle.ns_kernel.specs.declared.row.Row.{Row}
+use Rattle.ns_kernel.specs.declared.row.Row.TheVariants.{Data, Integer, Top, Facet, Mirror, Method as MethodRow, Apply, Value, ValueWithArguments, NumArgs}
+use Rattle.ns_kernel.specs.Table.{row_at, row_called}
 use Rattle.ns_machine_plan.specs.Booleans.{method_of, method_of_send, FindsBoolean}
 use Rattle.ns_machine_plan.specs.Integers.{integer_of, row_found, row_of_send, FindsThatRow, FindsInteger}
 
@@ -58,34 +56,27 @@ name_is code number text is =
 
 -- what a class finds by the texts of its rows is what is asked for of the row that a selector spells
 module _ {A : Type 0} (of : Row → Option A) (to : A → Row) (is_of : (r : Row) (one : A) → of r ≡ Some one → r ≡ to one) (heap : Heap) (code : CodeProgram)
-    (kernel : KernelRow) (sel : Sel) (kind : Sending) (first : ℕ) (texts : List (List ℕ))
-    (find : (number : ℕ) → spelled_row (selector_text code sel.0) first texts ≡ Some (Kernel number)
+    (kernel : KernelRow) (sel : Sel) (kind : Sending)
+    (find : (number : ℕ) → row_called kernel (selector_text code sel.0) ≡ Some number
     → found_from heap code (start.Kernel kernel) sel.0 kind ≡ Kernel number) (one : A) where
-  by_found : (found : Option Found) → spelled_row (selector_text code sel.0) first texts ≡ found → row_found of found ≡ Some one
+  by_number : (number : Option ℕ) → row_called kernel (selector_text code sel.0) ≡ number → row_found of number ≡ Some one
       → FindsThatRow heap code kernel sel kind (to one)
-  by_found None spelled is = absurd (none-some one is)
-  by_found (Some (Kernel number)) spelled is = record { number = number; found = find number spelled; row_is = is_of (row_at number) one is }
-  by_found (Some (Method body holder)) spelled is = absurd (none-some one is)
-  by_found (Some (Getter holder word)) spelled is = absurd (none-some one is)
-  by_found (Some (Setter holder word)) spelled is = absurd (none-some one is)
-  by_found (Some (Nested class holder)) spelled is = absurd (none-some one is)
-  by_found (Some (Factory class)) spelled is = absurd (none-some one is)
-  by_found (Some NotPublic) spelled is = absurd (none-some one is)
-  by_found (Some Absent) spelled is = absurd (none-some one is)
+  by_number None spelled is = absurd (none-some one is)
+  by_number (Some number) spelled is = record { number = number; found = find number spelled; row_is = is_of (row_at number) one is }
 
   by_name : (name : Option (List ℕ)) → slice_get code.names sel.0 ≡ name
-      → option_map_or (λ text. row_found of (spelled_row text first texts)) name None ≡ Some one → FindsThatRow heap code kernel sel kind (to one)
+      → option_map_or (λ text. row_found of (row_called kernel text)) name None ≡ Some one → FindsThatRow heap code kernel sel kind (to one)
   by_name None there is = absurd (none-some one is)
   by_name (Some text) there is =
-      by_found (spelled_row (selector_text code sel.0) first texts) refl
-      (ap (λ (t : List ℕ). row_found of (spelled_row t first texts)) (name_is code sel.0 text there) ∙ is)
+      by_number (row_called kernel (selector_text code sel.0)) refl
+      (ap (λ (t : List ℕ). row_found of (row_called kernel t)) (name_is code sel.0 text there) ∙ is)
 
 pub integers_find : (heap : Heap) (code : CodeProgram) (sel : Sel) (kind : Sending) (row : IntRow) → IntegersFind heap code sel.0 kind
     → row_of_send code sel ≡ Some row → FindsInteger heap code sel kind row
 integers_find heap code sel kind row find is =
-    by_name integer_of Integer integer_is heap code class.Integer sel kind 20 integer_texts find row (slice_get code.names sel.0) refl is
+    by_name integer_of Integer integer_is heap code class.Integer sel kind find row (slice_get code.names sel.0) refl is
 
 pub booleans_find : (heap : Heap) (code : CodeProgram) (sel : Sel) (kind : Sending) (method : KMethod) → BooleansFind heap code sel.0 kind
     → method_of_send code sel ≡ Some method → FindsBoolean heap code sel kind method
 booleans_find heap code sel kind method find is =
-    by_name method_of MethodRow method_is heap code class.Boolean sel kind 10 boolean_texts find method (slice_get code.names sel.0) refl is
+    by_name method_of MethodRow method_is heap code class.Boolean sel kind find method (slice_get code.names sel.0) refl is

@@ -3,13 +3,13 @@ use Rattle.std.specs.Prelude.{ℕ, List, Option, Some, None, slice_get}
 use Rattle.std.specs.Option.{option_map_or}
 use Rattle.ns_base.specs.declared.selector.Sel.{Sel}
 use Rattle.ns_code.specs.declared.program.CodeProgram.{CodeProgram}
-use Rattle.ns_world.specs.declared.kernel.KernelRow.TheVariants as class
+use Rattle.ns_kernel.specs.declared.class.KernelRow.TheVariants as class
 use Rattle.ns_world.specs.Heap.{Heap}
 use Rattle.ns_find.specs.declared.found.Sending.{Sending}
-use Rattle.ns_find.specs.Rows.{spelled_row, boolean_texts}
-use Rattle.ns_kcode.specs.declared.state.KMethod.{KMethod}
-use Rattle.ns_actions.specs.declared.row.Row.{Row}
-use Rattle.ns_actions.specs.declared.row.Row.TheVariants.{Method}
+use Rattle.ns_kernel.specs.declared.parts.KMethod.{KMethod}
+use Rattle.ns_kernel.specs.declared.row.Row.{Row}
+use Rattle.ns_kernel.specs.Table.{row_called}
+use Rattle.ns_kernel.specs.declared.row.Row.TheVariants.{Method}
 use Rattle.ns_machine_plan.specs.Integers.{row_found, FindsThatRow}
 
 -- the method that a row of the kernel is
@@ -19,7 +19,7 @@ method_of other = None
 
 -- the method of Boolean that a text spells
 abbrev pub method_of_text : List ℕ → Option KMethod
-method_of_text text = row_found method_of (spelled_row text 10 boolean_texts)
+method_of_text text = row_found method_of (row_called class.Boolean text)
 
 -- that of the name which a selector is
 abbrev pub method_of_send : CodeProgram → Sel → Option KMethod

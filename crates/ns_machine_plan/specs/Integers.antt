@@ -3,24 +3,22 @@ use Rattle.std.specs.Prelude.{◌≡◌, ℕ, List, Option, Some, None, slice_ge
 use Rattle.std.specs.Option.{option_map_or}
 use Rattle.ns_base.specs.declared.selector.Sel.{Sel}
 use Rattle.ns_code.specs.declared.program.CodeProgram.{CodeProgram}
-use Rattle.ns_world.specs.declared.kernel.KernelRow.{KernelRow}
-use Rattle.ns_world.specs.declared.kernel.KernelRow.TheVariants as class
+use Rattle.ns_kernel.specs.declared.class.KernelRow.{KernelRow}
+use Rattle.ns_kernel.specs.declared.class.KernelRow.TheVariants as class
 use Rattle.ns_world.specs.declared.kernel.Start.TheVariants as start
 use Rattle.ns_world.specs.Heap.{Heap}
-use Rattle.ns_find.specs.declared.found.Found.{Found}
 use Rattle.ns_find.specs.declared.found.Found.TheVariants.{Kernel}
 use Rattle.ns_find.specs.declared.found.Sending.{Sending}
 use Rattle.ns_find.specs.Find.{found_from}
-use Rattle.ns_find.specs.Rows.{spelled_row, integer_texts}
-use Rattle.ns_kint.specs.declared.row.IntRow.{IntRow}
-use Rattle.ns_actions.specs.declared.row.Row.{Row}
-use Rattle.ns_actions.specs.declared.row.Row.TheVariants.{Integer}
-use Rattle.ns_actions.specs.Rows.{row_at}
+use Rattle.ns_kernel.specs.declared.parts.IntRow.{IntRow}
+use Rattle.ns_kernel.specs.declared.row.Row.{Row}
+use Rattle.ns_kernel.specs.declared.row.Row.TheVariants.{Integer}
+use Rattle.ns_kernel.specs.Table.{row_at, row_called}
 
--- what is asked for of the row of the kernel that is found
-abbrev pub row_found : {A : Type 0} → (Row → Option A) → Option Found → Option A
-row_found of (Some (Kernel number)) = of (row_at number)
-row_found of other = None
+-- what is asked for of the row of the kernel that has a number
+abbrev pub row_found : {A : Type 0} → (Row → Option A) → Option ℕ → Option A
+row_found of (Some number) = of (row_at number)
+row_found of None = None
 
 -- the row of Integer that a row of the kernel is
 abbrev pub integer_of : Row → Option IntRow
@@ -29,7 +27,7 @@ integer_of other = None
 
 -- the row of Integer that a text spells
 abbrev pub row_of_text : List ℕ → Option IntRow
-row_of_text text = row_found integer_of (spelled_row text 20 integer_texts)
+row_of_text text = row_found integer_of (row_called class.Integer text)
 
 -- that of the name which a selector is
 abbrev pub row_of_send : CodeProgram → Sel → Option IntRow

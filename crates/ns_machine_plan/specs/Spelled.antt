@@ -3,8 +3,8 @@ use Rattle.std.specs.Prelude.{◌≡◌, ℕ, List, Option, Some, None, map, sli
 use Rattle.std.specs.Option.{option_map_or}
 use Rattle.ns_base.specs.declared.selector.Sel.{Sel}
 use Rattle.ns_code.specs.declared.program.CodeProgram.{CodeProgram}
-use Rattle.ns_kcode.specs.declared.state.KMethod.{KMethod}
-use Rattle.ns_kint.specs.declared.row.IntRow.{IntRow}
+use Rattle.ns_kernel.specs.declared.parts.KMethod.{KMethod}
+use Rattle.ns_kernel.specs.declared.parts.IntRow.{IntRow}
 use Rattle.ns_machine_plan.specs.declared.step.SpelledRow.{SpelledRow}
 use Rattle.ns_machine_plan.specs.declared.step.SpelledRow.TheVariants.{Integer, Boolean}
 use Rattle.ns_machine_plan.specs.declared.spelled.SpelledRows.{SpelledRows}

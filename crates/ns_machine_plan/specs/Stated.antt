@@ -15,8 +15,8 @@ use Rattle.ns_world.specs.World.{World}
 use Rattle.ns_find.specs.declared.found.Found.TheVariants as found
 use Rattle.ns_find.specs.declared.found.Sending.{Sending}
 use Rattle.ns_world.specs.Layout.{declaration_of, entries_of}
-use Rattle.ns_kcode.specs.declared.state.KMethod.{KMethod}
-use Rattle.ns_kint.specs.declared.row.IntRow.{IntRow}
+use Rattle.ns_kernel.specs.declared.parts.KMethod.{KMethod}
+use Rattle.ns_kernel.specs.declared.parts.IntRow.{IntRow}
 use Rattle.ns_actions.specs.Bodies.{enclosing, locals_of, height_in, greatest_of}
 use Rattle.ns_actions.specs.Control.{Progress, Activation}
 use Rattle.ns_actions.specs.Lawful.{FitsActivation, declaration_at}

@@ -6,16 +6,15 @@ ghost use Rattle.ns_machine_plan.specs.Integers as integers;
 ghost use Rattle.ns_machine_plan.specs.Spelled as spec;
 
 use crate::step::SpelledRow;
-use ns_actions::row::{Row, row_of};
 use ns_base::items::Items;
 use ns_base::no_memory::NoMemory;
 use ns_base::selector::Sel;
 use ns_base::text::Text;
 use ns_code::program::CodeProgram;
-use ns_find::found::Found;
-use ns_find::rows::{boolean_row, integer_row};
-use ns_kcode::state::KMethod;
-use ns_kint::row::IntRow;
+use ns_kernel::class::KernelRow;
+use ns_kernel::parts::{IntRow, KMethod};
+use ns_kernel::row::Row;
+use ns_kernel::table::{row_called, row_of};
 use std::alloc::Global;
 
 /// For each name the row of Integer or of Boolean that it spells, if it spells one.
@@ -81,9 +80,9 @@ fn either_row(row: Option<IntRow>, method: Option<KMethod>) -> Option<SpelledRow
 fn row_of_text(text: &[u8]) -> Option<IntRow>
     ensures { result ≡ integers.row_of_text text.now }
 {
-    match integer_row(text) {
-        Some(Found::Kernel(number)) => integer_of(row_of(number)),
-        _ => None,
+    match row_called(KernelRow::Integer, text) {
+        Some(number) => integer_of(row_of(number)),
+        None => None,
     }
 }
 
@@ -101,9 +100,9 @@ fn integer_of(row: Row) -> Option<IntRow>
 fn method_of_text(text: &[u8]) -> Option<KMethod>
     ensures { result ≡ booleans.method_of_text text.now }
 {
-    match boolean_row(text) {
-        Some(Found::Kernel(number)) => method_of(row_of(number)),
-        _ => None,
+    match row_called(KernelRow::Boolean, text) {
+        Some(number) => method_of(row_of(number)),
+        None => None,
     }
 }
 

@@ -2,8 +2,7 @@
 
 use ns_base::selector::Sel;
 use ns_find::found::Sending;
-use ns_kcode::state::KMethod;
-use ns_kint::row::IntRow;
+use ns_kernel::parts::{IntRow, KMethod};
 
 /// A private member of a declaration: a method by its body, the getter or the setter of a slot by the number of the
 /// slot, or a nested class by its declaration; or that there is none of that name. Its holder is not known before it

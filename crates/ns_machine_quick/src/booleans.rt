@@ -3,7 +3,7 @@
 
 ghost use Rattle.std.specs.Prelude.{◌≡◌, ◌+◌, Some, IsTrue, slice_get};
 ghost use Rattle.ns_world.specs.Booleans.{is_boolean};
-ghost use Rattle.ns_actions.specs.declared.row.Row.TheVariants.{Method};
+ghost use Rattle.ns_kernel.specs.declared.row.Row.TheVariants.{Method};
 ghost use Rattle.ns_actions.specs.Control.{Activation};
 ghost use Rattle.ns_actions.specs.Sends.{To};
 ghost use Rattle.ns_machine_plan.specs.Booleans.{method_of_send};
@@ -22,7 +22,8 @@ use ns_act::laws::a_send_is_its_step_and_its_answer;
 use ns_base::selector::Sel;
 use ns_code::program::CodeProgram;
 use ns_find::found::Sending;
-use ns_kcode::state::KMethod;
+use ns_kernel::class::KernelRow;
+use ns_kernel::parts::KMethod;
 use ns_machine_core::led::Led;
 use ns_machine_core::state::Core;
 use ns_machine_frames::frame::KeptSite;
@@ -30,7 +31,7 @@ use ns_machine_frames::laws::operands_are_taken;
 use ns_machine_frames::registers::Registers;
 use ns_machine_plan::laws::booleans_find_rows;
 use ns_machine_sends::sent::Sent;
-use ns_world::kernel::{ClassName, KernelRow};
+use ns_world::kernel::ClassName;
 use ns_world::lawful::charging_keeps_lawful;
 use ns_world::value::Value;
 

@@ -12,19 +12,20 @@ ghost use Rattle.ns_machine_quick.specs.Integers.{SendsOrNothing, ToTopOrNothing
 
 use crate::rows::{charge, value_of_integer};
 use ns_actions::begin::is_integer;
-use ns_actions::row::Row;
 use ns_base::selector::Sel;
 use ns_code::program::CodeProgram;
 use ns_find::found::Sending;
 use ns_kdata::arguments::argument;
-use ns_kint::row::IntRow;
+use ns_kernel::class::KernelRow;
+use ns_kernel::parts::IntRow;
+use ns_kernel::row::Row;
 use ns_machine_core::state::Core;
 use ns_machine_frames::frame::KeptSite;
 use ns_machine_frames::laws::operands_are_taken;
 use ns_machine_frames::registers::Registers;
 use ns_machine_plan::laws::integers_find_rows;
 use ns_machine_sends::sent::Sent;
-use ns_world::kernel::{ClassName, KernelRow};
+use ns_world::kernel::ClassName;
 use ns_world::value::Value;
 
 /// Sends to a value by the row of Integer that its selector names, where it is an Integer to which that row gives a value, and

@@ -1,9 +1,9 @@
 //! Sends that find a method of the kernel which evaluates blocks, by the quick way: registers alone come back.
 
 ghost use Rattle.std.specs.Prelude.{◌≡◌, Decides};
-ghost use Rattle.ns_actions.specs.declared.row.Row.TheVariants as row_is;
+ghost use Rattle.ns_kernel.specs.declared.row.Row.TheVariants as row_is;
 ghost use Rattle.ns_actions.specs.Control.{Activation};
-ghost use Rattle.ns_actions.specs.Rows.{row_at};
+ghost use Rattle.ns_kernel.specs.Table.{row_at};
 ghost use Rattle.ns_actions.specs.Sends.{To};
 ghost use Rattle.ns_machine_core.specs.declared.state.Next.TheVariants as next;
 ghost use Rattle.ns_machine_sends.specs.Sending.{CanSend, looked_up, Sends};
@@ -14,11 +14,12 @@ ghost use Rattle.ns_machine_quick.specs.Rows.{FindsRow};
 
 use ns_act::laws::{a_send_is_its_step_and_its_answer, live_values_are_there};
 use ns_actions::begin::{beginning, has_arguments};
-use ns_actions::row::{Row, row_of};
 use ns_code::program::CodeProgram;
 use ns_find::found::Sending;
-use ns_kcode::state::KMethod;
 use ns_kdata::arguments::argument;
+use ns_kernel::parts::KMethod;
+use ns_kernel::row::Row;
+use ns_kernel::table::row_of;
 use ns_machine_core::state::Core;
 use ns_machine_frames::frame::LoopingFrame;
 use ns_machine_frames::registers::Registers;

@@ -3,10 +3,10 @@
 
 ghost use Rattle.std.specs.Prelude.{◌<◌, length, IfSome};
 ghost use Rattle.ns_world.specs.Heap.{Heap};
-ghost use Rattle.ns_kdata.specs.declared.row.DataRow.TheVariants.{ArrayPut};
+ghost use Rattle.ns_kernel.specs.declared.parts.DataRow.TheVariants.{ArrayPut};
 ghost use Rattle.ns_kdata.specs.Arguments.{argument as argument_at, CellIsThere, items_of};
 ghost use Rattle.ns_actions.specs.Control.{Activation};
-ghost use Rattle.ns_actions.specs.declared.row.Row.TheVariants.{Data, Integer};
+ghost use Rattle.ns_kernel.specs.declared.row.Row.TheVariants.{Data, Integer};
 ghost use Rattle.ns_actions.specs.Sends.{To};
 ghost use Rattle.ns_machine_core.specs.declared.state.Next.TheVariants as next;
 ghost use Rattle.ns_machine_core.specs.Straight.{StaysOnTop};
@@ -18,15 +18,15 @@ ghost use Rattle.ns_machine_quick.specs.Opening.{FindsKernel};
 ghost use Rattle.ns_machine_quick.specs.Rows.{FindsRow, RowGives, NamesPlace};
 
 use ns_act::laws::a_send_is_its_step_and_its_answer;
-use ns_actions::row::{Row, row_of};
 use ns_code::program::CodeProgram;
 use ns_find::found::Sending;
 use ns_kdata::arguments::{argument, number_of};
 use ns_kdata::arrays::{place_at, store};
 use ns_kdata::giving::value_at_once;
-use ns_kdata::row::DataRow;
+use ns_kernel::parts::{DataRow, IntRow};
+use ns_kernel::row::Row;
+use ns_kernel::table::row_of;
 use ns_kint::integer::integer;
-use ns_kint::row::IntRow;
 use ns_machine_core::state::Core;
 use ns_machine_frames::registers::Registers;
 use ns_machine_sends::sent::Sent;

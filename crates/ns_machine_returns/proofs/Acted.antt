@@ -6,7 +6,7 @@ use Rattle.ns_world.specs.declared.ending.Fault.{Fault}
 use Rattle.ns_world.specs.Lawful.{IsLawful}
 use Rattle.ns_world.specs.World.{World, WorldView, stepped}
 use Rattle.ns_world.specs.declared.ending.LimitKind.TheVariants.{Steps}
-use Rattle.ns_kcode.specs.declared.state.KMethod.{KMethod}
+use Rattle.ns_kernel.specs.declared.parts.KMethod.{KMethod}
 use Rattle.ns_kcode.specs.declared.state.KState.{KState}
 use Rattle.ns_kcode.specs.declared.state.KAction.{KAction}
 use Rattle.ns_kcode.specs.declared.state.KAction.TheVariants as action

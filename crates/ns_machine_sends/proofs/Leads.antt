@@ -5,11 +5,11 @@ use Rattle.ns_world.specs.declared.value.Value.{Value}
 use Rattle.ns_world.specs.Heap.{Heap}
 use Rattle.ns_world.specs.World.{WorldView, SameRoom}
 use Rattle.ns_facets.specs.declared.board.Board.{Board}
-use Rattle.ns_actions.specs.declared.row.Row.{Row}
+use Rattle.ns_kernel.specs.declared.row.Row.{Row}
 use Rattle.ns_actions.specs.declared.control.Reached.{Reached}
 use Rattle.ns_actions.specs.declared.control.Reached.TheVariants as reached
 use Rattle.ns_actions.specs.Control.{Control}
-use Rattle.ns_actions.specs.Rows.{row_at}
+use Rattle.ns_kernel.specs.Table.{row_at}
 use Rattle.ns_actions.specs.Kernel.{row_reached}
 use Rattle.ns_machine_moves.specs.Arrivals.{arrived}
 use Rattle.ns_act.specs.declared.sends.Answered.TheVariants as answers

@@ -15,15 +15,15 @@ use Rattle.ns_find.specs.declared.found.Sending.TheVariants.{Plain}
 use Rattle.ns_find.specs.declared.memo.Kept.{Kept}
 use Rattle.ns_find.specs.Find.{found_from}
 use Rattle.ns_find.specs.Memo.{PlaceIsRight}
-use Rattle.ns_actions.specs.declared.row.Row.{Row}
+use Rattle.ns_kernel.specs.declared.row.Row.{Row}
 use Rattle.ns_actions.specs.declared.control.Reached.{Reached}
 use Rattle.ns_actions.specs.declared.control.Reached.TheVariants as reached
 use Rattle.ns_actions.specs.Control.{Control, halts, charged, in_world}
 use Rattle.ns_actions.specs.Bodies.{no_home}
 use Rattle.ns_actions.specs.Kernel.{row_reached}
 use Rattle.ns_actions.specs.Lawful.{FitsSelector}
-use Rattle.ns_actions.specs.Rows.{row_at}
 use Rattle.ns_actions.specs.Sends.{To, answered_by}
+use Rattle.ns_kernel.specs.Table.{row_at}
 use Rattle.ns_actions.specs.Stated.{WaitedIsLawful, WaitedFits, WaitedStays, WaitedSpends}
 use Rattle.ns_actions.specs.Suiting.{FoundSuits}
 use Rattle.ns_machine_moves.specs.Arrivals.{arrived}

@@ -11,7 +11,7 @@ use Rattle.ns_actions.specs.declared.control.Reached.{Reached}
 use Rattle.ns_actions.specs.declared.control.Reached.TheVariants as reached
 use Rattle.ns_world.specs.Heap.{Heap}
 use Rattle.ns_world.specs.Lawful.{IsLawful, IsLiveValue}
-use Rattle.ns_actions.specs.Rows.{row_at}
+use Rattle.ns_kernel.specs.Table.{row_at}
 use Rattle.ns_actions.specs.Suiting.{RowSuits}
 use Rattle.ns_actions.specs.Control.{Control, Now, Enter, Evaluate, Begin, Perform}
 use Rattle.ns_actions.specs.Shown.{given_values, passed}

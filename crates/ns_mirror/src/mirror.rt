@@ -10,7 +10,7 @@ ghost use Rattle.ns_mirror.specs.Mirror as spec;
 ghost use Rattle.ns_mirror.specs.Mirror.{GivesMirrored};
 
 use crate::naming::class_name;
-use crate::row::{MirrorRow, Mirrored};
+use crate::row::Mirrored;
 use crate::selectors::selectors;
 use crate::slots::{slot, slot_names, slot_put};
 use crate::value::{enclosing, mirrored};
@@ -18,6 +18,7 @@ use ns_base::selector::Sel;
 use ns_code::program::CodeProgram;
 use ns_kdata::arguments::{argument, array_size, is_array, wrong_kind};
 use ns_kdata::making::make_cell;
+use ns_kernel::parts::MirrorRow;
 use ns_world::cell::NewCell;
 use ns_world::ending::{Fault, Kind};
 use ns_world::value::{Value, cell_number};

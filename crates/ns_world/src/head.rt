@@ -5,9 +5,10 @@ ghost use Rattle.ns_world.specs.Head.{is_class_head, declared_at_head, base_at_h
 ghost use Rattle.ns_world.specs.Starts.{kernel_class_row, facet_row};
 
 use crate::cell::FacetKind;
-use crate::kernel::{KernelRow, Start};
+use crate::kernel::Start;
 use crate::value::KClass;
 use ns_base::selector::Sel;
+use ns_kernel::class::KernelRow;
 
 /// The kind and the size of a cell, and the numbers that stand beside them.
 #[derive(Clone, Copy)]

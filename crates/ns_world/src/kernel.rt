@@ -1,29 +1,6 @@
-//! Names of the kernel's classes, and where a lookup starts.
+//! Where a lookup starts, and the names of classes.
 
-/// The classes whose instances and class objects the kernel answers for, in the order of its
-/// table of rows.
-#[derive(Clone, Copy, PartialEq, Eq)]
-pub enum KernelRow {
-    Object,
-    ObjectClass,
-    ArrayClass,
-    Class,
-    UndefinedObject,
-    Boolean,
-    Integer,
-    String,
-    Symbol,
-    Array,
-    Block,
-    Manifest,
-    Platform,
-    Kernel,
-    Console,
-    Board,
-    Mirrors,
-    Mirror,
-    Message,
-}
+use ns_kernel::class::KernelRow;
 
 /// Where a lookup starts: at the instance side of a class, at the class side of one, with its
 /// factory or without, or at the rows of a kernel class.

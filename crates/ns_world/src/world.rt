@@ -19,12 +19,13 @@ use crate::head::{
     Head, base_at_head, declared_at_head, is_class_head, kernel_class_row, start_at_head,
 };
 use crate::heap::Heap;
-use crate::kernel::{ClassName, KernelRow, NO_CLASS, Start};
+use crate::kernel::{ClassName, NO_CLASS, Start};
 use crate::lay::{size_of_cell, text_words};
 use crate::seek::Sought;
 use crate::value::Value;
 use ns_base::limits::Limits;
 use ns_base::no_memory::NoMemory;
+use ns_kernel::class::KernelRow;
 use std::alloc::Global;
 use std::marker::Model;
 

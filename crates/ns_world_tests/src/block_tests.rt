@@ -1,7 +1,8 @@
 //! Methods of the kernel that evaluate blocks, one action at a time.
 
 use ns_kcode::next::next;
-use ns_kcode::state::{KAction, KMethod, KState};
+use ns_kcode::state::{KAction, KState};
+use ns_kernel::parts::KMethod;
 use ns_world::ending::Kind;
 use ns_world::value::Value;
 use ns_world::value::Value::Int;

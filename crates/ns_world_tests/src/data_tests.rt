@@ -6,7 +6,7 @@ use crate::setting::{
     NO_ITEMS, OTHER_BASE, PAIR, PLAIN_OBJECT, SUB_OBJECT, USED, set_up,
 };
 use ns_base::selector::Sel;
-use ns_kdata::row::DataRow;
+use ns_kernel::parts::DataRow;
 use ns_world::ending::{Fault, Kind};
 use ns_world::value::Value::{Int, Sym};
 use ns_world::value::{KClass, Value};

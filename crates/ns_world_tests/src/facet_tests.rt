@@ -11,7 +11,7 @@ use crate::setting::{
 };
 use ns_base::selector::Sel;
 use ns_facets::board::{Board, Plain};
-use ns_facets::row::FacetRow;
+use ns_kernel::parts::FacetRow;
 use ns_world::ending::{Fault, Kind, LimitKind};
 use ns_world::value::Value::{Int, Sym};
 use ns_world::value::{KClass, Value};

@@ -12,16 +12,13 @@ use crate::setting::{
     ANN, BASE, BASE_OBJECT, BLOCK, MESSAGE, MIRROR, PAIR, PART, PART_OBJECT, SUB, SUB_OBJECT,
     Setting, set_up, set_up_bare,
 };
-use ns_actions::row::{Row, row_of};
 use ns_base::selector::Sel;
-use ns_facets::row::FacetRow;
 use ns_find::found::{Found, Sending};
 use ns_find::memo::Memo;
-use ns_kcode::state::KMethod;
-use ns_kdata::row::DataRow;
-use ns_kint::row::IntRow;
-use ns_mirror::row::MirrorRow;
-use ns_world::kernel::KernelRow;
+use ns_kernel::class::KernelRow;
+use ns_kernel::parts::{DataRow, FacetRow, IntRow, KMethod, MirrorRow};
+use ns_kernel::row::Row;
+use ns_kernel::table::row_of;
 use ns_world::value::{KClass, Value};
 use std::alloc::Global;
 

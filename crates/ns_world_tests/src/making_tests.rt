@@ -12,7 +12,7 @@ use crate::setting::{
     TWELVE_BYTES, USED, set_up, with_room,
 };
 use ns_base::selector::Sel;
-use ns_kdata::row::DataRow;
+use ns_kernel::parts::DataRow;
 use ns_world::cell::NewCell;
 use ns_world::ending::{Fault, Kind, LimitKind};
 use ns_world::kernel::NO_CLASS;

@@ -11,7 +11,8 @@ use crate::setting::{
     PART_OBJECT, PLAIN_OBJECT, SUB, SUB_OBJECT, Setting, leave, make_mirror, set_up, with_room,
 };
 use ns_base::selector::Sel;
-use ns_mirror::row::{MirrorRow, Mirrored};
+use ns_kernel::parts::MirrorRow;
+use ns_mirror::row::Mirrored;
 use ns_world::cell::NewCell;
 use ns_world::ending::{Fault, Kind, LimitKind};
 use ns_world::value::Value::{Int, Sym};

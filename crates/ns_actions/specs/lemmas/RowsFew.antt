@@ -6,8 +6,8 @@ use Rattle.ns_code.specs.declared.class.ClassCode.{ClassCode}
 use Rattle.ns_code.specs.declared.class.SlotCode.{SlotCode}
 use Rattle.ns_code.specs.declared.class.NestedCode.{NestedCode}
 use Rattle.ns_code.specs.declared.class.MethodCode.{MethodCode}
-use Rattle.ns_world.specs.declared.kernel.KernelRow.{KernelRow}
-use Rattle.ns_world.specs.declared.kernel.KernelRow.TheVariants as row
+use Rattle.ns_kernel.specs.declared.class.KernelRow.{KernelRow}
+use Rattle.ns_kernel.specs.declared.class.KernelRow.TheVariants as row
 use Rattle.ns_world.specs.declared.kernel.Start.{Start}
 use Rattle.ns_world.specs.declared.kernel.Start.TheVariants as start
 use Rattle.ns_world.specs.Heap.{Heap, chain_of}
@@ -21,12 +21,12 @@ use Rattle.ns_find.specs.declared.members.Side.{Side}
 use Rattle.ns_find.specs.declared.members.Side.TheVariants.{Instance as InstanceSide, Class as ClassSide}
 use Rattle.ns_find.specs.Members.{Numbered, slots_members, nested_members, method_members, side_members, holder_members, members_along, factory_member}
 use Rattle.ns_code.specs.Access.{public_access}
+use Rattle.ns_kernel.specs.Table.{first_of, row_at}
 use Rattle.ns_find.specs.Rows.{top_rows, kernel_rows}
 use Rattle.ns_find.specs.Find.{members_from, found_from}
 use Rattle.ns_find.specs.laws.Named.{EachNamed, named_append, search_named}
-use Rattle.ns_actions.specs.declared.row.Row.{Row}
-use Rattle.ns_actions.specs.declared.row.Row.TheVariants as answer
-use Rattle.ns_actions.specs.Rows.{row_at}
+use Rattle.ns_kernel.specs.declared.row.Row.{Row}
+use Rattle.ns_kernel.specs.declared.row.Row.TheVariants as answer
 use Rattle.std.proofs.Common.{◌≤◌, ap, arith}
 use Rattle.std.specs.Prelude.{codes}
 use Rattle.std.specs.Str.{bytes_eq}
@@ -53,7 +53,7 @@ FoundFew code sel other = Unit {0}
 few_named : (code : CodeProgram) (sel : ℕ) (text : List ℕ) → bytes_eq (selector_text code sel) text ≡ true → text_arity text ≤ 255 → selector_arity code sel ≤ 255
 few_named code sel text n few = let same : selector_arity code sel ≡ text_arity text = ap text_arity ((bytes_eq-Decides (selector_text code sel) text).0 n) in omega (arith, same, few)
 
-tops_few : (heap : Heap) (code : CodeProgram) (sel number : ℕ) (classes : List ClassCode) → EachNamed (FoundFew code sel) code sel (top_rows heap number classes)
+tops_few : (heap : Heap) (code : CodeProgram) (sel number : ℕ) (classes : List ClassCode) → EachNamed (FoundFew code sel) code sel (top_rows heap (first_of row.Manifest) number classes)
 tops_few heap code sel number [] = tt
 tops_few heap code sel number (class ∷ classes) = ((λ n. tt), tops_few heap code sel (number + 1) classes)
 
@@ -87,7 +87,8 @@ rows_few heap code sel row.Mirrors = ((λ n. tt), tt)
 rows_few heap code sel row.Mirror = ((λ n. tt), ((λ n. tt), ((λ n. tt), ((λ n. tt), ((λ n. tt), ((λ n. tt), ((λ n. tt), tt)))))))
 rows_few heap code sel row.Message = ((λ n. tt), ((λ n. tt), tt))
 rows_few heap code sel row.Object = ((λ n. tt), ((λ n. tt), ((λ n. tt), ((λ n. tt), ((λ n. tt), ((λ n. tt), tt))))))
-rows_few heap code sel row.Manifest = tops_few heap code sel 0 code.classes
+rows_few heap code sel row.Manifest =
+    named_append (FoundFew code sel) code sel (top_rows heap (first_of row.Manifest) 0 code.classes) [] (tops_few heap code sel 0 code.classes) tt
 rows_few heap code sel row.Platform = ((λ n. tt), ((λ n. tt), ((λ n. tt), ((λ n. tt), tt))))
 
 slots_few : (heap : Heap) (code : CodeProgram) (sel : ℕ) (wanted : Wanted) (holder entry : ℕ) (slots : List SlotCode) → EachNamed (FoundFew code sel) code sel (slots_members heap code wanted holder entry slots)

@@ -13,8 +13,8 @@ use Rattle.ns_world.specs.declared.cell.FacetKind.TheVariants as kinds
 use Rattle.ns_world.specs.declared.value.KClass.{KClass}
 use Rattle.ns_world.specs.declared.value.KClass.TheVariants as kernel
 use Rattle.ns_world.specs.declared.cell.NewCell.TheVariants as new
-use Rattle.ns_world.specs.declared.kernel.KernelRow.{KernelRow}
-use Rattle.ns_world.specs.declared.kernel.KernelRow.TheVariants as row
+use Rattle.ns_kernel.specs.declared.class.KernelRow.{KernelRow}
+use Rattle.ns_kernel.specs.declared.class.KernelRow.TheVariants as row
 use Rattle.ns_world.specs.declared.kernel.Start.{Start}
 use Rattle.ns_world.specs.declared.kernel.Start.TheVariants as start
 use Rattle.ns_world.specs.Cell.{Cell, ObjectCell, ClassCell, BlockCell, EnvironmentCell, ArrayCell, TextCell, FacetCell, MirrorCell, MessageCell, shape_of}
@@ -30,6 +30,7 @@ use Rattle.ns_find.specs.declared.members.Side.{Side}
 use Rattle.ns_find.specs.declared.members.Side.TheVariants.{Instance as InstanceSide, Class as ClassSide}
 use Rattle.ns_find.specs.Members.{Numbered, slots_members, nested_members, method_members, side_members, holder_members, members_along, factory_member}
 use Rattle.ns_code.specs.Access.{public_access}
+use Rattle.ns_kernel.specs.Table.{first_of}
 use Rattle.ns_find.specs.Rows.{top_rows, kernel_rows}
 use Rattle.ns_find.specs.Find.{members_from, found_from, found_private, super_start}
 use Rattle.ns_find.specs.laws.Named.{EachNamed, named_append, search_named}
@@ -53,7 +54,7 @@ IsOfKind heap self row.Mirrors = is_reference self ≡ true
 IsOfKind heap self row.Mirror = is_reference self ≡ true
 IsOfKind heap self other = Unit {0}
 
-tops_suit : (heap : Heap) (code : CodeProgram) (self : Value) (sel number : ℕ) (classes : List ClassCode) → facet_at heap self ≡ Some kinds.Manifest → EachNamed (FoundSuits heap self) code sel (top_rows heap number classes)
+tops_suit : (heap : Heap) (code : CodeProgram) (self : Value) (sel number : ℕ) (classes : List ClassCode) → facet_at heap self ≡ Some kinds.Manifest → EachNamed (FoundSuits heap self) code sel (top_rows heap (first_of row.Manifest) number classes)
 tops_suit heap code self sel number [] kind = tt
 tops_suit heap code self sel number (class ∷ classes) kind = ((λ n. kind), tops_suit heap code self sel (number + 1) classes kind)
 
@@ -75,7 +76,8 @@ rows_suit heap code self sel row.Mirrors kind = ((λ n. kind), tt)
 rows_suit heap code self sel row.Mirror kind = ((λ n. kind), ((λ n. kind), ((λ n. kind), ((λ n. kind), ((λ n. kind), ((λ n. kind), ((λ n. kind), tt)))))))
 rows_suit heap code self sel row.Message kind = ((λ n. tt), ((λ n. tt), tt))
 rows_suit heap code self sel row.Object kind = ((λ n. tt), ((λ n. tt), ((λ n. tt), ((λ n. tt), ((λ n. tt), ((λ n. tt), tt))))))
-rows_suit heap code self sel row.Manifest kind = tops_suit heap code self sel 0 code.classes kind
+rows_suit heap code self sel row.Manifest kind =
+    named_append (FoundSuits heap self) code sel (top_rows heap (first_of row.Manifest) 0 code.classes) [] (tops_suit heap code self sel 0 code.classes kind) tt
 rows_suit heap code self sel row.Platform kind = ((λ n. kind), ((λ n. kind), ((λ n. kind), ((λ n. kind), tt))))
 
 slots_suit : (heap : Heap) (code : CodeProgram) (self : Value) (sel : ℕ) (wanted : Wanted) (holder entry : ℕ) (slots : List SlotCode) → EachNamed (FoundSuits heap self) code sel (slots_members heap code wanted holder entry slots)

@@ -1,5 +1,5 @@
 -- What is found belongs to a holder in the chain.
-use Rattle.std.proofs.Common.{◌≡◌, ℕ, zero, suc, ◌+◌, ◌<◌, List, [], ◌∷◌, ◌++◌, length, drop, refl, ap, arith, Option, Some, None, Bool, true, false, cond, eqb, ◌&&◌}
+use Rattle.std.proofs.Common.{◌≡◌, ℕ, zero, suc, ◌+◌, ◌<◌, List, [], ◌∷◌, ◌++◌, length, drop, refl, ap, arith, Option, Some, None, Bool, true, false, cond, eqb, ◌&&◌, flat_map}
 use Rattle.std.specs.Prelude.{Contains, slice_get, unwrap_or}
 use Rattle.std.specs.Option.{option_map_or}
 use Rattle.ns_code.specs.declared.program.CodeProgram.{CodeProgram}
@@ -7,8 +7,8 @@ use Rattle.ns_code.specs.declared.class.ClassCode.{ClassCode}
 use Rattle.ns_code.specs.declared.class.SlotCode.{SlotCode}
 use Rattle.ns_code.specs.declared.class.NestedCode.{NestedCode}
 use Rattle.ns_code.specs.declared.class.MethodCode.{MethodCode}
-use Rattle.ns_world.specs.declared.kernel.KernelRow.{KernelRow}
-use Rattle.ns_world.specs.declared.kernel.KernelRow.TheVariants as row
+use Rattle.ns_kernel.specs.declared.class.KernelRow.{KernelRow}
+use Rattle.ns_kernel.specs.declared.class.KernelRow.TheVariants as row
 use Rattle.ns_world.specs.declared.kernel.Start.TheVariants as start
 use Rattle.ns_world.specs.Heap.{Heap, chain_of}
 use Rattle.ns_world.specs.Layout.{declaration_of, entry_word}
@@ -23,7 +23,8 @@ use Rattle.ns_find.specs.declared.members.Wanted.{Wanted}
 use Rattle.ns_find.specs.declared.members.Wanted.TheVariants.{Visible, Private}
 use Rattle.ns_find.specs.Members.{Member, Numbered, is_named, allowed, search, slots_members, nested_members, method_members, side_members, holder_members, members_along, factory_member}
 use Rattle.ns_code.specs.Access.{public_access}
-use Rattle.ns_find.specs.Rows.{open_rows, top_rows, kernel_rows, object_class_texts, array_class_texts, class_texts, undefined_object_texts, boolean_texts, integer_texts, string_texts, symbol_texts, array_texts, block_texts, kernel_texts, console_texts, board_texts, mirrors_texts, mirror_texts, message_texts}
+use Rattle.ns_kernel.specs.Table.{Numbered as NumberedRow, rows_of}
+use Rattle.ns_find.specs.Rows.{top_rows, called_by, row_members, kernel_rows}
 use Rattle.ns_find.specs.Find.{members_from, found_from, found_private}
 use Rattle.ns_find.specs.Belonging.{Belongs, factories_at, IsSlotOf, HasNested, IsMethodOf, methods_on}
 
@@ -124,34 +125,22 @@ along_belongs heap code side chain factories (holder ∷ rest) among =
     (along_belongs heap code side chain factories rest (λ other (k, inside, is). among other (suc k, omega (arith, inside), is)))
 
 -- rows of the kernel have no holder
-open_belong : (heap : Heap) (code : CodeProgram) (side : Side) (chain factories : List ℕ) (number : ℕ) (texts : List (List ℕ)) → Each (Belongs heap code side chain factories) (open_rows number texts)
-open_belong heap code side chain factories number [] = tt
-open_belong heap code side chain factories number (text ∷ texts) = ((λ t. tt), open_belong heap code side chain factories (number + 1) texts)
+top_belong : (heap : Heap) (code : CodeProgram) (side : Side) (chain factories : List ℕ) (row number : ℕ) (classes : List ClassCode) → Each (Belongs heap code side chain factories) (top_rows heap row number classes)
+top_belong heap code side chain factories row number [] = tt
+top_belong heap code side chain factories row number (class ∷ classes) = ((λ t. tt), top_belong heap code side chain factories row (number + 1) classes)
 
-top_belong : (heap : Heap) (code : CodeProgram) (side : Side) (chain factories : List ℕ) (number : ℕ) (classes : List ClassCode) → Each (Belongs heap code side chain factories) (top_rows heap number classes)
-top_belong heap code side chain factories number [] = tt
-top_belong heap code side chain factories number (class ∷ classes) = ((λ t. tt), top_belong heap code side chain factories (number + 1) classes)
+row_belongs : (heap : Heap) (code : CodeProgram) (side : Side) (chain factories : List ℕ) (row : NumberedRow) (text : Option (List ℕ)) → Each (Belongs heap code side chain factories) (called_by heap code row text)
+row_belongs heap code side chain factories row (Some text) = ((λ t. tt), tt)
+row_belongs heap code side chain factories row None = top_belong heap code side chain factories row.number 0 code.classes
+
+each_belongs : (heap : Heap) (code : CodeProgram) (side : Side) (chain factories : List ℕ) (rows : List NumberedRow) → Each (Belongs heap code side chain factories) (flat_map (row_members heap code) rows)
+each_belongs heap code side chain factories [] = tt
+each_belongs heap code side chain factories (row ∷ rows) =
+    each_append (Belongs heap code side chain factories) (row_members heap code row) (flat_map (row_members heap code) rows)
+    (row_belongs heap code side chain factories row row.line.text) (each_belongs heap code side chain factories rows)
 
 rows_belong : (heap : Heap) (code : CodeProgram) (side : Side) (chain factories : List ℕ) (r : KernelRow) → Each (Belongs heap code side chain factories) (kernel_rows heap code r)
-rows_belong heap code side chain factories row.Object = ((λ t. tt), ((λ t. tt), ((λ t. tt), ((λ t. tt), ((λ t. tt), ((λ t. tt), tt))))))
-rows_belong heap code side chain factories row.ObjectClass = open_belong heap code side chain factories 6 object_class_texts
-rows_belong heap code side chain factories row.ArrayClass = open_belong heap code side chain factories 7 array_class_texts
-rows_belong heap code side chain factories row.Class = open_belong heap code side chain factories 8 class_texts
-rows_belong heap code side chain factories row.UndefinedObject = open_belong heap code side chain factories 9 undefined_object_texts
-rows_belong heap code side chain factories row.Boolean = open_belong heap code side chain factories 10 boolean_texts
-rows_belong heap code side chain factories row.Integer = open_belong heap code side chain factories 20 integer_texts
-rows_belong heap code side chain factories row.String = open_belong heap code side chain factories 37 string_texts
-rows_belong heap code side chain factories row.Symbol = open_belong heap code side chain factories 44 symbol_texts
-rows_belong heap code side chain factories row.Array = open_belong heap code side chain factories 48 array_texts
-rows_belong heap code side chain factories row.Block = open_belong heap code side chain factories 52 block_texts
-rows_belong heap code side chain factories row.Manifest = top_belong heap code side chain factories 0 code.classes
-rows_belong heap code side chain factories row.Platform = ((λ t. tt), ((λ t. tt), ((λ t. tt), ((λ t. tt), tt))))
-rows_belong heap code side chain factories row.Kernel = open_belong heap code side chain factories 65 kernel_texts
-rows_belong heap code side chain factories row.Console = open_belong heap code side chain factories 67 console_texts
-rows_belong heap code side chain factories row.Board = open_belong heap code side chain factories 69 board_texts
-rows_belong heap code side chain factories row.Mirrors = open_belong heap code side chain factories 71 mirrors_texts
-rows_belong heap code side chain factories row.Mirror = open_belong heap code side chain factories 72 mirror_texts
-rows_belong heap code side chain factories row.Message = open_belong heap code side chain factories 79 message_texts
+rows_belong heap code side chain factories r = each_belongs heap code side chain factories (rows_of r)
 
 factory_belongs : (heap : Heap) (code : CodeProgram) (side : Side) (chain : List ℕ) (class : ℕ) (factory : Bool) → Each (Belongs heap code side chain (factories_at class factory)) (factory_member heap code class factory)
 factory_belongs heap code side chain class factory = found (slice_get code.classes (declaration_of heap class))

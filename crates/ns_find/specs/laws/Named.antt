@@ -1,5 +1,5 @@
 -- What is found has the selector that was sought.
-use Rattle.std.proofs.Common.{◌≡◌, ℕ, ◌+◌, List, [], ◌∷◌, ◌++◌, refl, sym, Option, Some, None, Bool, true, false, cond, eqb, ◌&&◌, drop, slice_get, unwrap_or}
+use Rattle.std.proofs.Common.{◌≡◌, ℕ, ◌+◌, List, [], ◌∷◌, ◌++◌, refl, sym, Option, Some, None, Bool, true, false, cond, eqb, ◌&&◌, drop, slice_get, unwrap_or, flat_map}
 use Rattle.std.specs.Option.{option_map_or}
 use Rattle.std.proofs.lemmas.Bool.{eqb-true}
 use Rattle.ns_code.specs.declared.program.CodeProgram.{CodeProgram}
@@ -7,8 +7,8 @@ use Rattle.ns_code.specs.declared.class.ClassCode.{ClassCode}
 use Rattle.ns_code.specs.declared.class.SlotCode.{SlotCode}
 use Rattle.ns_code.specs.declared.class.NestedCode.{NestedCode}
 use Rattle.ns_code.specs.declared.class.MethodCode.{MethodCode}
-use Rattle.ns_world.specs.declared.kernel.KernelRow.{KernelRow}
-use Rattle.ns_world.specs.declared.kernel.KernelRow.TheVariants as row
+use Rattle.ns_kernel.specs.declared.class.KernelRow.{KernelRow}
+use Rattle.ns_kernel.specs.declared.class.KernelRow.TheVariants as row
 use Rattle.ns_world.specs.declared.kernel.Start.TheVariants as start
 use Rattle.ns_world.specs.Heap.{Heap, chain_of}
 use Rattle.ns_world.specs.Layout.{declaration_of}
@@ -23,7 +23,8 @@ use Rattle.ns_find.specs.declared.members.Side.{Side}
 use Rattle.ns_find.specs.declared.members.Side.TheVariants.{Instance as InstanceSide, Class as ClassSide}
 use Rattle.ns_find.specs.Members.{Member, Numbered, is_named, allowed, search, slots_members, nested_members, method_members, side_members, holder_members, members_along, factory_member}
 use Rattle.ns_code.specs.Access.{public_access}
-use Rattle.ns_find.specs.Rows.{open_rows, top_rows, kernel_rows, object_class_texts, array_class_texts, class_texts, undefined_object_texts, boolean_texts, integer_texts, string_texts, symbol_texts, array_texts, block_texts, kernel_texts, console_texts, board_texts, mirrors_texts, mirror_texts, message_texts}
+use Rattle.ns_kernel.specs.Table.{Numbered as NumberedRow, rows_of}
+use Rattle.ns_find.specs.Rows.{top_rows, called_by, row_members, kernel_rows}
 use Rattle.ns_find.specs.Find.{members_from, found_from, found_private}
 use Rattle.ns_find.specs.Belonging.{methods_on}
 use Rattle.ns_find.specs.Named.{HasNamed, IsNamedBy}
@@ -95,34 +96,22 @@ along_named heap code sel side [] = tt
 along_named heap code sel side (holder ∷ chain) =
     named_append (IsNamedBy heap code side sel) code sel (holder_members heap code Visible side holder) (members_along heap code side chain) (holder_named heap code sel Visible side holder) (along_named heap code sel side chain)
 
-open_named : (heap : Heap) (code : CodeProgram) (side : Side) (sel number : ℕ) (texts : List (List ℕ)) → EachNamed (IsNamedBy heap code side sel) code sel (open_rows number texts)
-open_named heap code side sel number [] = tt
-open_named heap code side sel number (text ∷ texts) = ((λ n. tt), open_named heap code side sel (number + 1) texts)
+top_named : (heap : Heap) (code : CodeProgram) (side : Side) (sel row number : ℕ) (classes : List ClassCode) → EachNamed (IsNamedBy heap code side sel) code sel (top_rows heap row number classes)
+top_named heap code side sel row number [] = tt
+top_named heap code side sel row number (class ∷ classes) = ((λ n. tt), top_named heap code side sel row (number + 1) classes)
 
-top_named : (heap : Heap) (code : CodeProgram) (side : Side) (sel number : ℕ) (classes : List ClassCode) → EachNamed (IsNamedBy heap code side sel) code sel (top_rows heap number classes)
-top_named heap code side sel number [] = tt
-top_named heap code side sel number (class ∷ classes) = ((λ n. tt), top_named heap code side sel (number + 1) classes)
+row_named : (heap : Heap) (code : CodeProgram) (side : Side) (sel : ℕ) (row : NumberedRow) (text : Option (List ℕ)) → EachNamed (IsNamedBy heap code side sel) code sel (called_by heap code row text)
+row_named heap code side sel row (Some text) = ((λ n. tt), tt)
+row_named heap code side sel row None = top_named heap code side sel row.number 0 code.classes
+
+each_named : (heap : Heap) (code : CodeProgram) (side : Side) (sel : ℕ) (rows : List NumberedRow) → EachNamed (IsNamedBy heap code side sel) code sel (flat_map (row_members heap code) rows)
+each_named heap code side sel [] = tt
+each_named heap code side sel (row ∷ rows) =
+    named_append (IsNamedBy heap code side sel) code sel (row_members heap code row) (flat_map (row_members heap code) rows)
+    (row_named heap code side sel row row.line.text) (each_named heap code side sel rows)
 
 rows_named : (heap : Heap) (code : CodeProgram) (side : Side) (sel : ℕ) (r : KernelRow) → EachNamed (IsNamedBy heap code side sel) code sel (kernel_rows heap code r)
-rows_named heap code side sel row.Object = ((λ n. tt), ((λ n. tt), ((λ n. tt), ((λ n. tt), ((λ n. tt), ((λ n. tt), tt))))))
-rows_named heap code side sel row.ObjectClass = open_named heap code side sel 6 object_class_texts
-rows_named heap code side sel row.ArrayClass = open_named heap code side sel 7 array_class_texts
-rows_named heap code side sel row.Class = open_named heap code side sel 8 class_texts
-rows_named heap code side sel row.UndefinedObject = open_named heap code side sel 9 undefined_object_texts
-rows_named heap code side sel row.Boolean = open_named heap code side sel 10 boolean_texts
-rows_named heap code side sel row.Integer = open_named heap code side sel 20 integer_texts
-rows_named heap code side sel row.String = open_named heap code side sel 37 string_texts
-rows_named heap code side sel row.Symbol = open_named heap code side sel 44 symbol_texts
-rows_named heap code side sel row.Array = open_named heap code side sel 48 array_texts
-rows_named heap code side sel row.Block = open_named heap code side sel 52 block_texts
-rows_named heap code side sel row.Manifest = top_named heap code side sel 0 code.classes
-rows_named heap code side sel row.Platform = ((λ n. tt), ((λ n. tt), ((λ n. tt), ((λ n. tt), tt))))
-rows_named heap code side sel row.Kernel = open_named heap code side sel 65 kernel_texts
-rows_named heap code side sel row.Console = open_named heap code side sel 67 console_texts
-rows_named heap code side sel row.Board = open_named heap code side sel 69 board_texts
-rows_named heap code side sel row.Mirrors = open_named heap code side sel 71 mirrors_texts
-rows_named heap code side sel row.Mirror = open_named heap code side sel 72 mirror_texts
-rows_named heap code side sel row.Message = open_named heap code side sel 79 message_texts
+rows_named heap code side sel r = each_named heap code side sel (rows_of r)
 
 factory_named : (heap : Heap) (code : CodeProgram) (sel class : ℕ) (factory : Bool) → EachNamed (IsNamedBy heap code ClassSide sel) code sel (factory_member heap code class factory)
 factory_named heap code sel class factory = found (slice_get code.classes (declaration_of heap class)) refl

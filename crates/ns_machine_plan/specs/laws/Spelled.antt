@@ -4,8 +4,8 @@ use Rattle.std.specs.Prelude.{slice_get}
 use Rattle.std.specs.Option.{option_map_or}
 use Rattle.ns_base.specs.declared.selector.Sel.{Sel}
 use Rattle.ns_code.specs.declared.program.CodeProgram.{CodeProgram}
-use Rattle.ns_kcode.specs.declared.state.KMethod.{KMethod}
-use Rattle.ns_kint.specs.declared.row.IntRow.{IntRow}
+use Rattle.ns_kernel.specs.declared.parts.KMethod.{KMethod}
+use Rattle.ns_kernel.specs.declared.parts.IntRow.{IntRow}
 use Rattle.ns_machine_plan.specs.declared.step.SpelledRow.TheVariants.{Integer, Boolean}
 use Rattle.ns_machine_plan.specs.Booleans.{method_of_text, method_of_send}
 use Rattle.ns_machine_plan.specs.Integers.{row_of_text, row_of_send}
