@@ -1,5 +1,5 @@
 -- What a class of the kernel finds by the text of a selector.
-use Rattle.std.proofs.Common.{◌≡◌, ℕ, List, ◌++◌, refl, ap, sym, ◌∙◌, codes, Option, Some}
+use Rattle.std.proofs.Common.{◌≡◌, ℕ, ◌++◌, refl, ap, sym, Option, Some, true}
 use Rattle.std.specs.Prelude.{unwrap_or}
 use Rattle.ns_code.specs.declared.program.CodeProgram.{CodeProgram}
 use Rattle.ns_code.specs.Selector.{selector_text}
@@ -14,10 +14,10 @@ use Rattle.ns_find.specs.Rows.{kernel_rows}
 use Rattle.ns_find.specs.Stated.{BooleansFind, IntegersFind}
 use Rattle.ns_find.specs.Members.{search}
 use Rattle.ns_find.proofs.Parts.{search_here}
-use Rattle.ns_find.proofs.RowSearch.{AllPlain, search_called}
+use Rattle.ns_find.proofs.RowSearch.{all_plain, search_called}
 
 -- the row of a class whose rows are all plain, and before those of all values
-row_found : (heap : Heap) (code : CodeProgram) (sel : ℕ) (kind : Sending) (class : KernelRow) (number : ℕ) → AllPlain (rows_of class)
+row_found : (heap : Heap) (code : CodeProgram) (sel : ℕ) (kind : Sending) (class : KernelRow) (number : ℕ) → all_plain (rows_of class) ≡ true
     → row_called class (selector_text code sel) ≡ Some number
     → unwrap_or (search code sel kind (kernel_rows heap code class ++ kernel_rows heap code Object)) Absent ≡ Kernel number
 row_found heap code sel kind class number plain called =
@@ -25,97 +25,8 @@ row_found heap code sel kind class number plain called =
     (search_here code sel kind (kernel_rows heap code class) (kernel_rows heap code Object) (Kernel number)
     (search_called heap code sel kind (rows_of class) number plain called)))
 
-integers_plain : AllPlain (rows_of Integer)
-integers_plain = ((
-  record { text = codes "+"; text_is = refl; access = refl; asked = refl },
-  (
-    record { text = codes "-"; text_is = refl; access = refl; asked = refl },
-    (
-      record { text = codes "*"; text_is = refl; access = refl; asked = refl },
-      (
-        record { text = codes "//"; text_is = refl; access = refl; asked = refl },
-        (
-          record { text = codes "\\\\"; text_is = refl; access = refl; asked = refl },
-          (
-            record { text = codes "<"; text_is = refl; access = refl; asked = refl },
-            (
-              record { text = codes "<="; text_is = refl; access = refl; asked = refl },
-              (
-                record { text = codes ">"; text_is = refl; access = refl; asked = refl },
-                (
-                  record { text = codes ">="; text_is = refl; access = refl; asked = refl },
-                  (
-                    record { text = codes "="; text_is = refl; access = refl; asked = refl },
-                    (
-                      record { text = codes "bitAnd:"; text_is = refl; access = refl; asked = refl },
-                      (
-                        record { text = codes "bitOr:"; text_is = refl; access = refl; asked = refl },
-                        (
-                          record { text = codes "bitXor:"; text_is = refl; access = refl; asked = refl },
-                          (
-                            record { text = codes "negated"; text_is = refl; access = refl; asked = refl },
-                            (
-                              record { text = codes "printString"; text_is = refl; access = refl; asked = refl },
-                              (
-                                record { text = codes "to:do:"; text_is = refl; access = refl; asked = refl },
-                                (
-                                  record { text = codes "timesRepeat:"; text_is = refl; access = refl; asked = refl },
-                                  tt,
-                                ),
-                              ),
-                            ),
-                          ),
-                        ),
-                      ),
-                    ),
-                  ),
-                ),
-              ),
-            ),
-          ),
-        ),
-      ),
-    ),
-  ),
-)
-    )
-
-booleans_plain : AllPlain (rows_of Boolean)
-booleans_plain = ((
-  record { text = codes "not"; text_is = refl; access = refl; asked = refl },
-  (
-    record { text = codes "printString"; text_is = refl; access = refl; asked = refl },
-    (
-      record { text = codes "&"; text_is = refl; access = refl; asked = refl },
-      (
-        record { text = codes "|"; text_is = refl; access = refl; asked = refl },
-        (
-          record { text = codes "and:"; text_is = refl; access = refl; asked = refl },
-          (
-            record { text = codes "or:"; text_is = refl; access = refl; asked = refl },
-            (
-              record { text = codes "ifTrue:"; text_is = refl; access = refl; asked = refl },
-              (
-                record { text = codes "ifFalse:"; text_is = refl; access = refl; asked = refl },
-                (
-                  record { text = codes "ifTrue:ifFalse:"; text_is = refl; access = refl; asked = refl },
-                  (
-                    record { text = codes "ifFalse:ifTrue:"; text_is = refl; access = refl; asked = refl },
-                    tt,
-                  ),
-                ),
-              ),
-            ),
-          ),
-        ),
-      ),
-    ),
-  ),
-)
-    )
-
 pub integers_find : (heap : Heap) (code : CodeProgram) (sel : ℕ) (kind : Sending) → IntegersFind heap code sel kind
-integers_find heap code sel kind number called = row_found heap code sel kind Integer number integers_plain called
+integers_find heap code sel kind number called = row_found heap code sel kind Integer number refl called
 
 pub booleans_find : (heap : Heap) (code : CodeProgram) (sel : ℕ) (kind : Sending) → BooleansFind heap code sel kind
-booleans_find heap code sel kind number called = row_found heap code sel kind Boolean number booleans_plain called
+booleans_find heap code sel kind number called = row_found heap code sel kind Boolean number refl called

@@ -1,5 +1,5 @@
 -- A lookup finds the same in two worlds with the same classes and the same rows.
-use Rattle.std.proofs.Common.{◌≡◌, ℕ, ◌+◌, List, [], ◌∷◌, ◌++◌, length, slice_get, refl, ap, sym, ◌∙◌, arith, Option, Some, None, Bool, true, false, eqb, ◌||◌, ◌&&◌, is_some, is_none, unwrap_or, flat_map}
+use Rattle.std.proofs.Common.{◌≡◌, ℕ, ◌+◌, List, [], ◌∷◌, ◌++◌, length, slice_get, refl, ap, sym, ◌∙◌, arith, Option, Some, None, Bool, true, false, eqb, ◌||◌, ◌&&◌, is_some, is_none, unwrap_or}
 use Rattle.std.specs.Option.{option_map_or}
 use Rattle.std.proofs.lemmas.Bool.{eqb-true}
 use Rattle.ns_code.specs.declared.program.CodeProgram.{CodeProgram}
@@ -10,7 +10,6 @@ use Rattle.ns_kernel.specs.declared.class.KernelRow.TheVariants as row
 use Rattle.ns_world.specs.declared.kernel.Start.{Start}
 use Rattle.ns_world.specs.declared.kernel.Start.TheVariants as start
 use Rattle.ns_world.specs.declared.cell.FacetKind.{FacetKind}
-use Rattle.ns_world.specs.declared.cell.FacetKind.TheVariants as facet
 use Rattle.ns_world.specs.Heap.{Heap, find_cell, is_class, is_chain_start, chain_of, superclass_of, no_class}
 use Rattle.ns_world.specs.World.{World}
 use Rattle.ns_world.specs.Layout.{declaration_of, entry_word}
@@ -27,7 +26,7 @@ use Rattle.ns_find.specs.declared.members.Side.TheVariants.{Instance, Class}
 use Rattle.ns_find.specs.Members.{Member, Numbered, SetterOf, Spelled, search, is_wanted, slots_members, nested_members, method_members, side_members, holder_members, members_along, factory_member}
 use Rattle.ns_code.specs.Access.{public_access}
 use Rattle.ns_kernel.specs.Table.{Numbered as NumberedRow, rows_of}
-use Rattle.ns_find.specs.Rows.{facet_asked, is_granted, top_rows, called_by, row_members, kernel_rows}
+use Rattle.ns_find.specs.Rows.{facet_asked, is_granted, top_rows, called_by, row_members, rows_members, kernel_rows}
 use Rattle.ns_find.specs.Find.{members_from, found_from, found_private, is_start}
 
 -- Each class, each chain and each row of one world is the same in another.
@@ -88,10 +87,10 @@ row_stays before after code same row (Some text) =
     ap (λ there. record { there = there; name = Spelled text; access = row.line.access; found = Kernel row.number } ∷ []) (granted_stays before after same (facet_asked row.line.answer))
 row_stays before after code same row None = tops_stay before after same row.number 0 code.classes
 
-each_stays : (before after : Heap) (code : CodeProgram) → SameRows before after → (rows : List NumberedRow) → flat_map (row_members after code) rows ≡ flat_map (row_members before code) rows
+each_stays : (before after : Heap) (code : CodeProgram) → SameRows before after → (rows : List NumberedRow) → rows_members after code rows ≡ rows_members before code rows
 each_stays before after code same [] = refl
 each_stays before after code same (row ∷ rows) =
-    ap (λ ms. ms ++ flat_map (row_members after code) rows) (row_stays before after code same row row.line.text)
+    ap (λ ms. ms ++ rows_members after code rows) (row_stays before after code same row row.line.text)
     ∙ ap (λ ms. row_members before code row ++ ms) (each_stays before after code same rows)
 
 rows_stay : (before after : Heap) (code : CodeProgram) → SameRows before after → (kernel : KernelRow) → kernel_rows after code kernel ≡ kernel_rows before code kernel

@@ -55,6 +55,10 @@ called_by heap code row None = top_rows heap row.number 0 code.classes
 abbrev pub row_members : Heap → CodeProgram → NumberedRow → List Member
 row_members heap code row = called_by heap code row row.line.text
 
+-- those of rows in turn
+abbrev pub rows_members : Heap → CodeProgram → List NumberedRow → List Member
+rows_members heap code rows = flat_map (row_members heap code) rows
+
 -- the rows of a class of the kernel
 abbrev pub kernel_rows : Heap → CodeProgram → KernelRow → List Member
-kernel_rows heap code class = flat_map (row_members heap code) (rows_of class)
+kernel_rows heap code class = rows_members heap code (rows_of class)

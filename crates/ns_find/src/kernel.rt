@@ -1,10 +1,11 @@
 //! The rows of the kernel's classes.
 
-ghost use Rattle.std.specs.Prelude.{◌≡◌, ◌≤◌, length};
-ghost use Rattle.ns_kernel.specs.Shown.{shown};
+ghost use Rattle.std.specs.Prelude.{◌≡◌, ◌+◌, ◌≤◌, length};
+ghost use Rattle.ns_code.specs.Selector.{selector_text};
+ghost use Rattle.ns_kernel.specs.Shown.{shown, listed};
 ghost use Rattle.ns_kernel.specs.Table.{row_of};
 ghost use Rattle.ns_find.specs.Members.{search};
-ghost use Rattle.ns_find.specs.Rows.{kernel_rows, row_members, top_rows, facet_asked, is_granted};
+ghost use Rattle.ns_find.specs.Rows.{kernel_rows, rows_members, row_members, top_rows, facet_asked, is_granted};
 
 use crate::found::{Found, Sending};
 use crate::members::allowed;
@@ -13,7 +14,7 @@ use ns_code::program::CodeProgram;
 use ns_kernel::class::KernelRow;
 use ns_kernel::parts::FacetRow;
 use ns_kernel::row::Row;
-use ns_kernel::table::{Line, rows_of};
+use ns_kernel::table::{Line, Rows, rows_of};
 use ns_world::cell::FacetKind;
 use ns_world::world::World;
 
@@ -28,10 +29,33 @@ pub fn row_named(
     requires { length code.now.classes ≤ 4096 }
     ensures { result ≡ search code.now sel.0 kind (kernel_rows world.now.world.cells code.now class) }
 {
-    let rows = rows_of(class);
+    found_among(
+        world,
+        code,
+        rows_of(class),
+        code.selector_text(sel),
+        sel,
+        kind,
+    )
+}
+
+/// What a selector of that text finds among rows.
+fn found_among(
+    world: &World,
+    code: &CodeProgram,
+    rows: Rows,
+    text: &[u8],
+    sel: Sel,
+    kind: Sending,
+) -> Option<Found>
+    requires classes { length code.now.classes ≤ 4096 }
+    requires text { text.now ≡ selector_text code.now sel.0 }
+    requires few { rows.first + length rows.lines.now ≤ 81 }
+    ensures { result ≡ search code.now sel.0 kind (rows_members world.now.world.cells code.now (listed rows)) }
+{
     let mut number = rows.first;
     'lines: for line in rows.lines {
-        if let Some(found) = found_with(world, code, number, line, sel, kind) {
+        if let Some(found) = found_with(world, code, number, line, text, sel, kind) {
             return Some(found);
         }
         number += 1;
@@ -39,22 +63,24 @@ pub fn row_named(
     None
 }
 
-/// What a selector finds of the row of a line.
-#[inline]
+/// What it finds of the row of a line.
+#[inline(always)]
 fn found_with(
     world: &World,
     code: &CodeProgram,
     number: u32,
     line: &Line,
+    text: &[u8],
     sel: Sel,
     kind: Sending,
 ) -> Option<Found>
-    requires { length code.now.classes ≤ 4096 }
+    requires classes { length code.now.classes ≤ 4096 }
+    requires text { text.now ≡ selector_text code.now sel.0 }
     ensures { result ≡ search code.now sel.0 kind (row_members world.now.world.cells code.now (row_of number (shown line.now))) }
 {
     match line.text {
-        Some(text) => {
-            if code.selector_text(sel) == text && is_granted(world, line.row) {
+        Some(spelled) => {
+            if text == spelled && is_granted(world, line.row) {
                 return Some(allowed(kind, line.access, Found::Kernel(number)));
             }
             None

@@ -1,6 +1,6 @@
 -- Lookups from paired starts find the same members, of partners; and sites name the same classes.
 use Rattle.std.proofs.Common.{◌≡◌, ℕ, ◌+◌, List, [], ◌∷◌, ◌++◌, Option, Some, None, Bool, false, cond, refl, ap, ◌∙◌, subst}
-use Rattle.std.specs.Prelude.{◌==◌, ◌&&◌, is_none, is_some, unwrap_or, slice_get, flat_map}
+use Rattle.std.specs.Prelude.{◌==◌, ◌&&◌, is_none, is_some, unwrap_or, slice_get}
 use Rattle.std.specs.Option.{option_map_or}
 use Rattle.ns_base.specs.declared.place.Place.{Place as SourcePlace}
 use Rattle.ns_base.specs.declared.selector.Sel.{Sel}
@@ -192,10 +192,10 @@ module _ (Pair : ℕ → ℕ → Type 0) (first second : Progress) (pairing : Is
     row_like code one (Some text) asked names = (record { there = granted_like (rows.facet_asked one.line.answer) asked; name = refl; access = refl; found = refl }, tt)
     row_like code one None asked names = tops_like one.number 0 code.classes names
 
-    all_like : (code : CodeProgram) (all : List NumberedRow) → AllRead all → AllLike Pair (flat_map (rows.row_members heap code) all) (flat_map (rows.row_members other code) all)
+    all_like : (code : CodeProgram) (all : List NumberedRow) → AllRead all → AllLike Pair (rows.rows_members heap code all) (rows.rows_members other code all)
     all_like code [] p = tt
     all_like code (one ∷ more) (p, q) =
-        like_append Pair (rows.row_members heap code one) (flat_map (rows.row_members heap code) more) (rows.row_members other code one) (flat_map (rows.row_members other code) more)
+        like_append Pair (rows.row_members heap code one) (rows.rows_members heap code more) (rows.row_members other code one) (rows.rows_members other code more)
         (row_like code one one.line.text p.0 p.1) (all_like code more q)
 
     reads : (named : KernelRow) → RowReads named → AllRead (rows_of named)

@@ -1,5 +1,5 @@
 -- What is found belongs to a holder in the chain.
-use Rattle.std.proofs.Common.{◌≡◌, ℕ, zero, suc, ◌+◌, ◌<◌, List, [], ◌∷◌, ◌++◌, length, drop, refl, ap, arith, Option, Some, None, Bool, true, false, cond, eqb, ◌&&◌, flat_map}
+use Rattle.std.proofs.Common.{◌≡◌, ℕ, zero, suc, ◌+◌, ◌<◌, List, [], ◌∷◌, ◌++◌, length, drop, refl, ap, arith, Option, Some, None, Bool, true, false, cond, eqb, ◌&&◌}
 use Rattle.std.specs.Prelude.{Contains, slice_get, unwrap_or}
 use Rattle.std.specs.Option.{option_map_or}
 use Rattle.ns_code.specs.declared.program.CodeProgram.{CodeProgram}
@@ -24,7 +24,7 @@ use Rattle.ns_find.specs.declared.members.Wanted.TheVariants.{Visible, Private}
 use Rattle.ns_find.specs.Members.{Member, Numbered, is_named, allowed, search, slots_members, nested_members, method_members, side_members, holder_members, members_along, factory_member}
 use Rattle.ns_code.specs.Access.{public_access}
 use Rattle.ns_kernel.specs.Table.{Numbered as NumberedRow, rows_of}
-use Rattle.ns_find.specs.Rows.{top_rows, called_by, row_members, kernel_rows}
+use Rattle.ns_find.specs.Rows.{top_rows, called_by, row_members, rows_members, kernel_rows}
 use Rattle.ns_find.specs.Find.{members_from, found_from, found_private}
 use Rattle.ns_find.specs.Belonging.{Belongs, factories_at, IsSlotOf, HasNested, IsMethodOf, methods_on}
 
@@ -133,10 +133,10 @@ row_belongs : (heap : Heap) (code : CodeProgram) (side : Side) (chain factories 
 row_belongs heap code side chain factories row (Some text) = ((λ t. tt), tt)
 row_belongs heap code side chain factories row None = top_belong heap code side chain factories row.number 0 code.classes
 
-each_belongs : (heap : Heap) (code : CodeProgram) (side : Side) (chain factories : List ℕ) (rows : List NumberedRow) → Each (Belongs heap code side chain factories) (flat_map (row_members heap code) rows)
+each_belongs : (heap : Heap) (code : CodeProgram) (side : Side) (chain factories : List ℕ) (rows : List NumberedRow) → Each (Belongs heap code side chain factories) (rows_members heap code rows)
 each_belongs heap code side chain factories [] = tt
 each_belongs heap code side chain factories (row ∷ rows) =
-    each_append (Belongs heap code side chain factories) (row_members heap code row) (flat_map (row_members heap code) rows)
+    each_append (Belongs heap code side chain factories) (row_members heap code row) (rows_members heap code rows)
     (row_belongs heap code side chain factories row row.line.text) (each_belongs heap code side chain factories rows)
 
 rows_belong : (heap : Heap) (code : CodeProgram) (side : Side) (chain factories : List ℕ) (r : KernelRow) → Each (Belongs heap code side chain factories) (kernel_rows heap code r)

@@ -1,5 +1,5 @@
 -- What is found has the selector that was sought.
-use Rattle.std.proofs.Common.{◌≡◌, ℕ, ◌+◌, List, [], ◌∷◌, ◌++◌, refl, sym, Option, Some, None, Bool, true, false, cond, eqb, ◌&&◌, drop, slice_get, unwrap_or, flat_map}
+use Rattle.std.proofs.Common.{◌≡◌, ℕ, ◌+◌, List, [], ◌∷◌, ◌++◌, refl, sym, Option, Some, None, Bool, true, false, cond, eqb, ◌&&◌, drop, slice_get, unwrap_or}
 use Rattle.std.specs.Option.{option_map_or}
 use Rattle.std.proofs.lemmas.Bool.{eqb-true}
 use Rattle.ns_code.specs.declared.program.CodeProgram.{CodeProgram}
@@ -24,7 +24,7 @@ use Rattle.ns_find.specs.declared.members.Side.TheVariants.{Instance as Instance
 use Rattle.ns_find.specs.Members.{Member, Numbered, is_named, allowed, search, slots_members, nested_members, method_members, side_members, holder_members, members_along, factory_member}
 use Rattle.ns_code.specs.Access.{public_access}
 use Rattle.ns_kernel.specs.Table.{Numbered as NumberedRow, rows_of}
-use Rattle.ns_find.specs.Rows.{top_rows, called_by, row_members, kernel_rows}
+use Rattle.ns_find.specs.Rows.{top_rows, called_by, row_members, rows_members, kernel_rows}
 use Rattle.ns_find.specs.Find.{members_from, found_from, found_private}
 use Rattle.ns_find.specs.Belonging.{methods_on}
 use Rattle.ns_find.specs.Named.{HasNamed, IsNamedBy}
@@ -104,10 +104,10 @@ row_named : (heap : Heap) (code : CodeProgram) (side : Side) (sel : ℕ) (row : 
 row_named heap code side sel row (Some text) = ((λ n. tt), tt)
 row_named heap code side sel row None = top_named heap code side sel row.number 0 code.classes
 
-each_named : (heap : Heap) (code : CodeProgram) (side : Side) (sel : ℕ) (rows : List NumberedRow) → EachNamed (IsNamedBy heap code side sel) code sel (flat_map (row_members heap code) rows)
+each_named : (heap : Heap) (code : CodeProgram) (side : Side) (sel : ℕ) (rows : List NumberedRow) → EachNamed (IsNamedBy heap code side sel) code sel (rows_members heap code rows)
 each_named heap code side sel [] = tt
 each_named heap code side sel (row ∷ rows) =
-    named_append (IsNamedBy heap code side sel) code sel (row_members heap code row) (flat_map (row_members heap code) rows)
+    named_append (IsNamedBy heap code side sel) code sel (row_members heap code row) (rows_members heap code rows)
     (row_named heap code side sel row row.line.text) (each_named heap code side sel rows)
 
 rows_named : (heap : Heap) (code : CodeProgram) (side : Side) (sel : ℕ) (r : KernelRow) → EachNamed (IsNamedBy heap code side sel) code sel (kernel_rows heap code r)

@@ -1,6 +1,6 @@
 use Rattle.std.proofs.Common.{arith}
 use Rattle.ns_find.proofs.RowSearch.{rows_here, rows_past}
-use Rattle.ns_find.proofs.kernel.row_named.Goals as goal
+use Rattle.ns_find.proofs.kernel.found_among.Goals as goal
 
 pub returns-in-Some : goal.returns-in-Some
 returns-in-Some c =
