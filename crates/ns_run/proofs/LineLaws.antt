@@ -11,7 +11,7 @@ use Rattle.ns_run.specs.Image.{Executes, of_image}
 use Rattle.ns_run.specs.Meaning.{files_of, of_files, of_line, of_session}
 use Rattle.ns_run.specs.Task.{Runs}
 use Rattle.ns_run_words.specs.Application.{AreApplications}
-use Rattle.ns_run_words.specs.Forms.{AreFiles, AreNames, IsSpelled}
+use Rattle.ns_run_words.specs.Forms.{AreFiles, AreNames, IsSpelledLine}
 use Rattle.ns_run_words.specs.declared.form.Item.TheVariants.{File, Application}
 use Rattle.ns_run_words.specs.Table.{form_of}
 use Rattle.ns_run_words.specs.Words.{CommandLine, limits_of, quantum_of}
@@ -49,20 +49,20 @@ within Help t = absurd t
 within Version t = absurd t
 
 -- The names of such a command are 1 to 16 files.
-pub are_files : (verb : Verb) (line : CommandLine) → line.verb ≡ verb → TakesFiles verb → IsSpelled line → AreFiles line.names
+pub are_files : (verb : Verb) (line : CommandLine) → line.verb ≡ verb → TakesFiles verb → IsSpelledLine line → AreFiles line.names
 are_files verb line e t (words, f) =
     let w : NamesFiles line.verb = subst NamesFiles (sym e) (within verb t) in
     (omega (arith, w.0, f.enough), omega (arith, w.1, f.few), subst (λ item. AreNames item line.names) w.2 f.named)
 
 -- The names of a session are at most 16 applications.
-pub are_applications : (line : CommandLine) → line.verb ≡ Session → IsSpelled line → AreApplications line.names
+pub are_applications : (line : CommandLine) → line.verb ≡ Session → IsSpelledLine line → AreApplications line.names
 are_applications line e (words, f) = all line.names (subst (λ verb. AreNames (form_of verb).item line.names) e f.named)
   where
     all : (names : List (List ℕ)) → AreNames Application names → AreApplications names
     all [] a = tt
     all (name ∷ names) a = (a.0, all names a.1)
 
-pub few_applications : (line : CommandLine) → line.verb ≡ Session → IsSpelled line → length line.names ≤ 16
+pub few_applications : (line : CommandLine) → line.verb ≡ Session → IsSpelledLine line → length line.names ≤ 16
 few_applications line e (words, f) = subst (λ verb. length line.names ≤ (form_of verb).most) e f.few
 
 -- ---- what the reports of a line mean

@@ -13,7 +13,7 @@ use Rattle.ns_base.specs.declared.status.Status.{Status}
 use Rattle.ns_base.specs.declared.status.Status.TheVariants.{Done, ProgramError, Limit, Refused, ReadFault, WriteFault, Memory}
 use Rattle.ns_load.specs.declared.fault.SpellingCause.{SpellingCause}
 use Rattle.ns_load.specs.declared.fault.SpellingCause.TheVariants as spelling
-use Rattle.ns_run_outcome.specs.Outcome.{IsDelivered, IsEnding, IsMissing, LeavesStreams, Wrote, missing_line}
+use Rattle.ns_run_outcome.specs.Outcome.{IsReported, IsEnding, IsMissing, LeavesStreams, Wrote, missing_line}
 use Rattle.ns_run_outcome.specs.Report.{many_name, refused_file, refused_text, spelling_name, size_name, static_name, told}
 use Rattle.ns_run_outcome.specs.declared.report.Report.{Report}
 use Rattle.ns_run_outcome.specs.declared.stop.Stop.{Stop}
@@ -38,7 +38,7 @@ use Rattle.ns_static_rules.specs.declared.fault.Placed.{Placed}
 use Rattle.ns_static_rules.specs.declared.fault.StaticCause.{StaticCause}
 use Rattle.ns_static_rules.specs.declared.fault.StaticCause.TheVariants as static
 use Rattle.ns_tree.specs.Plain as p
-use Rattle.ns_run_words.specs.Words.{Reading}
+use Rattle.ns_run_words.specs.Words.{LineReading}
 use Rattle.ns_world.specs.declared.ending.Ending.{Ending}
 use Rattle.ns_world.specs.declared.ending.Ending.TheVariants as ending
 use Rattle.ns_session_files.specs.Answer.{OfSomeName}
@@ -166,7 +166,7 @@ units_plain (Runs limits arguments classes) names files trees places = run_plain
 -- ---- how a command ends
 
 -- With a status that a report may have, all is written.
-pub leaves_delivered : (r : Report) (s : Status) (o o' e e' : Option (List ℕ)) → IsEnding s → IsDelivered r s o o' e e' → LeavesStreams r s o o' e e'
+pub leaves_delivered : (r : Report) (s : Status) (o o' e e' : Option (List ℕ)) → IsEnding s → IsReported r s o o' e e' → LeavesStreams r s o o' e e'
 leaves_delivered r Done o o' e e' i d = d
 leaves_delivered r ProgramError o o' e e' i d = d
 leaves_delivered r Refused o o' e e' i d = d
@@ -221,6 +221,6 @@ some_other names P Q f (k, s) = (k, some_at (slice_get names k) s)
     some_at (Some name) s = f name s
 
 -- Where a refusal was written, and what was written says that a file isn't there, the refusal says so.
-pub names_missing : (reading : Reading) (r : Report) (old new : Option (List ℕ)) → r.status ≡ Refused → new ≡ with_bytes r.err old → TellsMissing reading old new → NamesMissing reading r
+pub names_missing : (reading : LineReading) (r : Report) (old new : Option (List ℕ)) → r.status ≡ Refused → new ≡ with_bytes r.err old → TellsMissing reading old new → NamesMissing reading r
 names_missing reading r old new s d t =
     some_other (files_read reading) (λ file. Wrote (missing_line file) old new) (λ file. IsMissing file r) (λ file w. names_file file r old new s d w) t

@@ -2,7 +2,7 @@
 use Rattle.std.proofs.Common.{◌≡◌, ℕ, List, Result, Ok, Err, IfOk, ap, sym, subst, ◌∙◌, codes, map}
 use Rattle.ns_base.specs.declared.status.Status.{Status}
 use Rattle.ns_base.specs.declared.status.Status.TheVariants.{Done, ProgramError, Refused, Limit, ReadFault, WriteFault, Memory}
-use Rattle.ns_session_files.specs.Answer.{IsMissingFile, IsThatRefusal, RefusesAs, Tells, OfSomeName}
+use Rattle.ns_session_files.specs.Answer.{IsMissingFile, IfRefusal, RefusesAs, TellsOfAll, OfSomeName}
 use Rattle.ns_session_files.specs.Joint.{Joint, stopped_for}
 use Rattle.ns_session_files.specs.declared.fault.JointFault.{JointFault}
 use Rattle.ns_session_files.specs.declared.fault.JointFault.TheVariants as fault
@@ -19,18 +19,18 @@ use Rattle.std.specs.Prelude.{string_bytes, Some}
 use Rattle.ns_run.specs.Run.{told_jointly}
 
 -- The report of a refusal is what the session means.
-pub refusal_means : (joint : Joint) (why : JointFault) (report : Report) → IsThatRefusal (λ refusal. joint ≡ stopped_for refusal) why → RefusesAs (λ refusal. report ≡ of_refusal refusal) why → report ≡ of_joint joint
+pub refusal_means : (joint : Joint) (why : JointFault) (report : Report) → IfRefusal (λ refusal. joint ≡ stopped_for refusal) why → RefusesAs (λ refusal. report ≡ of_refusal refusal) why → report ≡ of_joint joint
 refusal_means joint fault.Unread report i r = absurd r
 refusal_means joint (fault.Unloaded names cause file) report i r = r ∙ ap of_joint (sym i)
 refusal_means joint (fault.Unchecked names place cause) report i r = r ∙ ap of_joint (sym i)
 refusal_means joint (fault.TooLarge kind) report i r = r ∙ ap of_joint (sym i)
 refusal_means joint fault.Memory report i r = absurd r
 
-pub refusals_mean : (joint : Joint) (why : JointFault) (result : Result Report Stop) → Tells joint (Err why) → IfOk result (λ r. RefusesAs (λ refusal. r ≡ of_refusal refusal) why) → IfOk result (λ r. r ≡ of_joint joint)
+pub refusals_mean : (joint : Joint) (why : JointFault) (result : Result Report Stop) → TellsOfAll joint (Err why) → IfOk result (λ r. RefusesAs (λ refusal. r ≡ of_refusal refusal) why) → IfOk result (λ r. r ≡ of_joint joint)
 refusals_mean joint why (Ok r) i h = refusal_means joint why r i h
 refusals_mean joint why (Err e) i h = tt
 
-pub run_means : (joint : Joint) (told : Told) (report : Report) → Tells joint (Ok told) → report ≡ told_jointly told → report ≡ of_joint joint
+pub run_means : (joint : Joint) (told : Told) (report : Report) → TellsOfAll joint (Ok told) → report ≡ told_jointly told → report ≡ of_joint joint
 run_means joint told report t r = r ∙ ap of_joint (sym t)
 
 -- Such a report ends as one may, and says that a file isn't there only where it is refused for that.

@@ -3,7 +3,7 @@ use Rattle.std.proofs.Common.{◌≡◌, ℕ, List, [], ◌∷◌, length, map, 
 use Rattle.ns_base.specs.declared.limits.Limits.{Limits}
 use Rattle.ns_base.specs.declared.place.Place.{Place}
 use Rattle.ns_run_code.specs.Exec.{Executed, executed, has_run, refused_code, refused_image}
-use Rattle.ns_run_code.specs.Listing.{ListingAnswer, listed, lines, unlisted}
+use Rattle.ns_run_code.specs.Listing.{ListedCode, listed, lines, unlisted}
 use Rattle.ns_gen_code.specs.Code.{code_of}
 use Rattle.ns_image.specs.declared.fault.ImageFault.{ImageFault}
 use Rattle.ns_image.specs.declared.fault.ImageFault.TheVariants as images
@@ -34,7 +34,7 @@ use Rattle.ns_verify.specs.declared.fault.VerifyCause.{VerifyCause}
 use Rattle.ns_verify.specs.declared.fault.Where.{Where}
 use Rattle.ns_verify.specs.declared.fault.Where.TheVariants as where_at
 use Rattle.ns_run_words.specs.Application.{asked_of}
-use Rattle.ns_run_words.specs.Words.{CommandLine, Reading, says, bad, limits_of, nothing_given, quantum_of, reading_of, sample_number}
+use Rattle.ns_run_words.specs.Words.{CommandLine, LineReading, says, bad, limits_of, nothing_given, quantum_of, reading_of, sample_number}
 use Rattle.ns_run_words.specs.declared.form.Verb.{Verb}
 use Rattle.ns_run_words.specs.declared.form.Verb.TheVariants as verb
 
@@ -114,7 +114,7 @@ executed_keeps file (refused_image why) = image_keeps_none file why
 executed_keeps file (refused_code why at) = unsound_keeps file why at
 executed_keeps file (has_run ran) = refl
 
-listed_keeps : (file : List ℕ) (done : ListingAnswer) → KeepsNone (of_listed file done)
+listed_keeps : (file : List ℕ) (done : ListedCode) → KeepsNone (of_listed file done)
 listed_keeps file (unlisted why) = image_keeps_none file why
 listed_keeps file (lines text) = refl
 
@@ -160,7 +160,7 @@ line_keeps verb.Sample line texts i = sample_keeps (sample_number line.names)
 line_keeps verb.Help line texts i = refl
 line_keeps verb.Version line texts i = refl
 
-reading_keeps : (reading : Reading) (texts : List (Option (List ℕ))) → StoresNothing reading → KeepsNone (of_reading reading texts)
+reading_keeps : (reading : LineReading) (texts : List (Option (List ℕ))) → StoresNothing reading → KeepsNone (of_reading reading texts)
 reading_keeps (says line) texts i = line_keeps line.verb line texts i
 reading_keeps (bad word) texts i = refl
 

@@ -23,7 +23,7 @@ use Rattle.ns_tree.specs.Plain as p
 use Rattle.ns_run_words.specs.Forms.{AreNames}
 use Rattle.ns_run_words.specs.declared.form.Item.TheVariants.{File}
 use Rattle.ns_run_words.specs.FileName.{is_file_name}
-use Rattle.ns_run_words.specs.Words.{Reading, reading_of}
+use Rattle.ns_run_words.specs.Words.{LineReading, reading_of}
 use Rattle.ns_session_files.specs.Answer.{OfSomeTexts}
 
 -- A word that can name a file does so.
@@ -58,7 +58,7 @@ empty_texts [] = ([], refl, tt)
 empty_texts (name ∷ names) = let t : OfSomeTexts names (λ texts. Unit {0}) = empty_texts names in (None ∷ t.0, omega (arith, t.1), tt)
 
 -- Texts of the files of the command that is read.
-pub over_reading : (reading : Reading) (words : List (List ℕ)) (result : Result Report Stop) → reading ≡ reading_of words
+pub over_reading : (reading : LineReading) (words : List (List ℕ)) (result : Result Report Stop) → reading ≡ reading_of words
     → OfSomeTexts (files_read reading) (λ texts. IfOk result (λ r. r ≡ of_reading reading texts)) → OverTexts words (λ report. IfOk result (λ r. r ≡ report))
 over_reading reading words result e h = subst (λ k. OfSomeTexts (files_read k) (λ texts. IfOk result (λ r. r ≡ of_reading k texts))) e h
 
@@ -67,12 +67,12 @@ pub whatever_texts : (names : List (List ℕ)) (P : Type 0) → P → OfSomeText
 whatever_texts names P h = let t : OfSomeTexts names (λ texts. Unit {0}) = empty_texts names in (t.0, t.1, h)
 
 -- The report of a command that was read is what its words mean.
-pub told_reading : (reading : Reading) (words : List (List ℕ)) (files : Files) (result : Result Report Stop) → reading ≡ reading_of words → IfOk result (λ r. r ≡ of_reading reading (map files (files_read reading)))
+pub told_reading : (reading : LineReading) (words : List (List ℕ)) (files : Files) (result : Result Report Stop) → reading ≡ reading_of words → IfOk result (λ r. r ≡ of_reading reading (map files (files_read reading)))
     → IfOk result (λ r. r ≡ meaning words files)
 told_reading reading words files result e h = subst (λ k. IfOk result (λ r. r ≡ of_reading k (map files (files_read k)))) e h
 
 -- What follows where a report says that a file isn't there that the command reads.
-pub missing_of_reading : (reading : Reading) (words : List (List ℕ)) (P : Type 0) (result : Result Report Stop) → reading ≡ reading_of words → IfOk result (λ r. NamesMissing reading r → P)
+pub missing_of_reading : (reading : LineReading) (words : List (List ℕ)) (P : Type 0) (result : Result Report Stop) → reading ≡ reading_of words → IfOk result (λ r. NamesMissing reading r → P)
     → IfOk result (λ r. NamesMissing (reading_of words) r → P)
 missing_of_reading reading words P result e h = subst (λ k. IfOk result (λ r. NamesMissing k r → P)) e h
 

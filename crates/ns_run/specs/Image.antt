@@ -4,7 +4,7 @@ use Rattle.std.specs.Fmt.{decimal}
 use Rattle.ns_base.specs.Limits.{InRange}
 use Rattle.ns_base.specs.declared.limits.Limits.{Limits}
 use Rattle.ns_run_code.specs.Exec.{Executed, executed, has_run, refused_code, refused_image}
-use Rattle.ns_run_code.specs.Listing.{ListingAnswer, listed, lines, unlisted}
+use Rattle.ns_run_code.specs.Listing.{ListedCode, listed, lines, unlisted}
 use Rattle.ns_image.specs.declared.fault.ImageFault.{ImageFault}
 use Rattle.ns_image.specs.declared.fault.ImageFault.TheVariants.{NotAnImage, BadVersion, Truncated, BadField, Trailing, Memory}
 use Rattle.ns_run_outcome.specs.Report.{bad_word, never_told, refused_file, told, verify_name}
@@ -54,7 +54,7 @@ of_executed file (refused_image fault) = of_image_fault file fault
 of_executed file (refused_code cause at) = unsound file cause at
 of_executed file (has_run ran) = run_report None ran
 
-abbrev pub of_listed : List ℕ → ListingAnswer → Report
+abbrev pub of_listed : List ℕ → ListedCode → Report
 of_listed file (unlisted fault) = of_image_fault file fault
 of_listed file (lines text) = told text
 

@@ -31,7 +31,7 @@ use Rattle.ns_static_rules.specs.Least.{faults, least}
 use Rattle.ns_static_rules.specs.declared.fault.Placed.{Placed}
 use Rattle.ns_tree.specs.Flat.{flat}
 use Rattle.ns_tree.specs.Plain as p
-use Rattle.ns_run_words.specs.Words.{CommandLine, Reading, says, bad, limits_of, nothing_given, quantum_of, reading_of, sample_number}
+use Rattle.ns_run_words.specs.Words.{CommandLine, LineReading, says, bad, limits_of, nothing_given, quantum_of, reading_of, sample_number}
 use Rattle.ns_run_words.specs.declared.form.Verb.{Verb}
 use Rattle.ns_run_words.specs.declared.form.Verb.TheVariants.{Check, Show, Run, Build, Exec, Listing, Session, Sample, Help, Version}
 
@@ -150,7 +150,7 @@ of_line Help line texts = told HELP.now
 of_line Version line texts = told VERSION.now
 
 -- what a command that was read so writes over these texts of its files, and its status
-abbrev pub of_reading : Reading → List (Option (List ℕ)) → Report
+abbrev pub of_reading : LineReading → List (Option (List ℕ)) → Report
 of_reading (says line) texts = of_line line.verb line texts
 of_reading (bad word) texts = bad_word word
 
@@ -173,7 +173,7 @@ files_of Help names = []
 files_of Version names = []
 
 -- the files that a command reads that was read so
-abbrev pub files_read : Reading → List (List ℕ)
+abbrev pub files_read : LineReading → List (List ℕ)
 files_read (says line) = files_of line.verb line.names
 files_read (bad word) = []
 

@@ -8,7 +8,7 @@ use Rattle.ns_load.specs.declared.fault.LoadFault.TheVariants as fault
 use Rattle.ns_run_outcome.specs.Outcome.{IsMissing, Wrote, missing_line}
 use Rattle.ns_run_outcome.specs.declared.report.Report.{Report}
 use Rattle.ns_run.specs.Meaning.{files_read, meaning_of_texts}
-use Rattle.ns_run_words.specs.Words.{Reading, says, bad, reading_of}
+use Rattle.ns_run_words.specs.Words.{LineReading, says, bad, reading_of}
 use Rattle.ns_run_words.specs.declared.form.Verb.{Verb}
 use Rattle.ns_run_words.specs.declared.form.Verb.TheVariants as verb
 use Rattle.ns_session_files.specs.Answer.{OfSomeTexts, OfSomeName}
@@ -27,7 +27,7 @@ IsNoBuild verb.Help = Unit {0}
 IsNoBuild verb.Version = Unit {0}
 
 -- The command of a line that was read so stores nothing.
-abbrev pub StoresNothing : Reading → Type 0
+abbrev pub StoresNothing : LineReading → Type 0
 StoresNothing (says line) = IsNoBuild line.verb
 StoresNothing (bad word) = Unit {0}
 
@@ -40,15 +40,15 @@ abbrev pub OverTexts : List (List ℕ) → (Report → Type 0) → Type 0
 OverTexts words P = OfSomeTexts (files_read (reading_of words)) (λ texts. P (meaning_of_texts words texts))
 
 -- Some file of the command is there.
-abbrev pub HasAFile : Reading → Files → Type 0
+abbrev pub HasAFile : LineReading → Files → Type 0
 HasAFile reading files = OfSomeName (files_read reading) (λ file. IsSome (files file))
 
 -- The report refuses some file of the command as one that isn't there.
-abbrev pub NamesMissing : Reading → Report → Type 0
+abbrev pub NamesMissing : LineReading → Report → Type 0
 NamesMissing reading report = OfSomeName (files_read reading) (λ file. IsMissing file report)
 
 -- The line was written that tells of some file of the command that it isn't there.
-abbrev pub TellsMissing : Reading → (err err' : Option (List ℕ)) → Type 0
+abbrev pub TellsMissing : LineReading → (err err' : Option (List ℕ)) → Type 0
 TellsMissing reading err err' = OfSomeName (files_read reading) (λ file. Wrote (missing_line file) err err')
 
 -- The cause refuses a file: it isn't that the file couldn't be read.

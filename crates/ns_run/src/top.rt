@@ -11,9 +11,9 @@ ghost use Rattle.ns_run.specs.Meaning as spec;
 ghost use Rattle.ns_run.specs.Image.{ImageInRange, of_image, work_of};
 ghost use Rattle.ns_run.specs.Outcome.{HasAFile, NamesMissing, OverTexts, StoresNothing, TellsMissing};
 ghost use Rattle.ns_run.specs.Stated.{MissingIsCounted, ReportsTexts, ReportsTold, UnreadIsThere};
-ghost use Rattle.ns_run_words.specs.Forms.{AreFiles, IsSpelled};
+ghost use Rattle.ns_run_words.specs.Forms.{AreFiles, IsSpelledLine};
 ghost use Rattle.ns_run_words.specs.Line.{line_seen};
-ghost use Rattle.ns_run_words.specs.Words.{Reading, first_bad, limits_of, quantum_of, reading_of};
+ghost use Rattle.ns_run_words.specs.Words.{LineReading, first_bad, limits_of, quantum_of, reading_of};
 
 use crate::files::on_files;
 use crate::image::on_image;
@@ -82,7 +82,7 @@ fn finish<S: Shelf, O: Sink, E: Sink>(
     ensures no_read_fault { result ≡ Status.ReadFault → ⊥ }
     ensures write_fault { result ≡ Status.WriteFault → (Rose (S.store_faults shelf.old) (S.store_faults shelf.new))
         ⊎ ((Rose (O.faults out.old) (O.faults out.new)) ⊎ (Rose (E.faults err.old) (E.faults err.new))) }
-    ensures missing { (reading : Reading) → result ≡ Status.Refused →
+    ensures missing { (reading : LineReading) → result ≡ Status.Refused →
         TellsMissing reading (E.written err.old) (E.written err.new) → NamesMissing reading report.now }
 {
     match keep(report, shelf) {
@@ -98,7 +98,7 @@ fn write<O: Sink, E: Sink>(report: &Report, out: &mut O, err: &mut E) -> Status
     ensures streams { LeavesStreams report.now result (O.written out.old) (O.written out.new) (E.written err.old) (E.written err.new) }
     ensures status { IsWritten report.now.status result }
     ensures write_fault { result ≡ Status.WriteFault → (Rose (O.faults out.old) (O.faults out.new)) ⊎ (Rose (E.faults err.old) (E.faults err.new)) }
-    ensures missing { (reading : Reading) → result ≡ Status.Refused →
+    ensures missing { (reading : LineReading) → result ≡ Status.Refused →
         TellsMissing reading (E.written err.old) (E.written err.new) → NamesMissing reading report.now }
 {
     if deliver(report, out, err) {
@@ -150,7 +150,7 @@ fn work<S: Shelf>(alloc: Global, line: &[String], shelf: &mut S) -> Result<Repor
 
 /// The report of the command of a line.
 fn on_line<S: Shelf>(alloc: Global, line: Line<'_>, shelf: &mut S) -> Result<Report, Stop>
-    requires form { IsSpelled (line_seen line) }
+    requires form { IsSpelledLine (line_seen line) }
     requires range { InRange (limits_of line.given) }
     requires quantum { 1 ≤ quantum_of line.given }
     ensures told { ReportsTold (S.holds shelf.old) (λ files.

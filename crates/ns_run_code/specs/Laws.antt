@@ -19,7 +19,7 @@ use Rattle.ns_run_code.specs.Run.{meant_run}
 -- ---- runs end
 
 -- Code that is admitted, and limits in their ranges.
-pub record CanRun (code : CodeProgram) (limits : Limits) : Type 0 where
+pub record IsRunnable (code : CodeProgram) (limits : Limits) : Type 0 where
   pub sound : IsSound code
   pub fits : Fits code
   pub range : InRange limits
@@ -34,7 +34,7 @@ pub record ComesToItsEnd (code : CodeProgram) (state : State) : Type 0 where
 
 -- So every run of such code ends.
 abbrev pub CodeEnds : CodeProgram → Type 0
-CodeEnds code = (limits : Limits) (arguments : List (List ℕ)) → CanRun code limits → ComesToItsEnd code (begins_with code limits arguments)
+CodeEnds code = (limits : Limits) (arguments : List (List ℕ)) → IsRunnable code limits → ComesToItsEnd code (begins_with code limits arguments)
 
 -- ---- the run of a program's code is the run that its source means
 

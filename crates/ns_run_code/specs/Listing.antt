@@ -9,17 +9,17 @@ use Rattle.ns_image.specs.declared.fault.ImageFault.TheVariants.{NotAnImage, Bad
 use Rattle.ns_image_list.specs.Listing.{listing}
 
 -- bytes that are no image, or the lines of a listing
-pub data ListingAnswer : Type 0 where
-  unlisted : (fault : ImageFault) → ListingAnswer
-  lines : (bytes : List ℕ) → ListingAnswer
+pub data ListedCode : Type 0 where
+  unlisted : (fault : ImageFault) → ListedCode
+  lines : (bytes : List ℕ) → ListedCode
 
 -- the listing of what was read
-abbrev pub of_read : Result CodeProgram ImageFault → ListingAnswer
+abbrev pub of_read : Result CodeProgram ImageFault → ListedCode
 of_read (Err fault) = unlisted fault
 of_read (Ok code) = lines (listing code)
 
 -- the listing of the code of an image, admitted or not
-abbrev pub listed : List ℕ → ListingAnswer
+abbrev pub listed : List ℕ → ListedCode
 listed bytes = of_read (read_image bytes)
 
 -- the fault of an image, apart from want of memory

@@ -7,7 +7,7 @@ use Rattle.ns_run_outcome.specs.declared.keep.Unkept.TheVariants.{Failed, Memory
 use Rattle.ns_run_outcome.specs.declared.keep.Unkept.{Unkept}
 
 -- The file is stored; or only it may hold anything, where it failed; or all are as they were, for want of memory.
-abbrev pub Keeps : Option FileStored → Result (Unit {0}) Unkept → Files → Files → Type 0
-Keeps stored (Ok _) old new = AreStored stored old new
-Keeps stored (Err Failed) old new = OthersAreKept stored old new
-Keeps stored (Err Memory) old new = AllStand old new
+abbrev pub KeepsFile : Option FileStored → Result (Unit {0}) Unkept → Files → Files → Type 0
+KeepsFile stored (Ok _) old new = AreStored stored old new
+KeepsFile stored (Err Failed) old new = OthersAreKept stored old new
+KeepsFile stored (Err Memory) old new = AllStand old new

@@ -9,14 +9,14 @@ use Rattle.ns_run_outcome.specs.Store.{FileStored, files_with}
 use Rattle.ns_run_outcome.specs.declared.report.Report.{Report}
 
 -- The status is the report's, and both streams have all of its bytes.
-pub record IsDelivered (report : Report) (status : Status) (out out' err err' : Option (List ℕ)) : Type 0 where
+pub record IsReported (report : Report) (status : Status) (out out' err err' : Option (List ℕ)) : Type 0 where
   pub as_reported : status ≡ report.status
   pub all_out : out' ≡ with_bytes report.out out
   pub all_err : err' ≡ with_bytes report.err err
 
 -- Nothing was written.
-abbrev pub IsUntouched : (out out' err err' : Option (List ℕ)) → Type 0
-IsUntouched out out' err err' = (out' ≡ out) × (err' ≡ err)
+abbrev pub IsUnwritten : (out out' err err' : Option (List ℕ)) → Type 0
+IsUnwritten out out' err err' = (out' ≡ out) × (err' ≡ err)
 
 -- Each stream has a prefix of its bytes, and `err` has some only where `out` has all.
 abbrev pub IsCut : Report → (out out' err err' : Option (List ℕ)) → Type 0
@@ -26,13 +26,13 @@ IsCut report out out' err err' =
 
 -- what the streams have, before and after a command of that report that ended with that status
 abbrev pub LeavesStreams : Report → Status → (out out' err err' : Option (List ℕ)) → Type 0
-LeavesStreams report Done out out' err err' = IsDelivered report Done out out' err err'
-LeavesStreams report ProgramError out out' err err' = IsDelivered report ProgramError out out' err err'
-LeavesStreams report Refused out out' err err' = IsDelivered report Refused out out' err err'
-LeavesStreams report Limit out out' err err' = IsDelivered report Limit out out' err err'
-LeavesStreams report ReadFault out out' err err' = IsUntouched out out' err err'
+LeavesStreams report Done out out' err err' = IsReported report Done out out' err err'
+LeavesStreams report ProgramError out out' err err' = IsReported report ProgramError out out' err err'
+LeavesStreams report Refused out out' err err' = IsReported report Refused out out' err err'
+LeavesStreams report Limit out out' err err' = IsReported report Limit out out' err err'
+LeavesStreams report ReadFault out out' err err' = IsUnwritten out out' err err'
 LeavesStreams report WriteFault out out' err err' = IsCut report out out' err err'
-LeavesStreams report Memory out out' err err' = IsUntouched out out' err err'
+LeavesStreams report Memory out out' err err' = IsUnwritten out out' err err'
 
 -- Each file is as it was, but for the one that is stored.
 abbrev pub AreStored : Option FileStored → Files → Files → Type 0

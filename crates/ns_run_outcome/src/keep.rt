@@ -3,7 +3,7 @@
 ghost use Rattle.std.specs.Prelude.{◌≡◌, ◌≤◌, None, IsErrOf};
 ghost use Rattle.ns_base.specs.Count.{Rose};
 ghost use Rattle.ns_base.specs.Shelf.{OnlyRead};
-ghost use Rattle.ns_run_outcome.specs.Keep.{Keeps};
+ghost use Rattle.ns_run_outcome.specs.Keep.{KeepsFile};
 ghost use Rattle.ns_run_outcome.specs.Outcome.{OfFiles};
 
 use crate::report::Report;
@@ -20,7 +20,7 @@ pub enum Unkept {
 
 /// Stores the file of a report, if there is one.
 pub fn keep<S: Shelf>(report: &Report, shelf: &mut S) -> Result<(), Unkept>
-    ensures files { OfFiles (Keeps report.now.stored result) (S.holds shelf.old) (S.holds shelf.new) }
+    ensures files { OfFiles (KeepsFile report.now.stored result) (S.holds shelf.old) (S.holds shelf.new) }
     ensures misses { S.misses shelf.new ≡ S.misses shelf.old }
     ensures faults { S.faults shelf.new ≡ S.faults shelf.old }
     ensures store_faults { S.store_faults shelf.old ≤ S.store_faults shelf.new }

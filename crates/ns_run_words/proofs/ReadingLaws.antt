@@ -10,7 +10,7 @@ use Rattle.ns_run_words.proofs.FormLaws.{form_is_read, word_is_read}
 use Rattle.ns_run_words.proofs.PartLaws.{all_given_append, length_one, names_append}
 use Rattle.ns_run_words.specs.Forms.{AreArguments, AreNames, Begins, IsForm, IsReadingOf, all_given}
 use Rattle.ns_run_words.specs.Table.{form_of, verb_of, word_of}
-use Rattle.ns_run_words.specs.Words.{CommandLine, WordsSoFar, Options, Names, Arguments, Reading, bad, bad_of, says, arguments_behind, first_bad, has_room, is_item, line_of, names_read, nothing_given, option_or, part_or, read_from, reading_of, with_argument, with_dashes, with_name, with_option, with_word}
+use Rattle.ns_run_words.specs.Words.{CommandLine, ReadSoFar, Options, Names, Arguments, LineReading, bad, bad_of, says, arguments_behind, first_bad, has_room, is_item, line_of, names_read, nothing_given, option_or, part_or, read_from, reading_of, with_argument, with_dashes, with_name, with_option, with_word}
 use Rattle.ns_run_words.specs.declared.form.Form.{Form}
 use Rattle.ns_run_words.specs.declared.form.Item.{Item}
 use Rattle.ns_run_words.specs.declared.form.Item.TheVariants.{File, Number, Application}
@@ -33,7 +33,7 @@ abbrev pub TakesArguments : Form → List (List ℕ) → List (List ℕ) → Typ
 TakesArguments form names arguments = (m : ℕ) × (form.arguments ≡ Some m) × (form.least ≤ length names) × (length arguments ≤ m)
 
 -- The words spell what was read, and the form can go on behind them.
-abbrev pub IsPart : Form → List (List ℕ) → WordsSoFar → Type 0
+abbrev pub IsPart : Form → List (List ℕ) → ReadSoFar → Type 0
 IsPart form words (Options given) = all_given form nothing_given words ≡ Some given
 IsPart form words (Names given names) = AreNamed form words given names
 IsPart form words (Arguments given names arguments) =
@@ -41,7 +41,7 @@ IsPart form words (Arguments given names arguments) =
 
 -- ---- one word more
 
-pub argument_more : (form : Form) (words : List (List ℕ)) (given : Given) (names arguments : List (List ℕ)) (w : List ℕ) (next : WordsSoFar) → IsPart form words (Arguments given names arguments)
+pub argument_more : (form : Form) (words : List (List ℕ)) (given : Given) (names arguments : List (List ℕ)) (w : List ℕ) (next : ReadSoFar) → IsPart form words (Arguments given names arguments)
     → with_argument form given names arguments w ≡ Some next → IsPart form (words ++ w ∷ []) next
 argument_more form words given names arguments w next (front, s, n, (m, a, e, l)) h =
     elim (has_room form.arguments (length arguments)) as (λ q. has_room form.arguments (length arguments) ≡ q → cond q (Some (Arguments given names (arguments ++ w ∷ []))) None ≡ Some next → IsPart form (words ++ w ∷ []) next) [
@@ -53,7 +53,7 @@ argument_more form words given names arguments w next (front, s, n, (m, a, e, l)
           subst (IsPart form (words ++ w ∷ [])) is (front, ap (λ x. x ++ w ∷ []) s ∙ append_assoc front (codes "--" ∷ arguments) (w ∷ []), n, (m, a, e, few))
     ] refl h
 
-pub dashes_more : (form : Form) (words : List (List ℕ)) (given : Given) (names : List (List ℕ)) (w : List ℕ) (next : WordsSoFar) → AreNamed form words given names
+pub dashes_more : (form : Form) (words : List (List ℕ)) (given : Given) (names : List (List ℕ)) (w : List ℕ) (next : ReadSoFar) → AreNamed form words given names
     → with_dashes given names (arguments_behind form (length names) w) ≡ Some next → IsPart form (words ++ w ∷ []) next
 dashes_more form words given names w next n h =
     elim (bytes_eq w (codes "--")) as (λ q. bytes_eq w (codes "--") ≡ q → with_dashes given names (cond (q && nat_le form.least (length names)) form.arguments None) ≡ Some next → IsPart form (words ++ w ∷ []) next) [
@@ -77,7 +77,7 @@ dashes_more form words given names w next n h =
               let l : form.least ≤ length names = grind (arith, nat_tests, r) in taken form.arguments e l refl j
         ] refl k
 
-pub name_more : (form : Form) (words : List (List ℕ)) (given : Given) (names : List (List ℕ)) (w : List ℕ) (next : WordsSoFar) → AreNamed form words given names
+pub name_more : (form : Form) (words : List (List ℕ)) (given : Given) (names : List (List ℕ)) (w : List ℕ) (next : ReadSoFar) → AreNamed form words given names
     → with_name form given names w ≡ Some next → IsPart form (words ++ w ∷ []) next
 name_more form words given names w next n h =
     elim (is_item form.item w) as (λ q. is_item form.item w ≡ q
@@ -104,7 +104,7 @@ name_more form words given names w next n h =
 pub no_names : (form : Form) (words : List (List ℕ)) (given : Given) → IsPart form words (Options given) → AreNamed form words given []
 no_names form words given o = record { options = words; spelled = sym (append-nil words); gives = o; named = tt; few = omega arith }
 
-pub option_more : (form : Form) (words : List (List ℕ)) (given : Given) (w : List ℕ) (next : WordsSoFar) → IsPart form words (Options given) → with_word form (Options given) w ≡ Some next → IsPart form (words ++ w ∷ []) next
+pub option_more : (form : Form) (words : List (List ℕ)) (given : Given) (w : List ℕ) (next : ReadSoFar) → IsPart form words (Options given) → with_word form (Options given) w ≡ Some next → IsPart form (words ++ w ∷ []) next
 option_more form words given w next o h =
     elim (with_option form given w) as (λ g. with_option form given w ≡ g → option_or (with_name form given [] w) g ≡ Some next → IsPart form (words ++ w ∷ []) next) [
       | None ↦ λ e k. name_more form words given [] w next (no_names form words given o) k
@@ -115,7 +115,7 @@ option_more form words given w next o h =
     ] refl h
 
 -- The words of a part, with a word more with which the form can go on.
-pub part_more : (form : Form) (words : List (List ℕ)) (part : WordsSoFar) (w : List ℕ) (next : WordsSoFar) → IsPart form words part → with_word form part w ≡ Some next → IsPart form (words ++ w ∷ []) next
+pub part_more : (form : Form) (words : List (List ℕ)) (part : ReadSoFar) (w : List ℕ) (next : ReadSoFar) → IsPart form words part → with_word form part w ≡ Some next → IsPart form (words ++ w ∷ []) next
 part_more form words (Options given) w next p h = option_more form words given w next p h
 part_more form words (Names given names) w next p h = name_more form words given names w next p h
 part_more form words (Arguments given names arguments) w next p h = argument_more form words given names arguments w next p h
@@ -198,7 +198,7 @@ named_begin verb words given names n =
       },
     )
 
-pub part_begins : (verb : Verb) (words : List (List ℕ)) (part : WordsSoFar) → IsPart (form_of verb) words part → Begins (word_of verb ∷ words)
+pub part_begins : (verb : Verb) (words : List (List ℕ)) (part : ReadSoFar) → IsPart (form_of verb) words part → Begins (word_of verb ∷ words)
 part_begins verb words (Options given) p = named_begin verb words given [] (no_names (form_of verb) words given p)
 part_begins verb words (Names given names) p = named_begin verb words given names p
 part_begins verb words (Arguments given names arguments) (front, s, n, (m, a, e, l)) =
@@ -217,7 +217,7 @@ named_form verb words given names n l =
     let spelled : words ≡ n.options ++ names ++ [] = n.spelled ∙ sym (append-nil (n.options ++ names)) in
     record { options = n.options; last = []; spelled = ap (λ x. word_of verb ∷ x) spelled; given = n.gives; enough = l; few = n.few; named = n.named; ends = no_arguments (form_of verb).arguments }
 
-pub part_form : (verb : Verb) (words : List (List ℕ)) (part : WordsSoFar) → IsPart (form_of verb) words part → (form_of verb).least ≤ length (names_read part) → IsForm (word_of verb ∷ words) (line_of verb part)
+pub part_form : (verb : Verb) (words : List (List ℕ)) (part : ReadSoFar) → IsPart (form_of verb) words part → (form_of verb).least ≤ length (names_read part) → IsForm (word_of verb ∷ words) (line_of verb part)
 part_form verb words (Options given) p l = named_form verb words given [] (no_names (form_of verb) words given p) l
 part_form verb words (Names given names) p l = named_form verb words given names p l
 part_form verb words (Arguments given names arguments) (front, s, n, (m, a, e, few)) l =
@@ -245,10 +245,10 @@ bad_behind words (w ∷ rest) k at b n =
 -- ---- all words
 
 -- Behind these words is read on from the part.
-abbrev pub ReadsOn : Verb → List (List ℕ) → WordsSoFar → Type 0
+abbrev pub ReadsOn : Verb → List (List ℕ) → ReadSoFar → Type 0
 ReadsOn verb words part = (rest : List (List ℕ)) → reading_of (word_of verb ∷ words ++ rest) ≡ read_from verb part (1 + length words) rest
 
-pub reading_from : (verb : Verb) (words rest : List (List ℕ)) (part : WordsSoFar) → IsPart (form_of verb) words part → ReadsOn verb words part → IsReadingOf (word_of verb ∷ words ++ rest) (read_from verb part (1 + length words) rest)
+pub reading_from : (verb : Verb) (words rest : List (List ℕ)) (part : ReadSoFar) → IsPart (form_of verb) words part → ReadsOn verb words part → IsReadingOf (word_of verb ∷ words ++ rest) (read_from verb part (1 + length words) rest)
 reading_from verb words [] part p r =
     elim (nat_le (form_of verb).least (length (names_read part))) as (λ q. nat_le (form_of verb).least (length (names_read part)) ≡ q → IsReadingOf (word_of verb ∷ words ++ []) (cond q (says (line_of verb part)) (bad (1 + length words)))) [
       | true ↦ λ e.
@@ -324,7 +324,7 @@ begins_nothing = let b : Begins (word_of Help ∷ []) = part_begins Help [] (Opt
 pub after_first : (w : List ℕ) (words : List (List ℕ)) → IsReadingOf (w ∷ words) (reading_of (w ∷ words))
 after_first w words = by_verb w (λ o. IsReadingOf (w ∷ words) (after words o)) known unknown
   where
-    after : List (List ℕ) → Option Verb → Reading
+    after : List (List ℕ) → Option Verb → LineReading
     after rest None = bad 0
     after rest (Some verb) = read_from verb (Options nothing_given) 1 rest
 
@@ -352,7 +352,7 @@ reading_is (w ∷ ws) = after_first w ws
 pub cut_is : (words : List (List ℕ)) → IsReadingOf words (bad (first_bad words))
 cut_is words = by (reading_of words) (reading_is words)
   where
-    by : (reading : Reading) → IsReadingOf words reading → IsReadingOf words (bad (bad_of (length words) reading))
+    by : (reading : LineReading) → IsReadingOf words reading → IsReadingOf words (bad (bad_of (length words) reading))
     by (bad word) r = r
     by (says line) r =
         let all : words ++ [] ≡ words = append-nil words in

@@ -1,7 +1,7 @@
 -- The forms of a command line as relations, apart from how words are read.
 use Rattle.std.specs.Prelude.{◌≡◌, ◌⊎◌, ℕ, ◌+◌, ◌<◌, ◌≤◌, List, [], ◌∷◌, ◌++◌, Option, Some, None, true, option_and_then, codes, take, length}
 use Rattle.ns_run_words.specs.Table.{form_of, word_of}
-use Rattle.ns_run_words.specs.Words.{CommandLine, Reading, says, bad, is_item, nothing_given, with_option}
+use Rattle.ns_run_words.specs.Words.{CommandLine, LineReading, says, bad, is_item, nothing_given, with_option}
 use Rattle.ns_run_words.specs.declared.form.Form.{Form}
 use Rattle.ns_run_words.specs.declared.form.Item.{Item}
 use Rattle.ns_run_words.specs.declared.form.Item.TheVariants.{File}
@@ -39,8 +39,8 @@ pub record IsForm (words : List (List ℕ)) (line : CommandLine) : Type 0 where
   pub ends : AreArguments (form_of line.verb).arguments last line.arguments
 
 -- The line is what some words spell.
-abbrev pub IsSpelled : CommandLine → Type 0
-IsSpelled line = (words : List (List ℕ)) × IsForm words line
+abbrev pub IsSpelledLine : CommandLine → Type 0
+IsSpelledLine line = (words : List (List ℕ)) × IsForm words line
 
 -- Some form begins with these words.
 abbrev pub Begins : List (List ℕ) → Type 0
@@ -48,7 +48,7 @@ Begins words = (more : List (List ℕ)) × (line : CommandLine) × IsForm (words
 
 -- What is read is what the words spell; or its bad word is the first, counted from 0, such that no form begins with
 -- the words up to it, and the number of words where some form begins with them all.
-abbrev pub IsReadingOf : List (List ℕ) → Reading → Type 0
+abbrev pub IsReadingOf : List (List ℕ) → LineReading → Type 0
 IsReadingOf words (says line) = IsForm words line
 IsReadingOf words (bad word) =
     (word ≤ length words) × Begins (take word words) × (word < length words → Begins (take (word + 1) words) → ⊥)

@@ -1,7 +1,7 @@
 -- A line of the code as one without where its words lie.
 use Rattle.std.specs.Prelude.{Result, Ok, Err, map, string_bytes}
 use Rattle.ns_run_words.specs.Application.{Asked, names_in}
-use Rattle.ns_run_words.specs.Words.{CommandLine, Reading, says, bad}
+use Rattle.ns_run_words.specs.Words.{CommandLine, LineReading, says, bad}
 use Rattle.ns_run_words.specs.declared.application.Asked as asked
 use Rattle.ns_run_words.specs.declared.words.Line as lines
 use Rattle.ns_run_words.specs.declared.words.BadWord.{BadWord}
@@ -11,7 +11,7 @@ abbrev pub line_seen : lines.Line → CommandLine
 line_seen line = record { verb = line.verb; given = line.given; names = map string_bytes line.names.now; arguments = map string_bytes line.arguments.now }
 
 -- what the code's answer stands for
-abbrev pub seen : Result lines.Line BadWord → Reading
+abbrev pub seen : Result lines.Line BadWord → LineReading
 seen (Ok line) = says (line_seen line)
 seen (Err word) = bad word.0
 

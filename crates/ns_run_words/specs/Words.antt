@@ -21,15 +21,15 @@ pub record CommandLine : Type 0 where
   pub arguments : List (List ℕ)
 
 -- What the words of a command line are read as: what they say, or the first bad word.
-pub data Reading : Type 0 where
-  says : (line : CommandLine) → Reading
-  bad : (word : ℕ) → Reading
+pub data LineReading : Type 0 where
+  says : (line : CommandLine) → LineReading
+  bad : (word : ℕ) → LineReading
 
 -- What was read so far behind the first word: options; or also names; or also `--` and arguments.
-pub data WordsSoFar : Type 0 where
-  Options : (given : Given) → WordsSoFar
-  Names : (given : Given) (names : List (List ℕ)) → WordsSoFar
-  Arguments : (given : Given) (names arguments : List (List ℕ)) → WordsSoFar
+pub data ReadSoFar : Type 0 where
+  Options : (given : Given) → ReadSoFar
+  Names : (given : Given) (names : List (List ℕ)) → ReadSoFar
+  Arguments : (given : Given) (names arguments : List (List ℕ)) → ReadSoFar
 
 -- ---- numbers
 
@@ -144,7 +144,7 @@ has_room None count = false
 has_room (Some most) count = nat_lt count most
 
 -- what is read with an argument more
-abbrev pub with_argument : Form → Given → List (List ℕ) → List (List ℕ) → List ℕ → Option WordsSoFar
+abbrev pub with_argument : Form → Given → List (List ℕ) → List (List ℕ) → List ℕ → Option ReadSoFar
 with_argument form given names arguments word =
     if has_room form.arguments (length arguments) then Some (Arguments given names (arguments ++ word ∷ [])) else None
 
@@ -153,68 +153,68 @@ abbrev pub arguments_behind : Form → ℕ → List ℕ → Option ℕ
 arguments_behind form count word = if bytes_eq word (codes "--") && nat_le form.least count then form.arguments else None
 
 -- what is read with `--` behind the names, where so many arguments may stand behind it
-abbrev pub with_dashes : Given → List (List ℕ) → Option ℕ → Option WordsSoFar
+abbrev pub with_dashes : Given → List (List ℕ) → Option ℕ → Option ReadSoFar
 with_dashes given names None = None
 with_dashes given names (Some most) = Some (Arguments given names [])
 
 -- what is read with a word more behind names: another name, or `--`
-abbrev pub with_name : Form → Given → List (List ℕ) → List ℕ → Option WordsSoFar
+abbrev pub with_name : Form → Given → List (List ℕ) → List ℕ → Option ReadSoFar
 with_name form given names word =
     if is_item form.item word && nat_lt (length names) form.most then Some (Names given (names ++ word ∷ []))
     else with_dashes given names (arguments_behind form (length names) word)
 
 -- an option more, or else the other
-abbrev pub option_or : Option WordsSoFar → Option Given → Option WordsSoFar
+abbrev pub option_or : Option ReadSoFar → Option Given → Option ReadSoFar
 option_or other None = other
 option_or other (Some given) = Some (Options given)
 
 -- what is read with a word more, where a form can go on so
-abbrev pub with_word : Form → WordsSoFar → List ℕ → Option WordsSoFar
+abbrev pub with_word : Form → ReadSoFar → List ℕ → Option ReadSoFar
 with_word form (Options given) word = option_or (with_name form given [] word) (with_option form given word)
 with_word form (Names given names) word = with_name form given names word
 with_word form (Arguments given names arguments) word = with_argument form given names arguments word
 
 -- ---- all words
 
-abbrev pub given_of : WordsSoFar → Given
+abbrev pub given_of : ReadSoFar → Given
 given_of (Options given) = given
 given_of (Names given names) = given
 given_of (Arguments given names arguments) = given
 
-abbrev pub names_read : WordsSoFar → List (List ℕ)
+abbrev pub names_read : ReadSoFar → List (List ℕ)
 names_read (Options given) = []
 names_read (Names given names) = names
 names_read (Arguments given names arguments) = names
 
-abbrev pub arguments_read : WordsSoFar → List (List ℕ)
+abbrev pub arguments_read : ReadSoFar → List (List ℕ)
 arguments_read (Options given) = []
 arguments_read (Names given names) = []
 arguments_read (Arguments given names arguments) = arguments
 
 -- what all words say, of which this was read
-abbrev pub line_of : Verb → WordsSoFar → CommandLine
+abbrev pub line_of : Verb → ReadSoFar → CommandLine
 line_of verb part = record { verb = verb; given = given_of part; names = names_read part; arguments = arguments_read part }
 
 -- what the words are read as that end here, where the next would be number k
-abbrev pub ended : Verb → ℕ → WordsSoFar → Reading
+abbrev pub ended : Verb → ℕ → ReadSoFar → LineReading
 ended verb k part = if nat_le (form_of verb).least (length (names_read part)) then says (line_of verb part) else bad k
 
-abbrev pub part_or : Reading → (WordsSoFar → Reading) → Option WordsSoFar → Reading
+abbrev pub part_or : LineReading → (ReadSoFar → LineReading) → Option ReadSoFar → LineReading
 part_or other next None = other
 part_or other next (Some part) = next part
 
 -- what the words are read as that stand behind those that were read, of which the first is number k
-abbrev pub read_from : Verb → WordsSoFar → ℕ → List (List ℕ) → Reading
+abbrev pub read_from : Verb → ReadSoFar → ℕ → List (List ℕ) → LineReading
 read_from verb part k [] = ended verb k part
 read_from verb part k (word ∷ words) =
     part_or (bad k) (λ more. read_from verb more (k + 1) words) (with_word (form_of verb) part word)
 
-abbrev pub after_verb : List (List ℕ) → Option Verb → Reading
+abbrev pub after_verb : List (List ℕ) → Option Verb → LineReading
 after_verb words None = bad 0
 after_verb words (Some verb) = read_from verb (Options nothing_given) 1 words
 
 -- what the words say, or the first bad word
-abbrev pub reading_of : List (List ℕ) → Reading
+abbrev pub reading_of : List (List ℕ) → LineReading
 reading_of [] = bad 0
 reading_of (word ∷ words) = after_verb words (verb_of word)
 
@@ -225,12 +225,12 @@ sample_number (name ∷ []) = number_of 1000 name
 sample_number (name ∷ next ∷ more) = None
 
 -- the names of a line
-abbrev pub names_of : Reading → List (List ℕ)
+abbrev pub names_of : LineReading → List (List ℕ)
 names_of (says line) = line.names
 names_of (bad word) = []
 
 -- the first bad word where that of this number is none of any form
-abbrev pub bad_of : ℕ → Reading → ℕ
+abbrev pub bad_of : ℕ → LineReading → ℕ
 bad_of k (says line) = k
 bad_of k (bad word) = word
 

@@ -3,7 +3,7 @@
 ghost use Rattle.std.specs.Prelude.{◌≡◌, ◌≤◌, ◌+◌, [], IfOk, IfSome, Some, true, map, option_and_then, string_bytes, take, drop, length, nat_le};
 ghost use Rattle.ns_base.specs.Limits.{InRange};
 ghost use Rattle.ns_run_words.specs.FileName as file_name;
-ghost use Rattle.ns_run_words.specs.Forms.{IsSpelled};
+ghost use Rattle.ns_run_words.specs.Forms.{IsSpelledLine};
 ghost use Rattle.ns_run_words.specs.Line.{line_seen, seen};
 ghost use Rattle.ns_run_words.specs.Table.{form_of as form_of_lem};
 ghost use Rattle.ns_run_words.specs.Words as spec;
@@ -62,7 +62,7 @@ pub struct BadWord(pub u64);
 /// What the words say, or the first bad word. `form_of` has the form of each command.
 pub fn words(words: &[String]) -> Result<Line<'_>, BadWord>
     ensures reading { seen result ≡ spec.reading_of (map string_bytes words.now) }
-    ensures spelled { IfOk result (λ line. IsSpelled (line_seen line)) }
+    ensures spelled { IfOk result (λ line. IsSpelledLine (line_seen line)) }
     ensures range { IfOk result (λ line. InRange (spec.limits_of line.given)) }
     ensures quantum { IfOk result (λ line. 1 ≤ spec.quantum_of line.given) }
 {

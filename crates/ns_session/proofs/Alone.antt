@@ -16,7 +16,7 @@ use Rattle.ns_machine_moves.specs.Valid.{Valid}
 use Rattle.ns_machine_moves.specs.laws.Still.{moves_on}
 use Rattle.ns_link.specs.Stated.{IsOnTheWay, TurnsAreOnTheWay}
 use Rattle.ns_session.specs.Member.{Application, start_of, taken, IsAlone}
-use Rattle.ns_session.specs.Laws.{ComesToRest, PrintsOn, SourceLeads}
+use Rattle.ns_session.specs.Laws.{ComesToRest, ComesToLast, SourceLeads}
 use Rattle.ns_session.proofs.Counting.{Known, used, counted, turned_alone, charges_going}
 use Rattle.ns_session.proofs.Starting.{start_unused}
 
@@ -50,7 +50,7 @@ comes code add stay start state last one all is end still =
     ∙ (add start all one ∙ (ap (moves code one) end ∙ stay last one still))))
 
 pub leads : (application : Application) → ((s : State) → MovesAdd application.code s) → ((s : State) → StaysStill application.code s) → MovesGoOnward application.code
-    → (state last : State) → IsAlone application state → ComesToRest application last → PrintsOn state last
+    → (state last : State) → IsAlone application state → ComesToRest application last → ComesToLast state last
 leads application add stay onward state last alone rests =
     let count = count_of application.code (taken state) (start_of application) state alone in
     let there = comes application.code add stay (start_of application) state last count rests.count

@@ -13,7 +13,7 @@ use Rattle.ns_machine_moves.specs.State.{State, world_of}
 use Rattle.ns_machine_moves.specs.Turn.{is_still, charges, charged_in, one_if, Turns}
 use Rattle.ns_machine_moves.specs.Valid.{Valid}
 use Rattle.ns_session.specs.RobinLaws.{TurnsAreTurned}
-use Rattle.ns_session.specs.Turned.{Underway, is_over, moved_on, steps_behind, turned}
+use Rattle.ns_session.specs.Turned.{TurnUnderway, is_over, moved_on, steps_behind, turned}
 
 -- What is known of moves.
 pub record Known (code : CodeProgram) (grants : Grants) : Type 0 where
@@ -50,17 +50,17 @@ stops code state next = inl (record { count = 0; is = refl; charged = refl; next
 
 -- ---- a turn that goes on, and one that is over
 
-abbrev at_turn : ℕ → State → Underway
+abbrev at_turn : ℕ → State → TurnUnderway
 at_turn steps state = record { steps = steps; state = state }
 
-over_stays : (code : CodeProgram) (count : ℕ) (turn : Underway) → is_over code turn ≡ true → times (moved_on code) count turn ≡ turn
+over_stays : (code : CodeProgram) (count : ℕ) (turn : TurnUnderway) → is_over code turn ≡ true → times (moved_on code) count turn ≡ turn
 over_stays code zero turn over = refl
 over_stays code (suc count) turn over =
     let same : moved_on code turn ≡ turn
     = ap (λ (b : Bool). if b then turn else at_turn (steps_behind (charges code turn.state) turn.steps) (move code turn.state)) over in
     ap (times (moved_on code) count) same ∙ over_stays code count turn over
 
-goes_on : (code : CodeProgram) (turn : Underway) → is_over code turn ≡ false
+goes_on : (code : CodeProgram) (turn : TurnUnderway) → is_over code turn ≡ false
     → moved_on code turn ≡ at_turn (steps_behind (charges code turn.state) turn.steps) (move code turn.state)
 goes_on code turn on =
     ap (λ (b : Bool). if b then turn else at_turn (steps_behind (charges code turn.state) turn.steps) (move code turn.state)) on
@@ -98,10 +98,10 @@ not_out true other e = absurd (cc)
 not_out false other e = e
 
 -- so many moves after which it is over are the turn
-turn_made : (code : CodeProgram) (count steps : ℕ) (state : State) (last : Underway) → times (moved_on code) count (at_turn steps state) ≡ last
+turn_made : (code : CodeProgram) (count steps : ℕ) (state : State) (last : TurnUnderway) → times (moved_on code) count (at_turn steps state) ≡ last
     → is_over code last ≡ true → Turns code steps state last.state
 turn_made code zero steps state last is over =
-    subst (λ (t : Underway). Turns code steps state t.state) is (over_turns code steps state (ap (is_over code) is ∙ over))
+    subst (λ (t : TurnUnderway). Turns code steps state t.state) is (over_turns code steps state (ap (is_over code) is ∙ over))
 turn_made code (suc more) steps state last is over =
     by (is_over code (at_turn steps state)) refl is
     (λ next. turn_made code more (steps_behind (charges code state) steps) (move code state) last next over)
@@ -112,7 +112,7 @@ turn_made code (suc more) steps state last is over =
         → Turns code steps state last.state
     by true e is rest =
         let same : at_turn steps state ≡ last = sym (over_stays code (suc more) (at_turn steps state) e) ∙ is in
-        subst (λ (t : Underway). Turns code steps state t.state) same (over_turns code steps state e)
+        subst (λ (t : TurnUnderway). Turns code steps state t.state) same (over_turns code steps state e)
     by false e is rest =
         let out = not_out (is_still state) (charges code state && steps == 0) e in
         let next = ap (times (moved_on code) more) (sym (goes_on code (at_turn steps state) e)) ∙ is in
@@ -120,7 +120,7 @@ turn_made code (suc more) steps state last is over =
 
 module _ (code : CodeProgram) (grants : Grants) (known : Known code grants) where
   -- as long as a turn isn't over, each of its moves lowers what is left of the run
-  lowered : (count : ℕ) (turn : Underway) → Valid code grants turn.state → is_over code (times (moved_on code) count turn) ≡ false
+  lowered : (count : ℕ) (turn : TurnUnderway) → Valid code grants turn.state → is_over code (times (moved_on code) count turn) ≡ false
       → count + 1 ≤ run_left code turn.state
   lowered zero turn valid on =
       let less = known.lower turn.state valid (not_still (is_still turn.state) (charges code turn.state && turn.steps == 0) on) in
@@ -146,7 +146,7 @@ module _ (code : CodeProgram) (grants : Grants) (known : Known code grants) wher
     abbrev power : ℕ
     power = power_left code (world_of state).limits
 
-    abbrev last : Underway
+    abbrev last : TurnUnderway
     last = until (is_over code) (moved_on code) 0 power (at_turn steps state)
 
     over : StepsLead (is_over code) (moved_on code) 0 power (at_turn steps state) last → is_over code last ≡ true

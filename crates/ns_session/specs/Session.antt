@@ -65,9 +65,9 @@ line_in None = None
 line_in (Some member) = line_of member
 
 -- what a turn of an application answers: how its run has ended, or that it goes on
-abbrev pub TurnAnswer : Turn → Option MemberView → Type 0
-TurnAnswer turn None = ⊥
-TurnAnswer turn (Some member) = turn ≡ turn_at member.state
+abbrev pub AnswersTurn : Turn → Option MemberView → Type 0
+AnswersTurn turn None = ⊥
+AnswersTurn turn (Some member) = turn ≡ turn_at member.state
 
 -- The application of that number, if it isn't granted the board, stands where its run on its own stands.
 abbrev pub IsAloneAt : ℕ → SessionView → Type 0

@@ -10,12 +10,12 @@ use Rattle.ns_machine_moves.specs.Turn.{is_still, charges}
 use Rattle.ns_session.specs.Member.{board_of}
 
 -- where a turn stands: the steps that are left of it, and the run
-pub record Underway : Type 0 where
+pub record TurnUnderway : Type 0 where
   pub steps : ℕ
   pub state : State
 
 -- whether it is over: the run moves no more, or its next move would charge a step and none is left
-abbrev pub is_over : CodeProgram → Underway → Bool
+abbrev pub is_over : CodeProgram → TurnUnderway → Bool
 is_over code turn = is_still turn.state || (charges code turn.state && turn.steps == 0)
 
 -- the steps that a move leaves, by whether it charges one
@@ -24,7 +24,7 @@ steps_behind true steps = steps - 1
 steps_behind false steps = steps
 
 -- a turn on by one move, unless it is over
-abbrev pub moved_on : CodeProgram → Underway → Underway
+abbrev pub moved_on : CodeProgram → TurnUnderway → TurnUnderway
 moved_on code turn =
     if is_over code turn then turn
     else record { steps = steps_behind (charges code turn.state) turn.steps; state = move code turn.state }

@@ -6,7 +6,6 @@
 pub mod fault;
 pub mod laws;
 mod member;
-pub mod robin;
 pub mod robin_laws;
 pub mod rounds;
 pub mod session;

@@ -4,7 +4,7 @@ ghost use Rattle.std.specs.Prelude.{◌≡◌, ◌≤◌, ◌<◌, ◌↔◌, []
 ghost use Rattle.std.specs.Option.{option_copied};
 ghost use Rattle.ns_base.specs.Limits.{InRange};
 ghost use Rattle.ns_session.specs.Member.{transcript_of};
-ghost use Rattle.ns_session.specs.Session.{added, Plays, OthersStay, BoardStays, ending_in, report_in, line_in, TurnAnswer, IsAloneAt};
+ghost use Rattle.ns_session.specs.Session.{added, Plays, OthersStay, BoardStays, ending_in, report_in, line_in, AnswersTurn, IsAloneAt};
 ghost use Rattle.ns_session.specs.Reached.{left_of};
 ghost use Rattle.ns_session.specs.Rounds.{CanGoOn};
 ghost use Rattle.ns_session.specs.Play.{opened};
@@ -96,7 +96,7 @@ impl Session {
     pub fn turn(&mut self, k: u32, steps: u64) -> Result<Turn, NoSuch>
         ensures none { IsErr result ↔ (length self.old.members ≤ k) }
         ensures pair { Plays (record { number = k; steps = steps }) self.old self.new }
-        ensures answer { IfOk result (λ turn. TurnAnswer turn (slice_get self.new.members k)) }
+        ensures answer { IfOk result (λ turn. AnswersTurn turn (slice_get self.new.members k)) }
         ensures others { OthersStay k self.old self.new }
         ensures board { BoardStays k self.old self.new }
         ensures less { 1 ≤ steps → CanGoOn k self.old → left_of self.new.members < left_of self.old.members }

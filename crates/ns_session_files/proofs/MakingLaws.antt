@@ -20,7 +20,7 @@ use Rattle.ns_session.specs.Member.{Application, MemberView, starting}
 use Rattle.ns_session.specs.Session.{SessionView, added}
 use Rattle.ns_run_words.specs.Application.{Asked, all_name_files, are_few}
 use Rattle.ns_run_words.specs.FileName.{is_file_name}
-use Rattle.ns_session_files.specs.Answer.{AreAdmitted, IsCodeOf, IsSessionFault, IsMadeAs, IsWithAll, MakesSession, OfSomeName, OfSomeTexts, with_all}
+use Rattle.ns_session_files.specs.Answer.{AreAdmitted, IsCodeOf, IsFaultOfMaking, IsMadeAs, IsWithAll, AddsAll, OfSomeName, OfSomeTexts, with_all}
 use Rattle.ns_session_files.specs.Making.{Making, Source, all_made, application_of, behind, files_asked, made, made_of, of_least, of_loading, of_source, refused, then_made}
 use Rattle.ns_session_files.specs.declared.fault.JointFault.{JointFault}
 use Rattle.ns_session_files.specs.declared.fault.JointFault.TheVariants as fault
@@ -42,14 +42,14 @@ all_both limits one other old =
     ap (λ (xs : List MemberView). record old { members = xs }) members
 
 -- a refusal is the first
-fault_first : (one other : Making) (why : JointFault) → IsSessionFault one why → IsSessionFault (then_made one other) why
+fault_first : (one other : Making) (why : JointFault) → IsFaultOfMaking one why → IsFaultOfMaking (then_made one other) why
 fault_first one other fault.Unread h = tt
 fault_first one other (fault.Unloaded names cause file) h = ap (λ m. then_made m other) h
 fault_first one other (fault.Unchecked names place cause) h = ap (λ m. then_made m other) h
 fault_first one other (fault.TooLarge kind) h = ap (λ m. then_made m other) h
 fault_first one other fault.Memory h = tt
 
-fault_next : (sources : List Source) (other : Making) (why : JointFault) → IsSessionFault other why → IsSessionFault (behind sources other) why
+fault_next : (sources : List Source) (other : Making) (why : JointFault) → IsFaultOfMaking other why → IsFaultOfMaking (behind sources other) why
 fault_next sources other fault.Unread h = tt
 fault_next sources other (fault.Unloaded names cause file) h = ap (behind sources) h
 fault_next sources other (fault.Unchecked names place cause) h = ap (behind sources) h
@@ -61,7 +61,7 @@ all_next limits sources (made more) old mid new (is, a) (next, b) =
     (next ∙ ap (with_all limits more) is ∙ all_both limits sources more old, admitted_both sources more a b)
 all_next limits sources (refused why) old mid new h k = absurd k
 
-then_makes : (limits : Limits) (one other : Making) (old mid new : SessionView) (result : Result (Unit {0}) JointFault) → IsWithAll limits one old mid → MakesSession limits other mid new result → MakesSession limits (then_made one other) old new result
+then_makes : (limits : Limits) (one other : Making) (old mid new : SessionView) (result : Result (Unit {0}) JointFault) → IsWithAll limits one old mid → AddsAll limits other mid new result → AddsAll limits (then_made one other) old new result
 then_makes limits (made sources) other old mid new (Ok _) h k = all_next limits sources other old mid new h k
 then_makes limits (made sources) other old mid new (Err why) h k = fault_next sources other why k
 then_makes limits (refused why) other old mid new result h k = absurd h
@@ -85,28 +85,28 @@ apart lib asked more one others e =
 
 module _ (limits : Limits) (lib : Bool) (asked : Asked) (more : List Asked) (old mid new : SessionView) where
   -- An application was made, and then the others.
-  pub next_texts : (result : Result (Unit {0}) JointFault) → OfSomeTexts asked.names (λ texts. MakesSession limits (made_of lib asked texts) old mid (Ok tt)) → OfSomeTexts (files_asked more) (λ texts. MakesSession limits (all_made lib more texts) mid new result)
-      → OfSomeTexts (files_asked (asked ∷ more)) (λ texts. MakesSession limits (all_made lib (asked ∷ more) texts) old new result)
+  pub next_texts : (result : Result (Unit {0}) JointFault) → OfSomeTexts asked.names (λ texts. AddsAll limits (made_of lib asked texts) old mid (Ok tt)) → OfSomeTexts (files_asked more) (λ texts. AddsAll limits (all_made lib more texts) mid new result)
+      → OfSomeTexts (files_asked (asked ∷ more)) (λ texts. AddsAll limits (all_made lib (asked ∷ more) texts) old new result)
   next_texts result (one, n, h) (others, m, k) = (
     one ++ others,
     length-append one others ∙ omega (arith, n, m, length-append asked.names (files_asked more)),
-    subst (λ making. MakesSession limits making old new result) (sym (apart lib asked more one others n)) (then_makes limits (made_of lib asked one) (all_made lib more others) old mid new result h k),
+    subst (λ making. AddsAll limits making old new result) (sym (apart lib asked more one others n)) (then_makes limits (made_of lib asked one) (all_made lib more others) old mid new result h k),
   )
 
-  pub next_told : (files : Files) (result : Result (Unit {0}) JointFault) → MakesSession limits (made_of lib asked (map files asked.names)) old mid (Ok tt) → MakesSession limits (all_made lib more (map files (files_asked more))) mid new result
-      → MakesSession limits (all_made lib (asked ∷ more) (map files (files_asked (asked ∷ more)))) old new result
+  pub next_told : (files : Files) (result : Result (Unit {0}) JointFault) → AddsAll limits (made_of lib asked (map files asked.names)) old mid (Ok tt) → AddsAll limits (all_made lib more (map files (files_asked more))) mid new result
+      → AddsAll limits (all_made lib (asked ∷ more) (map files (files_asked (asked ∷ more)))) old new result
   next_told files result h k =
-      subst (λ (t : List (Option (List ℕ))). MakesSession limits (all_made lib (asked ∷ more) t) old new result) (sym (map-append files asked.names (files_asked more)))
-      (subst (λ making. MakesSession limits making old new result) (sym (apart lib asked more (map files asked.names) (map files (files_asked more)) (length-map asked.names files)))
+      subst (λ (t : List (Option (List ℕ))). AddsAll limits (all_made lib (asked ∷ more) t) old new result) (sym (map-append files asked.names (files_asked more)))
+      (subst (λ making. AddsAll limits making old new result) (sym (apart lib asked more (map files asked.names) (map files (files_asked more)) (length-map asked.names files)))
       (then_makes limits (made_of lib asked (map files asked.names)) (all_made lib more (map files (files_asked more))) old mid new result h k))
 
   -- An application was refused.
-  pub first_texts : (why : JointFault) → OfSomeTexts asked.names (λ texts. IsSessionFault (made_of lib asked texts) why) → OfSomeTexts (files_asked (asked ∷ more)) (λ texts. IsSessionFault (all_made lib (asked ∷ more) texts) why)
+  pub first_texts : (why : JointFault) → OfSomeTexts asked.names (λ texts. IsFaultOfMaking (made_of lib asked texts) why) → OfSomeTexts (files_asked (asked ∷ more)) (λ texts. IsFaultOfMaking (all_made lib (asked ∷ more) texts) why)
   first_texts why (one, n, h) =
       let others : OfSomeTexts (files_asked more) (λ texts. Unit {0}) = empty (files_asked more) in (
         one ++ others.0,
         length-append one others.0 ∙ omega (arith, n, others.1, length-append asked.names (files_asked more)),
-        subst (λ making. IsSessionFault making why) (sym (apart lib asked more one others.0 n)) (fault_first (made_of lib asked one) (all_made lib more others.0) why h),
+        subst (λ making. IsFaultOfMaking making why) (sym (apart lib asked more one others.0 n)) (fault_first (made_of lib asked one) (all_made lib more others.0) why h),
       )
     where
       empty : (names : List (List ℕ)) → OfSomeTexts names (λ texts. Unit {0})
@@ -136,7 +136,7 @@ some_back (name ∷ names) more P s = let r : OfSomeName (names ++ more) P = som
 pub memory_texts : (grants : Grants) (names : List (List ℕ)) (making : List (Option (List ℕ)) → Making) (result : Result CodeProgram JointFault) → IsErrAnd result (λ e. e ≡ fault.Memory) → OfSomeTexts names (λ texts. IsMadeAs grants (making texts) result)
 memory_texts grants names making (Ok code) h = absurd h
 memory_texts grants names making (Err why) h =
-    let t : OfSomeTexts names (λ texts. Unit {0}) = empty names in (t.0, t.1, subst (λ e. IsSessionFault (making t.0) e) (sym h) tt)
+    let t : OfSomeTexts names (λ texts. Unit {0}) = empty names in (t.0, t.1, subst (λ e. IsFaultOfMaking (making t.0) e) (sym h) tt)
   where
     empty : (names : List (List ℕ)) → OfSomeTexts names (λ texts. Unit {0})
     empty [] = ([], refl, tt)
@@ -184,13 +184,13 @@ few_named most names e = second (nat_le (length names) most) e
 
 -- An application that was made is added.
 pub one_makes : (limits : Limits) (grants given : Grants) (making : Making) (code : CodeProgram) (old new : SessionView) (result : Result (Unit {0}) JointFault) → IsCodeOf grants making code → given ≡ grants
-    → IfOk result (λ done. new ≡ added (record { code = code; grants = given; limits = limits }) old) → IfErr result (λ why. why ≡ fault.Memory) → MakesSession limits making old new result
+    → IfOk result (λ done. new ≡ added (record { code = code; grants = given; limits = limits }) old) → IfErr result (λ why. why ≡ fault.Memory) → AddsAll limits making old new result
 one_makes limits grants given (made []) code old new result h g a m = absurd h
 one_makes limits grants given (made (source ∷ [])) code old new (Ok done) h g a m =
     let is : record { code = code; grants = given; limits = limits } ≡ application_of limits source =
     ap (λ (c : CodeProgram). record { code = c; grants = given; limits = limits }) h.0
     ∙ ap (λ (k : Grants). record { code = code_of source.meant; grants = k; limits = limits }) (g ∙ sym h.1)
     in (a ∙ ap (λ (application : Application). added application old) is, (h.2, tt))
-one_makes limits grants given (made (source ∷ [])) code old new (Err why) h g a m = subst (λ e. IsSessionFault (made (source ∷ [])) e) (sym m) tt
+one_makes limits grants given (made (source ∷ [])) code old new (Err why) h g a m = subst (λ e. IsFaultOfMaking (made (source ∷ [])) e) (sym m) tt
 one_makes limits grants given (made (source ∷ next ∷ more)) code old new result h g a m = absurd h
 one_makes limits grants given (refused why) code old new result h g a m = absurd h

@@ -23,12 +23,12 @@ use Rattle.ns_session_files.specs.declared.joint.Told.{Told}
 -- ---- faults
 
 -- The fault is this refusal, where it is one. That a file couldn't be read and want of memory are none.
-abbrev pub IsThatRefusal : (Refusal → Type 0) → JointFault → Type 0
-IsThatRefusal P fault.Unread = Unit {0}
-IsThatRefusal P (fault.Unloaded names cause file) = P (unloaded (map string_bytes names.items) (At cause file))
-IsThatRefusal P (fault.Unchecked names place cause) = P (unchecked (map string_bytes names.items) (record { place = place; cause = cause }))
-IsThatRefusal P (fault.TooLarge kind) = P (too_large kind)
-IsThatRefusal P fault.Memory = Unit {0}
+abbrev pub IfRefusal : (Refusal → Type 0) → JointFault → Type 0
+IfRefusal P fault.Unread = Unit {0}
+IfRefusal P (fault.Unloaded names cause file) = P (unloaded (map string_bytes names.items) (At cause file))
+IfRefusal P (fault.Unchecked names place cause) = P (unchecked (map string_bytes names.items) (record { place = place; cause = cause }))
+IfRefusal P (fault.TooLarge kind) = P (too_large kind)
+IfRefusal P fault.Memory = Unit {0}
 
 -- The fault is a refusal, and this one.
 abbrev pub RefusesAs : (Refusal → Type 0) → JointFault → Type 0
@@ -39,8 +39,8 @@ RefusesAs P (fault.TooLarge kind) = P (too_large kind)
 RefusesAs P fault.Memory = ⊥
 
 -- Applications couldn't be made for that.
-abbrev pub IsSessionFault : Making → JointFault → Type 0
-IsSessionFault making why = IsThatRefusal (λ refusal. making ≡ refused refusal) why
+abbrev pub IsFaultOfMaking : Making → JointFault → Type 0
+IsFaultOfMaking making why = IfRefusal (λ refusal. making ≡ refused refusal) why
 
 -- The file was refused: it isn't that it couldn't be read.
 abbrev pub IsRefusedFile : LoadCause → Type 0
@@ -98,7 +98,7 @@ IsCodeOf grants (refused why) code = ⊥
 -- The code of the application was made, or there is a refusal.
 abbrev pub IsMadeAs : Grants → Making → Result CodeProgram JointFault → Type 0
 IsMadeAs grants making (Ok code) = IsCodeOf grants making code
-IsMadeAs grants making (Err why) = IsSessionFault making why
+IsMadeAs grants making (Err why) = IsFaultOfMaking making why
 
 -- ---- all applications
 
@@ -115,9 +115,9 @@ IsWithAll limits (made sources) old new = (new ≡ with_all limits sources old) 
 IsWithAll limits (refused why) old new = ⊥
 
 -- All applications were made and stand in the session, or one was refused.
-abbrev pub MakesSession : Limits → Making → SessionView → SessionView → Result (Unit {0}) JointFault → Type 0
-MakesSession limits making old new (Ok _) = IsWithAll limits making old new
-MakesSession limits making old new (Err why) = IsSessionFault making why
+abbrev pub AddsAll : Limits → Making → SessionView → SessionView → Result (Unit {0}) JointFault → Type 0
+AddsAll limits making old new (Ok _) = IsWithAll limits making old new
+AddsAll limits making old new (Err why) = IsFaultOfMaking making why
 
 -- ---- files
 
@@ -136,6 +136,6 @@ SomeIsThere files names = OfSomeName names (λ file. IsSome (files file))
 -- ---- the session
 
 -- All have run, or there is a refusal.
-abbrev pub Tells : Joint → Result Told JointFault → Type 0
-Tells joint (Ok told) = joint ≡ has_run told
-Tells joint (Err why) = IsThatRefusal (λ refusal. joint ≡ stopped_for refusal) why
+abbrev pub TellsOfAll : Joint → Result Told JointFault → Type 0
+TellsOfAll joint (Ok told) = joint ≡ has_run told
+TellsOfAll joint (Err why) = IfRefusal (λ refusal. joint ≡ stopped_for refusal) why

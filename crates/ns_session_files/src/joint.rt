@@ -9,7 +9,7 @@ ghost use Rattle.ns_base.specs.Shelf.{OnlyRead};
 ghost use Rattle.ns_run_code.specs.Running.{IsRunStatus};
 ghost use Rattle.ns_session.specs.Play.{opened};
 ghost use Rattle.ns_run_words.specs.Application.{AreApplications};
-ghost use Rattle.ns_session_files.specs.Answer.{AreAdmitted, HasRefusedFile, IsMissingFile, OfSomeTexts, SomeIsThere, Tells};
+ghost use Rattle.ns_session_files.specs.Answer.{AreAdmitted, HasRefusedFile, IsMissingFile, OfSomeTexts, SomeIsThere, TellsOfAll};
 ghost use Rattle.ns_session_files.specs.Joint as spec;
 ghost use Rattle.ns_session_files.specs.Making.{Source, application_of, files_named};
 ghost use Rattle.ns_session_files.specs.declared.fault.JointFault.TheVariants.{Memory, Unread};
@@ -49,9 +49,9 @@ pub fn run_jointly<S: Shelf>(
     requires quantum { 1 ≤ quantum }
     requires asked { AreApplications (map string_bytes words.now) }
     requires few { length words.now ≤ 16 }
-    ensures told { (files : Files) → S.holds shelf.old ≡ Some files → Tells (spec.joint_over files lib limits quantum (map string_bytes words.now)) result }
+    ensures told { (files : Files) → S.holds shelf.old ≡ Some files → TellsOfAll (spec.joint_over files lib limits quantum (map string_bytes words.now)) result }
     ensures texts { OfSomeTexts (files_named (map string_bytes words.now)) (λ texts.
-        Tells (spec.joint_of lib limits quantum (map string_bytes words.now) texts) result) }
+        TellsOfAll (spec.joint_of lib limits quantum (map string_bytes words.now) texts) result) }
     ensures status { IfOk result (λ told. IsRunStatus told.status) }
     ensures refused { IfErr result HasRefusedFile }
     ensures only_read { OnlyRead S.holds S.misses S.faults S.store_faults shelf.old shelf.new }
@@ -61,6 +61,7 @@ pub fn run_jointly<S: Shelf>(
         SomeIsThere files (files_named (map string_bytes words.now)) }
 {
     let mut session = Session::new(alloc);
+    // By a `match`, and not by `?`: the clauses speak of the very fault that was answered.
     match make_all(alloc, words, lib, limits, shelf, &mut session) {
         Ok(()) => run_all(alloc, quantum, session),
         Err(why) => Err(why),

@@ -7,7 +7,7 @@ ghost use Rattle.ns_base.specs.Limits.{InRange};
 ghost use Rattle.ns_base.specs.Shelf.{OnlyRead};
 ghost use Rattle.ns_run_words.specs.Application.{AreApplications, are_few, asked_of, is_application};
 ghost use Rattle.ns_run_words.specs.Line.{asked_seen};
-ghost use Rattle.ns_session_files.specs.Answer.{HasRefusedFile, IsMissingFile, MakesSession, OfSomeTexts, SomeIsThere};
+ghost use Rattle.ns_session_files.specs.Answer.{HasRefusedFile, IsMissingFile, AddsAll, OfSomeTexts, SomeIsThere};
 ghost use Rattle.ns_session_files.specs.Making as spec;
 ghost use Rattle.ns_session_files.specs.declared.fault.JointFault.TheVariants.{Memory, Unread};
 ghost use Rattle.ns_session.specs.Session.{added};
@@ -37,9 +37,9 @@ pub fn make_all<S: Shelf>(
     requires asked { AreApplications (map string_bytes words.now) }
     requires room { length session.old.members + length words.now ≤ 16 }
     ensures told { (files : Files) → S.holds shelf.old ≡ Some files →
-        MakesSession limits (spec.made_over files lib (map string_bytes words.now)) session.old session.new result }
+        AddsAll limits (spec.made_over files lib (map string_bytes words.now)) session.old session.new result }
     ensures texts { OfSomeTexts (spec.files_named (map string_bytes words.now)) (λ texts.
-        MakesSession limits (spec.made_by lib (map string_bytes words.now) texts) session.old session.new result) }
+        AddsAll limits (spec.made_by lib (map string_bytes words.now) texts) session.old session.new result) }
     ensures refused { IfErr result HasRefusedFile }
     ensures only_read { OnlyRead S.holds S.misses S.faults S.store_faults shelf.old shelf.new }
     ensures missing { IfErr result (λ why. IsMissingFile why → Rose (S.misses shelf.old) (S.misses shelf.new)) }
@@ -47,6 +47,7 @@ pub fn make_all<S: Shelf>(
     ensures read_fault_there { (files : Files) → S.holds shelf.old ≡ Some files → IsErrOf result Unread →
         SomeIsThere files (spec.files_named (map string_bytes words.now)) }
 {
+    // By a `match`, and not by `?`: the clauses speak of the very fault that was answered.
     match words {
         [] => Ok(()),
         [word, rest @ ..] => match make_one(alloc, word.as_str(), lib, limits, shelf, session) {
@@ -69,8 +70,8 @@ fn make_one<S: Shelf>(
     requires asked { is_application word.now ≡ true }
     requires room { length session.old.members < 16 }
     ensures told { (files : Files) → S.holds shelf.old ≡ Some files →
-        MakesSession limits (spec.made_from files lib (asked_of word.now)) session.old session.new result }
-    ensures texts { OfSomeTexts (asked_of word.now).names (λ texts. MakesSession limits (spec.made_of lib (asked_of word.now) texts) session.old session.new result) }
+        AddsAll limits (spec.made_from files lib (asked_of word.now)) session.old session.new result }
+    ensures texts { OfSomeTexts (asked_of word.now).names (λ texts. AddsAll limits (spec.made_of lib (asked_of word.now) texts) session.old session.new result) }
     ensures count { IfOk result (λ _. length session.new.members ≡ length session.old.members + 1) }
     ensures refused { IfErr result HasRefusedFile }
     ensures only_read { OnlyRead S.holds S.misses S.faults S.store_faults shelf.old shelf.new }
@@ -97,9 +98,9 @@ fn add_asked<S: Shelf>(
     requires few { are_few 16 (asked_seen asked).names ≡ true }
     requires room { length session.old.members < 16 }
     ensures told { (files : Files) → S.holds shelf.old ≡ Some files →
-        MakesSession limits (spec.made_from files lib (asked_seen asked.entry)) session.old session.new result }
+        AddsAll limits (spec.made_from files lib (asked_seen asked.entry)) session.old session.new result }
     ensures texts { OfSomeTexts (asked_seen asked.entry).names (λ texts.
-        MakesSession limits (spec.made_of lib (asked_seen asked.entry) texts) session.old session.new result) }
+        AddsAll limits (spec.made_of lib (asked_seen asked.entry) texts) session.old session.new result) }
     ensures count { IfOk result (λ _. length session.new.members ≡ length session.old.members + 1) }
     ensures refused { IfErr result HasRefusedFile }
     ensures only_read { OnlyRead S.holds S.misses S.faults S.store_faults shelf.old shelf.new }
@@ -107,6 +108,7 @@ fn add_asked<S: Shelf>(
     ensures read_fault { IsErrOf result Unread → Rose (S.faults shelf.old) (S.faults shelf.new) }
     ensures read_fault_there { (files : Files) → S.holds shelf.old ≡ Some files → IsErrOf result Unread → SomeIsThere files (asked_seen asked.entry).names }
 {
+    // By a `match`, and not by `?`: the clauses speak of the very fault that was answered.
     match code_of(alloc, asked, lib, shelf) {
         Ok(code) => add(code, granted(asked), limits, session),
         Err(why) => Err(why),
