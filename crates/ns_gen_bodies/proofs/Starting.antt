@@ -11,7 +11,7 @@ use Rattle.ns_resolved.specs.Expressions as e
 use Rattle.ns_resolved.specs.Statements.{bars_values}
 use Rattle.ns_resolved.specs.Classes.{super_arguments}
 use Rattle.ns_resolved.specs.Tables.{node_names, nodes_names, node_texts, nodes_texts, value_of}
-use Rattle.ns_gen_code.specs.Code.{Line, does, sends, plain, starts, how_many, nodes_lines, slots_lines, expressions_lines}
+use Rattle.ns_gen_code.specs.Code.{CodeLine, does, sends, plain, starts, how_many, nodes_lines, slots_lines, expressions_lines}
 use Rattle.ns_gen_draft.specs.Drafts.{Written, with_line, with_name}
 use Rattle.ns_gen_exprs.specs.Sending.{with_lines, with_node, with_nodes, with_message}
 use Rattle.ns_gen_bodies.specs.Valuing.{with_ended, with_values}
@@ -23,7 +23,7 @@ use Rattle.ns_gen_draft.specs.laws.Writing.{written_is, put_more}
 use Rattle.ns_gen_exprs.specs.laws.Composing.{behind_node, behind_nodes, binary_put, message_is}
 use Rattle.ns_gen_bodies.proofs.Stepping.{with_all, all_same, node_put}
 
-nodes_put : (nodes : m.Nodes) (line : Line) (names texts : List (List ℕ)) (rest : ℕ → List Line) (before : Written) →
+nodes_put : (nodes : m.Nodes) (line : CodeLine) (names texts : List (List ℕ)) (rest : ℕ → List CodeLine) (before : Written) →
     with_all names texts rest (with_line (with_nodes nodes before) line)
     ≡ with_all (nodes_names nodes ++ names) (nodes_texts nodes ++ texts) (λ k. nodes_lines k nodes (line ∷ rest (k + length (nodes_texts nodes)))) before
 nodes_put nodes line names texts rest before =
@@ -34,7 +34,7 @@ nodes_put nodes line names texts rest before =
     ∙ append_assoc (before.lines ++ nodes_lines k nodes []) (line ∷ []) after
     ∙ behind_nodes nodes k before.lines (line ∷ after))
 
-slots_put : (values : List m.First) (names texts : List (List ℕ)) (rest : ℕ → List Line) (before : Written) →
+slots_put : (values : List m.First) (names texts : List (List ℕ)) (rest : ℕ → List CodeLine) (before : Written) →
     with_all names texts rest (with_values Slots values before)
     ≡ with_all (flat_map (λ first. node_names (value_of first)) values ++ names) (flat_map (λ first. node_texts (value_of first)) values ++ texts)
     (λ k. slots_lines k values rest) before
@@ -42,8 +42,8 @@ slots_put [] names texts rest before = refl
 slots_put (first ∷ others) names texts rest before =
     let others_names = flat_map (λ value. node_names (value_of value)) others in
     let others_texts = flat_map (λ value. node_texts (value_of value)) others in
-    let behind : ℕ → List Line = λ k. slots_lines k others rest in
-    let whole : ℕ → List Line = λ k. slots_lines k (first ∷ others) rest in
+    let behind : ℕ → List CodeLine = λ k. slots_lines k others rest in
+    let whole : ℕ → List CodeLine = λ k. slots_lines k (first ∷ others) rest in
     slots_put others names texts rest (with_ended first.value (i.StoreSlot first.index) before)
     ∙ node_put first.value (does (i.StoreSlot first.index) ∷ []) (others_names ++ names) (others_texts ++ texts) behind before
     ∙ all_same _ _ _ _ whole before
@@ -62,7 +62,7 @@ start_whole start before =
     let names = flat_map node_names start.expressions in
     let texts = flat_map node_texts start.expressions in
     let begun = with_start start.place start.arguments before in
-    let behind : ℕ → List Line = λ k. slots_lines k start.slots (expressions_lines start.expressions) in
+    let behind : ℕ → List CodeLine = λ k. slots_lines k start.slots (expressions_lines start.expressions) in
     expressions_put start.expressions (with_values Slots start.slots begun)
     ∙ slots_put start.slots names texts (expressions_lines start.expressions) begun
     ∙ nodes_put start.arguments (starts start.place (how_many start.arguments)) (flat_map (λ first. node_names (value_of first)) start.slots ++ names)

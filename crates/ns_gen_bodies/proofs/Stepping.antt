@@ -13,7 +13,7 @@ use Rattle.ns_scope.specs.Bodies as b
 use Rattle.ns_resolved.specs.Expressions as e
 use Rattle.ns_resolved.specs.Statements.{bars_values, step_of, list_steps}
 use Rattle.ns_resolved.specs.Tables.{put_all, node_names, node_texts, value_of, step_node}
-use Rattle.ns_gen_code.specs.Code.{Line, does, node_lines, locals_lines, method_lines, block_lines}
+use Rattle.ns_gen_code.specs.Code.{CodeLine, does, node_lines, locals_lines, method_lines, block_lines}
 use Rattle.ns_gen_draft.specs.Drafts.{Written, with_line}
 use Rattle.ns_gen_exprs.specs.Sending.{with_lines, with_node}
 use Rattle.ns_gen_bodies.specs.Valuing.{with_ended, with_local, with_values}
@@ -23,20 +23,20 @@ use Rattle.ns_gen_draft.specs.laws.Writing.{written_is, put_more}
 use Rattle.ns_gen_exprs.specs.laws.Composing.{behind_node}
 
 -- with names, literal texts, and lines that depend on the number of the first text
-abbrev pub with_all : List (List ℕ) → List (List ℕ) → (ℕ → List Line) → Written → Written
+abbrev pub with_all : List (List ℕ) → List (List ℕ) → (ℕ → List CodeLine) → Written → Written
 with_all names texts rest before =
     record { names = put_all before.names names; texts = before.texts ++ texts; lines = before.lines ++ rest (length before.texts) }
 
 all_none : (before : Written) → with_all [] [] (λ k. []) before ≡ before
 all_none before = written_is _ _ _ _ _ _ refl (append-nil before.texts) (append-nil before.lines)
 
-pub all_same : (names names' texts texts' : List (List ℕ)) (rest : ℕ → List Line) (before : Written) → names ≡ names' → texts ≡ texts' →
+pub all_same : (names names' texts texts' : List (List ℕ)) (rest : ℕ → List CodeLine) (before : Written) → names ≡ names' → texts ≡ texts' →
     with_all names texts rest before ≡ with_all names' texts' rest before
 all_same names names' texts texts' rest before p q =
     ap (λ n. with_all n texts rest before) p ∙ ap (λ t. with_all names' t rest before) q
 
 -- a node with instructions behind it, and then the rest
-pub node_put : (node : m.Node) (ends : List Line) (names texts : List (List ℕ)) (rest : ℕ → List Line) (before : Written) →
+pub node_put : (node : m.Node) (ends : List CodeLine) (names texts : List (List ℕ)) (rest : ℕ → List CodeLine) (before : Written) →
     with_all names texts rest (with_lines ends (with_node node before))
     ≡ with_all (node_names node ++ names) (node_texts node ++ texts) (λ k. node_lines k node (ends ++ rest (k + length (node_texts node)))) before
 node_put node ends names texts rest before =
@@ -47,12 +47,12 @@ node_put node ends names texts rest before =
     ∙ append_assoc (before.lines ++ node_lines k node []) ends after
     ∙ behind_node node k before.lines (ends ++ after))
 
-two_lines : (first second : Line) (before : Written) → with_line (with_line before first) second ≡ with_lines (first ∷ second ∷ []) before
+two_lines : (first second : CodeLine) (before : Written) → with_line (with_line before first) second ≡ with_lines (first ∷ second ∷ []) before
 two_lines first second before = written_is _ _ _ _ _ _ refl refl (append_assoc before.lines (first ∷ []) (second ∷ []))
 
 -- ---- values
 
-locals_put : (values : List m.First) (names texts : List (List ℕ)) (rest : ℕ → List Line) (before : Written) →
+locals_put : (values : List m.First) (names texts : List (List ℕ)) (rest : ℕ → List CodeLine) (before : Written) →
     with_all names texts rest (with_values Locals values before)
     ≡ with_all (flat_map (λ first. node_names (value_of first)) values ++ names) (flat_map (λ first. node_texts (value_of first)) values ++ texts)
     (λ k. locals_lines k values rest) before
@@ -62,8 +62,8 @@ locals_put (first ∷ others) names texts rest before =
     let others_texts = flat_map (λ value. node_texts (value_of value)) others in
     let store = does (i.StoreLocal 0 first.index) in
     let pop = does i.Pop in
-    let behind : ℕ → List Line = λ k. locals_lines k others rest in
-    let whole : ℕ → List Line = λ k. locals_lines k (first ∷ others) rest in
+    let behind : ℕ → List CodeLine = λ k. locals_lines k others rest in
+    let whole : ℕ → List CodeLine = λ k. locals_lines k (first ∷ others) rest in
     locals_put others names texts rest (with_local first.index first.value before)
     ∙ ap (with_all (others_names ++ names) (others_texts ++ texts) behind) (two_lines store pop (with_node first.value before))
     ∙ node_put first.value (store ∷ pop ∷ []) (others_names ++ names) (others_texts ++ texts) behind before

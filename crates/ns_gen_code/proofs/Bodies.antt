@@ -14,7 +14,7 @@ use Rattle.ns_verify.specs.Verify.{instrs_fault, body_fault, body_fault_in, bodi
 use Rattle.ns_resolved.specs.Program as m
 use Rattle.ns_resolved.specs.Tables.{class_code, names_of, kind_of, side_number}
 use Rattle.ns_resolved.specs.There as t
-use Rattle.ns_gen_code.specs.Code.{Line, instr_of, body_lines, body_code, code_of}
+use Rattle.ns_gen_code.specs.Code.{CodeLine, instr_of, body_lines, body_code, code_of}
 use Rattle.ns_gen_code.specs.Sizes.{size_fault, most, is_too_long, is_too_high}
 use Rattle.ns_gen_code.specs.declared.size.SizeKind.TheVariants.{Names, Bodies, Code, Height}
 use Rattle.ns_gen_code.specs.Stated.{Ends, first_text}
@@ -114,14 +114,14 @@ good_head meant number body here right sizes =
 -- ---- a body, and all bodies
 
 -- what has an end is not empty
-first_there : (names : List (List ℕ)) (code : CodeProgram) (number : ℕ) (body : BodyCode) (kind : ℕ) (lines : List Line) → Ends lines →
+first_there : (names : List (List ℕ)) (code : CodeProgram) (number : ℕ) (body : BodyCode) (kind : ℕ) (lines : List CodeLine) → Ends lines →
     instrs_fault code number body kind (begin (length (map (instr_of names) lines))) 0 (map (instr_of names) lines) ≡ None →
     body_fault_in code number body kind (map (instr_of names) lines) ≡ None
 first_there names code number body kind [] ends e = absurd ends
 first_there names code number body kind (line ∷ lines) ends e = e
 
 ending : (meant : m.Meant) (right : t.AreRightBodies meant) (homes : HomesAre (code_of meant)) (number : ℕ) (body : m.Body)
-    (here : slice_get meant.bodies number ≡ Some body) (lines : List Line) → Ends lines → Ending meant right homes number body here lines
+    (here : slice_get meant.bodies number ≡ Some body) (lines : List CodeLine) → Ends lines → Ending meant right homes number body here lines
 ending meant right homes number body here [] e = absurd e
 ending meant right homes number body here (line ∷ lines) e = e
 

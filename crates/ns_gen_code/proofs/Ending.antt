@@ -3,16 +3,16 @@ use Rattle.std.proofs.Common.{ℕ, ◌+◌, List, [], ◌∷◌, length, refl}
 use Rattle.ns_code.specs.declared.instruction.Instr.TheVariants as i
 use Rattle.ns_resolved.specs.Program as m
 use Rattle.ns_resolved.specs.Tables.{node_texts, nodes_texts}
-use Rattle.ns_gen_code.specs.Code.{Line, does, symbol, sends, starts, plain, inner, private_at, super, how_many, set_lines, node_lines, nodes_lines}
+use Rattle.ns_gen_code.specs.Code.{CodeLine, does, symbol, sends, starts, plain, inner, private_at, super, how_many, set_lines, node_lines, nodes_lines}
 use Rattle.ns_gen_code.specs.Code.{messages_lines, locals_lines, slots_lines, method_lines, block_lines, expressions_lines, body_lines}
 use Rattle.ns_gen_code.specs.Stated.{Ends}
 
-more : (line : Line) (lines : List Line) → Ends lines → Ends (line ∷ lines)
+more : (line : CodeLine) (lines : List CodeLine) → Ends lines → Ends (line ∷ lines)
 more line [] e = absurd e
 more line (next ∷ lines) e = e
 
 mutual
-  node_ends : (node : m.Node) (k : ℕ) (rest : List Line) → Ends rest → Ends (node_lines k node rest)
+  node_ends : (node : m.Node) (k : ℕ) (rest : List CodeLine) → Ends rest → Ends (node_lines k node rest)
   node_ends m.nil_value k rest e = more (does i.PushNil) rest e
   node_ends m.true_value k rest e = more (does i.PushTrue) rest e
   node_ends m.false_value k rest e = more (does i.PushFalse) rest e
@@ -43,11 +43,11 @@ mutual
       node_ends first k _ (more (does i.Pop) (node_lines (k + length (node_texts first)) then_node rest)
       (node_ends then_node (k + length (node_texts first)) rest e))
 
-  nodes_end : (nodes : m.Nodes) (k : ℕ) (rest : List Line) → Ends rest → Ends (nodes_lines k nodes rest)
+  nodes_end : (nodes : m.Nodes) (k : ℕ) (rest : List CodeLine) → Ends rest → Ends (nodes_lines k nodes rest)
   nodes_end m.no_nodes k rest e = e
   nodes_end (m.more_nodes node others) k rest e = node_ends node k _ (nodes_end others (k + length (node_texts node)) rest e)
 
-  messages_end : (messages : m.Messages) (k : ℕ) (rest : List Line) → Ends rest → Ends (messages_lines k messages rest)
+  messages_end : (messages : m.Messages) (k : ℕ) (rest : List CodeLine) → Ends rest → Ends (messages_lines k messages rest)
   messages_end (m.last_message sent arguments) k rest e = nodes_end arguments k _ (more (sends plain sent (how_many arguments)) rest e)
   messages_end (m.more_messages sent arguments others) k rest e =
       let behind = messages_lines (k + length (nodes_texts arguments)) others rest in
@@ -55,14 +55,14 @@ mutual
       more (does (i.Pick 0)) (nodes_lines k arguments lines)
       (nodes_end arguments k lines (more (does i.Pop) behind (messages_end others (k + length (nodes_texts arguments)) rest e)))
 
-locals_end : (values : List m.First) (k : ℕ) (rest : ℕ → List Line) → ((n : ℕ) → Ends (rest n)) → Ends (locals_lines k values rest)
+locals_end : (values : List m.First) (k : ℕ) (rest : ℕ → List CodeLine) → ((n : ℕ) → Ends (rest n)) → Ends (locals_lines k values rest)
 locals_end [] k rest e = e k
 locals_end (first ∷ others) k rest e =
     let behind = locals_lines (k + length (node_texts first.value)) others rest in
     node_ends first.value k (does (i.StoreLocal 0 first.index) ∷ does i.Pop ∷ behind)
     (more (does i.Pop) behind (locals_end others (k + length (node_texts first.value)) rest e))
 
-slots_end : (values : List m.First) (k : ℕ) (rest : ℕ → List Line) → ((n : ℕ) → Ends (rest n)) → Ends (slots_lines k values rest)
+slots_end : (values : List m.First) (k : ℕ) (rest : ℕ → List CodeLine) → ((n : ℕ) → Ends (rest n)) → Ends (slots_lines k values rest)
 slots_end [] k rest e = e k
 slots_end (first ∷ others) k rest e =
     let behind = slots_lines (k + length (node_texts first.value)) others rest in

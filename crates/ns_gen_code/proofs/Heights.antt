@@ -4,7 +4,7 @@ use Rattle.ns_code.specs.declared.instruction.Instr.{Instr}
 use Rattle.ns_code.specs.declared.instruction.Instr.TheVariants as i
 use Rattle.ns_resolved.specs.Program as m
 use Rattle.ns_resolved.specs.Tables.{node_texts, nodes_texts}
-use Rattle.ns_gen_code.specs.Code.{Line, does, sends, starts, plain, inner, private_at, super, how_many, set_lines, node_lines, nodes_lines}
+use Rattle.ns_gen_code.specs.Code.{CodeLine, does, sends, starts, plain, inner, private_at, super, how_many, set_lines, node_lines, nodes_lines}
 use Rattle.ns_gen_code.specs.Code.{messages_lines, locals_lines, slots_lines, method_lines, block_lines, expressions_lines, body_lines}
 use Rattle.ns_gen_code.specs.Stated.{FindsOperands, LinesFind}
 
@@ -14,7 +14,7 @@ at instrs a b f e = subst (λ h. FindsOperands h instrs) e f
 
 module _ (names : List (List ℕ)) where
   mutual
-    pub node_finds : (node : m.Node) (k h : ℕ) (rest : List Line) → LinesFind names (h + 1) rest → LinesFind names h (node_lines k node rest)
+    pub node_finds : (node : m.Node) (k h : ℕ) (rest : List CodeLine) → LinesFind names (h + 1) rest → LinesFind names h (node_lines k node rest)
     node_finds m.nil_value k h rest f = (omega arith, refl, refl, at _ _ _ f (omega arith))
     node_finds m.true_value k h rest f = (omega arith, refl, refl, at _ _ _ f (omega arith))
     node_finds m.false_value k h rest f = (omega arith, refl, refl, at _ _ _ f (omega arith))
@@ -66,13 +66,13 @@ module _ (names : List (List ℕ)) where
         node_finds first k h (does i.Pop ∷ node_lines (k + length (node_texts first)) then_node rest)
         (omega arith, refl, refl, at _ _ _ (node_finds then_node (k + length (node_texts first)) h rest f) (omega arith))
 
-    pub nodes_find : (nodes : m.Nodes) (k h : ℕ) (rest : List Line) → LinesFind names (how_many nodes + h) rest → LinesFind names h (nodes_lines k nodes rest)
+    pub nodes_find : (nodes : m.Nodes) (k h : ℕ) (rest : List CodeLine) → LinesFind names (how_many nodes + h) rest → LinesFind names h (nodes_lines k nodes rest)
     nodes_find m.no_nodes k h rest f = at _ _ _ f (omega arith)
     nodes_find (m.more_nodes node others) k h rest f =
         node_finds node k h (nodes_lines (k + length (node_texts node)) others rest)
         (nodes_find others (k + length (node_texts node)) (h + 1) rest (at _ _ _ f (omega arith)))
 
-    pub messages_find : (messages : m.Messages) (k h : ℕ) (rest : List Line) → LinesFind names (h + 1) rest →
+    pub messages_find : (messages : m.Messages) (k h : ℕ) (rest : List CodeLine) → LinesFind names (h + 1) rest →
         LinesFind names (h + 1) (messages_lines k messages rest)
     messages_find (m.last_message sent arguments) k h rest f =
         nodes_find arguments k (h + 1) (sends plain sent (how_many arguments) ∷ rest) (omega arith, refl, refl, at _ _ _ f (omega arith))
@@ -86,13 +86,13 @@ module _ (names : List (List ℕ)) where
           (omega arith),
     )
 
-  locals_find : (values : List m.First) (k : ℕ) (rest : ℕ → List Line) → ((n : ℕ) → LinesFind names 0 (rest n)) → LinesFind names 0 (locals_lines k values rest)
+  locals_find : (values : List m.First) (k : ℕ) (rest : ℕ → List CodeLine) → ((n : ℕ) → LinesFind names 0 (rest n)) → LinesFind names 0 (locals_lines k values rest)
   locals_find [] k rest f = f k
   locals_find (first ∷ others) k rest f =
       node_finds first.value k 0 (does (i.StoreLocal 0 first.index) ∷ does i.Pop ∷ locals_lines (k + length (node_texts first.value)) others rest)
       (omega arith, refl, refl, (omega arith, refl, refl, locals_find others (k + length (node_texts first.value)) rest f))
 
-  slots_find : (values : List m.First) (k : ℕ) (rest : ℕ → List Line) → ((n : ℕ) → LinesFind names 0 (rest n)) → LinesFind names 0 (slots_lines k values rest)
+  slots_find : (values : List m.First) (k : ℕ) (rest : ℕ → List CodeLine) → ((n : ℕ) → LinesFind names 0 (rest n)) → LinesFind names 0 (slots_lines k values rest)
   slots_find [] k rest f = f k
   slots_find (first ∷ others) k rest f =
       node_finds first.value k 0 (does (i.StoreSlot first.index) ∷ slots_lines (k + length (node_texts first.value)) others rest)

@@ -3,7 +3,7 @@ use Rattle.std.proofs.Common.{◌≡◌, ◌<◌, ℕ, ◌+◌, List, [], ◌∷
 use Rattle.std.specs.Prelude.{true, false, Some, None, ◌==◌, if◌then◌else◌, map}
 use Rattle.ns_base.specs.declared.place.Place.{Place}
 use Rattle.ns_code.specs.declared.instruction.Instr.{Instr}
-use Rattle.ns_gen_code.specs.Code.{Line, does, symbol, sends, starts, instr_of, places_from}
+use Rattle.ns_gen_code.specs.Code.{CodeLine, does, symbol, sends, starts, instr_of, places_from}
 use Rattle.ns_gen_code.specs.Stated.{shown, place_in, placed}
 
 other : (n k : ℕ) → n < k → (n == k) ≡ false
@@ -23,7 +23,7 @@ skip n place places k (instr ∷ instrs) h =
 later : (n k : ℕ) → n < k → (k == n) ≡ false
 later n k h = grind (arith, h)
 
-none : (n k : ℕ) (lines : List Line) → n < k → place_in (places_from k lines) n ≡ None
+none : (n k : ℕ) (lines : List CodeLine) → n < k → place_in (places_from k lines) n ≡ None
 none n k [] h = refl
 none n k (does instr ∷ lines) h = none n (k + 1) lines (omega (h, arith))
 none n k (symbol name ∷ lines) h = none n (k + 1) lines (omega (h, arith))
@@ -32,7 +32,7 @@ none n k (sends way sent count ∷ lines) h =
 none n k (starts place count ∷ lines) h =
     ap (λ b. if b then Some place else place_in (places_from (k + 1) lines) n) (later n k h) ∙ none n (k + 1) lines (omega (h, arith))
 
-pub shown_is : (names : List (List ℕ)) (n : ℕ) (lines : List Line) →
+pub shown_is : (names : List (List ℕ)) (n : ℕ) (lines : List CodeLine) →
     placed (places_from n lines) n (map (instr_of names) lines) ≡ map (shown names) lines
 shown_is names n [] = refl
 shown_is names n (does instr ∷ lines) =

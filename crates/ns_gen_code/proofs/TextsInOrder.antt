@@ -4,11 +4,11 @@ use Rattle.std.specs.Prelude.{flat_map}
 use Rattle.ns_code.specs.declared.instruction.Instr.TheVariants as i
 use Rattle.ns_resolved.specs.Program as m
 use Rattle.ns_resolved.specs.Tables.{node_texts, nodes_texts, messages_texts}
-use Rattle.ns_gen_code.specs.Code.{Line, does, sends, plain, inner, private_at, super, how_many, set_lines, node_lines, nodes_lines, messages_lines}
+use Rattle.ns_gen_code.specs.Code.{CodeLine, does, sends, plain, inner, private_at, super, how_many, set_lines, node_lines, nodes_lines, messages_lines}
 use Rattle.ns_gen_code.specs.Stated.{line_texts, numbers_from, TextsInOrder}
 
 -- the texts that lines push
-abbrev pub pushed : List Line → List ℕ
+abbrev pub pushed : List CodeLine → List ℕ
 pushed lines = flat_map line_texts lines
 
 numbers_append : (k : ℕ) (a b : List (List ℕ)) → numbers_from k (a ++ b) ≡ numbers_from k a ++ numbers_from (k + length a) b
@@ -56,7 +56,7 @@ mutual
       ∙ ap (numbers_from k (node_texts first) ++◌) (texts_in_order then_node (k + length (node_texts first)) rest)
       ∙ two_parts k (node_texts first) (node_texts then_node) (pushed rest)
 
-  pub nodes_texts_in_order : (nodes : m.Nodes) (k : ℕ) (rest : List Line) →
+  pub nodes_texts_in_order : (nodes : m.Nodes) (k : ℕ) (rest : List CodeLine) →
       pushed (nodes_lines k nodes rest) ≡ numbers_from k (nodes_texts nodes) ++ pushed rest
   nodes_texts_in_order m.no_nodes k rest = refl
   nodes_texts_in_order (m.more_nodes node others) k rest =
@@ -64,7 +64,7 @@ mutual
       ∙ ap (numbers_from k (node_texts node) ++◌) (nodes_texts_in_order others (k + length (node_texts node)) rest)
       ∙ two_parts k (node_texts node) (nodes_texts others) (pushed rest)
 
-  pub messages_texts_in_order : (messages : m.Messages) (k : ℕ) (rest : List Line) →
+  pub messages_texts_in_order : (messages : m.Messages) (k : ℕ) (rest : List CodeLine) →
       pushed (messages_lines k messages rest) ≡ numbers_from k (messages_texts messages) ++ pushed rest
   messages_texts_in_order (m.last_message sent arguments) k rest = nodes_texts_in_order arguments k (sends plain sent (how_many arguments) ∷ rest)
   messages_texts_in_order (m.more_messages sent arguments others) k rest =

@@ -21,7 +21,7 @@ use Rattle.ns_verify.specs.Verify.{placed, instrs_fault}
 use Rattle.ns_resolved.specs.Program as m
 use Rattle.ns_resolved.specs.Tables.{names_of, texts_of, kind_of}
 use Rattle.ns_resolved.specs.There as t
-use Rattle.ns_gen_code.specs.Code.{Line, Way, does, symbol, sends, starts, plain, inner, private_at, super, instr_of, send_instr, code_of}
+use Rattle.ns_gen_code.specs.Code.{CodeLine, Way, does, symbol, sends, starts, plain, inner, private_at, super, instr_of, send_instr, code_of}
 use Rattle.ns_gen_code.specs.Stated.{AreThere, FindsOperands, HaveGoodHeights, Ends, line_names}
 use Rattle.ns_gen_code.specs.Uses.{InstrHas, WayHas, LinesHave}
 use Rattle.ns_gen_code.proofs.Around.{coded}
@@ -158,7 +158,7 @@ module _ (meant : m.Meant) (right : t.AreRightBodies meant) (homes : HomesAre (c
 
   -- ---- one line
 
-  line_goes : (line : Line) → goes_on (instr_of (names_of meant) line) ≡ goes_on (instr_of [] line)
+  line_goes : (line : CodeLine) → goes_on (instr_of (names_of meant) line) ≡ goes_on (instr_of [] line)
   line_goes (does instr) = refl
   line_goes (symbol name) = refl
   line_goes (sends plain sent count) = refl
@@ -168,25 +168,25 @@ module _ (meant : m.Meant) (right : t.AreRightBodies meant) (homes : HomesAre (c
   line_goes (starts place count) = refl
 
   -- only the last line may go on to no other
-  not_last : (line : Line) (lines : List Line) (at count : ℕ) → Ends (line ∷ lines) → at + length (line ∷ lines) ≡ count →
+  not_last : (line : CodeLine) (lines : List CodeLine) (at count : ℕ) → Ends (line ∷ lines) → at + length (line ∷ lines) ≡ count →
       (at + 1 == count && goes_on (instr_of (names_of meant) line)) ≡ false
   not_last line [] at count e h = and_false (at + 1 == count) (goes_on (instr_of (names_of meant) line)) (line_goes line ∙ e)
   not_last line (next_line ∷ lines) at count e h =
       ap (λ b. b && goes_on (instr_of (names_of meant) line)) (differ (at + 1) count (omega (h, arith)))
 
   -- what is behind a line of a body
-  abbrev pub Ending : List Line → Type 0
+  abbrev pub Ending : List CodeLine → Type 0
   Ending [] = Unit {0}
   Ending (line ∷ lines) = Ends (line ∷ lines)
 
-  behind : (line : Line) (lines : List Line) → Ends (line ∷ lines) → Ending lines
+  behind : (line : CodeLine) (lines : List CodeLine) → Ends (line ∷ lines) → Ending lines
   behind line [] e = tt
   behind line (next_line ∷ lines) e = e
 
-  abbrev pub faults : Pass → ℕ → List Line → Option Fault
+  abbrev pub faults : Pass → ℕ → List CodeLine → Option Fault
   faults pass at lines = instrs_fault (code_of meant) number (coded meant number body) home pass at (map (instr_of (names_of meant)) lines)
 
-  one_line : (pass : Pass) (at height : ℕ) (line : Line) (lines : List Line) →
+  one_line : (pass : Pass) (at height : ℕ) (line : CodeLine) (lines : List CodeLine) →
       w.has_bad_head (code_of meant) number (coded meant number body) ≡ false →
       Good pass.started (instr_of (names_of meant) line) →
       HaveGoodHeights (coded meant number body) pass at (map (instr_of (names_of meant)) (line ∷ lines)) →
@@ -204,7 +204,7 @@ module _ (meant : m.Meant) (right : t.AreRightBodies meant) (homes : HomesAre (c
       no_cause _ _ _ _ _ _ jump heights.0 good.0 scope good.2 (not_last line lines at (length shown.instrs) ends count) in
       ap (λ c. option_or (option_map (placed (Body number at)) c) (faults (next pass at instr) (at + 1) lines)) cause ∙ rest
 
-  pub lines_unfaulted : (lines : List Line) (pass : Pass) (started : Bool) (at height : ℕ) →
+  pub lines_unfaulted : (lines : List CodeLine) (pass : Pass) (started : Bool) (at height : ℕ) →
       w.has_bad_head (code_of meant) number (coded meant number body) ≡ false → pass.started ≡ started →
       LinesHave (t.IsThere meant number body) (length (texts_of meant)) (kind_of body.does) started lines →
       AreThere (names_of meant) (flat_map line_names lines) →

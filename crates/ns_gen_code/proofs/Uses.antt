@@ -6,7 +6,7 @@ use Rattle.ns_code.specs.Soundness.{method_kind, block_kind, initialiser_kind, c
 use Rattle.ns_resolved.specs.Program as m
 use Rattle.ns_resolved.specs.Tables.{node_texts, nodes_texts, messages_texts, gathered, value_of, step_node, kind_of}
 use Rattle.ns_resolved.specs.Uses.{Use, how_many, NodeHas, NodesHave, MessagesHave, LocalsHave, SlotsHave, MethodHas, BlockHas, ExpressionsHave, DoesHave}
-use Rattle.ns_gen_code.specs.Code.{Line, does, sends, starts, plain, inner, private_at, super, set_lines, node_lines, nodes_lines}
+use Rattle.ns_gen_code.specs.Code.{CodeLine, does, sends, starts, plain, inner, private_at, super, set_lines, node_lines, nodes_lines}
 use Rattle.ns_gen_code.specs.Code.{messages_lines, locals_lines, slots_lines, method_lines, block_lines, expressions_lines, body_lines}
 use Rattle.ns_gen_code.specs.Uses.{LinesHave}
 
@@ -26,7 +26,7 @@ then_part k count a b h = omega (h, length-append a b, arith)
 
 module _ (Has : Use → Type 0) (count : ℕ) (kind : ℕ) where
   mutual
-    node_has : (node : m.Node) (k : ℕ) (started : Bool) (rest : List Line) → NodeHas Has node → k + length (node_texts node) ≤ count →
+    node_has : (node : m.Node) (k : ℕ) (started : Bool) (rest : List CodeLine) → NodeHas Has node → k + length (node_texts node) ≤ count →
         LinesHave Has count kind started rest → LinesHave Has count kind started (node_lines k node rest)
     node_has m.nil_value k started rest u h r = (tt, r)
     node_has m.true_value k started rest u h r = (tt, r)
@@ -69,14 +69,14 @@ module _ (Has : Use → Type 0) (count : ℕ) (kind : ℕ) where
         (first_part k count (node_texts first) (node_texts then_node) h)
         (tt, node_has then_node (k + length (node_texts first)) started rest u.1 (then_part k count (node_texts first) (node_texts then_node) h) r)
 
-    nodes_have : (nodes : m.Nodes) (k : ℕ) (started : Bool) (rest : List Line) → NodesHave Has nodes → k + length (nodes_texts nodes) ≤ count →
+    nodes_have : (nodes : m.Nodes) (k : ℕ) (started : Bool) (rest : List CodeLine) → NodesHave Has nodes → k + length (nodes_texts nodes) ≤ count →
         LinesHave Has count kind started rest → LinesHave Has count kind started (nodes_lines k nodes rest)
     nodes_have m.no_nodes k started rest u h r = r
     nodes_have (m.more_nodes node others) k started rest u h r =
         node_has node k started (nodes_lines (k + length (node_texts node)) others rest) u.0 (first_part k count (node_texts node) (nodes_texts others) h)
         (nodes_have others (k + length (node_texts node)) started rest u.1 (then_part k count (node_texts node) (nodes_texts others) h) r)
 
-    messages_have : (messages : m.Messages) (k : ℕ) (started : Bool) (rest : List Line) → MessagesHave Has messages →
+    messages_have : (messages : m.Messages) (k : ℕ) (started : Bool) (rest : List CodeLine) → MessagesHave Has messages →
         k + length (messages_texts messages) ≤ count → LinesHave Has count kind started rest →
         LinesHave Has count kind started (messages_lines k messages rest)
     messages_have (m.last_message sent arguments) k started rest u h r =
@@ -97,7 +97,7 @@ module _ (Has : Use → Type 0) (count : ℕ) (kind : ℕ) where
     )
 
   -- values, before what follows with any number up to the count
-  locals_have : (values : List m.First) (k : ℕ) (texts : List (List ℕ)) (rest : ℕ → List Line) → LocalsHave Has values →
+  locals_have : (values : List m.First) (k : ℕ) (texts : List (List ℕ)) (rest : ℕ → List CodeLine) → LocalsHave Has values →
       k + length (values_texts values ++ texts) ≤ count →
       ((n : ℕ) → n + length texts ≤ count → LinesHave Has count kind false (rest n)) → LinesHave Has count kind false (locals_lines k values rest)
   locals_have [] k texts rest u h r = r k h
@@ -115,7 +115,7 @@ module _ (Has : Use → Type 0) (count : ℕ) (kind : ℕ) where
         ),
       )
 
-  slots_have : (values : List m.First) (k : ℕ) (texts : List (List ℕ)) (rest : ℕ → List Line) → kind ≡ initialiser_kind → SlotsHave Has values →
+  slots_have : (values : List m.First) (k : ℕ) (texts : List (List ℕ)) (rest : ℕ → List CodeLine) → kind ≡ initialiser_kind → SlotsHave Has values →
       k + length (values_texts values ++ texts) ≤ count →
       ((n : ℕ) → n + length texts ≤ count → LinesHave Has count kind true (rest n)) → LinesHave Has count kind true (slots_lines k values rest)
   slots_have [] k texts rest e u h r = r k h

@@ -13,10 +13,10 @@ use Rattle.ns_verify.specs.Heights.{Pass, next}
 use Rattle.ns_verify.specs.Causes.{has_bad_height}
 use Rattle.ns_resolved.specs.Program as m
 use Rattle.ns_resolved.specs.Tables.{node_names, node_texts, body_texts, tables}
-use Rattle.ns_gen_code.specs.Code.{Line, does, symbol, sends, starts, node_lines, instr_of, height_before_next, code_of}
+use Rattle.ns_gen_code.specs.Code.{CodeLine, does, symbol, sends, starts, node_lines, instr_of, height_before_next, code_of}
 
 -- the names that a line uses
-abbrev pub line_names : Line → List (List ℕ)
+abbrev pub line_names : CodeLine → List (List ℕ)
 line_names (does instr) = []
 line_names (symbol name) = name ∷ []
 line_names (sends way sent count) = sent.selector ∷ []
@@ -27,7 +27,7 @@ abbrev pub instr_texts : Instr → List ℕ
 instr_texts (i.PushText k) = k ∷ []
 instr_texts _ = []
 
-abbrev pub line_texts : Line → List ℕ
+abbrev pub line_texts : CodeLine → List ℕ
 line_texts (does instr) = instr_texts instr
 line_texts (symbol name) = []
 line_texts (sends way sent count) = []
@@ -35,14 +35,14 @@ line_texts (starts place count) = []
 
 -- ---- instructions with their places
 
-abbrev pub line_place : Line → Option Place
+abbrev pub line_place : CodeLine → Option Place
 line_place (does instr) = None
 line_place (symbol name) = None
 line_place (sends way sent count) = Some sent.place
 line_place (starts place count) = Some place
 
 -- a line as its instruction and its place
-abbrev pub shown : List (List ℕ) → Line → Instr × Option Place
+abbrev pub shown : List (List ℕ) → CodeLine → Instr × Option Place
 shown names line = (instr_of names line, line_place line)
 
 -- the place of that number
@@ -58,12 +58,12 @@ placed places number (instr ∷ instrs) = (instr, place_in places number) ∷ pl
 -- ---- what comes first of an expression's lines does not hang on what follows
 
 abbrev pub GoOn : m.Node → Type 0
-GoOn node = (k : ℕ) (rest more : List Line) → node_lines k node (rest ++ more) ≡ node_lines k node rest ++ more
+GoOn node = (k : ℕ) (rest more : List CodeLine) → node_lines k node (rest ++ more) ≡ node_lines k node rest ++ more
 
 -- ---- the walks over expressions meet names and texts in the order of the instructions
 
 abbrev pub NamesInOrder : m.Node → Type 0
-NamesInOrder node = (k : ℕ) (rest : List Line) → flat_map line_names (node_lines k node rest) ≡ node_names node ++ flat_map line_names rest
+NamesInOrder node = (k : ℕ) (rest : List CodeLine) → flat_map line_names (node_lines k node rest) ≡ node_names node ++ flat_map line_names rest
 
 -- the numbers from one on, so many
 abbrev pub numbers_from : ℕ → List (List ℕ) → List ℕ
@@ -71,7 +71,7 @@ numbers_from k [] = []
 numbers_from k (text ∷ texts) = k ∷ numbers_from (k + 1) texts
 
 abbrev pub TextsInOrder : m.Node → Type 0
-TextsInOrder node = (k : ℕ) (rest : List Line) → flat_map line_texts (node_lines k node rest) ≡ numbers_from k (node_texts node) ++ flat_map line_texts rest
+TextsInOrder node = (k : ℕ) (rest : List CodeLine) → flat_map line_texts (node_lines k node rest) ≡ numbers_from k (node_texts node) ++ flat_map line_texts rest
 
 -- The texts stand in a table from that number on.
 abbrev pub TextsStand : List (List ℕ) → ℕ → List (List ℕ) → Type 0
@@ -100,7 +100,7 @@ FindsOperands height (instr ∷ instrs) =
     (takes instr ≤ height) × (ends_wrongly instr height ≡ false) × (target instr ≡ None) × FindsOperands (height_before_next instr height) instrs
 
 -- the same of lines
-abbrev pub LinesFind : List (List ℕ) → ℕ → List Line → Type 0
+abbrev pub LinesFind : List (List ℕ) → ℕ → List CodeLine → Type 0
 LinesFind names height lines = FindsOperands height (map (instr_of names) lines)
 
 -- No height of straight code is above the greatest.
@@ -111,7 +111,7 @@ Within greatest height (instr ∷ instrs) = (height ≤ greatest) × Within grea
 -- ---- ends
 
 -- The last line is an instruction that goes on to no other.
-abbrev pub Ends : List Line → Type 0
+abbrev pub Ends : List CodeLine → Type 0
 Ends [] = ⊥
 Ends (line ∷ []) = goes_on (instr_of [] line) ≡ false
 Ends (line ∷ (next ∷ lines)) = Ends (next ∷ lines)

@@ -4,7 +4,7 @@ use Rattle.ns_code.specs.declared.instruction.Instr.{Instr}
 use Rattle.ns_code.specs.declared.instruction.Instr.TheVariants as i
 use Rattle.ns_code.specs.Soundness.{block_kind, initialiser_kind, clause_kind}
 use Rattle.ns_resolved.specs.Uses.{Use, a_local, a_level, a_private, a_block, a_message, a_start, a_slot, a_return_home, an_integer, an_array}
-use Rattle.ns_gen_code.specs.Code.{Line, Way, does, symbol, sends, starts, plain, inner, private_at, super}
+use Rattle.ns_gen_code.specs.Code.{CodeLine, Way, does, symbol, sends, starts, plain, inner, private_at, super}
 
 -- Each use of a body of this kind has this property, and its literal texts have numbers below that count.
 module _ (Has : Use → Type 0) (texts : ℕ) (kind : ℕ) where
@@ -45,7 +45,7 @@ module _ (Has : Use → Type 0) (texts : ℕ) (kind : ℕ) where
   WayHas super selector = Unit {0}
 
   -- of lines, before which a superclass part has begun or not; it begins once, in an initialiser
-  abbrev pub LinesHave : Bool → List Line → Type 0
+  abbrev pub LinesHave : Bool → List CodeLine → Type 0
   LinesHave started [] = Unit {0}
   LinesHave started (does instr ∷ lines) = InstrHas instr × LinesHave started lines
   LinesHave started (symbol name ∷ lines) = LinesHave started lines

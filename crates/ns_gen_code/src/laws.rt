@@ -6,7 +6,7 @@ ghost use Rattle.ns_verify.specs.Heights.{begin};
 ghost use Rattle.ns_resolved.specs.Program.{Meant, Body, Does, Node};
 ghost use Rattle.ns_resolved.specs.Tables.{body_names, body_texts, names_of, texts_of, kind_of};
 ghost use Rattle.ns_resolved.specs.There.{IsThere, IsRightBody, AreRightBodies};
-ghost use Rattle.ns_gen_code.specs.Code.{Line, instr_of, places_from, body_lines, greatest_height, body_code, code_of};
+ghost use Rattle.ns_gen_code.specs.Code.{CodeLine, instr_of, places_from, body_lines, greatest_height, body_code, code_of};
 ghost use Rattle.ns_gen_code.specs.Stated.{GoOn, NamesInOrder, TextsInOrder, OneProgram, TextsStand, AreThere, LinesFind, Within, HaveGoodHeights, Ends};
 ghost use Rattle.ns_gen_code.specs.Stated.{line_names, first_text, placed, shown};
 ghost use Rattle.ns_gen_code.specs.Uses.{LinesHave};
@@ -66,7 +66,7 @@ pub fn bodies_end()
 
 /// Instructions and places, put together by the numbers of the instructions, are the lines.
 pub fn lines_are_shown()
-    ensures { (names : List (List ℕ)) (n : ℕ) (lines : List Line) → placed (places_from n lines) n (map (instr_of names) lines) ≡ map (shown names) lines }
+    ensures { (names : List (List ℕ)) (n : ℕ) (lines : List CodeLine) → placed (places_from n lines) n (map (instr_of names) lines) ≡ map (shown names) lines }
 {}
 
 /// What the lines of a right body use is there, and the numbers of its literal texts are numbers of

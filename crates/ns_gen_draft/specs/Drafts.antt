@@ -6,7 +6,7 @@ use Rattle.ns_base.specs.declared.selector.Sel.{Sel}
 use Rattle.ns_base.specs.Names.{put_in}
 use Rattle.ns_code.specs.declared.instruction.Instr.{Instr}
 use Rattle.ns_code.specs.declared.instruction.Instr.TheVariants as i
-use Rattle.ns_gen_code.specs.Code.{Line, Way, plain, inner, private_at, super, does, symbol, sends, starts}
+use Rattle.ns_gen_code.specs.Code.{CodeLine, Way, plain, inner, private_at, super, does, symbol, sends, starts}
 use Rattle.ns_gen_draft.specs.declared.draft.Draft.{Draft}
 use Rattle.ns_gen_draft.specs.declared.draft.Draft.TheVariants as d
 use Rattle.ns_gen_draft.specs.declared.draft.SendWay.{SendWay}
@@ -20,7 +20,7 @@ way_of (w.PrivateAt level) = private_at level
 way_of w.Super = super
 
 -- a line with the text of its selector
-abbrev pub line_of : List (List ℕ) → Draft → Line
+abbrev pub line_of : List (List ℕ) → Draft → CodeLine
 line_of names (d.Does instr) = does instr
 line_of names (d.Symbol sel) = symbol (slice_index_or names sel.0 [])
 line_of names (d.Sends way sel place argc) = sends (way_of way) (record { selector = slice_index_or names sel.0 []; place = place }) argc
@@ -30,7 +30,7 @@ line_of names (d.Starts place argc) = starts place argc
 pub record Written : Type 0 where
   pub names : List (List ℕ)
   pub texts : List (List ℕ)
-  pub lines : List Line
+  pub lines : List CodeLine
 
 abbrev pub written : List (List ℕ) → List (List ℕ) → List Draft → Written
 written names texts drafts = record { names = names; texts = texts; lines = map (line_of names) drafts }
@@ -47,7 +47,7 @@ AreBelow count [] = Unit {0}
 AreBelow count (draft ∷ drafts) = IsBelow count draft × AreBelow count drafts
 
 -- with a further line
-abbrev pub with_line : Written → Line → Written
+abbrev pub with_line : Written → CodeLine → Written
 with_line before line = record before { lines = before.lines ++ line ∷ [] }
 
 -- with a name in the table

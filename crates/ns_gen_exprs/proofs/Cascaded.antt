@@ -11,7 +11,7 @@ use Rattle.ns_code.specs.declared.instruction.Instr.TheVariants as i
 use Rattle.ns_resolved.specs.Program as m
 use Rattle.ns_resolved.specs.Expressions as e
 use Rattle.ns_resolved.specs.Tables.{put_all, node_names, nodes_names, node_texts, nodes_texts, messages_names, messages_texts}
-use Rattle.ns_gen_code.specs.Code.{Line, does, sends, plain, how_many, node_lines, nodes_lines, messages_lines}
+use Rattle.ns_gen_code.specs.Code.{CodeLine, does, sends, plain, how_many, node_lines, nodes_lines, messages_lines}
 use Rattle.ns_gen_draft.specs.Drafts.{Written}
 use Rattle.ns_gen_exprs.specs.Sending.{with_node, with_message}
 use Rattle.ns_gen_exprs.specs.Cascading.{with_messages, with_pop, with_copy, with_copies, left_of, with_rest, with_first, said_kept, is_said, is_repeated, unset_node}
@@ -28,7 +28,7 @@ copies_some (suc left) receiver before h = refl
 
 -- ---- to a value
 
-one_line : (before : List Line) (copy : Line) (args rest : List Line) (pop : Line) (behind : List Line) →
+one_line : (before : List CodeLine) (copy : CodeLine) (args rest : List CodeLine) (pop : CodeLine) (behind : List CodeLine) →
     (((before ++ copy ∷ []) ++ args) ++ pop ∷ []) ++ behind ≡ before ++ copy ∷ (args ++ pop ∷ behind)
 one_line before copy args rest pop behind = simp append_assoc
 

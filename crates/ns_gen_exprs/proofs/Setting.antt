@@ -9,7 +9,7 @@ use Rattle.ns_code.specs.declared.instruction.Instr.TheVariants as i
 use Rattle.ns_resolved.specs.Program as m
 use Rattle.ns_resolved.specs.Expressions as e
 use Rattle.ns_resolved.specs.Tables.{node_names}
-use Rattle.ns_gen_code.specs.Code.{Line, Way, does, sends, object_lines, way_of, set_lines}
+use Rattle.ns_gen_code.specs.Code.{CodeLine, Way, does, sends, object_lines, way_of, set_lines}
 use Rattle.ns_gen_draft.specs.Drafts.{Written, with_line, with_name}
 use Rattle.ns_gen_draft.specs.laws.Writing.{written_is, put_more}
 use Rattle.ns_gen_exprs.specs.Sending.{meant_reach, with_lines, with_node}
@@ -20,7 +20,7 @@ use Rattle.ns_gen_exprs.specs.laws.Composing.{behind_node}
 
 -- ---- one name
 
-in_line : (before under : List Line) (pick send pop : Line) → (((before ++ under) ++ pick ∷ []) ++ send ∷ []) ++ pop ∷ [] ≡ before ++ (under ++ pick ∷ send ∷ pop ∷ [])
+in_line : (before under : List CodeLine) (pick send pop : CodeLine) → (((before ++ under) ++ pick ∷ []) ++ send ∷ []) ++ pop ∷ [] ≡ before ++ (under ++ pick ∷ send ∷ pop ∷ [])
 in_line before under pick send pop = simp append_assoc
 
 pub setter_put : (reach : Reach) (sent : m.Sent) (way : Way) (depth : ℕ) (before : Written) → way ≡ way_of (meant_reach reach) → depth ≡ below reach →

@@ -7,7 +7,7 @@ use Rattle.ns_scope.specs.Bodies as b
 use Rattle.ns_resolved.specs.Program as m
 use Rattle.ns_resolved.specs.Expressions as e
 use Rattle.ns_resolved.specs.Tables.{put_all, node_names, nodes_names, node_texts, nodes_texts}
-use Rattle.ns_gen_code.specs.Code.{Line, Way, sends, plain, super, how_many, object_lines, way_of, node_lines, nodes_lines}
+use Rattle.ns_gen_code.specs.Code.{CodeLine, Way, sends, plain, super, how_many, object_lines, way_of, node_lines, nodes_lines}
 use Rattle.ns_gen_draft.specs.Drafts.{Written}
 use Rattle.ns_gen_exprs.specs.declared.reach.Reach.{Reach}
 use Rattle.ns_gen_exprs.specs.declared.reach.Reach.TheVariants as r
@@ -23,7 +23,7 @@ meant_reach (r.PrivateOf level) = m.private_of level
 -- ---- whole nodes
 
 -- with further lines
-abbrev pub with_lines : List Line → Written → Written
+abbrev pub with_lines : List CodeLine → Written → Written
 with_lines lines before = record before { lines = before.lines ++ lines }
 
 -- with a node: its names, its literal texts and its lines
@@ -61,7 +61,7 @@ with_receiver e.to_super before = before
 with_receiver (e.to_outer class) before = before
 
 -- the lines under the arguments of a message
-abbrev pub begin_lines : Scope → Receiver → List ℕ → List Line → List Line
+abbrev pub begin_lines : Scope → Receiver → List ℕ → List CodeLine → List CodeLine
 begin_lines scope v.Value selector rest = rest
 begin_lines scope v.Own selector rest = object_lines (e.reach_self scope selector) rest
 begin_lines scope v.Super selector rest = rest

@@ -12,14 +12,14 @@ use Rattle.ns_code.specs.declared.instruction.Instr.{Instr}
 use Rattle.ns_code.specs.declared.instruction.Instr.TheVariants as i
 use Rattle.ns_resolved.specs.Program.{Meant, Body, Does, as_method}
 use Rattle.ns_resolved.specs.Tables.{gathered, node_texts, nodes_texts, body_texts, texts_of}
-use Rattle.ns_gen_code.specs.Code.{Line, does, symbol, sends, starts, instr_of, send_instr, places_from, body_lines, bodies_code, code_of}
+use Rattle.ns_gen_code.specs.Code.{CodeLine, does, symbol, sends, starts, instr_of, send_instr, places_from, body_lines, bodies_code, code_of}
 use Rattle.ns_machine_moves.specs.Steps.{PlacedInstr, place_in, placed, literal}
 use Rattle.ns_link.specs.Shown.{shown}
 use Rattle.ns_link.proofs.Sim.{Texts, split}
 use Rattle.ns_link.proofs.RunOk.{Coded}
 
 -- no entry has a smaller number
-places_later : (lines : List Line) (n k : ℕ) → k < n → place_in (places_from n lines) k ≡ None
+places_later : (lines : List CodeLine) (n k : ℕ) → k < n → place_in (places_from n lines) k ≡ None
 places_later [] n k h = refl
 places_later (does x ∷ lines) n k h = places_later lines (n + 1) k (omega (arith, h))
 places_later (symbol name ∷ lines) n k h = places_later lines (n + 1) k (omega (arith, h))
@@ -46,13 +46,13 @@ found x place places n instrs lines e =
     ∙ ap (λ (l : List PlacedInstr). (x, Some place) ∷ l) (skipped n place places (n + 1) instrs (omega arith) ∙ e)
 
 -- an instruction without one
-bare : (x : Instr) (more : List Line) (n : ℕ) (instrs : List Instr) (lines : List PlacedInstr) → placed (places_from (n + 1) more) (n + 1) instrs ≡ lines
+bare : (x : Instr) (more : List CodeLine) (n : ℕ) (instrs : List Instr) (lines : List PlacedInstr) → placed (places_from (n + 1) more) (n + 1) instrs ≡ lines
     → placed (places_from (n + 1) more) n (x ∷ instrs) ≡ (x, None) ∷ lines
 bare x more n instrs lines e =
     ap (λ (o : Option Place). (x, o) ∷ placed (places_from (n + 1) more) (n + 1) instrs) (places_later more (n + 1) n (omega arith))
     ∙ ap (λ (l : List PlacedInstr). (x, None) ∷ l) e
 
-placed_shown : (names : List (List ℕ)) (lines : List Line) (n : ℕ) → placed (places_from n lines) n (map (instr_of names) lines) ≡ shown names lines
+placed_shown : (names : List (List ℕ)) (lines : List CodeLine) (n : ℕ) → placed (places_from n lines) n (map (instr_of names) lines) ≡ shown names lines
 placed_shown names [] n = refl
 placed_shown names (does x ∷ lines) n = bare x lines n (map (instr_of names) lines) (shown names lines) (placed_shown names lines (n + 1))
 placed_shown names (symbol name ∷ lines) n =

@@ -13,7 +13,7 @@ use Rattle.ns_code.specs.Fits.{InstrFits}
 use Rattle.ns_resolved.specs.Program as m
 use Rattle.ns_resolved.specs.Tables.{names_of, texts_of, kind_of, side_number}
 use Rattle.ns_resolved.specs.There.{IsThere, StandsAs, IsRightBody}
-use Rattle.ns_gen_code.specs.Code.{Line, does, symbol, sends, starts, plain, inner, private_at, super, instr_of, places_from, body_lines, body_code, code_of}
+use Rattle.ns_gen_code.specs.Code.{CodeLine, does, symbol, sends, starts, plain, inner, private_at, super, instr_of, places_from, body_lines, body_code, code_of}
 use Rattle.ns_gen_code.specs.Stated.{first_text}
 use Rattle.ns_gen_code.specs.Uses.{InstrHas, LinesHave}
 use Rattle.ns_link.specs.Numbers.{PlaceStands, NumbersFit}
@@ -52,7 +52,7 @@ module _ (meant : m.Meant) (number : ℕ) (body : m.Body) (kind : ℕ) (names : 
   instr_fits (i.JumpFalse at) h = absurd h
   instr_fits (i.JumpTrue at) h = absurd h
 
-  lines_fit : (lines : List Line) (started : Bool) → LinesHave (IsThere meant number body) (length (texts_of meant)) kind started lines →
+  lines_fit : (lines : List CodeLine) (started : Bool) → LinesHave (IsThere meant number body) (length (texts_of meant)) kind started lines →
       All InstrFits (map (instr_of names) lines)
   lines_fit [] started h = All-nil InstrFits
   lines_fit (does instr ∷ lines) started h = All-cons InstrFits instr (map (instr_of names) lines) (instr_fits instr h.0) (lines_fit lines started h.1)
@@ -98,7 +98,7 @@ parent_small meant number body (m.as_block values steps) few h =
 parent_small meant number body (m.as_initialiser start) few h = none_parent body.parent h
 parent_small meant number body (m.as_clause head) few h = none_parent body.parent h
 
-places_few : (lines : List Line) (number : ℕ) → length (places_from number lines) ≤ length lines
+places_few : (lines : List CodeLine) (number : ℕ) → length (places_from number lines) ≤ length lines
 places_few [] number = omega arith
 places_few (does instr ∷ lines) number = let h = places_few lines (number + 1) in omega (h, arith)
 places_few (symbol name ∷ lines) number = let h = places_few lines (number + 1) in omega (h, arith)

@@ -9,7 +9,7 @@ use Rattle.ns_resolved.specs.Program as m
 use Rattle.ns_resolved.specs.Tables.{node_texts, nodes_texts, messages_texts, gathered, value_of, step_node}
 use Rattle.ns_resolved.specs.There.{IsThere}
 use Rattle.ns_resolved.specs.Uses.{how_many}
-use Rattle.ns_gen_code.specs.Code.{Line, does, symbol, sends, starts, plain, inner, private_at, super, set_lines, node_lines, nodes_lines, places_from}
+use Rattle.ns_gen_code.specs.Code.{CodeLine, does, symbol, sends, starts, plain, inner, private_at, super, set_lines, node_lines, nodes_lines, places_from}
 use Rattle.ns_gen_code.specs.Code.{messages_lines, locals_lines, slots_lines, method_lines, block_lines, expressions_lines, body_lines}
 use Rattle.ns_gen_code.specs.Stated.{line_names}
 use Rattle.ns_gen_code.specs.Uses.{LinesHave}
@@ -18,7 +18,7 @@ use Rattle.ns_link.proofs.Words.{spoken_short}
 
 module _ (Fine : Place → Type 0) where
   -- the selectors, symbols and places of lines
-  abbrev pub LinesSay : List Line → Type 0
+  abbrev pub LinesSay : List CodeLine → Type 0
   LinesSay [] = Unit {0}
   LinesSay (does instr ∷ lines) = LinesSay lines
   LinesSay (symbol name ∷ lines) = IsName name × LinesSay lines
@@ -26,7 +26,7 @@ module _ (Fine : Place → Type 0) where
   LinesSay (starts place count ∷ lines) = Fine place × LinesSay lines
 
   mutual
-    node_says : (node : m.Node) (k : ℕ) (rest : List Line) → NodeSays Fine node → LinesSay rest → LinesSay (node_lines k node rest)
+    node_says : (node : m.Node) (k : ℕ) (rest : List CodeLine) → NodeSays Fine node → LinesSay rest → LinesSay (node_lines k node rest)
     node_says m.nil_value k rest h r = r
     node_says m.true_value k rest h r = r
     node_says m.false_value k rest h r = r
@@ -56,24 +56,24 @@ module _ (Fine : Place → Type 0) where
         node_says first k (does i.Pop ∷ node_lines (k + length (node_texts first)) then_node rest) h.0
         (node_says then_node (k + length (node_texts first)) rest h.1 r)
 
-    nodes_say : (nodes : m.Nodes) (k : ℕ) (rest : List Line) → NodesSay Fine nodes → LinesSay rest → LinesSay (nodes_lines k nodes rest)
+    nodes_say : (nodes : m.Nodes) (k : ℕ) (rest : List CodeLine) → NodesSay Fine nodes → LinesSay rest → LinesSay (nodes_lines k nodes rest)
     nodes_say m.no_nodes k rest h r = r
     nodes_say (m.more_nodes node others) k rest h r =
         node_says node k (nodes_lines (k + length (node_texts node)) others rest) h.0 (nodes_say others (k + length (node_texts node)) rest h.1 r)
 
-    messages_say : (messages : m.Messages) (k : ℕ) (rest : List Line) → MessagesSay Fine messages → LinesSay rest → LinesSay (messages_lines k messages rest)
+    messages_say : (messages : m.Messages) (k : ℕ) (rest : List CodeLine) → MessagesSay Fine messages → LinesSay rest → LinesSay (messages_lines k messages rest)
     messages_say (m.last_message sent arguments) k rest h r = nodes_say arguments k (sends plain sent (how_many arguments) ∷ rest) h.0 (h.1, r)
     messages_say (m.more_messages sent arguments others) k rest h r =
         nodes_say arguments k (sends plain sent (how_many arguments) ∷ does i.Pop ∷ messages_lines (k + length (nodes_texts arguments)) others rest) h.0
         (h.1, messages_say others (k + length (nodes_texts arguments)) rest h.2 r)
 
-  locals_say : (values : List m.First) (k : ℕ) (rest : ℕ → List Line) → FirstsSay Fine values → ((n : ℕ) → LinesSay (rest n)) → LinesSay (locals_lines k values rest)
+  locals_say : (values : List m.First) (k : ℕ) (rest : ℕ → List CodeLine) → FirstsSay Fine values → ((n : ℕ) → LinesSay (rest n)) → LinesSay (locals_lines k values rest)
   locals_say [] k rest h r = r k
   locals_say (first ∷ others) k rest h r =
       node_says first.value k (does (i.StoreLocal 0 first.index) ∷ does i.Pop ∷ locals_lines (k + length (node_texts first.value)) others rest) h.0
       (locals_say others (k + length (node_texts first.value)) rest h.1 r)
 
-  slots_say : (values : List m.First) (k : ℕ) (rest : ℕ → List Line) → FirstsSay Fine values → ((n : ℕ) → LinesSay (rest n)) → LinesSay (slots_lines k values rest)
+  slots_say : (values : List m.First) (k : ℕ) (rest : ℕ → List CodeLine) → FirstsSay Fine values → ((n : ℕ) → LinesSay (rest n)) → LinesSay (slots_lines k values rest)
   slots_say [] k rest h r = r k
   slots_say (first ∷ others) k rest h r =
       node_says first.value k (does (i.StoreSlot first.index) ∷ slots_lines (k + length (node_texts first.value)) others rest) h.0
@@ -115,7 +115,7 @@ module _ (Fine : Place → Type 0) where
   abbrev pub IsFine : ℕ × Place → Type 0
   IsFine place = Fine place.1
 
-  pub places_fine : (lines : List Line) (n : ℕ) → LinesSay lines → All IsFine (places_from n lines)
+  pub places_fine : (lines : List CodeLine) (n : ℕ) → LinesSay lines → All IsFine (places_from n lines)
   places_fine [] n h = All-nil IsFine
   places_fine (does instr ∷ lines) n h = places_fine lines (n + 1) h
   places_fine (symbol name ∷ lines) n h = places_fine lines (n + 1) h.1
@@ -125,7 +125,7 @@ module _ (Fine : Place → Type 0) where
   -- ---- names
 
   -- the names of lines whose messages have few arguments
-  pub names_named : (meant : m.Meant) (number : ℕ) (body : m.Body) (texts kind : ℕ) (started : Bool) (lines : List Line) → LinesSay lines →
+  pub names_named : (meant : m.Meant) (number : ℕ) (body : m.Body) (texts kind : ℕ) (started : Bool) (lines : List CodeLine) → LinesSay lines →
       LinesHave (IsThere meant number body) texts kind started lines → All IsName (flat_map line_names lines)
   names_named meant number body texts kind started [] h have = All-nil IsName
   names_named meant number body texts kind started (does instr ∷ lines) h have = names_named meant number body texts kind started lines h have.1

@@ -10,7 +10,7 @@ use Rattle.ns_resolved.specs.Program as m
 use Rattle.ns_resolved.specs.Tables.{node_texts, nodes_texts, class_code}
 use Rattle.ns_model.specs.Run.{does_at}
 use Rattle.ns_model.specs.Whole.{place_in, opening_place}
-use Rattle.ns_gen_code.specs.Code.{Line, does, sends, starts, plain, inner, private_at, super, how_many, node_lines, nodes_lines, messages_lines}
+use Rattle.ns_gen_code.specs.Code.{CodeLine, does, sends, starts, plain, inner, private_at, super, how_many, node_lines, nodes_lines, messages_lines}
 use Rattle.ns_gen_code.specs.Code.{body_lines, slots_lines, expressions_lines, code_of}
 use Rattle.ns_machine_moves.specs.Steps.{super_place, steps_of}
 use Rattle.ns_machine_moves.specs.Steps as steps
@@ -19,11 +19,11 @@ use Rattle.ns_link.proofs.Coded.{coded}
 
 module _ (names : List (List ℕ)) where
   -- no superclass part begins in an expression
-  abbrev Skips : List Line → List Line → Type 0
+  abbrev Skips : List CodeLine → List CodeLine → Type 0
   Skips lines rest = super_place (shown names lines) ≡ super_place (shown names rest)
 
   mutual
-    skips : (e : m.Node) (k : ℕ) (rest : List Line) → Skips (node_lines k e rest) rest
+    skips : (e : m.Node) (k : ℕ) (rest : List CodeLine) → Skips (node_lines k e rest) rest
     skips m.nil_value k rest = refl
     skips m.true_value k rest = refl
     skips m.false_value k rest = refl
@@ -53,13 +53,13 @@ module _ (names : List (List ℕ)) where
         let next = k + length (node_texts e) in
         skips e k (does i.Pop ∷ node_lines next other rest) ∙ skips other next rest
 
-    skips_all : (args : m.Nodes) (k : ℕ) (rest : List Line) → Skips (nodes_lines k args rest) rest
+    skips_all : (args : m.Nodes) (k : ℕ) (rest : List CodeLine) → Skips (nodes_lines k args rest) rest
     skips_all m.no_nodes k rest = refl
     skips_all (m.more_nodes e more) k rest =
         let next = k + length (node_texts e) in
         skips e k (nodes_lines next more rest) ∙ skips_all more next rest
 
-    skips_messages : (ms : m.Messages) (k : ℕ) (rest : List Line) → Skips (messages_lines k ms rest) rest
+    skips_messages : (ms : m.Messages) (k : ℕ) (rest : List CodeLine) → Skips (messages_lines k ms rest) rest
     skips_messages (m.last_message message args) k rest = skips_all args k (sends plain message (how_many args) ∷ rest)
     skips_messages (m.more_messages message args more) k rest =
         let next = k + length (nodes_texts args) in

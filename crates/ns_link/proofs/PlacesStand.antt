@@ -8,7 +8,7 @@ use Rattle.ns_base.specs.declared.place.Place.{Place}
 use Rattle.ns_code.specs.declared.instruction.Instr.{Instr}
 use Rattle.ns_code.specs.Instructions.{carries_place}
 use Rattle.ns_resolved.specs.Program as m
-use Rattle.ns_gen_code.specs.Code.{Line, Way, does, symbol, sends, starts, plain, inner, private_at, super, instr_of, places_from}
+use Rattle.ns_gen_code.specs.Code.{CodeLine, Way, does, symbol, sends, starts, plain, inner, private_at, super, instr_of, places_from}
 
 -- the place belongs to an instruction of these that carries one
 abbrev pub Belongs : List Instr → ℕ × Place → Type 0
@@ -26,19 +26,19 @@ module _ (names : List (List ℕ)) where
   send_carries (private_at level) sent count = refl
   send_carries super sent count = refl
 
-  further_on : (front : List Instr) (instr : Instr) (lines : List Line) (all : List Instr) → all ≡ front ++ instr ∷ map (instr_of names) lines →
+  further_on : (front : List Instr) (instr : Instr) (lines : List CodeLine) (all : List Instr) → all ≡ front ++ instr ∷ map (instr_of names) lines →
       ((next : List Instr) → all ≡ next ++ map (instr_of names) lines → All (Belongs all) (places_from (length next) lines)) →
       All (Belongs all) (places_from (length front + 1) lines)
   further_on front instr lines all e h =
       let z : length (front ++ instr ∷ []) ≡ length front + 1 = length-append front (instr ∷ []) in
       subst (λ n. All (Belongs all) (places_from n lines)) z (h (front ++ instr ∷ []) (e ∙ sym (append_assoc front (instr ∷ []) (map (instr_of names) lines))))
 
-  carried : (front : List Instr) (instr : Instr) (lines : List Line) (all : List Instr) → all ≡ front ++ instr ∷ map (instr_of names) lines → IsTrue (carries_place instr) →
+  carried : (front : List Instr) (instr : Instr) (lines : List CodeLine) (all : List Instr) → all ≡ front ++ instr ∷ map (instr_of names) lines → IsTrue (carries_place instr) →
       (place : Place) → Belongs all (length front, place)
   carried front instr lines all e h place =
       subst (λ (instrs : List Instr). Belongs instrs (length front, place)) (sym e) (behind_front front instr (map (instr_of names) lines) h)
 
-  pub places_belong : (lines : List Line) (front all : List Instr) → all ≡ front ++ map (instr_of names) lines → All (Belongs all) (places_from (length front) lines)
+  pub places_belong : (lines : List CodeLine) (front all : List Instr) → all ≡ front ++ map (instr_of names) lines → All (Belongs all) (places_from (length front) lines)
   places_belong [] front all e = All-nil (Belongs all)
   places_belong (does instr ∷ lines) front all e = further_on front instr lines all e (λ next f. places_belong lines next all f)
   places_belong (symbol name ∷ lines) front all e = further_on front (instr_of names (symbol name)) lines all e (λ next f. places_belong lines next all f)
@@ -60,7 +60,7 @@ Before a b = a.0 < b.0
 abbrev After : ℕ → ℕ × Place → Type 0
 After least place = least < place.0
 
-all_after : (lines : List Line) (n least : ℕ) → least < n → All (After least) (places_from n lines)
+all_after : (lines : List CodeLine) (n least : ℕ) → least < n → All (After least) (places_from n lines)
 all_after [] n least h = All-nil (After least)
 all_after (does instr ∷ lines) n least h = all_after lines (n + 1) least (omega (h, arith))
 all_after (symbol name ∷ lines) n least h = all_after lines (n + 1) least (omega (h, arith))
@@ -69,7 +69,7 @@ all_after (sends way sent count ∷ lines) n least h =
 all_after (starts place count ∷ lines) n least h =
     All-cons (After least) (n, place) (places_from (n + 1) lines) h (all_after lines (n + 1) least (omega (h, arith)))
 
-pub places_ordered : (lines : List Line) (n : ℕ) → AllPairs Before (places_from n lines)
+pub places_ordered : (lines : List CodeLine) (n : ℕ) → AllPairs Before (places_from n lines)
 places_ordered [] n = λ i j d lt below. absurd (omega (arith, below))
 places_ordered (does instr ∷ lines) n = places_ordered lines (n + 1)
 places_ordered (symbol name ∷ lines) n = places_ordered lines (n + 1)

@@ -18,7 +18,7 @@ use Rattle.ns_resolved.specs.Program as m
 use Rattle.ns_resolved.specs.Tables.{sel_of, node_texts, nodes_texts, messages_texts, value_of, step_node, gathered}
 use Rattle.ns_model.specs.Outcome.{Completion, Yields, bind, settled, back, is_live, going_home}
 use Rattle.ns_model.specs.Eval.{Call, PartCall, eval, eval_all, eval_messages, locals_begun, slots_filled, each_evaluated, method_steps, block_steps, eval_body}
-use Rattle.ns_gen_code.specs.Code.{Line, does, sends, starts, plain, inner, private_at, super, how_many, node_lines, nodes_lines, messages_lines}
+use Rattle.ns_gen_code.specs.Code.{CodeLine, does, sends, starts, plain, inner, private_at, super, how_many, node_lines, nodes_lines, messages_lines}
 use Rattle.ns_gen_code.specs.Code.{locals_lines, slots_lines, method_lines, block_lines, expressions_lines, body_lines}
 use Rattle.ns_machine_moves.specs.Steps.{literal}
 use Rattle.ns_machine_moves.specs.State.{Leaving, Frame, Running, Phase, State, Going, Ended, Stuck}
@@ -80,21 +80,21 @@ module _ (code : CodeProgram) (phase : Phase) (call : Call) (part : PartCall) (c
   live = lives_in x a.home (homes fs)
 
   -- this body's frame over the others
-  abbrev fr : List Value → List Line → List Value → List Frame
+  abbrev fr : List Value → List CodeLine → List Value → List Frame
   fr ls rest stack = Running x a ls (shown code.names rest) stack ∷ fs
 
   abbrev Sim : {A : Type 0} → State → (A → List Value → Progress → State) → Completion A → Type 0
   Sim s good o = Lands code phase s good (fr [] [] []) o
 
   -- a value on the stack
-  abbrev pushed : List Line → List Value → Value → List Value → Progress → State
+  abbrev pushed : List CodeLine → List Value → Value → List Value → Progress → State
   pushed rest stack v ls p = Going phase (fr ls rest (v ∷ stack)) p
 
   -- values on the stack
-  abbrev all_pushed : List Line → List Value → List Value → List Value → Progress → State
+  abbrev all_pushed : List CodeLine → List Value → List Value → List Value → Progress → State
   all_pushed rest stack vs ls p = Going phase (fr ls rest (push_all vs stack)) p
 
-  called : (c : Control) (ls : List Value) (rest : List Line) (stack : List Value)
+  called : (c : Control) (ls : List Value) (rest : List CodeLine) (stack : List Value)
       → Sim (arrived code phase c (fr ls rest stack)) (pushed rest stack) (back ls (call c live))
   called c ls rest stack =
       seq code phase (arrived code phase c (fr ls rest stack)) (λ v _ p. delivered code phase v (fr ls rest stack) p) (pushed rest stack) (fr [] [] [])
@@ -110,7 +110,7 @@ module _ (code : CodeProgram) (phase : Phase) (call : Call) (part : PartCall) (c
       (λ vs ls p h. omega (arith, h)))
 
   -- a send with its arguments on the stack
-  after_args : (op : Line) (args : m.Nodes) (k : ℕ) (en : List Value → Progress → Control) (ls : List Value) (rest : List Line) (stack below : List Value)
+  after_args : (op : CodeLine) (args : m.Nodes) (k : ℕ) (en : List Value → Progress → Control) (ls : List Value) (rest : List CodeLine) (stack below : List Value)
       (p : Progress)
       → ((vs ls : List Value) (p : Progress) → length vs ≡ how_many args → Reaches code (all_pushed (op ∷ rest) stack vs ls p)
       (arrived code phase (en vs p) (fr ls rest below)))
@@ -137,48 +137,48 @@ module _ (code : CodeProgram) (phase : Phase) (call : Call) (part : PartCall) (c
   abbrev super_send : m.Sent → List Value → Progress → Control
   super_send message vs p = sent code a ToSuper (sel_of code.names message.selector) vs (Some message.place) p
 
-  plain_op : (message : m.Sent) (n : ℕ) (v : Value) (vs ls : List Value) (rest : List Line) (stack : List Value) (p : Progress) → length vs ≡ n
+  plain_op : (message : m.Sent) (n : ℕ) (v : Value) (vs ls : List Value) (rest : List CodeLine) (stack : List Value) (p : Progress) → length vs ≡ n
       → Reaches code (all_pushed (sends plain message n ∷ rest) (v ∷ stack) vs ls p) (arrived code phase (plain_send message v vs p) (fr ls rest stack))
   plain_op message n v vs ls rest stack p h =
       step code _ _ (pop_all (Stuck p) n vs (v ∷ stack) (λ args below.
       on_top (Stuck p) below (λ v below. arrived code phase (plain_send message v args p) (fr ls rest below))) h)
 
-  inner_op : (message : m.Sent) (n : ℕ) (v : Value) (vs ls : List Value) (rest : List Line) (stack : List Value) (p : Progress) → length vs ≡ n
+  inner_op : (message : m.Sent) (n : ℕ) (v : Value) (vs ls : List Value) (rest : List CodeLine) (stack : List Value) (p : Progress) → length vs ≡ n
       → Reaches code (all_pushed (sends inner message n ∷ rest) (v ∷ stack) vs ls p) (arrived code phase (inner_send message v vs p) (fr ls rest stack))
   inner_op message n v vs ls rest stack p h =
       step code _ _ (pop_all (Stuck p) n vs (v ∷ stack) (λ args below.
       on_top (Stuck p) below (λ v below. arrived code phase (inner_send message v args p) (fr ls rest below))) h)
 
-  private_op : (level : ℕ) (message : m.Sent) (n : ℕ) (vs ls : List Value) (rest : List Line) (stack : List Value) (p : Progress) → length vs ≡ n
+  private_op : (level : ℕ) (message : m.Sent) (n : ℕ) (vs ls : List Value) (rest : List CodeLine) (stack : List Value) (p : Progress) → length vs ≡ n
       → Reaches code (all_pushed (sends (private_at level) message n ∷ rest) stack vs ls p)
       (arrived code phase (private_send level message vs p) (fr ls rest stack))
   private_op level message n vs ls rest stack p h =
       step code _ _ (pop_all (Stuck p) n vs stack (λ args below. arrived code phase (private_send level message args p) (fr ls rest below)) h)
 
-  super_op : (message : m.Sent) (n : ℕ) (vs ls : List Value) (rest : List Line) (stack : List Value) (p : Progress) → length vs ≡ n
+  super_op : (message : m.Sent) (n : ℕ) (vs ls : List Value) (rest : List CodeLine) (stack : List Value) (p : Progress) → length vs ≡ n
       → Reaches code (all_pushed (sends super message n ∷ rest) stack vs ls p) (arrived code phase (super_send message vs p) (fr ls rest stack))
   super_op message n vs ls rest stack p h =
       step code _ _ (pop_all (Stuck p) n vs stack (λ args below. arrived code phase (super_send message args p) (fr ls rest below)) h)
 
-  part_op : (place : Place) (n : ℕ) (vs ls : List Value) (rest : List Line) (p : Progress) → length vs ≡ n
+  part_op : (place : Place) (n : ℕ) (vs ls : List Value) (rest : List CodeLine) (p : Progress) → length vs ≡ n
       → Reaches code (all_pushed (starts place n ∷ rest) [] vs ls p) (part_arrived code phase (super_part code a vs p) (fr ls rest []))
   part_op place n vs ls rest p h =
       step code _ _ (pop_all (Stuck p) n vs [] (λ args below. part_arrived code phase (super_part code a args p) (fr ls rest below)) h)
 
-  answered : (y : After) (ls : List Value) (rest : List Line) (stack : List Value)
+  answered : (y : After) (ls : List Value) (rest : List CodeLine) (stack : List Value)
       → Sim (machine_settled code phase y (fr ls rest stack)) (pushed rest stack) (settled ls y)
   answered (Gives v p) ls rest stack = here code _
   answered (Halts e p) ls rest stack = here code _
 
   -- a setter's send, whose answer is dropped
-  dropped : (c : Control) (v : Value) (ls : List Value) (rest : List Line) (stack : List Value)
+  dropped : (c : Control) (v : Value) (ls : List Value) (rest : List CodeLine) (stack : List Value)
       → Sim (arrived code phase c (fr ls (does i.Pop ∷ rest) (v ∷ stack))) (pushed rest stack) (bind (back ls (call c live)) (λ answer ls p. Yields v ls p))
   dropped c v ls rest stack =
       seq code phase _ (pushed (does i.Pop ∷ rest) (v ∷ stack)) (pushed rest stack) (fr [] [] []) (back ls (call c live)) _
       (called c ls (does i.Pop ∷ rest) (v ∷ stack)) (λ answer ls p. step code _ _ refl)
 
   mutual
-    pub sim : (e : m.Node) (k : ℕ) (ls : List Value) (rest : List Line) (stack : List Value) (p : Progress) → Texts code k (node_texts e)
+    pub sim : (e : m.Node) (k : ℕ) (ls : List Value) (rest : List CodeLine) (stack : List Value) (p : Progress) → Texts code k (node_texts e)
         → Sim (Going phase (fr ls (node_lines k e rest) stack) p) (pushed rest stack) (eval code call part a live e ls p)
     sim m.nil_value k ls rest stack p h = step code _ _ refl
     sim m.true_value k ls rest stack p h = step code _ _ refl
@@ -266,7 +266,7 @@ module _ (code : CodeProgram) (phase : Phase) (call : Call) (part : PartCall) (c
         first code phase _ (Going phase (fr ls lines stack) p) (pushed rest stack) (fr [] [] []) _ (step code _ _ refl)
         (sim other next ls rest stack p both.1))
 
-    pub sim_all : (args : m.Nodes) (k : ℕ) (ls : List Value) (rest : List Line) (stack : List Value) (p : Progress) → Texts code k (nodes_texts args)
+    pub sim_all : (args : m.Nodes) (k : ℕ) (ls : List Value) (rest : List CodeLine) (stack : List Value) (p : Progress) → Texts code k (nodes_texts args)
         → Sim (Going phase (fr ls (nodes_lines k args rest) stack) p) (all_pushed rest stack) (eval_all code call part a live args ls p)
     sim_all m.no_nodes k ls rest stack p h = here code _
     sim_all (m.more_nodes e more) k ls rest stack p h =
@@ -278,7 +278,7 @@ module _ (code : CodeProgram) (phase : Phase) (call : Call) (part : PartCall) (c
         seq code phase _ (all_pushed rest (v ∷ stack)) (all_pushed rest stack) (fr [] [] []) (eval_all code call part a live more ls p) _
         (sim_all more next ls rest (v ∷ stack) p both.1) (λ vs ls p. here code _))
 
-    pub sim_messages : (ms : m.Messages) (k : ℕ) (v : Value) (ls : List Value) (rest : List Line) (stack : List Value) (p : Progress)
+    pub sim_messages : (ms : m.Messages) (k : ℕ) (v : Value) (ls : List Value) (rest : List CodeLine) (stack : List Value) (p : Progress)
         → Texts code k (messages_texts ms)
         → Sim (Going phase (fr ls (messages_lines k ms rest) (v ∷ stack)) p) (pushed rest stack) (eval_messages code call part a live ms v ls p)
     sim_messages (m.last_message message args) k v ls rest stack p h =
@@ -311,10 +311,10 @@ module _ (code : CodeProgram) (phase : Phase) (call : Call) (part : PartCall) (c
   next_text k (f ∷ firsts) = next_text (k + length (node_texts f.value)) firsts
 
   -- the frame goes on with these lines
-  abbrev on_with : (ℕ → List Line) → ℕ → Unit {0} → List Value → Progress → State
+  abbrev on_with : (ℕ → List CodeLine) → ℕ → Unit {0} → List Value → Progress → State
   on_with rest k u ls p = Going phase (fr ls (rest k) []) p
 
-  sim_locals : (firsts : List m.First) (k : ℕ) (rest : ℕ → List Line) (ls : List Value) (p : Progress) → Texts code k (firsts_texts firsts)
+  sim_locals : (firsts : List m.First) (k : ℕ) (rest : ℕ → List CodeLine) (ls : List Value) (p : Progress) → Texts code k (firsts_texts firsts)
       → Sim (Going phase (fr ls (locals_lines k firsts rest) []) p) (on_with rest (next_text k firsts)) (locals_begun code call part a live firsts ls p)
   sim_locals [] k rest ls p h = here code _
   sim_locals (f ∷ firsts) k rest ls p h =
@@ -328,7 +328,7 @@ module _ (code : CodeProgram) (phase : Phase) (call : Call) (part : PartCall) (c
       first code phase _ (Going phase (fr ls more []) p) (on_with rest (next_text k (f ∷ firsts))) (fr [] [] []) _ (step code _ _ refl)
       (sim_locals firsts next rest ls p both.1))
 
-  sim_slots : (firsts : List m.First) (k : ℕ) (rest : ℕ → List Line) (ls : List Value) (p : Progress) → Texts code k (firsts_texts firsts)
+  sim_slots : (firsts : List m.First) (k : ℕ) (rest : ℕ → List CodeLine) (ls : List Value) (p : Progress) → Texts code k (firsts_texts firsts)
       → Sim (Going phase (fr ls (slots_lines k firsts rest) []) p) (on_with rest (next_text k firsts)) (slots_filled code call part a live firsts ls p)
   sim_slots [] k rest ls p h = here code _
   sim_slots (f ∷ firsts) k rest ls p h =
@@ -380,7 +380,7 @@ module _ (code : CodeProgram) (phase : Phase) (call : Call) (part : PartCall) (c
   to_home true s v p r = r
   to_home false s v p r = r
 
-  home_ok : (lines : List Line) (v : Value) (ls : List Value) (p : Progress)
+  home_ok : (lines : List CodeLine) (v : Value) (ls : List Value) (p : Progress)
       → Sim (pushed (does i.ReturnHome ∷ lines) [] v ls p) ended (going_home (is_live live a.home) a v p)
   home_ok lines v ls p =
       let s = pushed (does i.ReturnHome ∷ lines) [] v ls p in

@@ -6,7 +6,7 @@ use Rattle.ns_code.specs.declared.instruction.Instr.TheVariants as i
 use Rattle.ns_code.specs.Table.{goes_on}
 use Rattle.ns_resolved.specs.Program as m
 use Rattle.ns_resolved.specs.Tables.{node_texts, nodes_texts, gathered, value_of, step_node, body_texts}
-use Rattle.ns_gen_code.specs.Code.{Line, does, symbol, sends, starts, how_many, instr_of, node_lines, nodes_lines, locals_lines, slots_lines}
+use Rattle.ns_gen_code.specs.Code.{CodeLine, does, symbol, sends, starts, how_many, instr_of, node_lines, nodes_lines, locals_lines, slots_lines}
 use Rattle.ns_gen_code.specs.Code.{method_lines, block_lines, expressions_lines, body_lines}
 use Rattle.ns_gen_code.specs.Stated.{line_texts, instr_texts, numbers_from, TextsInOrder, Ends}
 
@@ -20,22 +20,22 @@ one_text : (instr : Instr) → length (instr_texts instr) ≤ 1
 one_text (i.PushText k) = omega arith
 one_text _ = omega arith
 
-line_text : (line : Line) → length (line_texts line) ≤ 1
+line_text : (line : CodeLine) → length (line_texts line) ≤ 1
 line_text (does instr) = one_text instr
 line_text (symbol name) = omega arith
 line_text (sends way sent count) = omega arith
 line_text (starts place count) = omega arith
 
-last_text : (line : Line) → goes_on (instr_of [] line) ≡ false → line_texts line ≡ []
+last_text : (line : CodeLine) → goes_on (instr_of [] line) ≡ false → line_texts line ≡ []
 last_text (does instr) e = no_text instr e
 last_text (symbol name) e = refl
 last_text (sends way sent count) e = refl
 last_text (starts place count) e = refl
 
-abbrev pushed : List Line → ℕ
+abbrev pushed : List CodeLine → ℕ
 pushed lines = length (flat_map line_texts lines)
 
-fewer : (lines : List Line) → Ends lines → pushed lines + 1 ≤ length lines
+fewer : (lines : List CodeLine) → Ends lines → pushed lines + 1 ≤ length lines
 fewer [] e = absurd e
 fewer (line ∷ []) e = let none = ap length (last_text line e) in omega (none, length-append (line_texts line) [], arith)
 fewer (line ∷ (next ∷ lines)) e =
@@ -56,19 +56,19 @@ abbrev steps_texts : List m.Step → List (List ℕ)
 steps_texts steps = flat_map (λ (step : m.Step). node_texts (step_node step)) steps
 
 module _ (order : (node : m.Node) → TextsInOrder node) where
-  node_pushes : (node : m.Node) (k : ℕ) (rest : List Line) → pushed (node_lines k node rest) ≡ length (node_texts node) + pushed rest
+  node_pushes : (node : m.Node) (k : ℕ) (rest : List CodeLine) → pushed (node_lines k node rest) ≡ length (node_texts node) + pushed rest
   node_pushes node k rest =
       let same = ap length (order node k rest) in
       omega (same, length-append (numbers_from k (node_texts node)) (flat_map line_texts rest), numbered k (node_texts node), arith)
 
-  nodes_push : (nodes : m.Nodes) (k : ℕ) (rest : List Line) → pushed (nodes_lines k nodes rest) ≡ length (nodes_texts nodes) + pushed rest
+  nodes_push : (nodes : m.Nodes) (k : ℕ) (rest : List CodeLine) → pushed (nodes_lines k nodes rest) ≡ length (nodes_texts nodes) + pushed rest
   nodes_push m.no_nodes k rest = omega arith
   nodes_push (m.more_nodes node others) k rest =
       let first = node_pushes node k (nodes_lines (k + length (node_texts node)) others rest) in
       let further = nodes_push others (k + length (node_texts node)) rest in
       omega (first, further, length-append (node_texts node) (nodes_texts others), arith)
 
-  locals_push : (values : List m.First) (k count : ℕ) (rest : ℕ → List Line) → ((n : ℕ) → pushed (rest n) ≡ count) →
+  locals_push : (values : List m.First) (k count : ℕ) (rest : ℕ → List CodeLine) → ((n : ℕ) → pushed (rest n) ≡ count) →
       pushed (locals_lines k values rest) ≡ length (values_texts values) + count
   locals_push [] k count rest h = let e = h k in omega (e, arith)
   locals_push (first ∷ others) k count rest h =
@@ -77,7 +77,7 @@ module _ (order : (node : m.Node) → TextsInOrder node) where
       let further = locals_push others (k + length (node_texts first.value)) count rest h in
       omega (one, further, length-append (node_texts first.value) (values_texts others), arith)
 
-  slots_push : (values : List m.First) (k count : ℕ) (rest : ℕ → List Line) → ((n : ℕ) → pushed (rest n) ≡ count) →
+  slots_push : (values : List m.First) (k count : ℕ) (rest : ℕ → List CodeLine) → ((n : ℕ) → pushed (rest n) ≡ count) →
       pushed (slots_lines k values rest) ≡ length (values_texts values) + count
   slots_push [] k count rest h = let e = h k in omega (e, arith)
   slots_push (first ∷ others) k count rest h =

@@ -4,7 +4,7 @@ use Rattle.ns_facets.specs.declared.board.Board.{Board}
 use Rattle.ns_machine_moves.specs.State.{State, swapped}
 use Rattle.ns_machine_moves.specs.WorldStays.{SwapsKeepValid}
 use Rattle.ns_session.specs.Member.{Application, TurnOf, board_of}
-use Rattle.ns_session.specs.Reached.{IsInReach}
+use Rattle.ns_session.specs.Reached.{StateIsReached}
 use Rattle.ns_session.specs.RobinLaws.{TurnsAreTurned, TurnsAreTurnedBeside}
 use Rattle.ns_session.specs.Turned.{given_back, left_as, turned, turned_beside}
 
@@ -15,7 +15,7 @@ after_is one other here there e f = ap (λ (s : State). left_as s here) e ∙ ap
 
 turned_with : (granted : Bool) (application : Application) → TurnsAreTurned application.code application.grants
     → SwapsKeepValid application.code application.grants → (steps : ℕ) (old : State) (shared : Board) (new : State) (left : Board)
-    → IsInReach application old → TurnOf granted application.code steps old shared new left
+    → StateIsReached application old → TurnOf granted application.code steps old shared new left
     → left_as new left ≡ turned_beside granted application.code steps old shared
 turned_with true application turns swaps steps old shared new left is turn =
     let inside = turns steps (swapped shared old) turn.inside (swaps shared old is.valid) turn.turns in

@@ -17,7 +17,7 @@ use Rattle.ns_machine_moves.specs.Valid.{Valid}
 use Rattle.ns_machine_moves.specs.laws.Still.{moves_on}
 use Rattle.ns_actions.specs.Start.{start_made}
 use Rattle.ns_session.specs.Member.{Application, MemberView, start_of, taken, board_of, TurnOf}
-use Rattle.ns_session.specs.Reached.{HasBegun, IsInReach, left_by, left_for, left_of}
+use Rattle.ns_session.specs.Reached.{HasBegun, StateIsReached, left_by, left_for, left_of}
 use Rattle.ns_session.specs.Laws.{TurnsReach, TurnsLower}
 use Rattle.ns_session.proofs.Begun.{moves_begun, started_begun}
 use Rattle.ns_session.proofs.Counting.{Known, used, counted}
@@ -53,30 +53,30 @@ pub record KnownMoves (application : Application) : Type 0 where
   pub onward : MovesGoOnward application.code
   pub swaps : SwapsKeepValid application.code application.grants
 
-swap_reaches : (application : Application) → KnownMoves application → (board : Board) (s : State) → IsInReach application s → IsInReach application (swapped board s)
+swap_reaches : (application : Application) → KnownMoves application → (board : Board) (s : State) → StateIsReached application s → StateIsReached application (swapped board s)
 swap_reaches application k board s is = record {
   valid = k.swaps board s is.valid;
   limits_are = ap (λ w. w.limits) (world_swapped board s) ∙ is.limits_are;
   begun = begun_swapped board s is.begun;
 }
 
-moves_reach : (application : Application) → KnownMoves application → (count : ℕ) (old new : State) → moves application.code count old ≡ new → IsInReach application old
-    → IsInReach application new
-moves_reach application k count old new e is = subst (IsInReach application) e (record {
+moves_reach : (application : Application) → KnownMoves application → (count : ℕ) (old new : State) → moves application.code count old ≡ new → StateIsReached application old
+    → StateIsReached application new
+moves_reach application k count old new e is = subst (StateIsReached application) e (record {
   valid = k.keeps count old is.valid;
   limits_are = (k.onward count old).later.limits ∙ is.limits_are;
   begun = moves_begun application.code count old is.begun;
 })
 
-turns_reach : (application : Application) → KnownMoves application → (steps : ℕ) (old new : State) → Turns application.code steps old new → IsInReach application old
-    → IsInReach application new
+turns_reach : (application : Application) → KnownMoves application → (steps : ℕ) (old new : State) → Turns application.code steps old new → StateIsReached application old
+    → StateIsReached application new
 turns_reach application k steps old new (inl turn) is = moves_reach application k turn.count old new turn.is is
 turns_reach application k steps old new (inr turn) is = moves_reach application k turn.count old new turn.is is
 
 turn_reached : (granted : Bool) (application : Application) → KnownMoves application → (steps : ℕ) (old : State) (board : Board) (new : State) (left : Board)
-    → TurnOf granted application.code steps old board new left → IsInReach application old → IsInReach application new
+    → TurnOf granted application.code steps old board new left → StateIsReached application old → StateIsReached application new
 turn_reached true application k steps old board new left turn is =
-    subst (IsInReach application) (sym turn.state)
+    subst (StateIsReached application) (sym turn.state)
     (swap_reaches application k (board_of old) turn.inside
     (turns_reach application k steps (swapped board old) turn.inside turn.turns (swap_reaches application k board old is)))
 turn_reached false application k steps old board new left turn is = turns_reach application k steps old new turn.turns is
@@ -84,7 +84,7 @@ turn_reached false application k steps old board new left turn is = turns_reach 
 pub turn_reaches : (application : Application) → KnownMoves application → TurnsReach application
 turn_reaches application k granted = turn_reached granted application k
 
-pub start_reached : (application : Application) → Valid application.code application.grants (start_of application) → IsInReach application (start_of application)
+pub start_reached : (application : Application) → Valid application.code application.grants (start_of application) → StateIsReached application (start_of application)
 start_reached application valid = record {
   valid = valid;
   limits_are = (start_unused application).limits_are;
@@ -117,8 +117,8 @@ record UsesAll (limit steps before after : ℕ) : Type 0 where
   all : steps + before ≤ after
   few : after ≤ limit
 
-uses : (application : Application) → Known application.code application.grants → KnownMoves application → (steps : ℕ) (old new : State) → Turns application.code steps old new → IsInReach application old
-    → IsInReach application new → ending_of new ≡ None → UsesAll application.limits.steps steps (used old) (used new)
+uses : (application : Application) → Known application.code application.grants → KnownMoves application → (steps : ℕ) (old new : State) → Turns application.code steps old new → StateIsReached application old
+    → StateIsReached application new → ending_of new ≡ None → UsesAll application.limits.steps steps (used old) (used new)
 uses application known k steps old new (inr turn) is are e =
     absurd (still_or (is_still new) turn.still (on application.code application.grants new are.valid are.begun e))
 uses application known k steps old new (inl turn) is are e =
@@ -132,7 +132,7 @@ uses application known k steps old new (inl turn) is are e =
     record { all = omega (arith, most, same, charged); few = omega (arith, few, at) }
 
 turn_uses : (granted : Bool) (application : Application) → Known application.code application.grants → KnownMoves application → (steps : ℕ) (old : State) (board : Board) (new : State) (left : Board)
-    → TurnOf granted application.code steps old board new left → IsInReach application old → ending_of new ≡ None
+    → TurnOf granted application.code steps old board new left → StateIsReached application old → ending_of new ≡ None
     → UsesAll application.limits.steps steps (used old) (used new)
 turn_uses true application known k steps old board new left turn is e =
     let inside = turns_reach application k steps (swapped board old) turn.inside turn.turns (swap_reaches application k board old is) in
@@ -147,7 +147,7 @@ turn_uses false application known k steps old board new left turn is e =
     uses application known k steps old new turn.turns is (turns_reach application k steps old new turn.turns is) e
 
 lowered : (granted : Bool) (application : Application) → Known application.code application.grants → KnownMoves application → (steps : ℕ) (old : State) (board : Board) (new : State) (left : Board)
-    → TurnOf granted application.code steps old board new left → IsInReach application old → 1 ≤ steps → (ending : Option Ending) → ending_of new ≡ ending
+    → TurnOf granted application.code steps old board new left → StateIsReached application old → 1 ≤ steps → (ending : Option Ending) → ending_of new ≡ ending
     → left_by ending (record { application = application; state = new }) < left_by None (record { application = application; state = old })
 lowered granted application known k steps old board new left turn is some (Some ending) e = omega arith
 lowered granted application known k steps old board new left turn is some None e =

@@ -9,7 +9,7 @@ use Rattle.ns_machine_moves.specs.State.{State, ending_of}
 use Rattle.ns_session.specs.Laws.{StartsReached, TurnsLower, TurnsReach}
 use Rattle.ns_session.specs.Member.{Application, MemberView, starting}
 use Rattle.ns_session.specs.Play.{opened}
-use Rattle.ns_session.specs.Reached.{IsInReach, left_for, left_of}
+use Rattle.ns_session.specs.Reached.{StateIsReached, left_for, left_of}
 use Rattle.ns_session.specs.Rounds.{GivenTo, RoundFrom, Rounds, RoundRobin, HaveEnded}
 use Rattle.ns_session.specs.Session.{SessionView, HasTurn, PlaysAt, ending_in}
 use Rattle.ns_world.specs.declared.ending.Ending.{Ending}
@@ -112,12 +112,12 @@ session_is session members board e f =
     ap (λ (xs : List MemberView). session_of xs session.board) e ∙ ap (session_of members) f
 
 -- the application that has its turn is reached again, and the others are as they were
-reached_with : (members : List MemberView) (k : ℕ) (member : MemberView) (state : State) → AreReached members → IsInReach member.application state
+reached_with : (members : List MemberView) (k : ℕ) (member : MemberView) (state : State) → AreReached members → StateIsReached member.application state
     → AreReached (slice_set members k (record member { state = state }))
 reached_with members k member state reached is j other e = by (set_or members k j (record member { state = state }) other e)
   where
-    by : Other members k j (record member { state = state }) other → IsInReach other.application other.state
-    by (inl same) = subst (λ (m : MemberView). IsInReach m.application m.state) same is
+    by : Other members k j (record member { state = state }) other → StateIsReached other.application other.state
+    by (inl same) = subst (λ (m : MemberView). StateIsReached m.application m.state) same is
     by (inr there) = reached j other there
 
 module _ (known : Known) (quantum : ℕ) (some : 1 ≤ quantum) where
@@ -275,5 +275,5 @@ pub opened_reached : ((application : Application) → StartsReached application)
     → AreReached (opened applications).members
 opened_reached starts [] may k member e = absurd (cc)
 opened_reached starts (first ∷ more) may zero member e =
-    subst (λ (m : MemberView). IsInReach m.application m.state) (same_Some (starting first) member e) (starts first (may 0 first refl))
+    subst (λ (m : MemberView). StateIsReached m.application m.state) (same_Some (starting first) member e) (starts first (may 0 first refl))
 opened_reached starts (first ∷ more) may (suc k) member e = opened_reached starts more (λ j application there. may (suc j) application there) k member e

@@ -6,7 +6,7 @@ use Rattle.ns_facets.specs.declared.row.Grants.{Grants}
 use Rattle.ns_machine_moves.specs.State.{ending_of}
 use Rattle.ns_machine.specs.Machine.{MachineView}
 use Rattle.ns_session.specs.Member.{MemberView, MayStart, StandsAlone}
-use Rattle.ns_session.specs.Reached.{IsInReach}
+use Rattle.ns_session.specs.Reached.{StateIsReached}
 
 -- what a machine and what is kept beside it show
 abbrev pub member_shown : MachineView → Grants → Limits → MemberView
@@ -17,6 +17,6 @@ member_shown machine grants limits = record { application = record { code = mach
 pub record IsMember (machine : MachineView) (grants : Grants) (limits : Limits) (ending : Option Ending) : Type 0 where
   pub granted : machine.grants ≡ grants
   pub may : MayStart (member_shown machine grants limits).application
-  pub reached : IsInReach (member_shown machine grants limits).application machine.state
+  pub reached : StateIsReached (member_shown machine grants limits).application machine.state
   pub alone : StandsAlone (member_shown machine grants limits)
   pub ending_is : ending ≡ ending_of machine.state

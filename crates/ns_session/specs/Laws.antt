@@ -10,7 +10,7 @@ use Rattle.ns_machine_moves.specs.Move.{moves}
 use Rattle.ns_machine_moves.specs.Turn.{Turns, is_still}
 use Rattle.ns_link.specs.Stated.{HasFirst, IsOnTheWay}
 use Rattle.ns_session.specs.Member.{Application, MayStart, start_of, IsAlone, TurnOf}
-use Rattle.ns_session.specs.Reached.{IsInReach, left_for}
+use Rattle.ns_session.specs.Reached.{StateIsReached, left_for}
 use Rattle.ns_session.specs.Session.{SessionView, Pair, Plays, added}
 use Rattle.ns_session.specs.Play.{opened, Played, given}
 
@@ -57,19 +57,19 @@ SourceLeads meant =
 
 -- Its start is a state that it reaches.
 abbrev pub StartsReached : Application → Type 0
-StartsReached application = MayStart application → IsInReach application (start_of application)
+StartsReached application = MayStart application → StateIsReached application (start_of application)
 
 -- A turn, with the board or without, leads from such a state to such a state.
 abbrev pub TurnsReach : Application → Type 0
 TurnsReach application =
     (granted : Bool) (steps : ℕ) (old : State) (shared : Board) (new : State) (left : Board) → TurnOf granted application.code steps old shared new left
-    → IsInReach application old → IsInReach application new
+    → StateIsReached application old → StateIsReached application new
 
 -- A turn of at least one step of a run that hasn't ended leaves less to do.
 abbrev pub TurnsLower : Application → Type 0
 TurnsLower application =
     (granted : Bool) (steps : ℕ) (old : State) (shared : Board) (new : State) (left : Board) → TurnOf granted application.code steps old shared new left
-    → IsInReach application old → 1 ≤ steps → ending_of old ≡ None
+    → StateIsReached application old → 1 ≤ steps → ending_of old ≡ None
     → left_for (record { application = application; state = new }) < left_for (record { application = application; state = old })
 
 -- ---- schedules

@@ -14,7 +14,7 @@ HasBegun (Ended ending phase progress) = Unit {0}
 HasBegun (Stuck progress) = Unit {0}
 
 -- The state is valid, it has the application's limits, and its run has begun.
-pub record IsInReach (application : Application) (state : State) : Type 0 where
+pub record StateIsReached (application : Application) (state : State) : Type 0 where
   pub valid : Valid application.code application.grants state
   pub limits_are : (world_of state).limits ≡ application.limits
   pub begun : HasBegun state

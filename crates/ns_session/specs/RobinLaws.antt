@@ -8,7 +8,7 @@ use Rattle.ns_machine_moves.specs.Turn.{Turns}
 use Rattle.ns_machine_moves.specs.Valid.{Valid}
 use Rattle.ns_session.specs.Member.{Application, MemberView, MayStart, TurnOf}
 use Rattle.ns_session.specs.Play.{opened}
-use Rattle.ns_session.specs.Reached.{IsInReach}
+use Rattle.ns_session.specs.Reached.{StateIsReached}
 use Rattle.ns_session.specs.Rounds.{RoundRobin}
 use Rattle.ns_session.specs.Session.{SessionView}
 use Rattle.ns_session.specs.Robin.{robin, session_run}
@@ -22,13 +22,13 @@ TurnsAreTurned code grants =
 -- So does the turn of an application beside a shared board, whether it is granted or not.
 abbrev pub TurnsAreTurnedBeside : Application → Type 0
 TurnsAreTurnedBeside application =
-    (granted : Bool) (steps : ℕ) (old : State) (shared : Board) (new : State) (left : Board) → IsInReach application old
+    (granted : Bool) (steps : ℕ) (old : State) (shared : Board) (new : State) (left : Board) → StateIsReached application old
     → TurnOf granted application.code steps old shared new left
     → left_as new left ≡ turned_beside granted application.code steps old shared
 
 -- Each of these applications stands where turns lead.
 abbrev pub AreReached : List MemberView → Type 0
-AreReached members = (number : ℕ) (member : MemberView) → slice_get members number ≡ Some member → IsInReach member.application member.state
+AreReached members = (number : ℕ) (member : MemberView) → slice_get members number ≡ Some member → StateIsReached member.application member.state
 
 -- The round robin of such applications leaves what the function gives.
 abbrev pub RoundRobinIsRobin : ℕ → Type 0

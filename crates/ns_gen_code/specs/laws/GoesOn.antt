@@ -3,7 +3,7 @@ use Rattle.std.proofs.Common.{◌≡◌, ℕ, ◌+◌, List, ◌∷◌, ◌++◌
 use Rattle.ns_code.specs.declared.instruction.Instr.TheVariants as i
 use Rattle.ns_resolved.specs.Program as m
 use Rattle.ns_resolved.specs.Tables.{node_texts, nodes_texts}
-use Rattle.ns_gen_code.specs.Code.{Line, does, sends, plain, inner, private_at, super, how_many, set_lines, node_lines, nodes_lines, messages_lines}
+use Rattle.ns_gen_code.specs.Code.{CodeLine, does, sends, plain, inner, private_at, super, how_many, set_lines, node_lines, nodes_lines, messages_lines}
 use Rattle.ns_gen_code.specs.Stated.{GoOn}
 
 mutual
@@ -41,13 +41,13 @@ mutual
       ∙ node_goes_on first k (does i.Pop ∷ node_lines (k + length (node_texts first)) then_node rest) more
 
   -- The lines of nodes, before others, are their lines and then those.
-  pub nodes_go_on : (nodes : m.Nodes) (k : ℕ) (rest more : List Line) → nodes_lines k nodes (rest ++ more) ≡ nodes_lines k nodes rest ++ more
+  pub nodes_go_on : (nodes : m.Nodes) (k : ℕ) (rest more : List CodeLine) → nodes_lines k nodes (rest ++ more) ≡ nodes_lines k nodes rest ++ more
   nodes_go_on m.no_nodes k rest more = refl
   nodes_go_on (m.more_nodes node others) k rest more =
       ap (node_lines k node) (nodes_go_on others (k + length (node_texts node)) rest more)
       ∙ node_goes_on node k (nodes_lines (k + length (node_texts node)) others rest) more
 
-  messages_go_on : (messages : m.Messages) (k : ℕ) (rest more : List Line) →
+  messages_go_on : (messages : m.Messages) (k : ℕ) (rest more : List CodeLine) →
       messages_lines k messages (rest ++ more) ≡ messages_lines k messages rest ++ more
   messages_go_on (m.last_message sent arguments) k rest more = nodes_go_on arguments k (sends plain sent (how_many arguments) ∷ rest) more
   messages_go_on (m.more_messages sent arguments others) k rest more =

@@ -6,7 +6,7 @@ use Rattle.ns_code.specs.declared.instruction.Instr.TheVariants as i
 use Rattle.ns_resolved.specs.Program as m
 use Rattle.ns_resolved.specs.Tables.{node_texts, nodes_texts, node_names, nodes_names, gathered, value_of, step_node, body_names, put_all}
 use Rattle.ns_resolved.specs.laws.Places.{has_put, has_stands_all}
-use Rattle.ns_gen_code.specs.Code.{Line, does, starts, how_many, node_lines, locals_lines, slots_lines, method_lines, block_lines, expressions_lines, body_lines}
+use Rattle.ns_gen_code.specs.Code.{CodeLine, does, starts, how_many, node_lines, locals_lines, slots_lines, method_lines, block_lines, expressions_lines, body_lines}
 use Rattle.ns_gen_code.specs.Stated.{AreThere}
 use Rattle.ns_gen_code.specs.lemmas.InOrder.{used, node_in_order, nodes_in_order}
 
@@ -17,10 +17,10 @@ abbrev pub steps_names : List m.Step → List (List ℕ)
 steps_names steps = flat_map (λ step. node_names (step_node step)) steps
 
 -- a node's lines before others whose names are known
-before : (node : m.Node) (k : ℕ) (rest : List Line) (names : List (List ℕ)) → used rest ≡ names → used (node_lines k node rest) ≡ node_names node ++ names
+before : (node : m.Node) (k : ℕ) (rest : List CodeLine) (names : List (List ℕ)) → used rest ≡ names → used (node_lines k node rest) ≡ node_names node ++ names
 before node k rest names e = node_in_order node k rest ∙ ap (node_names node ++◌) e
 
-locals_used : (values : List m.First) (k : ℕ) (rest : ℕ → List Line) (names : List (List ℕ)) → ((n : ℕ) → used (rest n) ≡ names) →
+locals_used : (values : List m.First) (k : ℕ) (rest : ℕ → List CodeLine) (names : List (List ℕ)) → ((n : ℕ) → used (rest n) ≡ names) →
     used (locals_lines k values rest) ≡ values_names values ++ names
 locals_used [] k rest names e = e k
 locals_used (first ∷ others) k rest names e =
@@ -29,7 +29,7 @@ locals_used (first ∷ others) k rest names e =
     (locals_used others (k + length (node_texts first.value)) rest names e)
     ∙ sym (append_assoc (node_names first.value) (values_names others) names)
 
-slots_used : (values : List m.First) (k : ℕ) (rest : ℕ → List Line) (names : List (List ℕ)) → ((n : ℕ) → used (rest n) ≡ names) →
+slots_used : (values : List m.First) (k : ℕ) (rest : ℕ → List CodeLine) (names : List (List ℕ)) → ((n : ℕ) → used (rest n) ≡ names) →
     used (slots_lines k values rest) ≡ values_names values ++ names
 slots_used [] k rest names e = e k
 slots_used (first ∷ others) k rest names e =

@@ -4,11 +4,11 @@ use Rattle.std.specs.Prelude.{flat_map}
 use Rattle.ns_code.specs.declared.instruction.Instr.TheVariants as i
 use Rattle.ns_resolved.specs.Program as m
 use Rattle.ns_resolved.specs.Tables.{node_texts, nodes_texts, node_names, nodes_names, messages_names}
-use Rattle.ns_gen_code.specs.Code.{Line, does, sends, plain, inner, private_at, super, how_many, set_lines, node_lines, nodes_lines, messages_lines}
+use Rattle.ns_gen_code.specs.Code.{CodeLine, does, sends, plain, inner, private_at, super, how_many, set_lines, node_lines, nodes_lines, messages_lines}
 use Rattle.ns_gen_code.specs.Stated.{line_names, NamesInOrder}
 
 -- the names of lines
-abbrev pub used : List Line → List (List ℕ)
+abbrev pub used : List CodeLine → List (List ℕ)
 used lines = flat_map line_names lines
 
 -- what comes first, and then a selector and more
@@ -56,14 +56,14 @@ mutual
       ∙ ap (node_names first ++◌) (node_in_order then_node (k + length (node_texts first)) rest)
       ∙ sym (append_assoc (node_names first) (node_names then_node) (used rest))
 
-  pub nodes_in_order : (nodes : m.Nodes) (k : ℕ) (rest : List Line) → used (nodes_lines k nodes rest) ≡ nodes_names nodes ++ used rest
+  pub nodes_in_order : (nodes : m.Nodes) (k : ℕ) (rest : List CodeLine) → used (nodes_lines k nodes rest) ≡ nodes_names nodes ++ used rest
   nodes_in_order m.no_nodes k rest = refl
   nodes_in_order (m.more_nodes node others) k rest =
       node_in_order node k (nodes_lines (k + length (node_texts node)) others rest)
       ∙ ap (node_names node ++◌) (nodes_in_order others (k + length (node_texts node)) rest)
       ∙ sym (append_assoc (node_names node) (nodes_names others) (used rest))
 
-  messages_in_order : (messages : m.Messages) (k : ℕ) (rest : List Line) → used (messages_lines k messages rest) ≡ messages_names messages ++ used rest
+  messages_in_order : (messages : m.Messages) (k : ℕ) (rest : List CodeLine) → used (messages_lines k messages rest) ≡ messages_names messages ++ used rest
   messages_in_order (m.last_message sent arguments) k rest =
       nodes_in_order arguments k (sends plain sent (how_many arguments) ∷ rest) ∙ selector_last (nodes_names arguments) sent.selector (used rest)
   messages_in_order (m.more_messages sent arguments others) k rest =

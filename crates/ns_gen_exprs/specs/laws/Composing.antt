@@ -4,7 +4,7 @@ use Rattle.ns_scope.specs.declared.scope.Scope.{Scope}
 use Rattle.ns_resolved.specs.Program as m
 use Rattle.ns_resolved.specs.Expressions as e
 use Rattle.ns_resolved.specs.Tables.{put_all, node_names, nodes_names, node_texts, nodes_texts}
-use Rattle.ns_gen_code.specs.Code.{Line, Way, sends, plain, how_many, object_lines, way_of, node_lines, nodes_lines}
+use Rattle.ns_gen_code.specs.Code.{CodeLine, Way, sends, plain, how_many, object_lines, way_of, node_lines, nodes_lines}
 use Rattle.ns_gen_draft.specs.Drafts.{Written, with_line, with_name}
 use Rattle.ns_gen_draft.specs.laws.Writing.{put_more, written_is}
 use Rattle.ns_gen_exprs.specs.Sending.{with_lines, with_node, with_nodes, kept, with_receiver, begin_lines, begin_way, with_message, with_value}
@@ -15,12 +15,12 @@ use Rattle.ns_gen_code.specs.laws.GoesOn.{node_goes_on, nodes_go_on}
 -- ---- lines behind those of a node or of nodes
 
 -- Lines behind those of a node are lines that the node's go before.
-pub behind_node : (node : m.Node) (k : ℕ) (before after : List Line) → (before ++ node_lines k node []) ++ after ≡ before ++ node_lines k node after
+pub behind_node : (node : m.Node) (k : ℕ) (before after : List CodeLine) → (before ++ node_lines k node []) ++ after ≡ before ++ node_lines k node after
 behind_node node k before after =
     append_assoc before (node_lines k node []) after ∙ ap (before ++◌) (sym (node_goes_on node k [] after))
 
 -- Lines behind those of nodes are lines that the nodes' go before.
-pub behind_nodes : (nodes : m.Nodes) (k : ℕ) (before after : List Line) → (before ++ nodes_lines k nodes []) ++ after ≡ before ++ nodes_lines k nodes after
+pub behind_nodes : (nodes : m.Nodes) (k : ℕ) (before after : List CodeLine) → (before ++ nodes_lines k nodes []) ++ after ≡ before ++ nodes_lines k nodes after
 behind_nodes nodes k before after =
     append_assoc before (nodes_lines k nodes []) after ∙ ap (before ++◌) (sym (nodes_go_on nodes k [] after))
 
@@ -45,12 +45,12 @@ with_one node before = with_more node m.no_nodes before ∙ with_none (with_node
 -- ---- messages
 
 -- what stands under the arguments stands before whatever follows
-object_on : (reach : m.Reach) (rest : List Line) → object_lines reach rest ≡ object_lines reach [] ++ rest
+object_on : (reach : m.Reach) (rest : List CodeLine) → object_lines reach rest ≡ object_lines reach [] ++ rest
 object_on m.own rest = refl
 object_on (m.enclosing level) rest = refl
 object_on (m.private_of level) rest = refl
 
-begin_on : (scope : Scope) (receiver : Receiver) (selector : List ℕ) (rest : List Line) →
+begin_on : (scope : Scope) (receiver : Receiver) (selector : List ℕ) (rest : List CodeLine) →
     begin_lines scope receiver selector rest ≡ begin_lines scope receiver selector [] ++ rest
 begin_on scope v.Value selector rest = refl
 begin_on scope v.Own selector rest = object_on (e.reach_self scope selector) rest
@@ -58,7 +58,7 @@ begin_on scope v.Super selector rest = refl
 begin_on scope (v.Outer class) selector rest = object_on (e.reach_outer scope class selector) rest
 
 -- what is written behind lines, arguments and a send
-sent_behind : (begin : List Line) (way : Way) (sent : m.Sent) (arguments : m.Nodes) (count : ℕ) (before : Written) → count ≡ how_many arguments →
+sent_behind : (begin : List CodeLine) (way : Way) (sent : m.Sent) (arguments : m.Nodes) (count : ℕ) (before : Written) → count ≡ how_many arguments →
     with_line (with_name (with_nodes arguments (with_lines begin before)) sent.selector) (sends way sent count)
     ≡ (let w : Written = record {
       names = put_all before.names (nodes_names arguments ++ sent.selector ∷ []);
