@@ -55,10 +55,10 @@ fn found_among(
 {
     let mut number = rows.first;
     'lines: for line in rows.lines {
-        if let Some(found) = found_with(world, code, number, line, text, sel, kind) {
-            return Some(found);
+        match found_with(world, code, number, line, text, sel, kind) {
+            Some(found) => return Some(found),
+            None => number += 1,
         }
-        number += 1;
     }
     None
 }
