@@ -5,5 +5,4 @@ pub mod Sizes
 pub mod Coded
 pub mod Declarations
 pub mod Whole
-pub mod Recorded
 pub mod UnitByUnit

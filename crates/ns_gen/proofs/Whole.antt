@@ -23,7 +23,7 @@ abbrev pub codes_of : m.Meant → List BodyCode
 codes_of meant = bodies_code (names_of meant) 0 meant.bodies
 
 -- all bodies behind the names of the classes
-pub all_coded : (meant : m.Meant) → with_bodies meant.bodies (named meant.classes) ≡ whole_of (names_of meant) (texts_of meant) (codes_of meant) nothing
+all_coded : (meant : m.Meant) → with_bodies meant.bodies (named meant.classes) ≡ whole_of (names_of meant) (texts_of meant) (codes_of meant) nothing
 all_coded meant =
     bodies_coded meant.bodies (put_all [] (flat_map class_names meant.classes)) [] nothing
     ∙ ap (λ n. whole_of n (texts_of meant) (bodies_code n 0 meant.bodies) nothing)

@@ -1,12 +1,17 @@
 -- The bodies of declarations, part by part.
-use Rattle.std.specs.Prelude.{ℕ, ◌+◌, List, ◌∷◌, ◌++◌, length, Option}
+use Rattle.std.specs.Prelude.{◌≡◌, ℕ, ◌+◌, List, ◌∷◌, ◌++◌, length, Option, is_none}
 use Rattle.ns_tree.specs.Plain as p
-use Rattle.ns_scope.specs.Scopes.{initialiser_scope}
+use Rattle.ns_scope.specs.Scopes.{initialiser_scope, is_outside}
 use Rattle.ns_scope.specs.Bodies as b
 use Rattle.ns_resolved.specs.Program as m
 use Rattle.ns_resolved.specs.Expressions as e
 use Rattle.ns_resolved.specs.Statements.{bars_bodies, statements_bodies}
 use Rattle.ns_resolved.specs.Classes as c
+use Rattle.ns_gen_draft.specs.declared.around.Around.{Around}
+
+-- The innermost declaration around has a number, where there is one.
+abbrev pub StandsAround : Around → Type 0
+StandsAround around = is_outside around.classes.now ≡ is_none around.outer
 
 -- the bodies of the blocks in locals and statements
 abbrev pub routine_inside : e.Standing → ℕ → p.Bars → p.Statements → List m.Body

@@ -6,9 +6,9 @@ ghost use Rattle.ns_scope.specs.Scopes.{is_outside};
 ghost use Rattle.ns_scope.specs.Bodies as b;
 ghost use Rattle.ns_resolved.specs.Classes.{super_bodies, clause_bodies, method_bodies, what_methods, members_methods, side_methods, class_side_methods, own_bodies};
 ghost use Rattle.ns_resolved.specs.Classes.{class_bodies, nested_bodies, members_bodies, member_bodies, what_bodies, class_count, side_count, members_count, member_count, what_count};
-ghost use Rattle.ns_gen_draft.specs.Standing.{around_of, standing, StandsAround};
+ghost use Rattle.ns_gen_draft.specs.Standing.{around_of, standing};
 ghost use Rattle.ns_gen_bodies.specs.Coding.{with_bodies};
-ghost use Rattle.ns_gen.specs.Walking.{routine_inside, start_inside, start_bodies, inside_class};
+ghost use Rattle.ns_gen.specs.Walking.{routine_inside, start_inside, start_bodies, inside_class, StandsAround};
 
 use crate::inner::{put_bars, put_message, put_statements};
 use ns_base::no_memory::NoMemory;
@@ -28,7 +28,7 @@ pub fn put_class(
     next: &mut u32,
     class: &Class,
 ) -> Result<(), NoMemory>
-    requires around { StandsAround around.now }
+    requires { StandsAround around.now }
     ensures put { OnOk result (output.new ≡ with_bodies (class_bodies (around_of around.now) number.old next.old (class_of class.now)) output.old) }
     ensures number { OnOk result (number.new ≡ number.old + class_count (class_of class.now)) }
     ensures next { OnOk result (next.new ≡ next.old + length (b.class_bodies around.now.classes.now (class_of class.now))) }
@@ -54,7 +54,7 @@ fn put_inside(
     next: &mut u32,
     class: &Class,
 ) -> Result<(), NoMemory>
-    requires around { StandsAround around.now }
+    requires { StandsAround around.now }
     ensures put { OnOk result (output.new ≡ with_bodies (inside_class (around_of around.now) number.old next.old (class_of class.now)) output.old) }
     ensures number { OnOk result (number.new ≡ number.old + class_count (class_of class.now)) }
     ensures next { OnOk result (next.new ≡ next.old + length (b.class_inside around.now.classes.now (class_of class.now))) }
@@ -74,7 +74,7 @@ fn put_nested(
     next: &mut u32,
     side: &Side,
 ) -> Result<(), NoMemory>
-    requires around { StandsAround around.now }
+    requires { StandsAround around.now }
     ensures put { OnOk result (output.new ≡ with_bodies (nested_bodies (around_of around.now) number.old next.old (side_of side.now)) output.old) }
     ensures number { OnOk result (number.new ≡ number.old + side_count (side_of side.now)) }
     ensures next { OnOk result (next.new ≡ next.old + length (b.nested_bodies around.now.classes.now (side_of side.now))) }
@@ -91,7 +91,7 @@ fn put_members(
     next: &mut u32,
     members: &[Member],
 ) -> Result<(), NoMemory>
-    requires around { StandsAround around.now }
+    requires { StandsAround around.now }
     ensures put { OnOk result (output.new ≡ with_bodies (members_bodies (around_of around.now) number.old next.old (members_of members.now)) output.old) }
     ensures number { OnOk result (number.new ≡ number.old + members_count (members_of members.now)) }
     ensures next { OnOk result (next.new ≡ next.old + length (b.members_bodies around.now.classes.now (members_of members.now))) }
@@ -110,7 +110,7 @@ fn put_member(
     next: &mut u32,
     member: &Member,
 ) -> Result<(), NoMemory>
-    requires around { StandsAround around.now }
+    requires { StandsAround around.now }
     ensures put { OnOk result (output.new ≡ with_bodies (member_bodies (around_of around.now) number.old next.old (member_of member.now)) output.old) }
     ensures number { OnOk result (number.new ≡ number.old + member_count (member_of member.now)) }
     ensures next { OnOk result (next.new ≡ next.old + length (b.member_nested around.now.classes.now (member_of member.now))) }
@@ -126,7 +126,7 @@ fn put_what(
     next: &mut u32,
     what: &What,
 ) -> Result<(), NoMemory>
-    requires around { StandsAround around.now }
+    requires { StandsAround around.now }
     ensures put { OnOk result (output.new ≡ with_bodies (what_bodies (around_of around.now) number.old next.old (what_of what.now)) output.old) }
     ensures number { OnOk result (number.new ≡ number.old + what_count (what_of what.now)) }
     ensures next { OnOk result (next.new ≡ next.old + length (b.what_bodies around.now.classes.now (what_of what.now))) }
@@ -168,7 +168,7 @@ fn put_clause(
     next: &mut u32,
     clause: &Option<SuperClause>,
 ) -> Result<(), NoMemory>
-    requires around { StandsAround around.now }
+    requires { StandsAround around.now }
     ensures put { OnOk result (output.new ≡ with_bodies (clause_bodies (around_of around.now) next.old (option_map clause_of clause.now)) output.old) }
     ensures next { OnOk result (next.new ≡ next.old + length (b.clause_bodies around.now.classes.now (option_map clause_of clause.now))) }
 {
@@ -185,7 +185,7 @@ fn put_head(
     next: &mut u32,
     clause: &SuperClause,
 ) -> Result<(), NoMemory>
-    requires around { StandsAround around.now }
+    requires { StandsAround around.now }
     ensures put { OnOk result (output.new ≡ with_bodies (clause_bodies (around_of around.now) next.old (Some (clause_of clause.now))) output.old) }
     ensures next { OnOk result (next.new ≡ next.old + length (b.clause_bodies around.now.classes.now (Some (clause_of clause.now)))) }
 {

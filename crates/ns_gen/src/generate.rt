@@ -1,11 +1,10 @@
 //! The generator: a whole program to its code.
 
-ghost use Rattle.std.specs.Prelude.{◌≡◌, All, length, Some, None, IfOk, OnOk, IsErrOf};
+ghost use Rattle.std.specs.Prelude.{◌≡◌, length, Some, None, IfOk, OnOk, IsErrOf};
 ghost use Rattle.ns_gen_code.specs.declared.size.SizeKind.{SizeKind};
 ghost use Rattle.ns_resolved.specs.Classes.{meant};
 ghost use Rattle.ns_gen_code.specs.Code.{code_of};
 ghost use Rattle.ns_gen_code.specs.Sizes.{size_fault};
-ghost use Rattle.ns_gen_records.specs.Naming.{HasRecordNames};
 ghost use Rattle.ns_gen.specs.Whole.{named, coded_program, first_fault};
 ghost use Rattle.ns_gen.specs.declared.fault.GenFault.TheVariants.{TooLarge};
 
@@ -81,7 +80,6 @@ fn code_of(
     output: Output,
     classes: &[Declaration],
 ) -> Result<CodeProgram, NoMemory>
-    requires { All (HasRecordNames output.names) classes.now }
     ensures { IfOk result (λ code. code ≡ coded_program program.now.files classes.now output) }
 {
     let (names, texts, bodies) = output.into_parts();

@@ -16,8 +16,7 @@ use ns_gen_records::declared::places_of;
 use ns_scope::chain::Chain;
 use ns_tree::tree::Unit;
 
-/// The bodies of units, each with the places of its tokens, as far as there are places. Tells how
-/// many they are.
+/// The bodies of units, each with the places of its tokens. Tells how many they are.
 pub fn put_units(
     output: &mut Output,
     units: &[Unit],
@@ -30,9 +29,7 @@ pub fn put_units(
     let mut next: u32 = 0;
     let mut at: usize = 0;
     for unit in units {
-        let Some(places) = places_of(marks, at) else {
-            return Ok(next);
-        };
+        let places = places_of(marks, at)?;
         put_unit(output, &mut number, &mut next, unit, places)?;
         at += 1;
     }

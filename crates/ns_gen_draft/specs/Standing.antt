@@ -1,6 +1,4 @@
 -- Where declarations and expressions stand.
-use Rattle.std.specs.Prelude.{◌≡◌, is_none}
-use Rattle.ns_scope.specs.Scopes.{is_outside}
 use Rattle.ns_resolved.specs.Classes as c
 use Rattle.ns_resolved.specs.Expressions as e
 use Rattle.ns_gen_draft.specs.declared.around.Around.{Around}
@@ -9,10 +7,6 @@ use Rattle.ns_gen_draft.specs.declared.here.Here.{Here}
 -- where a declaration stands, as the meaning of names has it
 abbrev pub around_of : Around → c.Around
 around_of around = record { classes = around.classes.now; outer = around.outer; marks = around.marks.now }
-
--- The innermost declaration around has a number, where there is one.
-abbrev pub StandsAround : Around → Type 0
-StandsAround around = is_outside around.classes.now ≡ is_none around.outer
 
 -- where an expression stands, as the meaning of names has it
 abbrev pub standing : Here → e.Standing

@@ -1,11 +1,12 @@
 //! The table of names while code is written. It has no limit of its own, so that a program with too
 //! many names is told as such whatever else is wrong with its size.
 
-ghost use Rattle.std.specs.Prelude.{◌≡◌, [], length, true, false, position, option_map, IfOk, OnOk, OnErr};
+ghost use Rattle.std.specs.Prelude.{◌≡◌, [], length, false, position, option_map, IfOk, OnOk, OnErr};
 ghost use Rattle.std.specs.Option.{is_some};
 ghost use Rattle.std.specs.Str.{bytes_eq};
 ghost use Rattle.ns_base.specs.Names.{NoRepeats, has, put_in, place_of};
 
+use crate::never::cannot_come;
 use ns_base::items::Items;
 use ns_base::key::Key;
 use ns_base::no_memory::NoMemory;
@@ -89,13 +90,12 @@ impl Names {
 
     /// The number of a text of the table.
     #[tactic(auto, using(crate::proofs::Tables::placed))]
-    pub fn number(&self, text: &[u8]) -> Sel
-        requires { has self.now text.now ≡ true }
-        ensures { result.0 ≡ place_of self.now text.now }
+    pub fn number(&self, text: &[u8]) -> Result<Sel, NoMemory>
+        ensures { IfOk result (λ sel. sel.0 ≡ place_of self.now text.now) }
     {
         match self.find(text) {
-            Some(number) => number,
-            None => unreachable!(),
+            Some(number) => Ok(number),
+            None => Err(cannot_come()),
         }
     }
 

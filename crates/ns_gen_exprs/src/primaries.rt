@@ -15,6 +15,7 @@ use ns_base::text::Text;
 use ns_code::instruction::Instr;
 use ns_gen_draft::counting::count_block;
 use ns_gen_draft::here::Here;
+use ns_gen_draft::never::cannot_come;
 use ns_gen_draft::writer::Writer;
 use ns_tree::tree::{Block, Primary};
 
@@ -33,7 +34,7 @@ pub fn put_block(
     count_block(next, block)
 }
 
-/// A primary without parts. Any other is taken for want of memory.
+/// A primary without parts. Any other is written where it is taken apart.
 pub fn put_alone(
     writer: &mut Writer,
     here: &Here<'_>,
@@ -79,6 +80,6 @@ pub fn put_alone(
             writer.does(Instr::PushFalse)?;
             Ok(Receiver::Value)
         }
-        _ => Err(NoMemory),
+        _ => Err(cannot_come()),
     }
 }

@@ -1,6 +1,6 @@
 //! The classes of a program, in the order of their numbers.
 
-ghost use Rattle.std.specs.Prelude.{◌≡◌, ◌≤◌, ◌+◌, ◌++◌, ◌∷◌, [], Some, length, map, slice_get, OnOk, IfOk, IfSome, IfNone, option_map};
+ghost use Rattle.std.specs.Prelude.{◌≡◌, ◌+◌, ◌++◌, ◌∷◌, [], Some, length, map, slice_get, OnOk, IfOk, option_map};
 ghost use Rattle.ns_tree.specs.PlainOf.{clause_of, message_of, pattern_of, class_of, side_of, members_of, member_of, what_of, unit_of};
 ghost use Rattle.ns_scope.specs.Scopes.{factory_params};
 ghost use Rattle.ns_scope.specs.Bodies as b;
@@ -17,13 +17,14 @@ use ns_base::place::Place;
 use ns_base::text::Text;
 use ns_gen_draft::around::{Around, advance};
 use ns_gen_draft::keys::{count, joined};
+use ns_gen_draft::never::cannot_come;
 use ns_scope::chain::Chain;
 use ns_scope::names::selector;
 use ns_scope::scope::{ClassScope, CodeSide};
 use ns_tree::tree::{Access, Class, Member, Message, Pattern, Side, SuperClause, Unit, What};
 use std::alloc::Global;
 
-/// The classes of units, each with the places of its tokens, as far as there are places.
+/// The classes of units, each with the places of its tokens.
 pub fn declared(
     alloc: Global,
     units: &[Unit],
@@ -36,23 +37,20 @@ pub fn declared(
     let mut next: u32 = 0;
     let mut at: usize = 0;
     for unit in units {
-        let Some(places) = places_of(marks, at) else {
-            return Ok(all);
-        };
+        let places = places_of(marks, at)?;
         put_unit(alloc, &mut all, &mut number, &mut next, unit, places)?;
         at += 1;
     }
     Ok(all)
 }
 
-/// The places of a unit's tokens, if there are any.
-pub fn places_of<'a>(marks: &'a [Items<Place>], at: usize) -> Option<&'a [Place]>
-    ensures some { IfSome result (λ places. slice_get marks.now at ≡ Some places.now) }
-    ensures none { IfNone result (length marks.now ≤ at) }
+/// The places of a unit's tokens.
+pub fn places_of<'a>(marks: &'a [Items<Place>], at: usize) -> Result<&'a [Place], NoMemory>
+    ensures { IfOk result (λ places. slice_get marks.now at ≡ Some places.now) }
 {
     match marks.get(at) {
-        Some(places) => Some(places.as_slice()),
-        None => None,
+        Some(places) => Ok(places.as_slice()),
+        None => Err(cannot_come()),
     }
 }
 

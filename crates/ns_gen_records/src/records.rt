@@ -1,9 +1,7 @@
 //! The records of classes, in the table of names that is there in the end.
 
-ghost use Rattle.std.specs.Prelude.{◌≡◌, true, All, map, IfOk};
-ghost use Rattle.ns_base.specs.Names.{has};
+ghost use Rattle.std.specs.Prelude.{◌≡◌, map, IfOk};
 ghost use Rattle.ns_resolved.specs.Tables.{access_number, class_code, slot_code, nested_code, method_code, sel_of};
-ghost use Rattle.ns_gen_records.specs.Naming.{HasRecordNames};
 
 use crate::declaration::{Declaration, MethodOf, NestedOf, SlotOf};
 use ns_base::items::Items;
@@ -22,7 +20,6 @@ pub fn class_codes(
     names: &Names,
     classes: &[Declaration],
 ) -> Result<Vec<ClassCode>, NoMemory>
-    requires { All (HasRecordNames names.now) classes.now }
     ensures { IfOk result (λ codes. codes.items ≡ map (class_code names.now) classes.now) }
 {
     let mut codes = Vec::new(alloc);
@@ -34,7 +31,6 @@ pub fn class_codes(
 
 /// The record of a class.
 fn class_code(alloc: Global, names: &Names, class: &Declaration) -> Result<ClassCode, NoMemory>
-    requires { HasRecordNames names.now class.now }
     ensures { IfOk result (λ code. code ≡ class_code names.now class.now) }
 {
     let slots = slot_codes(alloc, names, class.slots.as_slice())?;
@@ -42,13 +38,13 @@ fn class_code(alloc: Global, names: &Names, class: &Declaration) -> Result<Class
     let methods = method_codes(alloc, names, class.methods.as_slice())?;
     let side_methods = method_codes(alloc, names, class.side_methods.as_slice())?;
     Ok(ClassCode {
-        name: number(names, &class.name),
+        name: number(names, &class.name)?,
         outer: class.outer,
-        factory: number(names, &class.factory),
+        factory: number(names, &class.factory)?,
         params: class.params,
         clause: class.clause,
         init: class.initialiser,
-        super_sel: number(names, &class.super_selector),
+        super_sel: number(names, &class.super_selector)?,
         slots: Items::from_vec(slots),
         nested: Items::from_vec(nested),
         methods: Items::from_vec(methods),
@@ -57,33 +53,31 @@ fn class_code(alloc: Global, names: &Names, class: &Declaration) -> Result<Class
 }
 
 /// The number of a name.
-fn number(names: &Names, name: &Text) -> Sel
-    requires { has names.now name.now ≡ true }
-    ensures { result ≡ sel_of names.now name.now }
+fn number(names: &Names, name: &Text) -> Result<Sel, NoMemory>
+    ensures { IfOk result (λ sel. sel ≡ sel_of names.now name.now) }
 {
-    names.number(name.bytes())
+    let sel = names.number(name.bytes())?;
+    Ok(sel)
 }
 
 fn slot_codes(alloc: Global, names: &Names, slots: &[SlotOf]) -> Result<Vec<SlotCode>, NoMemory>
-    requires { All (λ slot. has names.now slot.name ≡ true) slots.now }
     ensures { IfOk result (λ codes. codes.items ≡ map (slot_code names.now) slots.now) }
 {
     let mut codes = Vec::new(alloc);
     for slot in slots {
-        codes.push(slot_code(names, slot))?;
+        codes.push(slot_code(names, slot)?)?;
     }
     Ok(codes)
 }
 
-fn slot_code(names: &Names, slot: &SlotOf) -> SlotCode
-    requires { has names.now slot.now.name ≡ true }
-    ensures { result ≡ slot_code names.now slot.now }
+fn slot_code(names: &Names, slot: &SlotOf) -> Result<SlotCode, NoMemory>
+    ensures { IfOk result (λ code. code ≡ slot_code names.now slot.now) }
 {
-    SlotCode {
-        name: number(names, &slot.name),
+    Ok(SlotCode {
+        name: number(names, &slot.name)?,
         access: access_number(slot.access),
         mutable: slot.mutable,
-    }
+    })
 }
 
 fn nested_codes(alloc: Global, nested: &[NestedOf]) -> Result<Vec<NestedCode>, NoMemory>
@@ -110,25 +104,23 @@ fn method_codes(
     names: &Names,
     methods: &[MethodOf],
 ) -> Result<Vec<MethodCode>, NoMemory>
-    requires { All (λ method. has names.now method.selector ≡ true) methods.now }
     ensures { IfOk result (λ codes. codes.items ≡ map (method_code names.now) methods.now) }
 {
     let mut codes = Vec::new(alloc);
     for method in methods {
-        codes.push(method_code(names, method))?;
+        codes.push(method_code(names, method)?)?;
     }
     Ok(codes)
 }
 
-fn method_code(names: &Names, method: &MethodOf) -> MethodCode
-    requires { has names.now method.now.selector ≡ true }
-    ensures { result ≡ method_code names.now method.now }
+fn method_code(names: &Names, method: &MethodOf) -> Result<MethodCode, NoMemory>
+    ensures { IfOk result (λ code. code ≡ method_code names.now method.now) }
 {
-    MethodCode {
-        sel: number(names, &method.selector),
+    Ok(MethodCode {
+        sel: number(names, &method.selector)?,
         access: access_number(method.access),
         body: method.body,
-    }
+    })
 }
 
 fn access_number(access: Access) -> u8

@@ -8,8 +8,8 @@ use Rattle.ns_gen.proofs.bodies.put_head_in.Goals as goal
 pub returns-clause-put : goal.returns-clause-put
 returns-clause-put c =
     head_put (around_of c.args.around.now) c.args.outer c.args.next.now (clause_of c.args.clause.now) c.in_ok-scope.scope c.args.output.now c.clause-2.new.self
-    c.requires c.in_ok-scope.ensures c.in_ok-clause.ensures
+    c.requires.outer c.in_ok-scope.ensures c.in_ok-clause.ensures
 
 pub returns-clause-next : goal.returns-clause-next
 returns-clause-next c =
-    omega (one_inside c.args.around.now.classes.now (clause_of c.args.clause.now) c.in_ok-expect_inside.ensures, c.in_ok-advance.ensures, arith)
+    omega (one_inside c.args.around.now.classes.now (clause_of c.args.clause.now) c.requires.inside, c.in_ok-advance.ensures, arith)
