@@ -6,5 +6,6 @@ pub mod Selector
 pub mod Fits
 pub mod Soundness
 pub mod Selectors
+pub mod Sample
 pub mod LocalNames
 pub mod Instructions
