@@ -1,5 +1,5 @@
 -- Bodies that were entered on the arguments that are kept.
-use Rattle.std.proofs.Common.{◌≡◌, ◌+◌, ◌<◌, ◌≤◌, ℕ, List, [], length, drop, ap, sym, ◌∙◌, refl, subst, arith, true, false}
+use Rattle.std.proofs.Common.{◌≡◌, ◌+◌, ◌≤◌, ℕ, List, [], length, ap, sym, ◌∙◌, refl, subst, arith, true, false}
 use Rattle.ns_code.specs.declared.program.CodeProgram.{CodeProgram}
 use Rattle.ns_world.specs.declared.value.Value.{Value}
 use Rattle.ns_actions.specs.declared.control.Exit.{Exit}
@@ -8,7 +8,7 @@ use Rattle.ns_actions.specs.declared.control.Given.{Given}
 use Rattle.ns_actions.specs.declared.control.Given.TheVariants as given
 use Rattle.ns_actions.specs.declared.control.Entered.{Entered}
 use Rattle.ns_actions.specs.declared.control.Reached.TheVariants as reached
-use Rattle.ns_actions.specs.Bodies.{has_environment, locals_of, height_in, greatest_of}
+use Rattle.ns_actions.specs.Bodies.{has_environment, locals_of, greatest_of}
 use Rattle.ns_actions.specs.Control.{Control}
 use Rattle.ns_actions.specs.Shown.{given_values, passed}
 use Rattle.ns_machine_moves.specs.Arrivals.{arrived}

@@ -12,7 +12,7 @@ use Rattle.ns_machine_frames.specs.declared.stack.Stack.{Stack}
 use Rattle.ns_machine_frames.specs.Row.{FrameRow}
 use Rattle.ns_machine_frames.specs.Room.{FramesFitWithin, bound}
 use Rattle.ns_machine_frames.specs.Standing.{standing, at_next, AreLaid}
-use Rattle.ns_machine_frames.specs.Stack.{in_use, stood, with_top, IsLaid, KeepsRoom}
+use Rattle.ns_machine_frames.specs.Stack.{in_use, with_top, IsLaid, KeepsRoom}
 use Rattle.ns_machine_core.specs.declared.state.Core.{Core}
 use Rattle.ns_machine_core.specs.declared.state.Next.{Next}
 use Rattle.ns_actions.specs.Bodies.{height_in, greatest_of}

@@ -5,7 +5,7 @@ use Rattle.ns_world.specs.declared.value.Value.{Value}
 use Rattle.ns_world.specs.Lawful.{IsLawful, IsLiveValue}
 use Rattle.ns_actions.specs.declared.control.Reached.{Reached}
 use Rattle.ns_actions.specs.Control.{Control}
-use Rattle.ns_actions.specs.Rows.{row_at}
+use Rattle.ns_kernel.specs.Table.{row_at}
 use Rattle.ns_actions.specs.Suiting.{RowSuits}
 use Rattle.ns_act.specs.declared.sends.Answered.{Answered}
 use Rattle.ns_act.specs.declared.sends.Answered.TheVariants as answers

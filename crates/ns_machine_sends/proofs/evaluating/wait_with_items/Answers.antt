@@ -1,6 +1,4 @@
-use Rattle.ns_world.specs.declared.value.Value.TheVariants.{Ref}
-use Rattle.ns_kdata.specs.Arguments.{items_of}
-use Rattle.ns_machine_sends.proofs.Placed.{items_fit, keeping_left, items_wait}
+use Rattle.ns_machine_sends.proofs.Placed.{items_fit}
 use Rattle.ns_machine_sends.proofs.evaluating.wait_with_items.Goals as goal
 
 pub keep_items-requires-clause-room : goal.keep_items-requires-clause-room
