@@ -32,10 +32,10 @@ EndsControl code (Evaluate block arguments site progress) = Unit {0}
 EndsControl code (Begin method state site progress) = Unit {0}
 EndsControl code (Perform receiver sel array site progress) = Unit {0}
 
-abbrev pub EndsPart : CodeProgram → PartControl → Type 0
-EndsPart code (Skip progress) = Unit {0}
-EndsPart code (Stop ending progress) = FitsEnding code ending
-EndsPart code (EnterPart activation locals progress) = Unit {0}
+abbrev pub PartEnds : CodeProgram → PartControl → Type 0
+PartEnds code (Skip progress) = Unit {0}
+PartEnds code (Stop ending progress) = FitsEnding code ending
+PartEnds code (EnterPart activation locals progress) = Unit {0}
 
 abbrev pub EndsWaiting : CodeProgram → Waiting → Type 0
 EndsWaiting code (Waits block arguments state progress) = Unit {0}
@@ -64,7 +64,7 @@ EndsFitly code (SendsPlain receiver sel values place) progress = EndsControl cod
 EndsFitly code (Performs receiver sel array site) progress = EndsControl code (performed code receiver sel array site progress)
 EndsFitly code (Evaluates block arguments site) progress = EndsControl code (evaluated code block arguments site progress)
 EndsFitly code (Continues method state site) progress = EndsWaiting code (method_next method state site progress)
-EndsFitly code (BeginsPart activation arguments) progress = EndsPart code (super_part code activation arguments progress)
+EndsFitly code (BeginsPart activation arguments) progress = PartEnds code (super_part code activation arguments progress)
 EndsFitly code EndsPart progress = Unit {0}
 EndsFitly code (EndsBody exit activation value) progress = EndsAfter code (body_ended code exit activation value progress)
 EndsFitly code (MakesBlock activation body) progress = EndsAfter code (new_block activation body progress)

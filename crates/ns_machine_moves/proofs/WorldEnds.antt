@@ -17,7 +17,7 @@ use Rattle.ns_actions.specs.Lawful.{LawfulAfter, LawfulControl, LawfulWaiting}
 use Rattle.ns_actions.specs.Onward.{reached, after_reached, part_reached, waiting_reached}
 use Rattle.ns_actions.specs.Spending.{ControlSpends, WaitingSpends, CellSpends, EndSpends}
 use Rattle.ns_actions.specs.Actions.{EndsPart}
-use Rattle.ns_actions.specs.Ending.{FitsEnding, EndsAfter, EndsControl, EndsPart, EndsWaiting}
+use Rattle.ns_actions.specs.Ending.{FitsEnding, EndsAfter, EndsControl, PartEnds, EndsWaiting}
 use Rattle.ns_actions.specs.Fitting.{FitsSite}
 use Rattle.ns_machine_moves.specs.State.{Frame, Running, Looping, Phase, Start, First, Second, Hosted, State, Unbegun, Going, Pends, Ended, Stuck}
 use Rattle.ns_machine_moves.specs.Returns.{concluded, delivered, settled, is_home, has_home, unwound, returned_home}
@@ -113,7 +113,7 @@ module _ (code : CodeProgram) (grants : Grants) where
   arrived_in phase (Begin method state site q) frames p w d l e s = w
   arrived_in phase (Perform receiver sel array site q) frames p w d l e s = w
 
-  pub part_in : (phase : Phase) (part : PartControl) (frames : List Frame) → InWorld code grants phase (part_reached part) → EndsPart code part
+  pub part_in : (phase : Phase) (part : PartControl) (frames : List Frame) → InWorld code grants phase (part_reached part) → PartEnds code part
       → InWorldOf (part_arrived code phase part frames)
   part_in phase (Skip q) frames w e = w
   part_in phase (Stop ending q) frames w e = ended_in ending phase q w e

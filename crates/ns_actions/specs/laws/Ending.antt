@@ -65,7 +65,7 @@ use Rattle.ns_actions.specs.Sends.{Arguments, Listed, Wrapped, given, one_more, 
 use Rattle.ns_actions.specs.Lawful.{LawfulRun}
 use Rattle.ns_actions.specs.Fitting.{FitsSite}
 use Rattle.ns_actions.specs.Actions.{Action, Sends, SendsPlain, Performs, Evaluates, Continues, BeginsPart, EndsPart, EndsBody, MakesBlock, MakesText, MakesArray, FillsSlot, StoresLocal}
-use Rattle.ns_actions.specs.Ending.{FitsEnding, EndsAfter, EndsControl, EndsPart, EndsWaiting, HasSite, EndsFitly}
+use Rattle.ns_actions.specs.Ending.{FitsEnding, EndsAfter, EndsControl, PartEnds, EndsWaiting, HasSite, EndsFitly}
 use Rattle.ns_actions.specs.laws.Onward.{charged_all}
 use Rattle.ns_actions.specs.laws.Sites.{site_fits}
 
@@ -355,7 +355,7 @@ module _ (code : CodeProgram) (site : Site) (fits : FitsSite code site) where
 
   -- ---- superclass parts, and the ends of bodies
 
-  opened_part_ends : (activation : Activation) (list : List Value) (progress : Progress) → EndsPart code (opened code Stop EnterPart activation list progress)
+  opened_part_ends : (activation : Activation) (list : List Value) (progress : Progress) → PartEnds code (opened code Stop EnterPart activation list progress)
   opened_part_ends activation list progress = tested (has_environment code activation.body)
     where
       locals : List Value
@@ -364,8 +364,8 @@ module _ (code : CodeProgram) (site : Site) (fits : FitsSite code site) where
       inner : Activation
       inner = record activation { env = value.Ref (heap_size progress.world.cells) }
 
-      tested : (b : Bool) → EndsPart code (cond b (charged Stop Cells (made progress.world (EnvironmentCell activation.env locals)) progress (EnterPart inner [])) (EnterPart activation locals progress))
-      tested true = charged_all (EndsPart code) Stop Cells (made progress.world (EnvironmentCell activation.env locals)) progress (EnterPart inner []) tt (λ world e. tt)
+      tested : (b : Bool) → PartEnds code (cond b (charged Stop Cells (made progress.world (EnvironmentCell activation.env locals)) progress (EnterPart inner [])) (EnterPart activation locals progress))
+      tested true = charged_all (PartEnds code) Stop Cells (made progress.world (EnvironmentCell activation.env locals)) progress (EnterPart inner []) tt (λ world e. tt)
       tested false = tt
 
   ended_ends : (exit : Exit) (activation : Activation) (answer : Value) (progress : Progress) → activation.site ≡ site → EndsAfter code (body_ended code exit activation answer progress)
@@ -373,27 +373,27 @@ module _ (code : CodeProgram) (site : Site) (fits : FitsSite code site) where
   ended_ends FromBody activation answer progress e = tt
   ended_ends (FromClause object holder class) activation answer progress e = rw e (over_ends object holder class answer (in_world progress (left progress.world)))
 
-part_ends : (code : CodeProgram) (activation : Activation) (fits : FitsSite code activation.site) (over : Value) (sel : ℕ) (list : List Value) (progress : Progress) → EndsPart code (part_of code activation over sel list progress)
+part_ends : (code : CodeProgram) (activation : Activation) (fits : FitsSite code activation.site) (over : Value) (sel : ℕ) (list : List Value) (progress : Progress) → PartEnds code (part_of code activation over sel list progress)
 part_ends code activation fits over' sel list progress = over_part over'
   where
-    object_ends : EndsPart code (object_part code activation sel progress)
+    object_ends : PartEnds code (object_part code activation sel progress)
     object_ends = tested (bytes_eq (selector_text code sel) (codes "new"))
       where
-        tested : (b : Bool) → EndsPart code (cond b (Skip progress) (Stop (error kind.InitMismatch activation.site) progress))
+        tested : (b : Bool) → PartEnds code (cond b (Skip progress) (Stop (error kind.InitMismatch activation.site) progress))
         tested true = tt
         tested false = error_fits code activation.site fits kind.InitMismatch
 
-    declared_ends : (over : ℕ) → EndsPart code (declared_part code activation over sel list progress)
+    declared_ends : (over : ℕ) → PartEnds code (declared_part code activation over sel list progress)
     declared_ends over = tested (eqb sel (factory_selector code (declaration_of progress.world.cells over)))
       where
         inner : Activation
         inner = record { self = activation.self; holder = over; body = initialiser_of code (declaration_of progress.world.cells over); home = no_home; env = value.Nil; site = activation.site }
 
-        tested : (b : Bool) → EndsPart code (cond b (charged Stop Depth (entered progress.world) progress (opened code Stop EnterPart inner list)) (Stop (error kind.InitMismatch activation.site) progress))
-        tested true = charged_all (EndsPart code) Stop Depth (entered progress.world) progress (opened code Stop EnterPart inner list) tt (λ world e. opened_part_ends code activation.site fits inner list (in_world progress world))
+        tested : (b : Bool) → PartEnds code (cond b (charged Stop Depth (entered progress.world) progress (opened code Stop EnterPart inner list)) (Stop (error kind.InitMismatch activation.site) progress))
+        tested true = charged_all (PartEnds code) Stop Depth (entered progress.world) progress (opened code Stop EnterPart inner list) tt (λ world e. opened_part_ends code activation.site fits inner list (in_world progress world))
         tested false = error_fits code activation.site fits kind.InitMismatch
 
-    over_part : (over : Value) → EndsPart code (part_of code activation over sel list progress)
+    over_part : (over : Value) → PartEnds code (part_of code activation over sel list progress)
     over_part (value.Ref over) = declared_ends over
     over_part value.Nil = object_ends
     over_part value.True = object_ends
