@@ -5,9 +5,8 @@ ghost use Rattle.ns_code.specs.declared.program.CodeProgram.{CodeProgram};
 ghost use Rattle.ns_world.specs.declared.value.Value.{Value};
 ghost use Rattle.ns_world.specs.declared.value.Value.TheVariants.{Nil, Ref};
 ghost use Rattle.ns_actions.specs.declared.control.Reached.TheVariants as reached;
-ghost use Rattle.ns_world.specs.Heap.{find_cell, is_class, words_at, open_words_at};
+ghost use Rattle.ns_world.specs.Heap.{find_cell, is_class, words_at, open_words_at, word_of_object};
 ghost use Rattle.ns_world.specs.Lawful.{IsLawful};
-ghost use Rattle.ns_mirror.specs.Slots as slots;
 ghost use Rattle.ns_actions.specs.Bodies.{no_home};
 ghost use Rattle.ns_actions.specs.Classes.{instance as made_instance};
 ghost use Rattle.ns_actions.specs.Lawful.{FitsSelector, HasClass};
@@ -213,7 +212,7 @@ fn first_of(values: &[Value]) -> Value
 #[inline(always)]
 pub fn get(world: &mut World, receiver: Value, word: u32) -> Reached
     requires { (at : ℕ) → receiver ≡ Ref at → word < length (words_at world.old.world.cells at) }
-    ensures reached { result ≡ reached.Gives (slots.word_of_object world.old.world.cells receiver word) }
+    ensures reached { result ≡ reached.Gives (word_of_object world.old.world.cells receiver word) }
     ensures world { world.new ≡ world.old }
     ensures plain { IsPlain result }
 {

@@ -19,7 +19,7 @@ use Rattle.ns_world.specs.declared.cell.NewCell.TheVariants as new
 use Rattle.ns_world.specs.declared.cell.FacetKind.{FacetKind}
 use Rattle.ns_world.specs.declared.cell.FacetKind.TheVariants as kinds
 use Rattle.ns_world.specs.Cell.{Cell, ObjectCell, ClassCell, BlockCell, EnvironmentCell, ArrayCell, TextCell, FacetCell, MirrorCell, MessageCell}
-use Rattle.ns_world.specs.Heap.{Heap, find_cell, chain_of, shape_at, no_class, cell_number}
+use Rattle.ns_world.specs.Heap.{Heap, find_cell, chain_of, shape_at, no_class, cell_number, word_of_object}
 use Rattle.ns_world.specs.Seek.{first_such, is_facet, is_top}
 use Rattle.ns_world.specs.Starts.{class_name_of}
 use Rattle.ns_kdata.specs.Outcome.{RowOutcome, Answers, Fails, making, unchanged, wrong_kind}
@@ -218,7 +218,7 @@ module _ (Has : ℕ → Type 0) (first : Progress) where
       by true rest = (tt, rest)
       by false rest = rest
 
-  pub word_of_object_in : (heap : Heap) (value : Value) (word : ℕ) → Closed Has heap → In Has value → In Has (slots.word_of_object heap value word)
+  pub word_of_object_in : (heap : Heap) (value : Value) (word : ℕ) → Closed Has heap → In Has value → In Has (word_of_object heap value word)
   word_of_object_in heap (Ref at) word closed i = word_at_in Has heap at word closed i
   word_of_object_in heap Nil word closed i = tt
   word_of_object_in heap True word closed i = tt

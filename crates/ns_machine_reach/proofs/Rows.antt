@@ -11,7 +11,7 @@ use Rattle.ns_world.specs.declared.cell.NewCell.{NewCell}
 use Rattle.ns_world.specs.declared.cell.NewCell.TheVariants as new
 use Rattle.ns_world.specs.Cell.{Cell, ObjectCell, ArrayCell, TextCell}
 use Rattle.ns_world.specs.Heap.{Heap, heap_size, no_class}
-use Rattle.ns_world.specs.World.{World, made}
+use Rattle.ns_world.specs.World.{World, made, stored}
 use Rattle.ns_kdata.specs.Outcome.{RowOutcome, Answers, Fails, making, made_as, unchanged, wrong_kind, out_of_range}
 use Rattle.ns_kdata.specs.declared.arguments.Part.{Part}
 use Rattle.ns_kdata.specs.Arguments.{items_of, shape_of_value, is_text, bytes_of, symbol_text, number_of, place_in, part_in}
@@ -156,7 +156,7 @@ module _ (Has : ℕ → Type 0) (first : Progress) where
   item_in items (Ok place) all = at_index Has items place all
   item_in items (Err fault) all = tt
 
-  pub stored_in : (now : Progress) (array : Value) (place : ℕ) (value : Value) → Kept Has first now → In Has array → In Has value → Kept Has first (in_world now (rows.stored now.world array place value))
+  pub stored_in : (now : Progress) (array : Value) (place : ℕ) (value : Value) → Kept Has first now → In Has array → In Has value → Kept Has first (in_world now (stored now.world array place value))
   stored_in now (Ref at) place value kept i v = written_kept Has first now at place value kept i v
   stored_in now Nil place value kept i v = kept
   stored_in now True place value kept i v = kept

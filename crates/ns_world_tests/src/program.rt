@@ -2,6 +2,7 @@
 //! holds.
 
 ghost use Rattle.std.specs.Prelude.{◌≡◌, map, IfOk};
+ghost use Rattle.ns_code.specs.Sample as sample;
 ghost use Rattle.ns_world_tests.specs.Program as spec;
 
 use ns_base::items::Items;
@@ -227,7 +228,7 @@ fn class(
 }
 
 fn slot(name: u32, access: u8) -> SlotCode
-    ensures { result ≡ spec.slot_of name access }
+    ensures { result ≡ sample.slot_of name access }
 {
     SlotCode {
         name: Sel(name),
@@ -237,7 +238,7 @@ fn slot(name: u32, access: u8) -> SlotCode
 }
 
 fn mutable_slot(name: u32, access: u8) -> SlotCode
-    ensures { result ≡ spec.mutable_slot_of name access }
+    ensures { result ≡ sample.mutable_slot_of name access }
 {
     SlotCode {
         name: Sel(name),
@@ -247,7 +248,7 @@ fn mutable_slot(name: u32, access: u8) -> SlotCode
 }
 
 fn method(sel: u32, access: u8, body: u32) -> MethodCode
-    ensures { result ≡ spec.method_of sel access body }
+    ensures { result ≡ sample.method_of sel access body }
 {
     MethodCode {
         sel: Sel(sel),
