@@ -1,8 +1,8 @@
-use Rattle.std.proofs.Common.{◌≡◌, ◌∙◌, ap, sym, arith, false}
+use Rattle.std.proofs.Common.{◌≡◌, ◌∙◌, ap, sym, arith, false, inr}
 use Rattle.ns_world.specs.declared.ending.Counters.{Counters}
 use Rattle.ns_machine_moves.specs.Turn.{is_still}
 use Rattle.ns_machine_core.specs.Shown.{shown}
-use Rattle.ns_machine_turns.proofs.Turned.{Known, turning_begins, rests_here, ends_here, since_begun, left_is, spent_on, spent_goes, runs_on, turning_on, not_both}
+use Rattle.ns_machine_turns.proofs.Turned.{Known, turning_begins, rests_here, ends_here, since_begun, left_is, none_left, spent_on, spent_goes, runs_on, turning_on, not_both}
 use Rattle.ns_machine_turns.proofs.turning.turn.Goals as goal
 
 pub moves-init : goal.moves-init
@@ -57,6 +57,16 @@ moves-preserved c =
       runs = c.go_along-here.ensures.along.runs;
       turning = c.go_along-here.ensures.along.turning c.args.steps c.args.core.now c.args.next (omega (arith, left, counted, begun)) c.moves.invariant.turning;
       begun = begun;
+    }
+
+pub last-init : goal.last-init
+last-init c =
+    let begun = c.moves.invariant.begun in
+    let counted = ap (λ (used : Counters). used.steps) c.counters.ensures in
+    record {
+      runs = c.moves.invariant.runs;
+      turning = c.moves.invariant.turning;
+      spent = inr (none_left c.args.code.now c.args.steps c.args.core.now c.moves.core c.args.next c.moves.here (omega (arith, begun, counted, c.if-steps-used.true)));
     }
 
 pub returns-then-is_ended-2-clause-turns : goal.returns-then-is_ended-2-clause-turns
