@@ -143,7 +143,7 @@ fn with_files<B: Format<Value = BodyCode>>(
     }
 }
 
-/// ReadsBytes the classes and the bodies of a version into a program.
+/// Reads the classes and the bodies of a version into a program.
 #[tactic(auto, unfolding(crate::specs::Reading::with_classes))]
 fn read_classes<B: Format<Value = BodyCode>>(
     alloc: Global,

@@ -14,7 +14,7 @@ use ns_world::cell::{CellLimit, FacetKind, NewCell};
 use ns_world::value::{KClass, Value};
 use ns_world::world::World;
 
-/// CellsAreMade the facets and the top-level classes.
+/// Makes the facets and the top-level classes.
 pub fn make_standing(world: &mut World, code: &CodeProgram, grants: Grants) -> Result<(), CellLimit>
     requires room { HasCellRoom world.old }
     requires classes { length code.now.classes ≤ 4294967295 }
@@ -24,7 +24,7 @@ pub fn make_standing(world: &mut World, code: &CodeProgram, grants: Grants) -> R
     make_tops(world, code.classes.as_slice())
 }
 
-/// CellsAreMade Manifest and Platform, and the facets that are granted.
+/// Makes Manifest and Platform, and the facets that are granted.
 fn make_facets(world: &mut World, grants: Grants) -> Result<(), CellLimit>
     requires room { HasCellRoom world.old }
     ensures { CellsAreMade (facets_of grants) world.old result world.new }
@@ -37,7 +37,7 @@ fn make_facets(world: &mut World, grants: Grants) -> Result<(), CellLimit>
     make_facet_if(world, grants.board, FacetKind::Board)
 }
 
-/// CellsAreMade a facet, where it is granted.
+/// Makes a facet, where it is granted.
 fn make_facet_if(world: &mut World, granted: bool, kind: FacetKind) -> Result<(), CellLimit>
     requires room { HasCellRoom world.old }
     ensures { CellsAreMade (facet_if granted kind) world.old result world.new }
@@ -48,7 +48,7 @@ fn make_facet_if(world: &mut World, granted: bool, kind: FacetKind) -> Result<()
     Ok(())
 }
 
-/// CellsAreMade the classes of the top-level declarations.
+/// Makes the classes of the top-level declarations.
 fn make_tops(world: &mut World, classes: &[ClassCode]) -> Result<(), CellLimit>
     requires room { HasCellRoom world.old }
     requires numbers { length classes.now ≤ 4294967295 }
@@ -60,7 +60,7 @@ fn make_tops(world: &mut World, classes: &[ClassCode]) -> Result<(), CellLimit>
     Ok(())
 }
 
-/// CellsAreMade the class of a declaration, where it is a top-level one.
+/// Makes the class of a declaration, where it is a top-level one.
 fn make_top_if(world: &mut World, outer: Option<u32>, decl: u32) -> Result<(), CellLimit>
     requires room { HasCellRoom world.old }
     ensures { CellsAreMade (top_if outer decl) world.old result world.new }
@@ -80,7 +80,7 @@ fn make_top_if(world: &mut World, outer: Option<u32>, decl: u32) -> Result<(), C
     }
 }
 
-/// CellsAreMade a cell.
+/// Makes a cell.
 fn make_cell(world: &mut World, cell: NewCell) -> Result<(), CellLimit>
     requires room { HasCellRoom world.old }
     requires superclass { IsTrue (has_superclass world.old.world.cells (fresh cell)) }

@@ -12,7 +12,7 @@ use ns_world::cell::CellLimit;
 use ns_world::value::Value;
 use ns_world::world::World;
 
-/// CellsAreMade the texts of arguments, and lists what refers to them, for which there is room.
+/// Makes the texts of arguments, and lists what refers to them, for which there is room.
 pub fn make_texts(
     world: &mut World,
     texts: &[Text],
@@ -31,7 +31,7 @@ pub fn make_texts(
     Ok(())
 }
 
-/// CellsAreMade the text of an argument.
+/// Makes the text of an argument.
 fn make_text(world: &mut World, text: &Text) -> Result<u32, CellLimit>
     requires room { HasCellRoom world.old }
     ensures number { IfOk result (λ number. number ≡ heap_size world.old.world.cells) }

@@ -1,4 +1,4 @@
--- MakesMove of a machine one after another, with steps left.
+-- Moves of a machine one after another, with steps left.
 use Rattle.std.proofs.Common.{◌≡◌, ℕ, ◌-◌, ◌<◌, ◌≤◌, refl, ap, sym, subst, arith, false}
 use Rattle.ns_code.specs.declared.program.CodeProgram.{CodeProgram}
 use Rattle.ns_facets.specs.declared.row.Grants.{Grants}
@@ -70,7 +70,7 @@ module _ (code : CodeProgram) (all : KnownMoves code) (plan : Plan) (sends : Own
       falls = falls_on along;
     }
 
--- MakesMove that led on with the steps that were left then, of those with which others had led there, have led on from where those began.
+-- Moves that led on with the steps that were left then, of those with which others had led there, have led on from where those began.
 module _ (code : CodeProgram) (plan : Plan) (sends : OwnSends) (left : ℕ) (old now new : Core) (from here next : Next) where
   left_there : GoesAlong code plan sends left old from now here → is_still (shown code old from) ≡ false → (steps : ℕ) (first : Core) (began : Next)
       → left ≡ steps_left steps (shown code first began) (shown code old from) → IsTurning code steps first began old from

@@ -47,7 +47,7 @@ pub record IsTurning (code : CodeProgram) (steps : ℕ) (first : Core) (from : N
   pub stays : KeepsRooms first now
   pub under : IsUnderWay code steps (shown code first from) (shown code now next)
 
--- MakesMove of the machine, if any, have led from one state to another: a turn that had come to the first with so many steps left
+-- Moves of the machine, if any, have led from one state to another: a turn that had come to the first with so many steps left
 -- has come to the other, no step is taken back, and no more is left to be done.
 pub record GoesAlong (code : CodeProgram) (plan : Plan) (sends : OwnSends) (left : ℕ) (old : Core) (from : Next) (new : Core) (to : Next) : Type 0 where
   pub runs : RunsBy code plan sends new to

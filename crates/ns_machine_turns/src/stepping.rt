@@ -49,7 +49,7 @@ pub fn go_on(plan: &Plan, code: &CodeProgram, core: &mut Core, at: Registers, ow
     }
 }
 
-/// IsDone the next step of a body, which runs in the topmost frame. Its code stands once, and apart from that of methods of the
+/// Does the next step of a body, which runs in the topmost frame. Its code stands once, and apart from that of methods of the
 /// kernel.
 #[inline(never)]
 pub fn run_on(
@@ -73,7 +73,7 @@ pub fn run_on(
     perform(code, core, behind, step, own)
 }
 
-/// IsDone a step, behind which the registers stand.
+/// Does a step, behind which the registers stand.
 #[inline(always)]
 fn perform(code: &CodeProgram, core: &mut Core, at: Registers, step: Step, own: OwnSends) -> Next
     requires can { CanDo code.now core.old at (instr_of step) }

@@ -78,7 +78,7 @@ pub fn turn(
     }
 }
 
-/// MakesMove with so many steps left: as long as the topmost frame goes on, and else the one of what waits.
+/// Moves with so many steps left: as long as the topmost frame goes on, and else the one of what waits.
 #[inline(always)]
 fn go_along(
     plan: &Plan,
@@ -101,7 +101,7 @@ fn go_along(
     }
 }
 
-/// MakesMove with so many steps left, for as long as the topmost frame goes on. The registers stay in local variables: no other way
+/// Moves with so many steps left, for as long as the topmost frame goes on. The registers stay in local variables: no other way
 /// on is carried from one move to the next.
 #[inline(always)]
 fn run_along(

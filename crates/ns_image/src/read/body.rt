@@ -43,7 +43,7 @@ impl Format for Body {
     }
 }
 
-/// ReadsBytes the names of a body's locals, and the places that follow them, into the body.
+/// Reads the names of a body's locals, and the places that follow them, into the body.
 #[tactic(auto, unfolding(crate::specs::Reading::with_local_names))]
 fn read_local_names(
     alloc: Global,
@@ -58,7 +58,7 @@ fn read_local_names(
     read_places(alloc, input, files, body)
 }
 
-/// ReadsBytes the places into a body.
+/// Reads the places into a body.
 #[tactic(auto, unfolding(crate::specs::Reading::with_places))]
 fn read_places(
     alloc: Global,

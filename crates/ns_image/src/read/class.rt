@@ -133,7 +133,7 @@ fn class_from_clause(
     }
 }
 
-/// ReadsBytes the members into a class record.
+/// Reads the members into a class record.
 #[tactic(auto, unfolding(crate::specs::Reading::with_members))]
 fn read_members(alloc: Global, input: &mut Input<'_>, class: &mut ClassCode) -> Result<(), Fault>
     ensures { ReadsAs (λ _. class.new) (spec.with_members class.old input.old.rest.now) result input.new.rest.now }
@@ -143,7 +143,7 @@ fn read_members(alloc: Global, input: &mut Input<'_>, class: &mut ClassCode) -> 
     read_methods(alloc, input, class)
 }
 
-/// ReadsBytes the methods of both sides into a class record.
+/// Reads the methods of both sides into a class record.
 #[tactic(auto, unfolding(crate::specs::Reading::with_methods))]
 fn read_methods(alloc: Global, input: &mut Input<'_>, class: &mut ClassCode) -> Result<(), Fault>
     ensures { ReadsAs (λ _. class.new) (spec.with_methods class.old input.old.rest.now) result input.new.rest.now }

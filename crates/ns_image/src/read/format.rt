@@ -15,12 +15,12 @@ pub trait Format {
 
     ghost reader: { Self → spec.Reader Self.Value };
 
-    /// ReadsBytes one.
+    /// Reads one.
     fn read(&self, alloc: Global, input: &mut Input<'_>) -> Result<Self::Value, Fault>
         ensures { ReadsBytes (reader self.now input.old.rest.now) result input.new.rest.now };
 }
 
-/// ReadsBytes so many, one behind the other.
+/// Reads so many, one behind the other.
 pub fn times<F: Format>(
     alloc: Global,
     input: &mut Input<'_>,
