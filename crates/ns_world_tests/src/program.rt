@@ -210,7 +210,7 @@ fn class(
     methods: Vec<MethodCode>,
     side_methods: Vec<MethodCode>,
 ) -> ClassCode
-    ensures { result ≡ spec.class_of name outer init slots.items nested.items methods.items side_methods.items }
+    ensures { result ≡ sample.class_of name outer init slots.items nested.items methods.items side_methods.items }
 {
     ClassCode {
         name: Sel(name),
