@@ -158,3 +158,10 @@ pub one_text : {A : Type 0} (shown : A → List ℕ) (names : List A) (name : A)
 one_text shown [] name work result one e (text, h) = absurd (omega (arith, one))
 one_text shown (x ∷ []) name work result one e (text, h) = (text ∷ [], refl, subst (λ n. IfOk result (λ r. r ≡ of_image_file work (shown n) text)) e h)
 one_text shown (x ∷ y ∷ ys) name work result one e (text, h) = absurd (omega (arith, one))
+
+-- What the files tell of the one name.
+pub one_told : {A : Type 0} (shown : A → List ℕ) (names : List A) (name : A) (files : List ℕ → Option (List ℕ)) (work : ImageWork) (result : Result Report Stop) → length names ≡ 1 → name ≡ get_or names 0 name
+    → IfOk result (λ r. r ≡ of_image_file work (shown name) (files (shown name))) → IfOk result (λ r. r ≡ of_image work (map shown names) (map files (map shown names)))
+one_told shown [] name files work result one e h = absurd (omega (arith, one))
+one_told shown (x ∷ []) name files work result one e h = subst (λ n. IfOk result (λ r. r ≡ of_image_file work (shown n) (files (shown n)))) e h
+one_told shown (x ∷ y ∷ ys) name files work result one e h = absurd (omega (arith, one))
