@@ -12,12 +12,14 @@ use Rattle.ns_actions.specs.Control.{Progress, Activation}
 use Rattle.ns_actions.specs.Classes.{object_part, part_of}
 
 -- its cell was made
-pub applied_made : (fault : Option MakeFault) (old : WorldView) (cell : Cell) (number : ℕ) (new : WorldView) → AppliesClass fault old cell (Ok number) new → made old.world cell ≡ Some new.world
+pub applied_made : (fault : Option MakeFault) (old : WorldView) (cell : Cell) (number : ℕ) (new : WorldView) →
+    AppliesClass fault old cell (Ok number) new → made old.world cell ≡ Some new.world
 applied_made (Some fault) old cell number new a = absurd a
 applied_made None old cell number new a = a.0
 
 -- the part of a superclass that isn't declared
-pub default_part : (code : CodeProgram) (activation : Activation) (over : Value) (sel : ℕ) (arguments : List Value) (progress : Progress) → ((class : ℕ) → over ≡ Ref class → ⊥)
+pub default_part : (code : CodeProgram) (activation : Activation) (over : Value) (sel : ℕ) (arguments : List Value) (progress : Progress) →
+    ((class : ℕ) → over ≡ Ref class → ⊥)
     → object_part code activation sel progress ≡ part_of code activation over sel arguments progress
 default_part code activation (Ref class) sel arguments progress none = absurd (none class refl)
 default_part code activation Nil sel arguments progress none = refl

@@ -73,7 +73,8 @@ counted_frame code activation arguments progress None = refl
 
 -- a method as it is entered, whose home is the count of those before it
 abbrev pub method_activation : Site → ℕ → ℕ → ℕ → Value → Activation
-method_activation site home body holder receiver = record { self = receiver; holder = holder; body = body; home = home; env = Nil; site = site }
+method_activation site home body holder receiver =
+    record { self = receiver; holder = holder; body = body; home = home; env = Nil; site = site }
 
 -- a method whose body was entered has begun
 pub method_counts : (code : CodeProgram) (site : Site) (values : List Value) (r : Reached) (old new : Progress) (body holder : ℕ) (receiver : Value) (arguments : List Value)
@@ -109,7 +110,8 @@ counted_given code sel wrapped activation progress = array (made progress.world 
 pub message_counts : (code : CodeProgram) (site : Site) (values : List Value) (r : Reached) (old new : Progress) (body holder : ℕ) (receiver : Value) (sel : Sel) (wrapped : List Value)
     → reached_shown code site values r new ≡ charged halts Depth (entered old.world) old (λ p. given (Wrapped sel wrapped) p (opened code halts (Enter FromMethod) (method_activation site old.begun body holder receiver)))
     → reached_shown code site values r (with_begun new (new.begun + begins r)) ≡ method_entered code body holder receiver (Wrapped sel wrapped) site old
-message_counts code site values r old new body holder receiver sel wrapped e = sym (counted_shown code site values r new) ∙ (ap counted e ∙ frame (entered old.world))
+message_counts code site values r old new body holder receiver sel wrapped e =
+    sym (counted_shown code site values r new) ∙ (ap counted e ∙ frame (entered old.world))
   where
     activation : Activation
     activation = method_activation site old.begun body holder receiver

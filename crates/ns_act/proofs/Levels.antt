@@ -8,7 +8,8 @@ outer_there : (code : CodeProgram) (o : Option ℕ) → IsSome (outer_of code o)
 outer_there code (Some decl) some = refl
 outer_there code None some = absurd (cc)
 
-further_there : (code : CodeProgram) (body more level total : ℕ) → total ≡ more + level → IsSome (declaration_at code body total) → IsSome (declaration_at code body level)
+further_there : (code : CodeProgram) (body more level total : ℕ) → total ≡ more + level → IsSome (declaration_at code body total) →
+    IsSome (declaration_at code body level)
 further_there code body zero level total is some =
     let same : total ≡ level = omega (arith, is) in subst (λ n. IsSome (declaration_at code body n)) same some
 further_there code body (suc more) level total is some =
@@ -16,7 +17,8 @@ further_there code body (suc more) level total is some =
     further_there code body more level (more + level) refl (outer_there code (declaration_at code body (more + level)) (subst (λ n. IsSome (declaration_at code body n)) next some))
 
 -- where there is one so many levels out, there is one at each level below
-pub level_there : (code : CodeProgram) (body level below : ℕ) → below ≤ level → IsSome (declaration_at code body level) → IsSome (declaration_at code body below)
+pub level_there : (code : CodeProgram) (body level below : ℕ) → below ≤ level → IsSome (declaration_at code body level) →
+    IsSome (declaration_at code body below)
 level_there code body level below under some =
     let is : level ≡ (level - below) + below = omega (arith, under) in
     further_there code body (level - below) below level is some

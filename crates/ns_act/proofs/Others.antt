@@ -12,7 +12,9 @@ use Rattle.ns_actions.specs.Sends.{Listed, done_with, answered_by}
 use Rattle.ns_act.specs.declared.run.Run.{Run}
 use Rattle.ns_act.specs.Run.{IsReady}
 
-pub others_answer : (code : CodeProgram) (member : Found) (sel : Sel) (receiver : Value) (values : List Value) (site : Site) (progress : Progress) → (member ≡ found.Absent → ⊥)
+pub others_answer :
+    (code : CodeProgram) (member : Found) (sel : Sel) (receiver : Value) (values : List Value) (site : Site) (progress : Progress) →
+    (member ≡ found.Absent → ⊥)
     → done_with code member sel receiver (Listed values) site progress ≡ answered_by code member sel receiver values site progress
 others_answer code found.Absent sel receiver values site progress other = absurd (other refl)
 others_answer code (found.Method body holder) sel receiver values site progress other = refl

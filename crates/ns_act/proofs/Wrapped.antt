@@ -12,7 +12,8 @@ use Rattle.ns_actions.specs.Sends.{Wrapped, given}
 use Rattle.ns_act.specs.Wrapping.{wrapped, with_message}
 
 -- by the Message that was made, or the end of the run
-pub given_wrapped : (sel : Sel) (values : List Value) (progress : Progress) (go : List Value → Progress → Control) → given (Wrapped sel values) progress go ≡ with_message (wrapped sel values progress) go
+pub given_wrapped : (sel : Sel) (values : List Value) (progress : Progress) (go : List Value → Progress → Control) →
+    given (Wrapped sel values) progress go ≡ with_message (wrapped sel values progress) go
 given_wrapped sel values progress go = array (made progress.world (ArrayCell values))
   where
     message : (next : Progress) (o : Option World) → charged halts Cells o next (go (Ref (heap_size next.world.cells) ∷ [])) ≡ with_message (charged Halts Cells o next (Gives (Ref (heap_size next.world.cells)))) go

@@ -12,7 +12,8 @@ abbrev pub counted : Control → Control
 counted (Now after) = Now after
 counted (Enter FromMethod activation locals progress) = Enter FromMethod activation locals (one_more progress)
 counted (Enter FromBody activation locals progress) = Enter FromBody activation locals progress
-counted (Enter (FromClause object holder class) activation locals progress) = Enter (FromClause object holder class) activation locals progress
+counted (Enter (FromClause object holder class) activation locals progress) =
+    Enter (FromClause object holder class) activation locals progress
 counted (Evaluate block arguments site progress) = Evaluate block arguments site progress
 counted (Begin method state site progress) = Begin method state site progress
 counted (Perform receiver sel array site progress) = Perform receiver sel array site progress

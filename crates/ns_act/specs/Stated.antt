@@ -41,7 +41,8 @@ ReachesAnyhow code result old new action =
     → reached_shown code site values result (in_world rest new.world) ≡ action site (in_world rest old.world)
 
 -- So it does where the arguments of the send, as they go on, are these in every heap.
-abbrev pub ReachesGiven : CodeProgram → (Heap → List Value → List Value) → List Value → Reached → WorldView → WorldView → (Site → Progress → Control) → Type 0
+abbrev pub ReachesGiven : CodeProgram → (Heap → List Value → List Value) → List Value → Reached → WorldView → WorldView →
+    (Site → Progress → Control) → Type 0
 ReachesGiven code onward arguments result old new action =
     (site : Site) (rest : Progress) (values : List Value) → ((heap : Heap) → onward heap values ≡ arguments)
     → reached_shown code site values result (in_world rest new.world) ≡ action site (in_world rest old.world)

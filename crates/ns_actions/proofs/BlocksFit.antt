@@ -17,8 +17,10 @@ use Rattle.ns_actions.proofs.Opening.{earlier, at_depth}
 use Rattle.ns_actions.specs.lemmas.Places.{places_fit}
 
 -- what fits a body fits each body of its class and side
-same_fits : (heap : Heap) (code : CodeProgram) (inner outer : BodyCode) (self : Value) (holder : ℕ) → inner.class ≡ outer.class → inner.side ≡ outer.side → FitsBody heap code outer self holder → FitsBody heap code inner self holder
-same_fits heap code inner outer (Ref at) holder class side fits = (fits.0, fits.1 ∙ sym class, λ s. fits.2 (sym side ∙ s), λ s. fits.3 (sym side ∙ s))
+same_fits : (heap : Heap) (code : CodeProgram) (inner outer : BodyCode) (self : Value) (holder : ℕ) → inner.class ≡ outer.class →
+    inner.side ≡ outer.side → FitsBody heap code outer self holder → FitsBody heap code inner self holder
+same_fits heap code inner outer (Ref at) holder class side fits =
+    (fits.0, fits.1 ∙ sym class, λ s. fits.2 (sym side ∙ s), λ s. fits.3 (sym side ∙ s))
 same_fits heap code inner outer Nil holder class side fits = absurd fits
 same_fits heap code inner outer True holder class side fits = absurd fits
 same_fits heap code inner outer False holder class side fits = absurd fits
@@ -29,7 +31,8 @@ same_fits heap code inner outer (Kernel class') holder class side fits = absurd 
 one_body : (o : Option BodyCode) (b c : BodyCode) → o ≡ Some b → o ≡ Some c → b ≡ c
 one_body o b c e f = let both : Some b ≡ Some c = sym e ∙ f in cc
 
-pub block_is_lawful : (world : World) (code : CodeProgram) (activation : Activation) (block : ℕ) → IsLawful world code → FitsActivation world.cells code activation → FitsOwnEnvironment world.cells code activation → IsBlockOf code block activation.body
+pub block_is_lawful : (world : World) (code : CodeProgram) (activation : Activation) (block : ℕ) → IsLawful world code →
+    FitsActivation world.cells code activation → FitsOwnEnvironment world.cells code activation → IsBlockOf code block activation.body
     → BlockIsLawful world.cells code block activation.env activation.self activation.holder
 block_is_lawful world code activation block lawful fits own is = record {
   declared = rw is.inner_is refl;
@@ -56,7 +59,9 @@ block_is_lawful world code activation block lawful fits own is = record {
         (at_depth code world.cells (activation.body + 1) (block + 1) (Some activation.body) activation.env lawful.parents (λ number e. let one : activation.body ≡ number = cc in omega (arith, below, one)) own')
 
 -- an object that encloses running code is live
-pub enclosing_live : (world : World) (code : CodeProgram) (activation : Activation) (level : ℕ) → IsLawful world code → FitsActivation world.cells code activation → IsSome (declaration_at code activation.body level) → IsLiveValue world.cells code (enclosing world.cells activation level).object
+pub enclosing_live : (world : World) (code : CodeProgram) (activation : Activation) (level : ℕ) → IsLawful world code →
+    FitsActivation world.cells code activation → IsSome (declaration_at code activation.body level) →
+    IsLiveValue world.cells code (enclosing world.cells activation level).object
 enclosing_live world code activation level lawful fits there = declared (declaration_at code activation.body level) refl there
   where
     declared : (o : Option ℕ) → declaration_at code activation.body level ≡ o → IsSome o → IsLiveValue world.cells code (enclosing world.cells activation level).object

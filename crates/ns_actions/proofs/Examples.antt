@@ -30,7 +30,8 @@ use Rattle.ns_actions.specs.Worked.{class_p, class_m, class_inner, small_world, 
 
 -- a run of these cells in which so many steps, frames and method activations were charged
 abbrev at : Heap → ℕ → ℕ → ℕ → Progress
-at cells steps depth begun = record (small_progress cells) { world = record (small_world cells) { steps = steps; depth = depth }; begun = begun }
+at cells steps depth begun =
+    record (small_progress cells) { world = record (small_world cells) { steps = steps; depth = depth }; begun = begun }
 
 abbrev start : Progress
 start = at small_cells 0 0 5

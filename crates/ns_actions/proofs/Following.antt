@@ -17,7 +17,8 @@ use Rattle.ns_world.specs.laws.Making.{made_cells}
 use Rattle.ns_actions.specs.lemmas.LawfulBodies.{new_found}
 
 -- what may be written of a cell may be written where another was made
-words_more : (world after : World) (cell : Cell) → made world cell ≡ Some after → (at word : ℕ) → word < length (open_words_at world.cells at) → word < length (open_words_at after.cells at)
+words_more : (world after : World) (cell : Cell) → made world cell ≡ Some after → (at word : ℕ) →
+    word < length (open_words_at world.cells at) → word < length (open_words_at after.cells at)
 words_more world after cell e at word inside = told (find_cell world.cells at) refl inside
   where
     told : (o : Option Cell) → find_cell world.cells at ≡ o → word < length (option_map_or open_words o []) → word < length (open_words_at after.cells at)
@@ -26,11 +27,13 @@ words_more world after cell e at word inside = told (find_cell world.cells at) r
         rw stays h
     told None f h = absurd (omega (arith, h))
 
-class_more : (world after : World) (cell : Cell) → made world cell ≡ Some after → (class : ℕ) → is_class (find_cell world.cells class) ≡ true → is_class (find_cell after.cells class) ≡ true
+class_more : (world after : World) (cell : Cell) → made world cell ≡ Some after → (class : ℕ) →
+    is_class (find_cell world.cells class) ≡ true → is_class (find_cell after.cells class) ≡ true
 class_more world after cell e class is =
     ap is_class (ap (λ heap. find_cell heap class) (made_cells world after cell e) ∙ found_in_more cell world.cells class (class_below world.cells class is)) ∙ is
 
-pub message_follows : (world mid after : World) (code : CodeProgram) (sel : Sel) (values : List Value) → IsLawful world code → FitsSelector world.cells code sel values → made world (ArrayCell values) ≡ Some mid
+pub message_follows : (world mid after : World) (code : CodeProgram) (sel : Sel) (values : List Value) → IsLawful world code →
+    FitsSelector world.cells code sel values → made world (ArrayCell values) ≡ Some mid
     → made mid (MessageCell sel (Ref (heap_size world.cells))) ≡ Some after → Follows code world after
 message_follows world mid after code sel values lawful fits e m =
     let array : IsLawful mid code = filled_keeps world mid code (ArrayCell values) lawful refl tt fits.live e in

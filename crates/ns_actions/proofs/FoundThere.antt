@@ -26,7 +26,8 @@ use Rattle.ns_actions.specs.lemmas.Places.{places_fit}
 use Rattle.ns_actions.specs.laws.LawfulSends.{super_fits, body_declared}
 
 -- the enclosing object at a level that there is
-pub place_there : (world : World) (code : CodeProgram) (activation : Activation) (level : ℕ) → IsLawful world code → FitsActivation world.cells code activation → IsSome (declaration_at code activation.body level)
+pub place_there : (world : World) (code : CodeProgram) (activation : Activation) (level : ℕ) → IsLawful world code →
+    FitsActivation world.cells code activation → IsSome (declaration_at code activation.body level)
     → IsEnclosingPlace world.cells code (enclosing world.cells activation level)
 place_there world code activation level lawful fits some = declared (declaration_at code activation.body level) refl some
   where
@@ -35,12 +36,14 @@ place_there world code activation level lawful fits some = declared (declaration
     declared None e there = absurd (cc)
 
 -- its class has that declaration
-pub place_declared : (world : World) (code : CodeProgram) (activation : Activation) (level decl : ℕ) → IsLawful world code → FitsActivation world.cells code activation → declaration_at code activation.body level ≡ Some decl
+pub place_declared : (world : World) (code : CodeProgram) (activation : Activation) (level decl : ℕ) → IsLawful world code →
+    FitsActivation world.cells code activation → declaration_at code activation.body level ≡ Some decl
     → declaration_of world.cells (enclosing world.cells activation level).holder ≡ decl
 place_declared world code activation level decl lawful fits is = (places_fit world code activation level decl lawful fits is).declaration_is
 
 -- what a private send finds
-pub private_found : (world : World) (code : CodeProgram) (activation : Activation) (level sel : ℕ) → IsLawful world code → FitsActivation world.cells code activation → IsSome (declaration_at code activation.body level)
+pub private_found : (world : World) (code : CodeProgram) (activation : Activation) (level sel : ℕ) → IsLawful world code →
+    FitsActivation world.cells code activation → IsSome (declaration_at code activation.body level)
     → Suits world.cells code (enclosing world.cells activation level).object (found_private world.cells code (enclosing world.cells activation level).holder (side_at code activation level) sel)
 private_found world code activation level sel lawful fits some = declared (declaration_at code activation.body level) refl some
   where
@@ -52,9 +55,11 @@ private_found world code activation level sel lawful fits some = declared (decla
     declared None e there = absurd (cc)
 
 -- what a send to super finds
-pub super_found : (world : World) (code : CodeProgram) (activation : Activation) (sel : ℕ) → IsLawful world code → FitsActivation world.cells code activation
+pub super_found : (world : World) (code : CodeProgram) (activation : Activation) (sel : ℕ) → IsLawful world code →
+    FitsActivation world.cells code activation
     → Suits world.cells code activation.self (found_from world.cells code (super_start world.cells activation.holder (side_of_body code activation.body)) sel Inner)
-super_found world code activation sel lawful fits = declared (declaration_at code activation.body 0) refl (body_declared code activation.body fits.there)
+super_found world code activation sel lawful fits =
+    declared (declaration_at code activation.body 0) refl (body_declared code activation.body fits.there)
   where
     declared : (o : Option ℕ) → declaration_at code activation.body 0 ≡ o → IsSome o
         → Suits world.cells code activation.self (found_from world.cells code (super_start world.cells activation.holder (side_of_body code activation.body)) sel Inner)
@@ -63,11 +68,14 @@ super_found world code activation sel lawful fits = declared (declaration_at cod
     declared None e there = absurd (cc)
 
 -- the holder of code that runs is a class
-pub holder_there : (world : World) (code : CodeProgram) (activation : Activation) → IsLawful world code → FitsActivation world.cells code activation → is_class (find_cell world.cells activation.holder) ≡ true
-holder_there world code activation lawful fits = (place_there world code activation 0 lawful fits (body_declared code activation.body fits.there)).class
+pub holder_there : (world : World) (code : CodeProgram) (activation : Activation) → IsLawful world code →
+    FitsActivation world.cells code activation → is_class (find_cell world.cells activation.holder) ≡ true
+holder_there world code activation lawful fits =
+    (place_there world code activation 0 lawful fits (body_declared code activation.body fits.there)).class
 
 -- a lookup can start at a live value
-pub start_there : (world : World) (code : CodeProgram) (value : Value) → IsLawful world code → IsLiveValue world.cells code value → is_start world.cells (start_of world.cells value) ≡ true
+pub start_there : (world : World) (code : CodeProgram) (value : Value) → IsLawful world code → IsLiveValue world.cells code value →
+    is_start world.cells (start_of world.cells value) ≡ true
 start_there world code Nil lawful live = refl
 start_there world code True lawful live = refl
 start_there world code False lawful live = refl
@@ -105,15 +113,18 @@ words_open heap at some = told (find_cell heap at) refl some
     told (Some (MessageCell sel args)) e r = absurd (cc)
 
 -- the word of an entry is one that may be written
-pub entry_open : (world : World) (code : CodeProgram) (at holder entry : ℕ) → IsLawful world code → HasHolder world.cells (Ref at) holder → entry < entries_of code (declaration_of world.cells holder)
+pub entry_open : (world : World) (code : CodeProgram) (at holder entry : ℕ) → IsLawful world code → HasHolder world.cells (Ref at) holder →
+    entry < entries_of code (declaration_of world.cells holder)
     → entry_word world.cells code holder entry < length (open_words_at world.cells at)
 entry_open world code at holder entry lawful has inside =
     omega (arith, entry_inside world code at holder entry lawful has inside, ap length (words_open world.cells at has.1))
 
 -- a slot's word is one of its object
-slot_entry : (code : CodeProgram) (decl entry : ℕ) (class : ClassCode) → slice_get code.classes decl ≡ Some class → entry < length class.slots → entry < entries_of code decl
+slot_entry : (code : CodeProgram) (decl entry : ℕ) (class : ClassCode) → slice_get code.classes decl ≡ Some class →
+    entry < length class.slots → entry < entries_of code decl
 slot_entry code decl entry class e inside = rw e (omega (arith, inside))
 
-pub slot_open : (world : World) (code : CodeProgram) (at holder word : ℕ) → IsLawful world code → HasHolder world.cells (Ref at) holder → IsSlotOf world.cells code holder word → word < length (open_words_at world.cells at)
+pub slot_open : (world : World) (code : CodeProgram) (at holder word : ℕ) → IsLawful world code → HasHolder world.cells (Ref at) holder →
+    IsSlotOf world.cells code holder word → word < length (open_words_at world.cells at)
 slot_open world code at holder word lawful has slot =
     omega (arith, slot.word_is, entry_open world code at holder slot.entry lawful has (slot_entry code (declaration_of world.cells holder) slot.entry slot.class slot.class_is slot.inside))

@@ -50,18 +50,22 @@ use Rattle.ns_actions.specs.lemmas.Fitting.{ShownLater, opened_fits, entered_her
 
 -- ---- sends
 
-plain_fits : (code : CodeProgram) (receiver : Value) (sel : Sel) (values : List Value) (place : Option SourcePlace) (progress : Progress) → LawfulRun code progress → IsLiveValue progress.world.cells code receiver → FitsSelector progress.world.cells code sel values
+plain_fits : (code : CodeProgram) (receiver : Value) (sel : Sel) (values : List Value) (place : Option SourcePlace) (progress : Progress) →
+    LawfulRun code progress → IsLiveValue progress.world.cells code receiver → FitsSelector progress.world.cells code sel values
     → FitsNext initialiser_kind code (sent_plain code receiver sel values place progress)
 plain_fits code receiver sel values place progress lawful live fits =
     stepped_fits code (found_from progress.world.cells code (start_of progress.world.cells receiver) sel.0 Plain) sel receiver values (site_at progress.world.cells place receiver sel) progress lawful live fits
     (found_suits progress.world code receiver sel.0 Plain lawful) (found_runs progress.world code receiver sel.0 Plain lawful live) (value_suits progress.world.cells code receiver sel.0 Plain)
 
-sent_fits : (code : CodeProgram) (activation : Activation) (target : Target) (sel : Sel) (values : List Value) (place : Option SourcePlace) (progress : Progress) → LawfulRun code progress → FitsTarget progress.world.cells code activation target → FitsSelector progress.world.cells code sel values
+sent_fits :
+    (code : CodeProgram) (activation : Activation) (target : Target) (sel : Sel) (values : List Value) (place : Option SourcePlace) (progress : Progress) →
+    LawfulRun code progress → FitsTarget progress.world.cells code activation target → FitsSelector progress.world.cells code sel values
     → FitsNext initialiser_kind code (sent code activation target sel values place progress)
 sent_fits code activation (To receiver kind) sel values place progress lawful live fits =
     stepped_fits code (found_from progress.world.cells code (start_of progress.world.cells receiver) sel.0 kind) sel receiver values (site_at progress.world.cells place receiver sel) progress lawful live fits
     (found_suits progress.world code receiver sel.0 kind lawful) (found_runs progress.world code receiver sel.0 kind lawful live) (value_suits progress.world.cells code receiver sel.0 kind)
-sent_fits code activation (ToPrivate level) sel values place progress lawful (here, there) fits = declared (declaration_at code activation.body level) refl there
+sent_fits code activation (ToPrivate level) sel values place progress lawful (here, there) fits =
+    declared (declaration_at code activation.body level) refl there
   where
     declared : (o : Option ℕ) → declaration_at code activation.body level ≡ o → IsSome o → FitsNext initialiser_kind code (sent code activation (ToPrivate level) sel values place progress)
     declared (Some decl) e some =
@@ -71,7 +75,8 @@ sent_fits code activation (ToPrivate level) sel values place progress lawful (he
         (private_suits progress.world.cells code o.object o.holder (side_at code activation level) sel.0 p.has p.holder_is) (outer_private progress.world code activation level decl sel.0 lawful here e)
         (own_suits progress.world.cells code o.object o.holder (side_at code activation level) sel.0)
     declared None e some = absurd (cc)
-sent_fits code activation ToSuper sel values place progress lawful here fits = declared (declaration_at code activation.body 0) refl (body_declared code activation.body here.there)
+sent_fits code activation ToSuper sel values place progress lawful here fits =
+    declared (declaration_at code activation.body 0) refl (body_declared code activation.body here.there)
   where
     declared : (o : Option ℕ) → declaration_at code activation.body 0 ≡ o → IsSome o → FitsNext initialiser_kind code (sent code activation ToSuper sel values place progress)
     declared (Some decl) e some =
@@ -85,7 +90,9 @@ sent_fits code activation ToSuper sel values place progress lawful here fits = d
 -- ---- evaluations
 
 -- a block's body runs with its self and its holder
-block_runs : (world : World) (code : CodeProgram) (number : ℕ) (env receiver : Value) (holder : ℕ) → IsLawful world code → BlockIsLawful world.cells code number env receiver holder → BodyRuns world.cells code receiver holder number block_kind (parameters_of code number)
+block_runs : (world : World) (code : CodeProgram) (number : ℕ) (env receiver : Value) (holder : ℕ) → IsLawful world code →
+    BlockIsLawful world.cells code number env receiver holder →
+    BodyRuns world.cells code receiver holder number block_kind (parameters_of code number)
 block_runs world code number env receiver holder lawful block = there (slice_get code.bodies number) refl block.declared
   where
     there : (o : Option BodyCode) → slice_get code.bodies number ≡ o → IsSome o → BodyRuns world.cells code receiver holder number block_kind (parameters_of code number)
@@ -99,7 +106,8 @@ block_runs world code number env receiver holder lawful block = there (slice_get
     there None e some = absurd (cc)
 
 -- what the block keeps still stands around its body
-kept_around : (old new : World) (code : CodeProgram) (number : ℕ) (env receiver : Value) (holder : ℕ) → RunsOn code old new → BlockIsLawful old.cells code number env receiver holder → FitsAround new.cells code number env
+kept_around : (old new : World) (code : CodeProgram) (number : ℕ) (env receiver : Value) (holder : ℕ) → RunsOn code old new →
+    BlockIsLawful old.cells code number env receiver holder → FitsAround new.cells code number env
 kept_around old later code number env receiver holder run block = there (slice_get code.bodies number) refl block.declared
   where
     there : (o : Option BodyCode) → slice_get code.bodies number ≡ o → IsSome o → FitsAround later.cells code number env
@@ -107,9 +115,11 @@ kept_around old later code number env receiver holder run block = there (slice_g
         (fits_stays (number + 1) old.cells later.cells code body.parent env (keeps_of code old later run) (block.environment body e))
     there None e some = absurd (cc)
 
-block_later : (code : CodeProgram) (o : Option Cell) (number : ℕ) (arguments : List Value) (site : Site) (progress : Progress) → LawfulRun code progress → find_cell progress.world.cells number ≡ o
+block_later : (code : CodeProgram) (o : Option Cell) (number : ℕ) (arguments : List Value) (site : Site) (progress : Progress) →
+    LawfulRun code progress → find_cell progress.world.cells number ≡ o
     → ShownLater block_kind progress.world code (block_entered code (option_map_or shape_of o (new.Mirror Nil)) arguments site progress)
-block_later code (Some (BlockCell body env home receiver holder)) number arguments site progress lawful e = tested (eqb (length arguments) (parameters_of code body)) refl
+block_later code (Some (BlockCell body env home receiver holder)) number arguments site progress lawful e =
+    tested (eqb (length arguments) (parameters_of code body)) refl
   where
     activation : Activation
     activation = record { self = receiver; holder = holder; body = body; home = home; env = env; site = site }
@@ -147,8 +157,10 @@ block_later code (Some (FacetCell kind)) number arguments site progress lawful e
 block_later code (Some (MirrorCell mirrored)) number arguments site progress lawful e = tt
 block_later code (Some (MessageCell sel args)) number arguments site progress lawful e = tt
 
-evaluated_later : (code : CodeProgram) (block : Value) (arguments : List Value) (site : Site) (progress : Progress) → LawfulRun code progress → ShownLater block_kind progress.world code (evaluated code block arguments site progress)
-evaluated_later code (Ref at) arguments site progress lawful = block_later code (find_cell progress.world.cells at) at arguments site progress lawful refl
+evaluated_later : (code : CodeProgram) (block : Value) (arguments : List Value) (site : Site) (progress : Progress) →
+    LawfulRun code progress → ShownLater block_kind progress.world code (evaluated code block arguments site progress)
+evaluated_later code (Ref at) arguments site progress lawful =
+    block_later code (find_cell progress.world.cells at) at arguments site progress lawful refl
 evaluated_later code Nil arguments site progress lawful = tt
 evaluated_later code True arguments site progress lawful = tt
 evaluated_later code False arguments site progress lawful = tt
@@ -158,15 +170,20 @@ evaluated_later code (Kernel class) arguments site progress lawful = tt
 
 -- ---- all of them
 
-pub action_hands_on : (code : CodeProgram) (action : Action) (progress : Progress) → LawfulRun code progress → Asks code action progress → HandsOn code action progress
-action_hands_on code (Sends activation target sel values place) progress lawful asks = sent_fits code activation target sel values place progress lawful asks.0 asks.1
-action_hands_on code (SendsPlain receiver sel values place) progress lawful asks = plain_fits code receiver sel values place progress lawful asks.0 asks.1
-action_hands_on code (Performs receiver sel array site) progress lawful asks = plain_fits code receiver sel (items_of progress.world.cells (Ref array)) site.place progress lawful asks.0 asks.1
+pub action_hands_on : (code : CodeProgram) (action : Action) (progress : Progress) → LawfulRun code progress → Asks code action progress →
+    HandsOn code action progress
+action_hands_on code (Sends activation target sel values place) progress lawful asks =
+    sent_fits code activation target sel values place progress lawful asks.0 asks.1
+action_hands_on code (SendsPlain receiver sel values place) progress lawful asks =
+    plain_fits code receiver sel values place progress lawful asks.0 asks.1
+action_hands_on code (Performs receiver sel array site) progress lawful asks =
+    plain_fits code receiver sel (items_of progress.world.cells (Ref array)) site.place progress lawful asks.0 asks.1
 action_hands_on code (Evaluates block arguments site) progress lawful asks =
     fits_now block_kind progress.world code (evaluated code block arguments site progress) lawful (evaluated_onward [] code block arguments site progress).world.later
     (evaluated_lawful code block arguments site progress lawful asks) (evaluated_later code block arguments site progress lawful)
 action_hands_on code (Continues method state site) progress lawful asks = method_hands_on method state site progress asks
-action_hands_on code (BeginsPart activation arguments) progress lawful asks = super_part_fits code activation arguments progress lawful asks.0 asks.1
+action_hands_on code (BeginsPart activation arguments) progress lawful asks =
+    super_part_fits code activation arguments progress lawful asks.0 asks.1
 action_hands_on code EndsPart progress lawful asks = tt
 action_hands_on code (EndsBody exit activation value) progress lawful asks = tt
 action_hands_on code (MakesBlock activation body) progress lawful asks = tt

@@ -17,7 +17,8 @@ use Rattle.ns_actions.specs.Lawful.{HasClass}
 use Rattle.ns_actions.specs.lemmas.Later.{later_made}
 use Rattle.ns_actions.proofs.FoundThere.{entry_open}
 
-some_nested : (nested : List NestedCode) (place class : ℕ) (one : NestedCode) → slice_get nested place ≡ Some one → one.class ≡ class → list_any (λ (n : NestedCode). eqb n.class class) nested ≡ true
+some_nested : (nested : List NestedCode) (place class : ℕ) (one : NestedCode) → slice_get nested place ≡ Some one → one.class ≡ class →
+    list_any (λ (n : NestedCode). eqb n.class class) nested ≡ true
 some_nested [] zero class one e is = absurd (cc)
 some_nested [] (suc place) class one e is = absurd (cc)
 some_nested (first ∷ nested) zero class one e is =
@@ -30,21 +31,25 @@ some_nested (first ∷ nested) (suc place) class one e is = either (eqb first.cl
     either false h = h
 
 -- the declaration of a holder has the class
-pub class_nested : (heap : Heap) (code : CodeProgram) (object holder class : ℕ) → HasClass heap code object holder class → has_nested code (declaration_of heap holder) class ≡ true
+pub class_nested : (heap : Heap) (code : CodeProgram) (object holder class : ℕ) → HasClass heap code object holder class →
+    has_nested code (declaration_of heap holder) class ≡ true
 class_nested heap code object holder class has = let n = has.nested in rw n.class_is (some_nested n.class.nested n.place class n.nested n.nested_is n.decl_is)
 
 pub class_entry : (heap : Heap) (code : CodeProgram) (object holder class : ℕ) → HasClass heap code object holder class
     → nested_entry code (declaration_of heap holder) class < entries_of code (declaration_of heap holder)
-class_entry heap code object holder class has = nested_entry_within code (declaration_of heap holder) class (class_nested heap code object holder class has)
+class_entry heap code object holder class has =
+    nested_entry_within code (declaration_of heap holder) class (class_nested heap code object holder class has)
 
 -- and the object a word for it
-pub class_inside : (world : World) (code : CodeProgram) (object holder class : ℕ) → IsLawful world code → HasClass world.cells code object holder class
+pub class_inside : (world : World) (code : CodeProgram) (object holder class : ℕ) → IsLawful world code →
+    HasClass world.cells code object holder class
     → entry_word world.cells code holder (nested_entry code (declaration_of world.cells holder) class) < length (open_words_at world.cells object)
 class_inside world code object holder class lawful has =
     entry_open world code object holder (nested_entry code (declaration_of world.cells holder) class) lawful has.object_has (class_entry world.cells code object holder class has)
 
 -- so it is where a cell was made
-pub class_stays : (world after : World) (code : CodeProgram) (cell : Cell) (object holder class : ℕ) → IsLawful world code → IsLawful after code → made world cell ≡ Some after → HasClass world.cells code object holder class
+pub class_stays : (world after : World) (code : CodeProgram) (cell : Cell) (object holder class : ℕ) → IsLawful world code →
+    IsLawful after code → made world cell ≡ Some after → HasClass world.cells code object holder class
     → HasClass after.cells code object holder class
 class_stays world after code cell object holder class before lawful e has =
     let later = later_made code world after cell before lawful e in
@@ -63,7 +68,8 @@ class_stays world after code cell object holder class before lawful e has =
     }
 
 -- a class's superclass that is no class of the kernel is there
-pub superclass_there : (world : World) (code : CodeProgram) (holder class : ℕ) → IsLawful world code → superclass_in (find_cell world.cells holder) ≡ Ref class → is_class (find_cell world.cells class) ≡ true
+pub superclass_there : (world : World) (code : CodeProgram) (holder class : ℕ) → IsLawful world code →
+    superclass_in (find_cell world.cells holder) ≡ Ref class → is_class (find_cell world.cells class) ≡ true
 superclass_there world code holder class lawful super = found (find_cell world.cells holder) refl super
   where
     found : (o : Option Cell) → find_cell world.cells holder ≡ o → superclass_in o ≡ Ref class → is_class (find_cell world.cells class) ≡ true

@@ -20,7 +20,8 @@ use Rattle.ns_actions.specs.Fitting.{FitsOwnEnvironment}
 -- ---- one body further out
 
 -- the cell of an environment
-environment_cell : (o : Option Cell) → IsSome (environment_in o) → (parent : Value) × (locals : List Value) × (o ≡ Some (EnvironmentCell parent locals))
+environment_cell : (o : Option Cell) → IsSome (environment_in o) →
+    (parent : Value) × (locals : List Value) × (o ≡ Some (EnvironmentCell parent locals))
 environment_cell (Some (EnvironmentCell parent locals)) some = (parent, locals, refl)
 environment_cell None some = absurd (cc)
 environment_cell (Some (ObjectCell class entries)) some = absurd (cc)
@@ -86,7 +87,8 @@ module _ (heap : Heap) (code : CodeProgram) where
       mid None next goes e = absurd (cc)
 
 -- the way out begins with the parent
-begins_out : (code : CodeProgram) (body hops : ℕ) → body_out code body (suc hops) ≡ option_and_then (λ parent. body_out code parent hops) (parent_of code body)
+begins_out : (code : CodeProgram) (body hops : ℕ) →
+    body_out code body (suc hops) ≡ option_and_then (λ parent. body_out code parent hops) (parent_of code body)
 begins_out code body zero = found (parent_of code body)
   where
     found : (o : Option ℕ) → o ≡ option_and_then (λ parent. Some parent) o
@@ -133,7 +135,8 @@ module _ (heap : Heap) (code : CodeProgram) (activation : Activation) where
   local_stands (suc hops) fits there = λ beside. outer_stands hops (has_environment code activation.body) fits there
 
 -- a word of an environment is live
-environment_word : (world : World) (code : CodeProgram) (at word : ℕ) → IsLawful world code → is_environment (find_cell world.cells at) ≡ true → IsLiveValue world.cells code (word_at world.cells at word)
+environment_word : (world : World) (code : CodeProgram) (at word : ℕ) → IsLawful world code →
+    is_environment (find_cell world.cells at) ≡ true → IsLiveValue world.cells code (word_at world.cells at word)
 environment_word world code at word lawful is = found (find_cell world.cells at) refl is
   where
     found : (o : Option Cell) → find_cell world.cells at ≡ o → is_environment o ≡ true → IsLiveValue world.cells code (get_or (option_map_or cell_words o []) word Nil)
@@ -148,7 +151,8 @@ environment_word world code at word lawful is = found (find_cell world.cells at)
     found (Some (MirrorCell shown)) e is = absurd (cc)
     found (Some (MessageCell sel args)) e is = absurd (cc)
 
-pub local_live : (world : World) (code : CodeProgram) (activation : Activation) (locals : List Value) (hops place : ℕ) → IsLawful world code → FitsLocal world.cells code activation hops → All (IsLiveValue world.cells code) locals
+pub local_live : (world : World) (code : CodeProgram) (activation : Activation) (locals : List Value) (hops place : ℕ) →
+    IsLawful world code → FitsLocal world.cells code activation hops → All (IsLiveValue world.cells code) locals
     → IsLiveValue world.cells code (local_at world.cells code activation locals hops place)
 local_live world code activation locals hops place lawful fits all = tested (is_beside code activation hops) refl
   where

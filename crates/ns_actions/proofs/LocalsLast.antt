@@ -35,7 +35,8 @@ environment_there None t = absurd (cc)
 environment_there (Some cell) t = refl
 
 -- the cell of an environment, or the first one for nil, is there
-cell_there : (heap : Heap) (env : Value) → IsSome (find_cell heap 0) → IsEnvironmentOrNil heap env → IsSome (find_cell heap (cell_number env))
+cell_there : (heap : Heap) (env : Value) → IsSome (find_cell heap 0) → IsEnvironmentOrNil heap env →
+    IsSome (find_cell heap (cell_number env))
 cell_there heap (Ref at) first is = environment_there (find_cell heap at) is
 cell_there heap Nil first is = first
 cell_there heap True first is = absurd is
@@ -45,7 +46,8 @@ cell_there heap (Sym sel) first is = absurd is
 cell_there heap (Kernel class) first is = absurd is
 
 -- around an environment there is another, or nil
-parent_is : (world : World) (code : CodeProgram) (number : ℕ) → IsLawful world code → (o : Option Cell) → find_cell world.cells number ≡ o → IsEnvironmentOrNil world.cells (parent_in (option_map_or shape_of o (new.Mirror Nil)))
+parent_is : (world : World) (code : CodeProgram) (number : ℕ) → IsLawful world code → (o : Option Cell) → find_cell world.cells number ≡ o →
+    IsEnvironmentOrNil world.cells (parent_in (option_map_or shape_of o (new.Mirror Nil)))
 parent_is world code number lawful (Some (EnvironmentCell parent locals)) e = (lawful.cells number (EnvironmentCell parent locals) e).0
 parent_is world code number lawful None e = tt
 parent_is world code number lawful (Some (ObjectCell class entries)) e = tt
@@ -62,7 +64,8 @@ record StaysOut (old later : World) (env : Value) (hops : ℕ) : Type 0 where
   same : environment_out later.cells env hops ≡ environment_out old.cells env hops
   live : IsEnvironmentOrNil old.cells (environment_out old.cells env hops)
 
-stays_out : (code : CodeProgram) (old later : World) (env : Value) (hops : ℕ) → RunsOn code old later → IsSome (find_cell old.cells 0) → IsEnvironmentOrNil old.cells env → StaysOut old later env hops
+stays_out : (code : CodeProgram) (old later : World) (env : Value) (hops : ℕ) → RunsOn code old later → IsSome (find_cell old.cells 0) →
+    IsEnvironmentOrNil old.cells env → StaysOut old later env hops
 stays_out code old later env zero run first is = record { same = refl; live = is }
 stays_out code old later env (suc hops) run first is =
     let inner = stays_out code old later env hops run first is in
@@ -73,9 +76,11 @@ stays_out code old later env (suc hops) run first is =
       live = parent_is old code number run.before (find_cell old.cells number) refl;
     }
 
-pub local_lasts : (activation : Activation) (hops : ℕ) (code : CodeProgram) (old later : World) → RunsOn code old later → IsEnvironmentOrNil old.cells activation.env × FitsLocal old.cells code activation hops
+pub local_lasts : (activation : Activation) (hops : ℕ) (code : CodeProgram) (old later : World) → RunsOn code old later →
+    IsEnvironmentOrNil old.cells activation.env × FitsLocal old.cells code activation hops
     → IsEnvironmentOrNil later.cells activation.env × FitsLocal later.cells code activation hops
-local_lasts activation hops code old later run (is, fits) = (environment_stays old.cells later.cells activation.env (keeps_of code old later run) is, within)
+local_lasts activation hops code old later run (is, fits) =
+    (environment_stays old.cells later.cells activation.env (keeps_of code old later run) is, within)
   where
     out : ℕ
     out = cond (has_environment code activation.body) hops (hops - 1)

@@ -48,7 +48,9 @@ PartLater old code Counted (Stop ending progress) = Unit {0}
 PartLater old code Counted (EnterPart activation locals progress) =
     RunsOn code old progress.world → (FitsActivation progress.world.cells code activation × (kind_of code activation.body ≡ initialiser_kind)) × (Counted → FitsEntered progress.world.cells code activation locals)
 
-opened_part : (old : World) (code : CodeProgram) (Counted : Type 0) (activation : Activation) (arguments : List Value) (progress : Progress) (params : ℕ) → BodyRuns old.cells code activation.self activation.holder activation.body initialiser_kind params
+opened_part :
+    (old : World) (code : CodeProgram) (Counted : Type 0) (activation : Activation) (arguments : List Value) (progress : Progress) (params : ℕ) →
+    BodyRuns old.cells code activation.self activation.holder activation.body initialiser_kind params
     → HasHolder old.cells activation.self activation.holder → (Counted → length arguments ≡ params) → ((heap : Heap) → StandsWell code activation.body → FitsAround heap code activation.body activation.env) → PartLater old code Counted (opened code Stop EnterPart activation arguments progress)
 opened_part old code Counted activation arguments progress params runs has counts outer = tested (has_environment code activation.body) refl
   where
@@ -73,7 +75,9 @@ opened_part old code Counted activation arguments progress params runs has count
         ((record { live = here.live; there = here.there; fits = here.fits }, here.kind_is), λ c. (entered_here initialiser_kind code progress.world FromBody activation activation.env arguments locals initialiser_kind params here (counts c) opens (outer progress.world.cells) (λ is. holder_lasts code old progress.world activation.self activation.holder run has) tt refl tt).0)
 
 -- a declared superclass of a holder is in the chain too
-above_has : (world : World) (code : CodeProgram) (self : Value) (holder over : ℕ) → IsLawful world code → HasHolder world.cells self holder → superclass_of world.cells holder ≡ over → is_class (find_cell world.cells over) ≡ true → HasHolder world.cells self over
+above_has : (world : World) (code : CodeProgram) (self : Value) (holder over : ℕ) → IsLawful world code →
+    HasHolder world.cells self holder → superclass_of world.cells holder ≡ over → is_class (find_cell world.cells over) ≡ true →
+    HasHolder world.cells self over
 above_has world code (Ref at) holder over lawful has super is = object (find_cell world.cells at) refl has
   where
     own : Contains (chain_of world.cells (superclass_of world.cells holder)) over
@@ -122,8 +126,10 @@ factory_takes world code over lawful is = declared (slice_get code.classes (decl
     declared None e = let l = class_there world code over lawful is in absurd (cc)
 
 -- so its initialiser runs with self
-initialiser_runs : (world : World) (code : CodeProgram) (self : Value) (over : ℕ) → IsLawful world code → HasHolder world.cells self over → is_class (find_cell world.cells over) ≡ true → Initialises world code self over
-initialiser_runs world code (Ref at) over lawful has is = record { has = has; runs = declared (slice_get code.classes (declaration_of world.cells over)) refl; takes = factory_takes world code over lawful is }
+initialiser_runs : (world : World) (code : CodeProgram) (self : Value) (over : ℕ) → IsLawful world code → HasHolder world.cells self over →
+    is_class (find_cell world.cells over) ≡ true → Initialises world code self over
+initialiser_runs world code (Ref at) over lawful has is =
+    record { has = has; runs = declared (slice_get code.classes (declaration_of world.cells over)) refl; takes = factory_takes world code over lawful is }
   where
     declared : (o : Option ClassCode) → slice_get code.classes (declaration_of world.cells over) ≡ o
         → BodyRuns world.cells code (Ref at) over (option_map_or (λ (c : ClassCode). c.init) o 0) initialiser_kind (parameters_of code (option_map_or (λ (c : ClassCode). c.init) o 0))
@@ -140,9 +146,12 @@ initialiser_runs world code (Int number) over lawful has is = absurd has
 initialiser_runs world code (Sym name) over lawful has is = absurd has
 initialiser_runs world code (Kernel class) over lawful has is = absurd has
 
-declared_fits : (code : CodeProgram) (Counted : Type 0) (activation : Activation) (over sel : ℕ) (arguments : List Value) (progress : Progress) → (Counted → length arguments ≡ selector_arity code sel) → Initialises progress.world code activation.self over
+declared_fits :
+    (code : CodeProgram) (Counted : Type 0) (activation : Activation) (over sel : ℕ) (arguments : List Value) (progress : Progress) →
+    (Counted → length arguments ≡ selector_arity code sel) → Initialises progress.world code activation.self over
     → PartLater progress.world code Counted (declared_part code activation over sel arguments progress)
-declared_fits code Counted activation over sel arguments progress counts init = tested (eqb sel (factory_selector code (declaration_of progress.world.cells over))) refl
+declared_fits code Counted activation over sel arguments progress counts init =
+    tested (eqb sel (factory_selector code (declaration_of progress.world.cells over))) refl
   where
     inner : Activation
     inner = record { self = activation.self; holder = over; body = initialiser_of code (declaration_of progress.world.cells over); home = no_home; env = Nil; site = activation.site }
@@ -158,25 +167,33 @@ declared_fits code Counted activation over sel arguments progress counts init = 
         (λ world e. opened_part progress.world code Counted inner arguments (in_world progress world) (parameters_of code inner.body) init.runs init.has (λ c. counts c ∙ (ap (selector_arity code) same ∙ init.takes)) outer)
     tested false t = tt
 
-object_fits : (old : World) (code : CodeProgram) (Counted : Type 0) (activation : Activation) (sel : ℕ) (progress : Progress) → PartLater old code Counted (object_part code activation sel progress)
+object_fits : (old : World) (code : CodeProgram) (Counted : Type 0) (activation : Activation) (sel : ℕ) (progress : Progress) →
+    PartLater old code Counted (object_part code activation sel progress)
 object_fits old code Counted activation sel progress = tested (bytes_eq (selector_text code sel) (codes "new"))
   where
     tested : (b : Bool) → PartLater old code Counted (cond b (Skip progress) (Stop (error InitMismatch activation.site) progress))
     tested true = tt
     tested false = tt
 
-part_fits : (code : CodeProgram) (Counted : Type 0) (activation : Activation) (over : Value) (sel : ℕ) (arguments : List Value) (progress : Progress) → (Counted → length arguments ≡ selector_arity code sel)
+part_fits :
+    (code : CodeProgram) (Counted : Type 0) (activation : Activation) (over : Value) (sel : ℕ) (arguments : List Value) (progress : Progress) →
+    (Counted → length arguments ≡ selector_arity code sel)
     → ((class : ℕ) → over ≡ Ref class → Initialises progress.world code activation.self class) → PartLater progress.world code Counted (part_of code activation over sel arguments progress)
-part_fits code Counted activation (Ref over) sel arguments progress counts runs = declared_fits code Counted activation over sel arguments progress counts (runs over refl)
+part_fits code Counted activation (Ref over) sel arguments progress counts runs =
+    declared_fits code Counted activation over sel arguments progress counts (runs over refl)
 part_fits code Counted activation Nil sel arguments progress counts runs = object_fits progress.world code Counted activation sel progress
 part_fits code Counted activation True sel arguments progress counts runs = object_fits progress.world code Counted activation sel progress
 part_fits code Counted activation False sel arguments progress counts runs = object_fits progress.world code Counted activation sel progress
-part_fits code Counted activation (Int number) sel arguments progress counts runs = object_fits progress.world code Counted activation sel progress
-part_fits code Counted activation (Sym name) sel arguments progress counts runs = object_fits progress.world code Counted activation sel progress
-part_fits code Counted activation (Kernel class) sel arguments progress counts runs = object_fits progress.world code Counted activation sel progress
+part_fits code Counted activation (Int number) sel arguments progress counts runs =
+    object_fits progress.world code Counted activation sel progress
+part_fits code Counted activation (Sym name) sel arguments progress counts runs =
+    object_fits progress.world code Counted activation sel progress
+part_fits code Counted activation (Kernel class) sel arguments progress counts runs =
+    object_fits progress.world code Counted activation sel progress
 
 -- the superclass of a holder runs its initialiser
-super_initialises : (world : World) (code : CodeProgram) (self : Value) (holder : ℕ) → IsLawful world code → HasHolder world.cells self holder → (class : ℕ) → superclass_in (find_cell world.cells holder) ≡ Ref class
+super_initialises : (world : World) (code : CodeProgram) (self : Value) (holder : ℕ) → IsLawful world code →
+    HasHolder world.cells self holder → (class : ℕ) → superclass_in (find_cell world.cells holder) ≡ Ref class
     → Initialises world code self class
 super_initialises world code self holder lawful has class super = found (find_cell world.cells holder) refl super
   where
@@ -196,12 +213,17 @@ super_initialises world code self holder lawful has class super = found (find_ce
     found (Some (MirrorCell shown)) e s = absurd (cc)
     found (Some (MessageCell name args)) e s = absurd (cc)
 
-part_now : (old : World) (code : CodeProgram) (Counted : Type 0) (part : PartControl) → IsLawful old code → IsLater old (part_reached part).world → LawfulPart code part → PartLater old code Counted part → FitsNextPart code part × (Counted → EntersPart code part)
+part_now : (old : World) (code : CodeProgram) (Counted : Type 0) (part : PartControl) → IsLawful old code →
+    IsLater old (part_reached part).world → LawfulPart code part → PartLater old code Counted part →
+    FitsNextPart code part × (Counted → EntersPart code part)
 part_now old code Counted (Skip progress) before later lawful fits = (tt, λ c. tt)
 part_now old code Counted (Stop ending progress) before later lawful fits = (tt, λ c. tt)
-part_now old code Counted (EnterPart activation locals progress) before later lawful fits = fits (record { before = before; after = lawful.0; later = later })
+part_now old code Counted (EnterPart activation locals progress) before later lawful fits =
+    fits (record { before = before; after = lawful.0; later = later })
 
-pub super_part_fits : (code : CodeProgram) (activation : Activation) (arguments : List Value) (progress : Progress) → LawfulRun code progress → HasHolder progress.world.cells activation.self activation.holder → All (IsLiveValue progress.world.cells code) arguments
+pub super_part_fits : (code : CodeProgram) (activation : Activation) (arguments : List Value) (progress : Progress) →
+    LawfulRun code progress → HasHolder progress.world.cells activation.self activation.holder →
+    All (IsLiveValue progress.world.cells code) arguments
     → FitsNextPart code (super_part code activation arguments progress) × (FitsMessage progress.world.cells code activation arguments → EntersPart code (super_part code activation arguments progress))
 super_part_fits code activation arguments progress lawful has all =
     let heap = progress.world.cells in

@@ -26,7 +26,8 @@ use Rattle.ns_actions.specs.laws.Onward.{charged_all}
 
 -- ---- superclass parts
 
-opened_at : (site : Site) (code : CodeProgram) (activation : Activation) (arguments : List Value) (progress : Progress) → (activation.site ≡ site) × (activation.home ≡ no_home)
+opened_at : (site : Site) (code : CodeProgram) (activation : Activation) (arguments : List Value) (progress : Progress) →
+    (activation.site ≡ site) × (activation.home ≡ no_home)
     → PartGoesOnAt site (opened code Stop EnterPart activation arguments progress)
 opened_at site code activation arguments progress has = tested (has_environment code activation.body)
   where
@@ -43,8 +44,10 @@ opened_at site code activation arguments progress has = tested (has_environment 
     tested true = charged_all (PartGoesOnAt site) Stop Cells (made progress.world cell) progress (EnterPart inner []) tt (λ world e. has)
     tested false = has
 
-declared_at : (code : CodeProgram) (activation : Activation) (over sel : ℕ) (arguments : List Value) (progress : Progress) → PartGoesOnAt activation.site (declared_part code activation over sel arguments progress)
-declared_at code activation over sel arguments progress = tested (eqb sel (factory_selector code (declaration_of progress.world.cells over)))
+declared_at : (code : CodeProgram) (activation : Activation) (over sel : ℕ) (arguments : List Value) (progress : Progress) →
+    PartGoesOnAt activation.site (declared_part code activation over sel arguments progress)
+declared_at code activation over sel arguments progress =
+    tested (eqb sel (factory_selector code (declaration_of progress.world.cells over)))
   where
     inner : Activation
     inner = record { self = activation.self; holder = over; body = initialiser_of code (declaration_of progress.world.cells over); home = no_home; env = Nil; site = activation.site }
@@ -55,14 +58,16 @@ declared_at code activation over sel arguments progress = tested (eqb sel (facto
         (λ world e. opened_at activation.site code inner arguments (in_world progress world) (refl, refl))
     tested false = tt
 
-object_at : (code : CodeProgram) (activation : Activation) (sel : ℕ) (progress : Progress) → PartGoesOnAt activation.site (object_part code activation sel progress)
+object_at : (code : CodeProgram) (activation : Activation) (sel : ℕ) (progress : Progress) →
+    PartGoesOnAt activation.site (object_part code activation sel progress)
 object_at code activation sel progress = tested (bytes_eq (selector_text code sel) (codes "new"))
   where
     tested : (b : Bool) → PartGoesOnAt activation.site (cond b (Skip progress) (Stop (error InitMismatch activation.site) progress))
     tested true = tt
     tested false = tt
 
-part_at : (code : CodeProgram) (activation : Activation) (over : Value) (sel : ℕ) (arguments : List Value) (progress : Progress) → PartGoesOnAt activation.site (part_of code activation over sel arguments progress)
+part_at : (code : CodeProgram) (activation : Activation) (over : Value) (sel : ℕ) (arguments : List Value) (progress : Progress) →
+    PartGoesOnAt activation.site (part_of code activation over sel arguments progress)
 part_at code activation (Ref over) sel arguments progress = declared_at code activation over sel arguments progress
 part_at code activation Nil sel arguments progress = object_at code activation sel progress
 part_at code activation True sel arguments progress = object_at code activation sel progress
@@ -71,13 +76,15 @@ part_at code activation (Int number) sel arguments progress = object_at code act
 part_at code activation (Sym name) sel arguments progress = object_at code activation sel progress
 part_at code activation (Kernel class) sel arguments progress = object_at code activation sel progress
 
-pub super_part_at : (code : CodeProgram) (activation : Activation) (arguments : List Value) (progress : Progress) → PartGoesOnAt activation.site (super_part code activation arguments progress)
+pub super_part_at : (code : CodeProgram) (activation : Activation) (arguments : List Value) (progress : Progress) →
+    PartGoesOnAt activation.site (super_part code activation arguments progress)
 super_part_at code activation arguments progress =
     part_at code activation (superclass_in (find_cell progress.world.cells activation.holder)) (super_selector code (declaration_of progress.world.cells activation.holder)) arguments progress
 
 -- ---- blocks
 
-body_opened : (body : ℕ) (code : CodeProgram) (activation : Activation) (arguments : List Value) (progress : Progress) → activation.body ≡ body → EntersBlock body (opened code halts (Enter FromBody) activation arguments progress)
+body_opened : (body : ℕ) (code : CodeProgram) (activation : Activation) (arguments : List Value) (progress : Progress) →
+    activation.body ≡ body → EntersBlock body (opened code halts (Enter FromBody) activation arguments progress)
 body_opened body code activation arguments progress is = tested (has_environment code activation.body)
   where
     locals : List Value
@@ -93,8 +100,10 @@ body_opened body code activation arguments progress is = tested (has_environment
     tested true = charged_all (EntersBlock body) halts Cells (made progress.world cell) progress (Enter FromBody inner []) tt (λ world e. is)
     tested false = is
 
-block_body : (code : CodeProgram) (shape : NewCell) (arguments : List Value) (site : Site) (progress : Progress) → EntersBlock (block_body_in shape) (block_entered code shape arguments site progress)
-block_body code (new.Block body env home receiver holder) arguments site progress = tested (eqb (length arguments) (parameters_of code body))
+block_body : (code : CodeProgram) (shape : NewCell) (arguments : List Value) (site : Site) (progress : Progress) →
+    EntersBlock (block_body_in shape) (block_entered code shape arguments site progress)
+block_body code (new.Block body env home receiver holder) arguments site progress =
+    tested (eqb (length arguments) (parameters_of code body))
   where
     activation : Activation
     activation = record { self = receiver; holder = holder; body = body; home = home; env = env; site = site }
@@ -117,5 +126,6 @@ block_body code (new.Facet kind) arguments site progress = tt
 block_body code (new.Mirror mirrored) arguments site progress = tt
 block_body code (new.Message sel args) arguments site progress = tt
 
-pub evaluated_body : (code : CodeProgram) (block : Value) (arguments : List Value) (site : Site) (progress : Progress) → EntersBlock (block_body_in (shape_of_value progress.world.cells block)) (evaluated code block arguments site progress)
+pub evaluated_body : (code : CodeProgram) (block : Value) (arguments : List Value) (site : Site) (progress : Progress) →
+    EntersBlock (block_body_in (shape_of_value progress.world.cells block)) (evaluated code block arguments site progress)
 evaluated_body code block arguments site progress = block_body code (shape_of_value progress.world.cells block) arguments site progress

@@ -31,13 +31,16 @@ use Rattle.ns_actions.specs.lemmas.Suiting.{object_holders, above_too, one_holde
 use Rattle.ns_actions.specs.lemmas.Running.{BodyRuns, Runs, instance_runs, side_runs}
 
 -- so many parameters are its own
-pub own_params : (heap : Heap) (code : CodeProgram) (self : Value) (holder body kind params : ℕ) → BodyRuns heap code self holder body kind params → BodyRuns heap code self holder body kind (parameters_of code body)
-own_params heap code self holder body kind params runs = record { live = runs.live; there = runs.there; fits = runs.fits; kind_is = runs.kind_is; params_are = refl }
+pub own_params : (heap : Heap) (code : CodeProgram) (self : Value) (holder body kind params : ℕ) →
+    BodyRuns heap code self holder body kind params → BodyRuns heap code self holder body kind (parameters_of code body)
+own_params heap code self holder body kind params runs =
+    record { live = runs.live; there = runs.there; fits = runs.fits; kind_is = runs.kind_is; params_are = refl }
 
 -- ---- private members, and sends to super
 
 -- the side of a body is the class side where it is that
-class_body : (code : CodeProgram) (number : ℕ) (body : BodyCode) → slice_get code.bodies number ≡ Some body → side_of_body code number ≡ ClassSide → body.side ≡ class_side
+class_body : (code : CodeProgram) (number : ℕ) (body : BodyCode) → slice_get code.bodies number ≡ Some body →
+    side_of_body code number ≡ ClassSide → body.side ≡ class_side
 class_body code number body e s = tested (eqb body.side class_side) refl (sym is ∙ s)
   where
     is : side_of_body code number ≡ side_of (eqb body.side class_side)
@@ -47,12 +50,15 @@ class_body code number body e s = tested (eqb body.side class_side) refl (sym is
     tested true t s = eqb-true body.side class_side t
     tested false t s = absurd (cc)
 
-one_too : (heap : Heap) (at place other : ℕ) → Contains (chain_of heap at) place → is_class (find_cell heap place) ≡ true → Contains (place ∷ []) other → Contains (chain_of heap at) other × (is_class (find_cell heap other) ≡ true)
-one_too heap at place other has t (zero, inside, is) = (subst (Contains (chain_of heap at)) is has, ap (λ n. is_class (find_cell heap n)) (sym is) ∙ t)
+one_too : (heap : Heap) (at place other : ℕ) → Contains (chain_of heap at) place → is_class (find_cell heap place) ≡ true →
+    Contains (place ∷ []) other → Contains (chain_of heap at) other × (is_class (find_cell heap other) ≡ true)
+one_too heap at place other has t (zero, inside, is) =
+    (subst (Contains (chain_of heap at)) is has, ap (λ n. is_class (find_cell heap n)) (sym is) ∙ t)
 one_too heap at place other has t (suc k, inside, is) = absurd (omega (arith, inside))
 
 -- what is found of the private members of a holder in the chain of an object
-object_private : (world : World) (code : CodeProgram) (self : Value) (holder sel : ℕ) → IsLawful world code → IsLiveValue world.cells code self → HasHolder world.cells self holder → is_class (find_cell world.cells holder) ≡ true
+object_private : (world : World) (code : CodeProgram) (self : Value) (holder sel : ℕ) → IsLawful world code →
+    IsLiveValue world.cells code self → HasHolder world.cells self holder → is_class (find_cell world.cells holder) ≡ true
     → Runs world.cells code self sel (found_private world.cells code holder InstanceSide sel)
 object_private world code (value.Ref at) holder sel lawful live has is =
     instance_runs world.cells code at (holder ∷ []) sel (found_private world.cells code holder InstanceSide sel) live (λ other c. one_holder world.cells (value.Ref at) holder other has is c)
@@ -64,13 +70,16 @@ object_private world code (value.Int number) holder sel lawful live has is = abs
 object_private world code (value.Sym name) holder sel lawful live has is = absurd has
 object_private world code (value.Kernel class) holder sel lawful live has is = absurd has
 
-class_private : (world : World) (code : CodeProgram) (at holder sel : ℕ) → IsLawful world code → IsLiveValue world.cells code (value.Ref at) → is_class (find_cell world.cells at) ≡ true → Contains (chain_of world.cells at) holder → is_class (find_cell world.cells holder) ≡ true
+class_private : (world : World) (code : CodeProgram) (at holder sel : ℕ) → IsLawful world code →
+    IsLiveValue world.cells code (value.Ref at) → is_class (find_cell world.cells at) ≡ true → Contains (chain_of world.cells at) holder →
+    is_class (find_cell world.cells holder) ≡ true
     → Runs world.cells code (value.Ref at) sel (found_private world.cells code holder ClassSide sel)
 class_private world code at holder sel lawful live self has is =
     side_runs world.cells code at (holder ∷ []) [] sel (found_private world.cells code holder ClassSide sel) live self (λ other c. one_too world.cells at holder other has is c)
     (private_belongs world.cells code holder ClassSide sel) ((private_by world.cells code holder sel ClassSide).takes lawful.classes)
 
-super_object : (world : World) (code : CodeProgram) (at holder sel : ℕ) → IsLawful world code → IsLiveValue world.cells code (value.Ref at) → HasHolder world.cells (value.Ref at) holder
+super_object : (world : World) (code : CodeProgram) (at holder sel : ℕ) → IsLawful world code →
+    IsLiveValue world.cells code (value.Ref at) → HasHolder world.cells (value.Ref at) holder
     → Runs world.cells code (value.Ref at) sel (found_from world.cells code (start.Instance (superclass_of world.cells holder)) sel Inner)
 super_object world code at holder sel lawful live has = object (find_cell world.cells at) refl has
   where
@@ -94,7 +103,8 @@ super_object world code at holder sel lawful live has = object (find_cell world.
     object (Some (MirrorCell shown)) e h = let none = h.1 in absurd (cc)
     object (Some (MessageCell name args)) e h = let none = h.1 in absurd (cc)
 
-super_class : (world : World) (code : CodeProgram) (at holder sel : ℕ) → IsLawful world code → IsLiveValue world.cells code (value.Ref at) → is_class (find_cell world.cells at) ≡ true → Contains (chain_of world.cells at) holder
+super_class : (world : World) (code : CodeProgram) (at holder sel : ℕ) → IsLawful world code → IsLiveValue world.cells code (value.Ref at) →
+    is_class (find_cell world.cells at) ≡ true → Contains (chain_of world.cells at) holder
     → Runs world.cells code (value.Ref at) sel (found_from world.cells code (start.ClassSide (superclass_of world.cells holder) false) sel Inner)
 super_class world code at holder sel lawful live self (k, inside, is) =
     let from : is_chain_start world.cells at ≡ true = rw self refl in
@@ -105,7 +115,8 @@ super_class world code at holder sel lawful live self (k, inside, is) =
     (class_belongs world.cells code (superclass_of world.cells holder) false sel Inner) ((found_by world.cells code (start.ClassSide (superclass_of world.cells holder) false) sel Inner).takes lawful.classes)
 
 -- what running code finds of its own private members
-pub own_private : (world : World) (code : CodeProgram) (activation : Activation) (sel : ℕ) → IsLawful world code → FitsActivation world.cells code activation
+pub own_private : (world : World) (code : CodeProgram) (activation : Activation) (sel : ℕ) → IsLawful world code →
+    FitsActivation world.cells code activation
     → Runs world.cells code activation.self sel (found_private world.cells code activation.holder (side_of_body code activation.body) sel)
 own_private world code activation sel lawful fits = there (slice_get code.bodies activation.body) refl fits.there
   where
@@ -131,7 +142,8 @@ own_private world code activation sel lawful fits = there (slice_get code.bodies
     there None e some = absurd (cc)
 
 -- what it finds above its holder
-pub super_runs : (world : World) (code : CodeProgram) (activation : Activation) (sel : ℕ) → IsLawful world code → FitsActivation world.cells code activation
+pub super_runs : (world : World) (code : CodeProgram) (activation : Activation) (sel : ℕ) → IsLawful world code →
+    FitsActivation world.cells code activation
     → Runs world.cells code activation.self sel (found_from world.cells code (super_start world.cells activation.holder (side_of_body code activation.body)) sel Inner)
 super_runs world code activation sel lawful fits = there (slice_get code.bodies activation.body) refl fits.there
   where
@@ -157,7 +169,8 @@ super_runs world code activation sel lawful fits = there (slice_get code.bodies 
     there None e some = absurd (cc)
 
 -- what is found of the private members of a declaration around it
-pub outer_private : (world : World) (code : CodeProgram) (activation : Activation) (level decl sel : ℕ) → IsLawful world code → FitsActivation world.cells code activation → declaration_at code activation.body level ≡ Some decl
+pub outer_private : (world : World) (code : CodeProgram) (activation : Activation) (level decl sel : ℕ) → IsLawful world code →
+    FitsActivation world.cells code activation → declaration_at code activation.body level ≡ Some decl
     → Runs world.cells code (enclosing world.cells activation level).object sel (found_private world.cells code (enclosing world.cells activation level).holder (side_at code activation level) sel)
 outer_private world code activation zero decl sel lawful fits e = own_private world code activation sel lawful fits
 outer_private world code activation (suc level) decl sel lawful fits e =

@@ -59,7 +59,9 @@ sent_at code activation target sel values place progress =
     charged_all (GoesOnAt (length values ≤ 255) site no_home) halts Steps (stepped progress.world) progress _ tt
     (λ world e. answered_at (length values ≤ 255) code (found_at progress.world.cells code activation target sel.0) sel receiver values site (in_world progress world) (few_found (length values) (found_at progress.world.cells code activation target sel.0)))
 
-pub plain_at : (code : CodeProgram) (receiver : Value) (sel : Sel) (values : List Value) (place : Option SourcePlace) (progress : Progress) → GoesOnAt (length values ≤ 255) (site_at progress.world.cells place receiver sel) no_home (sent_plain code receiver sel values place progress)
+pub plain_at :
+    (code : CodeProgram) (receiver : Value) (sel : Sel) (values : List Value) (place : Option SourcePlace) (progress : Progress) →
+    GoesOnAt (length values ≤ 255) (site_at progress.world.cells place receiver sel) no_home (sent_plain code receiver sel values place progress)
 plain_at code receiver sel values place progress =
     let site = site_at progress.world.cells place receiver sel in
     charged_all (GoesOnAt (length values ≤ 255) site no_home) halts Steps (stepped progress.world) progress _ tt
@@ -67,8 +69,10 @@ plain_at code receiver sel values place progress =
 
 -- ---- evaluations
 
-entered_at : (code : CodeProgram) (shape : NewCell) (arguments : List Value) (site : Site) (progress : Progress) → GoesOnAt (length arguments ≤ 255) site (home_in shape) (block_entered code shape arguments site progress)
-entered_at code (new.Block body env home receiver holder) arguments site progress = tested (eqb (length arguments) (parameters_of code body))
+entered_at : (code : CodeProgram) (shape : NewCell) (arguments : List Value) (site : Site) (progress : Progress) →
+    GoesOnAt (length arguments ≤ 255) site (home_in shape) (block_entered code shape arguments site progress)
+entered_at code (new.Block body env home receiver holder) arguments site progress =
+    tested (eqb (length arguments) (parameters_of code body))
   where
     framed : Progress → Control
     framed progress = charged halts Depth (entered progress.world) progress (opened code halts (Enter FromBody) (record { self = receiver; holder = holder; body = body; home = home; env = env; site = site }) arguments)
@@ -88,5 +92,6 @@ entered_at code (new.Facet kind) arguments site progress = tt
 entered_at code (new.Mirror mirrored) arguments site progress = tt
 entered_at code (new.Message sel args) arguments site progress = tt
 
-pub evaluated_at : (code : CodeProgram) (block : Value) (arguments : List Value) (site : Site) (progress : Progress) → GoesOnAt (length arguments ≤ 255) site (home_in (shape_of_value progress.world.cells block)) (evaluated code block arguments site progress)
+pub evaluated_at : (code : CodeProgram) (block : Value) (arguments : List Value) (site : Site) (progress : Progress) →
+    GoesOnAt (length arguments ≤ 255) site (home_in (shape_of_value progress.world.cells block)) (evaluated code block arguments site progress)
 evaluated_at code block arguments site progress = entered_at code (shape_of_value progress.world.cells block) arguments site progress

@@ -34,7 +34,8 @@ value_blocks : (heap : Heap) (block : Value) (last : Option Value) → is_block 
 value_blocks heap block None h = h
 value_blocks heap block (Some value) h = tt
 
-and_blocks : (heap : Heap) (receiver block : Value) (last : Option Value) → is_block heap block ≡ true → EvaluatesBlock heap (and_next receiver block last)
+and_blocks : (heap : Heap) (receiver block : Value) (last : Option Value) → is_block heap block ≡ true →
+    EvaluatesBlock heap (and_next receiver block last)
 and_blocks heap Nil block last h = tt
 and_blocks heap True block last h = value_blocks heap block last h
 and_blocks heap False block last h = tt
@@ -43,7 +44,8 @@ and_blocks heap (Sym sel) block last h = tt
 and_blocks heap (Kernel class) block last h = tt
 and_blocks heap (Ref at) block last h = tt
 
-or_blocks : (heap : Heap) (receiver block : Value) (last : Option Value) → is_block heap block ≡ true → EvaluatesBlock heap (or_next receiver block last)
+or_blocks : (heap : Heap) (receiver block : Value) (last : Option Value) → is_block heap block ≡ true →
+    EvaluatesBlock heap (or_next receiver block last)
 or_blocks heap Nil block last h = tt
 or_blocks heap True block last h = tt
 or_blocks heap False block last h = value_blocks heap block last h
@@ -52,7 +54,8 @@ or_blocks heap (Sym sel) block last h = tt
 or_blocks heap (Kernel class) block last h = tt
 or_blocks heap (Ref at) block last h = tt
 
-if_true_blocks : (heap : Heap) (receiver block : Value) (last : Option Value) → is_block heap block ≡ true → EvaluatesBlock heap (if_true_next receiver block last)
+if_true_blocks : (heap : Heap) (receiver block : Value) (last : Option Value) → is_block heap block ≡ true →
+    EvaluatesBlock heap (if_true_next receiver block last)
 if_true_blocks heap Nil block last h = tt
 if_true_blocks heap True block last h = value_blocks heap block last h
 if_true_blocks heap False block last h = tt
@@ -61,7 +64,8 @@ if_true_blocks heap (Sym sel) block last h = tt
 if_true_blocks heap (Kernel class) block last h = tt
 if_true_blocks heap (Ref at) block last h = tt
 
-if_false_blocks : (heap : Heap) (receiver block : Value) (last : Option Value) → is_block heap block ≡ true → EvaluatesBlock heap (if_false_next receiver block last)
+if_false_blocks : (heap : Heap) (receiver block : Value) (last : Option Value) → is_block heap block ≡ true →
+    EvaluatesBlock heap (if_false_next receiver block last)
 if_false_blocks heap Nil block last h = tt
 if_false_blocks heap True block last h = tt
 if_false_blocks heap False block last h = value_blocks heap block last h
@@ -70,7 +74,8 @@ if_false_blocks heap (Sym sel) block last h = tt
 if_false_blocks heap (Kernel class) block last h = tt
 if_false_blocks heap (Ref at) block last h = tt
 
-choice_blocks : (heap : Heap) (receiver chosen otherwise : Value) (last : Option Value) → is_block heap chosen ≡ true → is_block heap otherwise ≡ true → EvaluatesBlock heap (choice_next receiver chosen otherwise last)
+choice_blocks : (heap : Heap) (receiver chosen otherwise : Value) (last : Option Value) → is_block heap chosen ≡ true →
+    is_block heap otherwise ≡ true → EvaluatesBlock heap (choice_next receiver chosen otherwise last)
 choice_blocks heap Nil chosen otherwise last h k = value_blocks heap otherwise last k
 choice_blocks heap True chosen otherwise last h k = value_blocks heap chosen last h
 choice_blocks heap False chosen otherwise last h k = value_blocks heap otherwise last k
@@ -79,7 +84,8 @@ choice_blocks heap (Sym sel) chosen otherwise last h k = value_blocks heap other
 choice_blocks heap (Kernel class) chosen otherwise last h k = value_blocks heap otherwise last k
 choice_blocks heap (Ref at) chosen otherwise last h k = value_blocks heap otherwise last k
 
-while_true_blocks : (heap : Heap) (receiver block : Value) (last : Option Value) → is_block heap receiver ≡ true → is_block heap block ≡ true → EvaluatesBlock heap (while_true_next receiver block last)
+while_true_blocks : (heap : Heap) (receiver block : Value) (last : Option Value) → is_block heap receiver ≡ true →
+    is_block heap block ≡ true → EvaluatesBlock heap (while_true_next receiver block last)
 while_true_blocks heap receiver block None h k = h
 while_true_blocks heap receiver block (Some Nil) h k = tt
 while_true_blocks heap receiver block (Some True) h k = k
@@ -89,7 +95,8 @@ while_true_blocks heap receiver block (Some (Sym sel)) h k = tt
 while_true_blocks heap receiver block (Some (Kernel class)) h k = tt
 while_true_blocks heap receiver block (Some (Ref at)) h k = tt
 
-while_false_blocks : (heap : Heap) (receiver block : Value) (last : Option Value) → is_block heap receiver ≡ true → is_block heap block ≡ true → EvaluatesBlock heap (while_false_next receiver block last)
+while_false_blocks : (heap : Heap) (receiver block : Value) (last : Option Value) → is_block heap receiver ≡ true →
+    is_block heap block ≡ true → EvaluatesBlock heap (while_false_next receiver block last)
 while_false_blocks heap receiver block None h k = h
 while_false_blocks heap receiver block (Some Nil) h k = tt
 while_false_blocks heap receiver block (Some True) h k = tt
@@ -99,7 +106,8 @@ while_false_blocks heap receiver block (Some (Sym sel)) h k = tt
 while_false_blocks heap receiver block (Some (Kernel class)) h k = tt
 while_false_blocks heap receiver block (Some (Ref at)) h k = tt
 
-to_do_blocks : (heap : Heap) (receiver end' block : Value) (count : ℤ) → is_block heap block ≡ true → EvaluatesBlock heap (to_do_next receiver end' block count)
+to_do_blocks : (heap : Heap) (receiver end' block : Value) (count : ℤ) → is_block heap block ≡ true →
+    EvaluatesBlock heap (to_do_next receiver end' block count)
 to_do_blocks heap (Int start) (Int last) block count h = turn (has_turn (start +ℤ count) last)
   where
     turn : (b : Bool) → EvaluatesBlock heap (cond b (action.Evaluate block (Some (Int (start +ℤ count))) true (saturate_signed w64 (count +ℤ pos 1))) (action.Answer (Int start)))
@@ -118,7 +126,8 @@ to_do_blocks heap (Sym sel) end' block count h = tt
 to_do_blocks heap (Kernel class) end' block count h = tt
 to_do_blocks heap (Ref at) end' block count h = tt
 
-times_blocks : (heap : Heap) (receiver block : Value) (count : ℤ) → is_block heap block ≡ true → EvaluatesBlock heap (times_next receiver block count)
+times_blocks : (heap : Heap) (receiver block : Value) (count : ℤ) → is_block heap block ≡ true →
+    EvaluatesBlock heap (times_next receiver block count)
 times_blocks heap (Int times) block count h = turn (int_lt count times)
   where
     turn : (b : Bool) → EvaluatesBlock heap (cond b (action.Evaluate block None true (count +ℤ pos 1)) (action.Answer (Int times)))
@@ -131,7 +140,8 @@ times_blocks heap (Sym sel) block count h = tt
 times_blocks heap (Kernel class) block count h = tt
 times_blocks heap (Ref at) block count h = tt
 
-do_blocks : (heap : Heap) (receiver block : Value) (size count : ℤ) → is_block heap block ≡ true → EvaluatesBlock heap (do_next receiver block size count)
+do_blocks : (heap : Heap) (receiver block : Value) (size count : ℤ) → is_block heap block ≡ true →
+    EvaluatesBlock heap (do_next receiver block size count)
 do_blocks heap receiver block size count h = turn (int_lt count size)
   where
     turn : (b : Bool) → EvaluatesBlock heap (cond b (action.EvaluateItem block count (count +ℤ pos 1)) (action.Answer receiver))
@@ -148,9 +158,12 @@ next_blocks heap method.IfTrueIfFalse state fits =
     let both = both_of (is_block heap state.first) (is_block heap state.second) fits.arguments in choice_blocks heap state.receiver state.first state.second state.last both.0 both.1
 next_blocks heap method.IfFalseIfTrue state fits =
     let both = both_of (is_block heap state.first) (is_block heap state.second) fits.arguments in choice_blocks heap state.receiver state.second state.first state.last both.1 both.0
-next_blocks heap method.WhileTrue state fits = while_true_blocks heap state.receiver state.first (tested state.count state.last) fits.receiver fits.arguments
-next_blocks heap method.WhileFalse state fits = while_false_blocks heap state.receiver state.first (tested state.count state.last) fits.receiver fits.arguments
-next_blocks heap method.ToDo state fits = to_do_blocks heap state.receiver state.first state.second state.count (both_of (is_integer state.first) (is_block heap state.second) fits.arguments).1
+next_blocks heap method.WhileTrue state fits =
+    while_true_blocks heap state.receiver state.first (tested state.count state.last) fits.receiver fits.arguments
+next_blocks heap method.WhileFalse state fits =
+    while_false_blocks heap state.receiver state.first (tested state.count state.last) fits.receiver fits.arguments
+next_blocks heap method.ToDo state fits =
+    to_do_blocks heap state.receiver state.first state.second state.count (both_of (is_integer state.first) (is_block heap state.second) fits.arguments).1
 next_blocks heap method.TimesRepeat state fits = times_blocks heap state.receiver state.first state.count fits.arguments
 next_blocks heap method.Do state fits = do_blocks heap state.receiver state.first state.size state.count fits.arguments
 
@@ -162,13 +175,15 @@ CountsOn heap named state (action.Answer value) = Unit {0}
 CountsOn heap named state (action.Fail kind) = Unit {0}
 
 -- where each count is within them
-freely : (heap : Heap) (named : KMethod) (state : KState) → ((count : ℤ) → counts_fit heap (waiting state count) named ≡ true) → (a : KAction) → CountsOn heap named state a
+freely : (heap : Heap) (named : KMethod) (state : KState) → ((count : ℤ) → counts_fit heap (waiting state count) named ≡ true) →
+    (a : KAction) → CountsOn heap named state a
 freely heap named state free (action.Evaluate block argument turn count) = free count
 freely heap named state free (action.EvaluateItem block item count) = free count
 freely heap named state free (action.Answer value) = tt
 freely heap named state free (action.Fail kind) = tt
 
-do_counts : (heap : Heap) (state : KState) → counts_fit heap state method.Do ≡ true → CountsOn heap method.Do state (do_next state.receiver state.first state.size state.count)
+do_counts : (heap : Heap) (state : KState) → counts_fit heap state method.Do ≡ true →
+    CountsOn heap method.Do state (do_next state.receiver state.first state.size state.count)
 do_counts heap state within = turn (int_lt state.count state.size) refl
   where
     turn : (b : Bool) → int_lt state.count state.size ≡ b → CountsOn heap method.Do state (cond b (action.EvaluateItem state.first state.count (state.count +ℤ pos 1)) (action.Answer state.receiver))
@@ -189,15 +204,20 @@ next_counts heap method.ToDo state fits = freely heap method.ToDo state (λ coun
 next_counts heap method.TimesRepeat state fits = freely heap method.TimesRepeat state (λ count. refl) (next method.TimesRepeat state)
 
 -- a method that waits keeps its receiver and its arguments
-waiting_fits : (heap : Heap) (named : KMethod) (state : KState) (count : ℤ) → FitsMethod heap named state → counts_fit heap (waiting state count) named ≡ true → FitsMethod heap named (waiting state count)
+waiting_fits : (heap : Heap) (named : KMethod) (state : KState) (count : ℤ) → FitsMethod heap named state →
+    counts_fit heap (waiting state count) named ≡ true → FitsMethod heap named (waiting state count)
 waiting_fits heap named state count fits within = record { arguments = fits.arguments; receiver = fits.receiver; counts = within }
 
-turned_fits : (named : KMethod) (turn : Bool) (progress : Progress) (go : Progress → Waiting) → ((next : Progress) → next.world.cells ≡ progress.world.cells → FitsNextWaiting named (go next)) → FitsNextWaiting named (turned turn progress go)
+turned_fits : (named : KMethod) (turn : Bool) (progress : Progress) (go : Progress → Waiting) →
+    ((next : Progress) → next.world.cells ≡ progress.world.cells → FitsNextWaiting named (go next)) →
+    FitsNextWaiting named (turned turn progress go)
 turned_fits named true progress go goes =
     charged_all (FitsNextWaiting named) (λ ending progress. Finishes (Halts ending progress)) Steps (stepped progress.world) progress go tt (λ world e. goes (in_world progress world) (step_cells progress.world world e))
 turned_fits named false progress go goes = goes progress refl
 
-acted_fits : (named : KMethod) (a : KAction) (state : KState) (site : Site) (progress : Progress) → FitsMethod progress.world.cells named state → EvaluatesBlock progress.world.cells a → CountsOn progress.world.cells named state a → FitsNextWaiting named (acted a state site progress)
+acted_fits : (named : KMethod) (a : KAction) (state : KState) (site : Site) (progress : Progress) →
+    FitsMethod progress.world.cells named state → EvaluatesBlock progress.world.cells a → CountsOn progress.world.cells named state a →
+    FitsNextWaiting named (acted a state site progress)
 acted_fits named (action.Evaluate block argument turn count) state site progress fits is within =
     turned_fits named turn progress (Waits block (listed argument) (waiting state count))
     (λ next same. (subst (λ cells. is_block cells block ≡ true) (sym same) is, subst (λ cells. FitsMethod cells named (waiting state count)) (sym same) (waiting_fits progress.world.cells named state count fits within)))
@@ -207,5 +227,7 @@ acted_fits named (action.EvaluateItem block item count) state site progress fits
 acted_fits named (action.Answer value) state site progress fits is within = tt
 acted_fits named (action.Fail kind) state site progress fits is within = tt
 
-pub method_hands_on : (named : KMethod) (state : KState) (site : Site) (progress : Progress) → FitsMethod progress.world.cells named state → FitsNextWaiting named (method_next named state site progress)
-method_hands_on named state site progress fits = acted_fits named (next named state) state site progress fits (next_blocks progress.world.cells named state fits) (next_counts progress.world.cells named state fits)
+pub method_hands_on : (named : KMethod) (state : KState) (site : Site) (progress : Progress) → FitsMethod progress.world.cells named state →
+    FitsNextWaiting named (method_next named state site progress)
+method_hands_on named state site progress fits =
+    acted_fits named (next named state) state site progress fits (next_blocks progress.world.cells named state fits) (next_counts progress.world.cells named state fits)

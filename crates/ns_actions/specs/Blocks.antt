@@ -134,7 +134,8 @@ item_at heap array item = slice_index_or (items_of heap array) (unsigned_abs ite
 
 -- what an action of a method does
 abbrev pub acted : KAction → KState → Site → Progress → Waiting
-acted (action.Evaluate block argument turn count) state site progress = turned turn progress (Waits block (listed argument) (waiting state count))
+acted (action.Evaluate block argument turn count) state site progress =
+    turned turn progress (Waits block (listed argument) (waiting state count))
 acted (action.EvaluateItem block item count) state site progress =
     turned true progress (λ progress. Waits block (item_at progress.world.cells state.receiver item ∷ []) (waiting state count) progress)
 acted (action.Answer value) state site progress = Finishes (Gives value (frame_left progress))

@@ -65,7 +65,8 @@ abbrev pub first_locals : CodeProgram → ℕ → List Value → List Value
 first_locals code body arguments = arguments ++ replicate (locals_of code body - parameters_of code body) Nil
 
 -- A body begins: where its locals stand in an environment, that is made over the one around it.
-abbrev pub opened : {A : Type 0} → CodeProgram → (Ending → Progress → A) → (Activation → List Value → Progress → A) → Activation → List Value → Progress → A
+abbrev pub opened : {A : Type 0} → CodeProgram → (Ending → Progress → A) → (Activation → List Value → Progress → A) → Activation →
+    List Value → Progress → A
 opened code stop go activation arguments progress =
     if has_environment code activation.body
     then charged stop Cells (made progress.world (EnvironmentCell activation.env (first_locals code activation.body arguments))) progress
@@ -135,4 +136,5 @@ world_with_local code activation hops place value world =
 
 -- what the run has done when a local is stored
 abbrev pub local_stored : CodeProgram → Activation → ℕ → ℕ → Value → Progress → Progress
-local_stored code activation hops place value progress = in_world progress (world_with_local code activation hops place value progress.world)
+local_stored code activation hops place value progress =
+    in_world progress (world_with_local code activation hops place value progress.world)

@@ -59,7 +59,8 @@ HasSite code other = Unit {0}
 
 -- An action ends a run so, if it does.
 abbrev pub EndsFitly : CodeProgram → Action → Progress → Type 0
-EndsFitly code (Sends activation target sel values place) progress = EndsControl code (sent code activation target sel values place progress)
+EndsFitly code (Sends activation target sel values place) progress =
+    EndsControl code (sent code activation target sel values place progress)
 EndsFitly code (SendsPlain receiver sel values place) progress = EndsControl code (sent_plain code receiver sel values place progress)
 EndsFitly code (Performs receiver sel array site) progress = EndsControl code (performed code receiver sel array site progress)
 EndsFitly code (Evaluates block arguments site) progress = EndsControl code (evaluated code block arguments site progress)

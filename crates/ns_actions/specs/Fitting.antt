@@ -89,7 +89,8 @@ environment_body code body = if has_environment code body then Some body else pa
 
 -- The environment of running code is that.
 abbrev pub FitsOwnEnvironment : Heap → CodeProgram → Activation → Type 0
-FitsOwnEnvironment heap code activation = FitsEnvironment (activation.body + 1) heap code (environment_body code activation.body) activation.env
+FitsOwnEnvironment heap code activation =
+    FitsEnvironment (activation.body + 1) heap code (environment_body code activation.body) activation.env
 
 -- What holds of all code that was verified: the parameters of a body are among its locals, and one that is no
 -- block stands in no other.
@@ -139,7 +140,8 @@ pub record FitsMessage (heap : Heap) (code : CodeProgram) (activation : Activati
 
 -- A method of the kernel that waits for a block evaluates one, and keeps its receiver and its arguments.
 abbrev pub FitsNextWaiting : KMethod → Waiting → Type 0
-FitsNextWaiting method (Waits block arguments state progress) = IsTrue (is_block progress.world.cells block) × FitsMethod progress.world.cells method state
+FitsNextWaiting method (Waits block arguments state progress) =
+    IsTrue (is_block progress.world.cells block) × FitsMethod progress.world.cells method state
 FitsNextWaiting method (Finishes after) = Unit {0}
 
 -- whether a class name names a declaration of the code, or a class of the kernel
@@ -195,7 +197,8 @@ EntersBlock body (Perform receiver sel array site progress) = ⊥
 abbrev pub Asks : CodeProgram → Action → Progress → Type 0
 Asks code (Sends activation target sel values place) progress =
     FitsTarget progress.world.cells code activation target × FitsSelector progress.world.cells code sel values
-Asks code (SendsPlain receiver sel values place) progress = IsLiveValue progress.world.cells code receiver × FitsSelector progress.world.cells code sel values
+Asks code (SendsPlain receiver sel values place) progress =
+    IsLiveValue progress.world.cells code receiver × FitsSelector progress.world.cells code sel values
 Asks code (Performs receiver sel array site) progress =
     IsLiveValue progress.world.cells code receiver × FitsSelector progress.world.cells code sel (items_of progress.world.cells (Ref array))
 Asks code (Evaluates block arguments site) progress = All (IsLiveValue progress.world.cells code) arguments
@@ -206,8 +209,10 @@ Asks code other progress = Unit {0}
 
 -- What they hand on fits.
 abbrev pub HandsOn : CodeProgram → Action → Progress → Type 0
-HandsOn code (Sends activation target sel values place) progress = FitsNext initialiser_kind code (sent code activation target sel values place progress)
-HandsOn code (SendsPlain receiver sel values place) progress = FitsNext initialiser_kind code (sent_plain code receiver sel values place progress)
+HandsOn code (Sends activation target sel values place) progress =
+    FitsNext initialiser_kind code (sent code activation target sel values place progress)
+HandsOn code (SendsPlain receiver sel values place) progress =
+    FitsNext initialiser_kind code (sent_plain code receiver sel values place progress)
 HandsOn code (Performs receiver sel array site) progress = FitsNext initialiser_kind code (performed code receiver sel array site progress)
 HandsOn code (Evaluates block arguments site) progress = FitsNext block_kind code (evaluated code block arguments site progress)
 HandsOn code (BeginsPart activation arguments) progress =

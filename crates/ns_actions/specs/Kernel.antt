@@ -73,7 +73,8 @@ data_reached code row receiver arguments site progress = outcome_reached (datum 
 -- a row with its receiver and its arguments, sent as that selector
 abbrev pub row_reached : CodeProgram → Row → Sel → Value → List Value → Site → Progress → Control
 row_reached code (row.Data about) sel receiver arguments site progress = data_reached code about receiver arguments site progress
-row_reached code (row.Integer int) sel receiver arguments site progress = answer_reached (integer int (number_of receiver) (argument arguments 0)) site progress
+row_reached code (row.Integer int) sel receiver arguments site progress =
+    answer_reached (integer int (number_of receiver) (argument arguments 0)) site progress
 row_reached code row.Top sel receiver arguments site progress = facet_reached code (facet.Top sel) arguments site progress
 row_reached code (row.Facet facet) sel receiver arguments site progress = facet_reached code facet arguments site progress
 row_reached code (row.Mirror mirrors) sel receiver arguments site progress =
@@ -83,5 +84,7 @@ row_reached code (row.Method method) sel receiver arguments site progress =
 row_reached code row.Apply sel receiver arguments site progress =
     Now (mixed code (shape_of_value progress.world.cells receiver) (argument arguments 0) site progress)
 row_reached code row.Value sel receiver arguments site progress = Evaluate receiver arguments site progress
-row_reached code row.ValueWithArguments sel receiver arguments site progress = value_with_arguments receiver (argument arguments 0) site progress
-row_reached code row.NumArgs sel receiver arguments site progress = gives (Int (pos (block_arity code progress.world.cells receiver))) progress
+row_reached code row.ValueWithArguments sel receiver arguments site progress =
+    value_with_arguments receiver (argument arguments 0) site progress
+row_reached code row.NumArgs sel receiver arguments site progress =
+    gives (Int (pos (block_arity code progress.world.cells receiver))) progress

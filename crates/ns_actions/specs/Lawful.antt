@@ -43,7 +43,8 @@ LawfulAfter code (Halts ending progress) = LawfulRun code progress
 -- Where control goes in a lawful run.
 abbrev pub LawfulControl : CodeProgram → Control → Type 0
 LawfulControl code (Now after) = LawfulAfter code after
-LawfulControl code (Enter exit activation locals progress) = LawfulRun code progress × LiveActivation progress.world.cells code activation locals
+LawfulControl code (Enter exit activation locals progress) =
+    LawfulRun code progress × LiveActivation progress.world.cells code activation locals
 LawfulControl code (Evaluate block arguments site progress) =
     LawfulRun code progress × IsLiveValue progress.world.cells code block × All (IsLiveValue progress.world.cells code) arguments
 LawfulControl code (Begin method state site progress) = LawfulRun code progress × LiveState progress.world.cells code state
@@ -54,7 +55,8 @@ LawfulControl code (Perform receiver sel array site progress) =
 abbrev pub LawfulPart : CodeProgram → PartControl → Type 0
 LawfulPart code (Skip progress) = LawfulRun code progress
 LawfulPart code (Stop ending progress) = LawfulRun code progress
-LawfulPart code (EnterPart activation locals progress) = LawfulRun code progress × LiveActivation progress.world.cells code activation locals
+LawfulPart code (EnterPart activation locals progress) =
+    LawfulRun code progress × LiveActivation progress.world.cells code activation locals
 
 -- What a kernel method does next in a lawful run.
 abbrev pub LawfulWaiting : CodeProgram → Waiting → Type 0

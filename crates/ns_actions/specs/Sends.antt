@@ -126,8 +126,10 @@ row_sent code number sel receiver arguments site progress =
 
 -- what is done with a member that was found
 abbrev pub done_with : CodeProgram → Found → Sel → Value → Arguments → Site → Progress → Control
-done_with code (found.Method body holder) sel receiver arguments site progress = method_entered code body holder receiver arguments site progress
-done_with code (found.Getter holder word) sel receiver arguments site progress = gives (word_of_object progress.world.cells receiver word) progress
+done_with code (found.Method body holder) sel receiver arguments site progress =
+    method_entered code body holder receiver arguments site progress
+done_with code (found.Getter holder word) sel receiver arguments site progress =
+    gives (word_of_object progress.world.cells receiver word) progress
 done_with code (found.Setter holder word) sel receiver arguments site progress = set word receiver arguments progress
 done_with code (found.Nested class holder) sel receiver arguments site progress = nested_in code receiver holder class site progress
 done_with code (found.Factory class) sel receiver arguments site progress = factory_entered code class arguments site progress
@@ -147,7 +149,8 @@ message_sel code = own_sel code DoesNotUnderstand
 -- the kernel's row (what goes on so is this profile's).
 abbrev pub not_found : CodeProgram → Found → Sel → Value → List Value → Site → Progress → Control
 not_found code (found.Kernel number) sel receiver values site progress = fails kind.NotUnderstood site progress
-not_found code member sel receiver values site progress = done_with code member (message_sel code) receiver (Wrapped sel values) site progress
+not_found code member sel receiver values site progress =
+    done_with code member (message_sel code) receiver (Wrapped sel values) site progress
 
 -- a send that found no member at all goes on so with what `doesNotUnderstand:` finds
 abbrev pub not_understood : CodeProgram → Sel → Value → List Value → Site → Progress → Control

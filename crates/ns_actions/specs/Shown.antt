@@ -58,7 +58,8 @@ reached_shown code site values (reached.Refused sel) progress = halts (error Not
 reached_shown code site values (reached.Enters exit entered) progress =
     Enter (exit_shown exit entered.me entered.holder) (activation_shown site entered)
     (locals_shown code progress.world.cells (passed exit values) entered) progress
-reached_shown code site values (reached.Evaluates block given) progress = Evaluate block (given_values progress.world.cells values given) site progress
+reached_shown code site values (reached.Evaluates block given) progress =
+    Evaluate block (given_values progress.world.cells values given) site progress
 reached_shown code site values (reached.Begins method state) progress = Begin method state site progress
 reached_shown code site values (reached.Performs receiver sel array) progress = Perform receiver sel array site progress
 

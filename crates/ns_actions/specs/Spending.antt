@@ -88,4 +88,5 @@ Spends code (MakesBlock activation body) old = CellSpends old (new_block activat
 Spends code (MakesText bytes) old = CellSpends old (new_text bytes old)
 Spends code (MakesArray items) old = CellSpends old (new_array items old)
 Spends code (FillsSlot activation slot value) old = Charged 0 0 0 old (progress_after code (FillsSlot activation slot value) old)
-Spends code (StoresLocal activation hops place value) old = Charged 0 0 0 old (progress_after code (StoresLocal activation hops place value) old)
+Spends code (StoresLocal activation hops place value) old =
+    Charged 0 0 0 old (progress_after code (StoresLocal activation hops place value) old)

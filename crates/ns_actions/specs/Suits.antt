@@ -13,8 +13,10 @@ use Rattle.ns_actions.specs.Bodies.{Place}
 -- What is found can be done with a receiver: a slot and a nested class are those of a holder in its chain, and
 -- a factory is that of a class.
 abbrev pub Suits : Heap → CodeProgram → Value → Found → Type 0
-Suits heap code receiver (found.Getter holder word) = HasHolder heap receiver holder × IsTrue (is_class (find_cell heap holder)) × IsSlotOf heap code holder word
-Suits heap code receiver (found.Setter holder word) = HasHolder heap receiver holder × IsTrue (is_class (find_cell heap holder)) × IsSlotOf heap code holder word
+Suits heap code receiver (found.Getter holder word) =
+    HasHolder heap receiver holder × IsTrue (is_class (find_cell heap holder)) × IsSlotOf heap code holder word
+Suits heap code receiver (found.Setter holder word) =
+    HasHolder heap receiver holder × IsTrue (is_class (find_cell heap holder)) × IsSlotOf heap code holder word
 Suits heap code receiver (found.Nested class holder) =
     HasHolder heap receiver holder × IsTrue (is_class (find_cell heap holder)) × HasNested heap code holder class
 Suits heap code receiver (found.Factory class) = IsTrue (is_class (find_cell heap class))

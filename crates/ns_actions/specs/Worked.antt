@@ -62,7 +62,8 @@ small_cells =
 
 -- a world of these cells in which nothing was charged but them
 abbrev pub small_world : Heap → World
-small_world cells = record { cells = cells; limits = record { steps = 10; cells = 2000; depth = 10; out = 10 }; steps = 0; depth = 0; output = [] }
+small_world cells =
+    record { cells = cells; limits = record { steps = 10; cells = 2000; depth = 10; out = 10 }; steps = 0; depth = 0; output = [] }
 
 -- five method activations have begun
 abbrev pub small_progress : Heap → Progress

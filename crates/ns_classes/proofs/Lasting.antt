@@ -15,12 +15,14 @@ use Rattle.ns_classes.specs.declared.apply.MakeFault.TheVariants.{NotAClass}
 use Rattle.ns_classes.specs.Apply.{chain_fault, class_fault}
 use Rattle.ns_classes.specs.Nested.{nested_entry, nested_word}
 
-pub nested_word_lasts : (holder class : ℕ) (code : CodeProgram) (old new : World) → RunsOn code old new → is_class (find_cell old.cells holder) ≡ true → nested_word new.cells code holder class ≡ nested_word old.cells code holder class
+pub nested_word_lasts : (holder class : ℕ) (code : CodeProgram) (old new : World) → RunsOn code old new →
+    is_class (find_cell old.cells holder) ≡ true → nested_word new.cells code holder class ≡ nested_word old.cells code holder class
 nested_word_lasts holder class code old new run is =
     word_lasts holder (nested_entry code (declaration_of new.cells holder) class) code old new run is
     ∙ ap (λ decl. entry_word old.cells code holder (nested_entry code decl class)) (declaration_lasts holder code old new run is)
 
-pub fault_lasts : (over : Value) (code : CodeProgram) (old new : World) → RunsOn code old new → IsLiveValue old.cells code over → class_fault new.cells over ≡ class_fault old.cells over
+pub fault_lasts : (over : Value) (code : CodeProgram) (old new : World) → RunsOn code old new → IsLiveValue old.cells code over →
+    class_fault new.cells over ≡ class_fault old.cells over
 fault_lasts (Ref class) code old new run live = tested (is_class (find_cell old.cells class)) refl
   where
     is_one : is_class (find_cell new.cells class) ≡ is_class (find_cell old.cells class)

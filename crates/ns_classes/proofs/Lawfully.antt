@@ -20,7 +20,10 @@ pub record Applied (code : CodeProgram) (old : WorldView) (result : Result ℕ M
   pub class : IfOk result (λ number. is_class (find_cell new.world.cells number) ≡ true)
   pub lawful : IsLawful new.world code
 
-pub applied : (code : CodeProgram) (decl : ℕ) (encl holder over : Value) (old : WorldView) (result : Result ℕ MakeFault) (new : WorldView) → IsLawful old.world code → IsEnclosed old.world.cells code decl encl holder → AppliesClass (class_fault old.world.cells over) old (class_cell old.world.cells code decl encl holder over) result new → Applied code old result new
+pub applied : (code : CodeProgram) (decl : ℕ) (encl holder over : Value) (old : WorldView) (result : Result ℕ MakeFault) (new : WorldView) →
+    IsLawful old.world code → IsEnclosed old.world.cells code decl encl holder →
+    AppliesClass (class_fault old.world.cells over) old (class_cell old.world.cells code decl encl holder over) result new →
+    Applied code old result new
 applied code decl encl holder over old result new lawful enclosed h = by_fault (class_fault old.world.cells over) refl result h
   where
     cell : Cell

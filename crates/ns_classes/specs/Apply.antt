@@ -49,5 +49,6 @@ Checks fault superclass (Err found) = fault ≡ Some found
 abbrev pub AppliesClass : Option MakeFault → WorldView → Cell → Result ℕ MakeFault → WorldView → Type 0
 AppliesClass (Some fault) old cell (Ok number) new = ⊥
 AppliesClass (Some fault) old cell (Err found) new = (found ≡ fault) × (new ≡ old)
-AppliesClass None old cell (Ok number) new = (made old.world cell ≡ Some new.world) × (number ≡ heap_size old.world.cells) × SameRoom old new
+AppliesClass None old cell (Ok number) new =
+    (made old.world cell ≡ Some new.world) × (number ≡ heap_size old.world.cells) × SameRoom old new
 AppliesClass None old cell (Err found) new = (found ≡ CellLimit) × (made old.world cell ≡ None) × (new ≡ old)

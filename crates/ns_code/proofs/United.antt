@@ -31,7 +31,8 @@ united_again (instr.SendInner a b ∷ more) = ap (λ l. instr.SendInner a b ∷ 
 united_again (instr.SendPrivate a b c ∷ more) = ap (λ l. instr.SendPrivate a b c ∷ l) (united_again more)
 united_again (instr.SendSuper a b ∷ more) = ap (λ l. instr.SendSuper a b ∷ l) (united_again more)
 united_again (instr.InitSuper a ∷ more) = ap (λ l. instr.InitSuper a ∷ l) (united_again more)
-united_again (instr.StoreSlot a ∷ more) = ap (λ n. instr.StoreSlot n ∷ united (map operation_of more) (words_of more) (integers_of more)) (bytes_again a) ∙ ap (λ l. instr.StoreSlot a ∷ l) (united_again more)
+united_again (instr.StoreSlot a ∷ more) =
+    ap (λ n. instr.StoreSlot n ∷ united (map operation_of more) (words_of more) (integers_of more)) (bytes_again a) ∙ ap (λ l. instr.StoreSlot a ∷ l) (united_again more)
 united_again (instr.Return ∷ more) = ap (λ l. instr.Return ∷ l) (united_again more)
 united_again (instr.ReturnSelf ∷ more) = ap (λ l. instr.ReturnSelf ∷ l) (united_again more)
 united_again (instr.ReturnHome ∷ more) = ap (λ l. instr.ReturnHome ∷ l) (united_again more)
@@ -40,7 +41,8 @@ united_again (instr.JumpFalse a ∷ more) = ap (λ l. instr.JumpFalse a ∷ l) (
 united_again (instr.JumpTrue a ∷ more) = ap (λ l. instr.JumpTrue a ∷ l) (united_again more)
 
 -- whether an instruction carries a place is told by its operation
-pub carries_again : (operation : Operation) (word : ℕ) (integer : ℤ) → is_carrier operation ≡ carries_place (instr_of operation word integer)
+pub carries_again : (operation : Operation) (word : ℕ) (integer : ℤ) →
+    is_carrier operation ≡ carries_place (instr_of operation word integer)
 carries_again op.PushNil word integer = refl
 carries_again op.PushTrue word integer = refl
 carries_again op.PushFalse word integer = refl
@@ -69,9 +71,11 @@ carries_again op.JumpFalse word integer = refl
 carries_again op.JumpTrue word integer = refl
 
 -- there are as many instructions as operations
-pub as_many : (operations : List Operation) (words : List ℕ) (integers : List ℤ) → length (united operations words integers) ≡ length operations
+pub as_many : (operations : List Operation) (words : List ℕ) (integers : List ℤ) →
+    length (united operations words integers) ≡ length operations
 as_many [] words integers = refl
-as_many (operation ∷ operations) words integers = ap suc (as_many operations (behind (has_word operation) words) (behind (has_integer operation) integers))
+as_many (operation ∷ operations) words integers =
+    ap suc (as_many operations (behind (has_word operation) words) (behind (has_integer operation) integers))
 
 -- the instruction of a number carries a place where the operation of that number does
 pub carrier_there : (number : ℕ) (operations : List Operation) (words : List ℕ) (integers : List ℤ)

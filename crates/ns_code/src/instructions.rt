@@ -90,6 +90,20 @@ impl Instructions {
         })
     }
 
+    /// The same list, in memory of its own.
+    pub fn copy(&self, alloc: Global) -> Result<Instructions, NoMemory>
+        ensures { IfOk result (λ copy. copy ≡ self.now) }
+    {
+        let operations = Vec::from_slice(alloc, self.operations.as_slice())?;
+        let words = Vec::from_slice(alloc, self.words.as_slice())?;
+        let integers = Vec::from_slice(alloc, self.integers.as_slice())?;
+        Ok(Instructions {
+            operations,
+            words,
+            integers,
+        })
+    }
+
     /// How many there are.
     #[tactic(auto, using(crate::proofs::United::as_many))]
     pub fn len(&self) -> usize

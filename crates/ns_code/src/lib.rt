@@ -5,6 +5,7 @@
 
 pub mod body;
 pub mod class;
+pub mod copies;
 pub mod instruction;
 pub mod instructions;
 pub mod kinds;

@@ -30,7 +30,8 @@ printed_bytes world bytes = printed_as (printed world bytes)
 
 -- a String printed with bytes behind it; any other value is of the wrong kind
 abbrev pub printed_text : World → Value → List ℕ → RowOutcome
-printed_text world text tail = if is_text world.cells text then printed_bytes world (bytes_of world.cells text ++ tail) else Fails wrong_kind
+printed_text world text tail =
+    if is_text world.cells text then printed_bytes world (bytes_of world.cells text ++ tail) else Fails wrong_kind
 
 -- a String's bytes, an Integer in decimal or a Symbol's text, with bytes behind them
 abbrev pub printing : World → CodeProgram → Value → List ℕ → RowOutcome

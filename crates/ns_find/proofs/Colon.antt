@@ -14,7 +14,8 @@ parted text h =
     sym (take_all (length text) text (omega arith)) ∙ (ap (λ n. take n text) whole ∙ take_more text (length text - 1) 0 (omega arith))
 
 -- with a colon at its end
-pub colon_told : (text name : List ℕ) (same : Bool) → 1 ≤ length text → get_or text (length text - 1) 0 ≡ 58 → same ≡ bytes_eq (take (length text - 1) text) name → same ≡ bytes_eq text (name ++ 58 ∷ [])
+pub colon_told : (text name : List ℕ) (same : Bool) → 1 ≤ length text → get_or text (length text - 1) 0 ≡ 58 →
+    same ≡ bytes_eq (take (length text - 1) text) name → same ≡ bytes_eq text (name ++ 58 ∷ [])
 colon_told text name same h last is =
     is ∙ both_ways (bytes_eq (take (length text - 1) text) name) (bytes_eq text (name ++ 58 ∷ []))
     (λ t. (bytes_eq-Decides text (name ++ 58 ∷ [])).1 (parted text h ∙ (ap (λ b. take (length text - 1) text ++ b ∷ []) last ∙ ap (λ n. n ++ 58 ∷ []) ((bytes_eq-Decides (take (length text - 1) text) name).0 t))))
@@ -24,7 +25,8 @@ colon_told text name same h last is =
     (bytes_eq-Decides (take (length text - 1) text) name).1 (ap (λ k. take k text) n ∙ (ap (take (length name)) e ∙ take_at name (58 ∷ []) (length name) refl)))
 
 -- with no colon at its end
-pub no_colon : (text name : List ℕ) → 1 ≤ length text → (get_or text (length text - 1) 0 ≡ 58 → ⊥) → nat_eq (get_or text (length text - 1) 0) 58 ≡ bytes_eq text (name ++ 58 ∷ [])
+pub no_colon : (text name : List ℕ) → 1 ≤ length text → (get_or text (length text - 1) 0 ≡ 58 → ⊥) →
+    nat_eq (get_or text (length text - 1) 0) 58 ≡ bytes_eq text (name ++ 58 ∷ [])
 no_colon text name h colon = differs (nat_eq (get_or text (length text - 1) 0) 58) refl ∙ tested (bytes_eq text (name ++ 58 ∷ [])) refl
   where
     differs : (b : Bool) → nat_eq (get_or text (length text - 1) 0) 58 ≡ b → nat_eq (get_or text (length text - 1) 0) 58 ≡ false

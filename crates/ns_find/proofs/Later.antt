@@ -22,7 +22,8 @@ use Rattle.ns_find.specs.Memo.{PlaceIsRight, AddsNoRow}
 use Rattle.ns_find.proofs.Staying.{SameRows, found_stays, private_stays, start_stays}
 
 -- one cell more
-pub same_after_making : (w : World) (code : CodeProgram) (cell : Cell) → IsLawful w code → AddsNoRow w.cells cell → SameRows w.cells (cell ∷ w.cells)
+pub same_after_making : (w : World) (code : CodeProgram) (cell : Cell) → IsLawful w code → AddsNoRow w.cells cell →
+    SameRows w.cells (cell ∷ w.cells)
 same_after_making w code cell l adds = record {
   same = making_keeps_classes w.cells cell (lawful_order w code l);
   facets = λ kind. first_without (is_facet kind) w.cells cell (adds.0 kind);
@@ -34,7 +35,8 @@ same_after_making w code cell l adds = record {
     tops decl false e = first_without (is_top decl) w.cells cell e
 
 -- a word written
-pub same_after_word : (w : World) (code : CodeProgram) (at word : ℕ) (value : Value) → IsLawful w code → SameRows w.cells (write_word w.cells at word value)
+pub same_after_word : (w : World) (code : CodeProgram) (at word : ℕ) (value : Value) → IsLawful w code →
+    SameRows w.cells (write_word w.cells at word value)
 same_after_word w code at word value l = record {
   same = same_after_changing w.cells at (λ cell. with_word cell word value) (word_plainly word value) (lawful_order w code l);
   facets = facets_after_word w.cells at word value;
@@ -42,7 +44,8 @@ same_after_word w code at word value l = record {
 }
 
 -- a byte written
-pub same_after_byte : (w : World) (code : CodeProgram) (at place byte : ℕ) → IsLawful w code → SameRows w.cells (write_byte w.cells at place byte)
+pub same_after_byte : (w : World) (code : CodeProgram) (at place byte : ℕ) → IsLawful w code →
+    SameRows w.cells (write_byte w.cells at place byte)
 same_after_byte w code at place byte l = record {
   same = same_after_changing w.cells at (λ cell. with_byte cell place byte) (byte_plainly place byte) (lawful_order w code l);
   facets = facets_after_byte w.cells at place byte;
@@ -58,24 +61,32 @@ same_rows code old new run = record {
 }
 
 -- a kept lookup stays right
-pub right_stays : (w : World) (code : CodeProgram) (after : Heap) (place : Option Kept) → IsLawful w code → SameRows w.cells after → PlaceIsRight w.cells code place → PlaceIsRight after code place
+pub right_stays : (w : World) (code : CodeProgram) (after : Heap) (place : Option Kept) → IsLawful w code → SameRows w.cells after →
+    PlaceIsRight w.cells code place → PlaceIsRight after code place
 right_stays w code after None l same r = r
 right_stays w code after (Some kept) l same r =
     (start_stays w.cells after kept.start same r.0, r.1 ∙ sym (found_stays w code after l same kept.start kept.sel.0 kept.kind r.0))
 
 -- ---- later in a run
 
-pub start_lasts : (from : Start) (code : CodeProgram) (old new : World) → RunsOn code old new → is_start old.cells from ≡ true → is_start new.cells from ≡ true
+pub start_lasts : (from : Start) (code : CodeProgram) (old new : World) → RunsOn code old new → is_start old.cells from ≡ true →
+    is_start new.cells from ≡ true
 start_lasts from code old new run s = start_stays old.cells new.cells from (same_rows code old new run) s
 
-pub found_lasts : (from : Start) (sel : ℕ) (kind : Sending) (code : CodeProgram) (old new : World) → RunsOn code old new → is_start old.cells from ≡ true → found_from new.cells code from sel kind ≡ found_from old.cells code from sel kind
+pub found_lasts : (from : Start) (sel : ℕ) (kind : Sending) (code : CodeProgram) (old new : World) → RunsOn code old new →
+    is_start old.cells from ≡ true → found_from new.cells code from sel kind ≡ found_from old.cells code from sel kind
 found_lasts from sel kind code old new run s = found_stays old code new.cells run.before (same_rows code old new run) from sel kind s
 
-pub private_lasts : (holder : ℕ) (side : Side) (sel : ℕ) (code : CodeProgram) (old new : World) → RunsOn code old new → is_class (find_cell old.cells holder) ≡ true → found_private new.cells code holder side sel ≡ found_private old.cells code holder side sel
-private_lasts holder side sel code old new run is = private_stays old code new.cells run.before (same_rows code old new run) holder side sel is
+pub private_lasts : (holder : ℕ) (side : Side) (sel : ℕ) (code : CodeProgram) (old new : World) → RunsOn code old new →
+    is_class (find_cell old.cells holder) ≡ true →
+    found_private new.cells code holder side sel ≡ found_private old.cells code holder side sel
+private_lasts holder side sel code old new run is =
+    private_stays old code new.cells run.before (same_rows code old new run) holder side sel is
 
-pub right_lasts : (place : Option Kept) (code : CodeProgram) (old new : World) → RunsOn code old new → PlaceIsRight old.cells code place → PlaceIsRight new.cells code place
+pub right_lasts : (place : Option Kept) (code : CodeProgram) (old new : World) → RunsOn code old new → PlaceIsRight old.cells code place →
+    PlaceIsRight new.cells code place
 right_lasts place code old new run r = right_stays old code new.cells place run.before (same_rows code old new run) r
 
-pub all_right_last : (places : List (Option Kept)) (code : CodeProgram) (old new : World) → RunsOn code old new → All (PlaceIsRight old.cells code) places → All (PlaceIsRight new.cells code) places
+pub all_right_last : (places : List (Option Kept)) (code : CodeProgram) (old new : World) → RunsOn code old new →
+    All (PlaceIsRight old.cells code) places → All (PlaceIsRight new.cells code) places
 all_right_last places code old new run all = λ i d h. right_lasts (get_or places i d) code old new run (all i d h)

@@ -17,7 +17,7 @@ use Rattle.ns_find.specs.declared.found.Found.{Found}
 use Rattle.ns_find.specs.declared.found.Found.TheVariants.{Kernel}
 use Rattle.ns_find.specs.declared.found.Sending.{Sending}
 use Rattle.ns_find.specs.declared.found.Sending.TheVariants.{Plain, Inner}
-use Rattle.ns_find.specs.Members.{Member, search, allowed}
+use Rattle.ns_find.specs.Members.{search, allowed}
 use Rattle.ns_find.specs.Rows.{rows_members, row_members, called_by, is_granted, facet_asked}
 use Rattle.ns_find.proofs.Parts.{search_here, search_past}
 
@@ -27,12 +27,19 @@ open_allowed Plain found = refl
 open_allowed Inner found = refl
 
 -- one step along rows
-pub rows_here : (heap : Heap) (code : CodeProgram) (sel : ℕ) (kind : Sending) (number i : ℕ) (lines : List Line) (d : Line) (whole : Option Found) (found : Found) → i < length lines → search code sel kind (rows_members heap code (numbered number (map shown (drop i lines)))) ≡ whole → Some found ≡ search code sel kind (row_members heap code (row_of number (shown (get_or lines i d)))) → Some found ≡ whole
+pub rows_here :
+    (heap : Heap) (code : CodeProgram) (sel : ℕ) (kind : Sending) (number i : ℕ) (lines : List Line) (d : Line) (whole : Option Found) (found : Found) →
+    i < length lines → search code sel kind (rows_members heap code (numbered number (map shown (drop i lines)))) ≡ whole →
+    Some found ≡ search code sel kind (row_members heap code (row_of number (shown (get_or lines i d)))) → Some found ≡ whole
 rows_here heap code sel kind number i lines d whole found inside is here =
     search_here code sel kind (row_members heap code (row_of number (shown (get_or lines i d)))) (rows_members heap code (numbered (number + 1) (map shown (drop (i + 1) lines)))) found here
     ∙ (ap (λ rest. search code sel kind (rows_members heap code (numbered number (map shown rest)))) (sym (drop_more lines i d inside)) ∙ is)
 
-pub rows_past : (heap : Heap) (code : CodeProgram) (sel : ℕ) (kind : Sending) (number i : ℕ) (lines : List Line) (d : Line) (whole : Option Found) → i < length lines → search code sel kind (rows_members heap code (numbered number (map shown (drop i lines)))) ≡ whole → None ≡ search code sel kind (row_members heap code (row_of number (shown (get_or lines i d)))) → search code sel kind (rows_members heap code (numbered (number + 1) (map shown (drop (i + 1) lines)))) ≡ whole
+pub rows_past :
+    (heap : Heap) (code : CodeProgram) (sel : ℕ) (kind : Sending) (number i : ℕ) (lines : List Line) (d : Line) (whole : Option Found) →
+    i < length lines → search code sel kind (rows_members heap code (numbered number (map shown (drop i lines)))) ≡ whole →
+    None ≡ search code sel kind (row_members heap code (row_of number (shown (get_or lines i d)))) →
+    search code sel kind (rows_members heap code (numbered (number + 1) (map shown (drop (i + 1) lines)))) ≡ whole
 rows_past heap code sel kind number i lines d whole inside is past =
     sym (search_past code sel kind (row_members heap code (row_of number (shown (get_or lines i d)))) (rows_members heap code (numbered (number + 1) (map shown (drop (i + 1) lines)))) past)
     ∙ (ap (λ rest. search code sel kind (rows_members heap code (numbered number (map shown rest)))) (sym (drop_more lines i d inside)) ∙ is)
@@ -54,12 +61,15 @@ asked_none heap (Some kind) e = absurd (cc)
 tested : (kind : Sending) (b there : Bool) (access row number : ℕ) (later : Option ℕ) (found : Option Found) → there ≡ true → access ≡ 0
     → (later ≡ Some number → Some (Kernel number) ≡ found) → cond b (Some row) later ≡ Some number
     → Some (Kernel number) ≡ cond (b && there) (Some (allowed kind access (Kernel row))) found
-tested kind true true zero row number later found t p behind e = ap (λ n. Some (Kernel n)) (sym (same_Some row number e)) ∙ ap Some (sym (open_allowed kind (Kernel row)))
+tested kind true true zero row number later found t p behind e =
+    ap (λ n. Some (Kernel n)) (sym (same_Some row number e)) ∙ ap Some (sym (open_allowed kind (Kernel row)))
 tested kind false there access row number later found t p behind e = behind e
 tested kind true false access row number later found t p behind e = absurd (cc)
 tested kind true true (suc access) row number later found t p behind e = absurd (omega (arith, p))
 
-named : (heap : Heap) (code : CodeProgram) (sel : ℕ) (kind : Sending) (row : Numbered) (rows : List Numbered) (number : ℕ) (text : Option (List ℕ)) → is_some text ≡ true
+named :
+    (heap : Heap) (code : CodeProgram) (sel : ℕ) (kind : Sending) (row : Numbered) (rows : List Numbered) (number : ℕ) (text : Option (List ℕ)) →
+    is_some text ≡ true
     → is_granted heap (facet_asked row.line.answer) ≡ true → row.line.access ≡ 0
     → (first_called (selector_text code sel) rows ≡ Some number → Some (Kernel number) ≡ search code sel kind (rows_members heap code rows))
     → cond (calls (selector_text code sel) text) (Some row.number) (first_called (selector_text code sel) rows) ≡ Some number
@@ -70,7 +80,9 @@ named heap code sel kind row rows number (Some text) t granted access behind e =
     (first_called (selector_text code sel) rows) (search code sel kind (rows_members heap code rows)) granted access behind e
 
 -- such rows are searched by their text alone
-pub search_called : (heap : Heap) (code : CodeProgram) (sel : ℕ) (kind : Sending) (rows : List Numbered) (number : ℕ) → all_plain rows ≡ true → first_called (selector_text code sel) rows ≡ Some number → Some (Kernel number) ≡ search code sel kind (rows_members heap code rows)
+pub search_called : (heap : Heap) (code : CodeProgram) (sel : ℕ) (kind : Sending) (rows : List Numbered) (number : ℕ) →
+    all_plain rows ≡ true → first_called (selector_text code sel) rows ≡ Some number →
+    Some (Kernel number) ≡ search code sel kind (rows_members heap code rows)
 search_called heap code sel kind [] number plain is = absurd (none-some number is)
 search_called heap code sel kind (row ∷ rows) number plain is =
     let each = both_of (is_plain row) (all_plain rows) plain in

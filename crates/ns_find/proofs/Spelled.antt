@@ -17,7 +17,8 @@ use Rattle.ns_find.proofs.Parts.{search_here}
 use Rattle.ns_find.proofs.RowSearch.{all_plain, search_called}
 
 -- the row of a class whose rows are all plain, and before those of all values
-row_found : (heap : Heap) (code : CodeProgram) (sel : ℕ) (kind : Sending) (class : KernelRow) (number : ℕ) → all_plain (rows_of class) ≡ true
+row_found : (heap : Heap) (code : CodeProgram) (sel : ℕ) (kind : Sending) (class : KernelRow) (number : ℕ) →
+    all_plain (rows_of class) ≡ true
     → row_called class (selector_text code sel) ≡ Some number
     → unwrap_or (search code sel kind (kernel_rows heap code class ++ kernel_rows heap code Object)) Absent ≡ Kernel number
 row_found heap code sel kind class number plain called =

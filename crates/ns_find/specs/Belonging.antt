@@ -57,6 +57,7 @@ abbrev pub Belongs : Heap → CodeProgram → Side → List ℕ → List ℕ →
 Belongs heap code side chain factories (Method body holder) = Contains chain holder × IsMethodOf heap code side holder body
 Belongs heap code side chain factories (Getter holder word) = IsInstanceSide side × Contains chain holder × IsSlotOf heap code holder word
 Belongs heap code side chain factories (Setter holder word) = IsInstanceSide side × Contains chain holder × IsSlotOf heap code holder word
-Belongs heap code side chain factories (Nested class holder) = IsInstanceSide side × Contains chain holder × HasNested heap code holder class
+Belongs heap code side chain factories (Nested class holder) =
+    IsInstanceSide side × Contains chain holder × HasNested heap code holder class
 Belongs heap code side chain factories (Factory class) = Contains factories class
 Belongs heap code side chain factories other = Unit {0}

@@ -32,7 +32,8 @@ block_put here next next' block scope s0 s1 s2 seen one number two =
     ∙ ap (λ s. with_bodies (inside_bodies (standing_in here next s) (next + 1) (block_of block)) (with_one (block_in (standing_in here next s) here.body (block_of block)) s0)) seen
     ∙ parts
 
-pub block_number : (here : e.Standing) (next next' last : ℕ) (block : Block) (scope : Scope) → scope ≡ scope_of here block → next' ≡ next + 1 →
+pub block_number : (here : e.Standing) (next next' last : ℕ) (block : Block) (scope : Scope) → scope ≡ scope_of here block →
+    next' ≡ next + 1 →
     last ≡ next' + length (b.inside_blocks scope (block_of block)) → last ≡ next + length (b.block_blocks here.scope (block_of block))
 block_number here next next' last block scope seen one two =
     let there = scope_of here block in

@@ -66,7 +66,8 @@ inside_put around number number' next next' class s0 s1 s2 one behind inner two 
     (two ∙ ap (λ i. with_bodies (c.nested_bodies around i next' (side_of (out-Class class).side)) s1) inner)
     ∙ ap (λ all. with_bodies all s0) parts
 
-pub inside_number : (classes : List ClassScope) (next next' last : ℕ) (class : Class) → next' ≡ next + length (b.own_bodies classes (class_of class)) →
+pub inside_number : (classes : List ClassScope) (next next' last : ℕ) (class : Class) →
+    next' ≡ next + length (b.own_bodies classes (class_of class)) →
     last ≡ next' + length (b.nested_bodies classes (side_of (out-Class class).side)) → last ≡ next + length (b.class_inside classes (class_of class))
 inside_number classes next next' last class one two =
     let own = b.own_bodies classes (class_of class) in
@@ -75,7 +76,8 @@ inside_number classes next next' last class one two =
     let whole : last ≡ next + length (own ++ nested) = omega (one, two, length-append own nested, arith) in
     whole ∙ ap (λ all. next + length all) parts
 
-pub inside_classes : (number number' last : ℕ) (class : Class) → number' ≡ number + 1 → last ≡ number' + c.side_count (side_of (out-Class class).side) →
+pub inside_classes : (number number' last : ℕ) (class : Class) → number' ≡ number + 1 →
+    last ≡ number' + c.side_count (side_of (out-Class class).side) →
     last ≡ number + c.class_count (class_of class)
 inside_classes number number' last class one two =
     let parts : c.class_count (class_of class) ≡ 1 + c.side_count (side_of (out-Class class).side) = rw (class_out class) refl in

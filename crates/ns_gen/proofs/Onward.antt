@@ -4,7 +4,8 @@ use Rattle.std.proofs.lemmas.List.{drop_more}
 use Rattle.ns_resolved.specs.Program as m
 use Rattle.ns_gen_bodies.specs.Coding.{Coded, with_one, with_bodies}
 
-pub with_more : (first second : List m.Body) (before : Coded) → with_bodies (first ++ second) before ≡ with_bodies second (with_bodies first before)
+pub with_more : (first second : List m.Body) (before : Coded) →
+    with_bodies (first ++ second) before ≡ with_bodies second (with_bodies first before)
 with_more [] second before = refl
 with_more (body ∷ first) second before = with_more first second (with_one body before)
 

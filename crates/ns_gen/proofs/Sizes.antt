@@ -41,9 +41,11 @@ after_long (code ∷ codes) = ap (λ f. fault_behind f codes) (tested (is_too_lo
   tested false true = refl
   tested false false = refl
 
-after_high : (codes : List BodyCode) → fault_behind (Some s.Height) codes ≡ (if list_any is_too_long codes then Some s.Code else Some s.Height)
+after_high : (codes : List BodyCode) →
+    fault_behind (Some s.Height) codes ≡ (if list_any is_too_long codes then Some s.Code else Some s.Height)
 after_high [] = refl
-after_high (code ∷ codes) = tested (is_too_long code) (is_too_high code) (list_any is_too_long codes) (after_long codes) (after_high codes) where
+after_high (code ∷ codes) =
+    tested (is_too_long code) (is_too_high code) (list_any is_too_long codes) (after_long codes) (after_high codes) where
   tested : (long high any : Bool) → fault_behind (Some s.Code) codes ≡ Some s.Code →
       fault_behind (Some s.Height) codes ≡ (if any then Some s.Code else Some s.Height) →
       fault_behind (fault_next (Some s.Height) (sized long high code)) codes ≡ (if long || any then Some s.Code else Some s.Height)
@@ -71,7 +73,8 @@ fault_found codes before h = fault_is codes before ∙ ap (λ f. fault_behind f 
 -- ---- the bodies that fit
 
 -- nothing is too large where nothing of the first is, and nothing of the others
-pub all_kept : (codes : List BodyCode) (before : Coded) → bodies_fault codes ≡ None → (put_codes codes before).bodies ≡ before.bodies ++ codes
+pub all_kept : (codes : List BodyCode) (before : Coded) → bodies_fault codes ≡ None →
+    (put_codes codes before).bodies ≡ before.bodies ++ codes
 all_kept [] before h = sym (append-nil before.bodies)
 all_kept (code ∷ codes) before h =
     tested (is_too_long code) (is_too_high code) (list_any is_too_long codes) (list_any is_too_high codes) h (all_kept codes)

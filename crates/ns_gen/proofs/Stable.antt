@@ -16,12 +16,14 @@ use Rattle.ns_gen_code.specs.laws.Names.{body_used, all_there, left_there, right
 sel_stays : (table more : List (List ℕ)) (name : List ℕ) → has table name ≡ true → sel_of (put_all table more) name ≡ sel_of table name
 sel_stays table more name h = ap (λ n. (let s : Sel = record { 0 = n } in s)) (place_stands_all more table name h)
 
-line_stays : (table more : List (List ℕ)) (line : CodeLine) → AreThere table (line_names line) → instr_of (put_all table more) line ≡ instr_of table line
+line_stays : (table more : List (List ℕ)) (line : CodeLine) → AreThere table (line_names line) →
+    instr_of (put_all table more) line ≡ instr_of table line
 line_stays table more (does instr) h = refl
 line_stays table more (symbol name) h = ap i.PushSym (sel_stays table more name h.0)
 line_stays table more (sends plain sent count) h = ap (λ s. i.Send s count) (sel_stays table more sent.selector h.0)
 line_stays table more (sends inner sent count) h = ap (λ s. i.SendInner s count) (sel_stays table more sent.selector h.0)
-line_stays table more (sends (private_at level) sent count) h = ap (λ s. i.SendPrivate level s count) (sel_stays table more sent.selector h.0)
+line_stays table more (sends (private_at level) sent count) h =
+    ap (λ s. i.SendPrivate level s count) (sel_stays table more sent.selector h.0)
 line_stays table more (sends super sent count) h = ap (λ s. i.SendSuper s count) (sel_stays table more sent.selector h.0)
 line_stays table more (starts place count) h = refl
 

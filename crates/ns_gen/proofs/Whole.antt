@@ -23,7 +23,8 @@ abbrev pub codes_of : m.Meant → List BodyCode
 codes_of meant = bodies_code (names_of meant) 0 meant.bodies
 
 -- all bodies behind the names of the classes
-all_coded : (meant : m.Meant) → with_bodies meant.bodies (named meant.classes) ≡ whole_of (names_of meant) (texts_of meant) (codes_of meant) nothing
+all_coded : (meant : m.Meant) →
+    with_bodies meant.bodies (named meant.classes) ≡ whole_of (names_of meant) (texts_of meant) (codes_of meant) nothing
 all_coded meant =
     bodies_coded meant.bodies (put_all [] (flat_map class_names meant.classes)) [] nothing
     ∙ ap (λ n. whole_of n (texts_of meant) (bodies_code n 0 meant.bodies) nothing)
@@ -35,7 +36,8 @@ as_many names k (body ∷ bodies) = ap suc (as_many names (k + length (body_text
 
 -- ---- sizes
 
-pub fault_is : (meant : m.Meant) (output : Coded) (count : ℕ) → output ≡ with_bodies meant.bodies (named meant.classes) → count ≡ length meant.bodies →
+pub fault_is : (meant : m.Meant) (output : Coded) (count : ℕ) → output ≡ with_bodies meant.bodies (named meant.classes) →
+    count ≡ length meant.bodies →
     first_fault (length output.names) count output.fault ≡ size_fault (code_of meant)
 fault_is meant output count is many =
     ap (λ (o : Coded). first_fault (length o.names) count o.fault) (is ∙ all_coded meant)
@@ -57,7 +59,8 @@ abbrev pub code_with : m.Meant → List (List ℕ) → List (List ℕ) → List 
 code_with meant names texts bodies =
     record { files = meant.files; names = names; texts = texts; classes = map (class_code names) meant.classes; bodies = bodies }
 
-pub code_is : (meant : m.Meant) (output : Coded) → output ≡ with_bodies meant.bodies (named meant.classes) → size_fault (code_of meant) ≡ None →
+pub code_is : (meant : m.Meant) (output : Coded) → output ≡ with_bodies meant.bodies (named meant.classes) →
+    size_fault (code_of meant) ≡ None →
     record { files = meant.files; names = output.names; texts = output.texts; classes = map (class_code output.names) meant.classes; bodies = output.bodies }
     ≡ code_of meant
 code_is meant output is fits =

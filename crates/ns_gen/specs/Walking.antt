@@ -15,7 +15,8 @@ StandsAround around = is_outside around.classes.now ≡ is_none around.outer
 
 -- the bodies of the blocks in locals and statements
 abbrev pub routine_inside : e.Standing → ℕ → p.Bars → p.Statements → List m.Body
-routine_inside here next bars body = bars_bodies here next bars ++ statements_bodies here (next + length (b.bars_blocks here.scope bars)) body
+routine_inside here next bars body =
+    bars_bodies here next bars ++ statements_bodies here (next + length (b.bars_blocks here.scope bars)) body
 
 -- the bodies of the blocks in an initialiser
 abbrev pub start_inside : e.Standing → ℕ → Option p.SuperClause → p.Bars → p.Statements → List m.Body

@@ -83,11 +83,13 @@ start_done here next n1 n2 name clause bars body w0 w1 w2 w3 one e1 two e2 three
 
 -- ---- clauses
 
-pub clause_whole : (head : m.Node) (before : Written) → with_line (with_node head before) (does i.Return) ≡ with_body (m.as_clause head) before
+pub clause_whole : (head : m.Node) (before : Written) →
+    with_line (with_node head before) (does i.Return) ≡ with_body (m.as_clause head) before
 clause_whole head before = written_is _ _ _ _ _ _ refl refl (behind_node head (length before.texts) before.lines (does i.Return ∷ []))
 
 -- a mixin to which the superclass is sent
-pub mixin_put : (scope : Scope) (head over : m.Node) (sent : m.Sent) (w0 w1 w2 w3 : Written) → w1 ≡ with_node head w0 → w2 ≡ with_node over w1 →
+pub mixin_put : (scope : Scope) (head over : m.Node) (sent : m.Sent) (w0 w1 w2 w3 : Written) → w1 ≡ with_node head w0 →
+    w2 ≡ with_node over w1 →
     w3 ≡ with_line (with_name w2 sent.selector) (sends plain sent 1) → w3 ≡ with_node (m.send head sent (e.one over)) w0
 mixin_put scope head over sent w0 w1 w2 w3 one two three =
     let nothing : with_lines [] w1 ≡ w1 = written_is _ _ _ _ _ _ refl refl (append-nil w1.lines) in

@@ -47,7 +47,8 @@ node_put node ends names texts rest before =
     ∙ append_assoc (before.lines ++ node_lines k node []) ends after
     ∙ behind_node node k before.lines (ends ++ after))
 
-two_lines : (first second : CodeLine) (before : Written) → with_line (with_line before first) second ≡ with_lines (first ∷ second ∷ []) before
+two_lines : (first second : CodeLine) (before : Written) →
+    with_line (with_line before first) second ≡ with_lines (first ∷ second ∷ []) before
 two_lines first second before = written_is _ _ _ _ _ _ refl refl (append_assoc before.lines (first ∷ []) (second ∷ []))
 
 -- ---- values
@@ -143,7 +144,8 @@ none_told here next (suc count) (statement ∷ list) same = tested (suc count ==
     tested true h = absurd (omega (eqb-true (suc count) 0 h, arith))
     tested false h = h
 
-pub steps_step : (here : e.Standing) (next next' k count : ℕ) (list : List Statement) (statement : Statement) (w0 w1 whole : Written) → k < length list →
+pub steps_step : (here : e.Standing) (next next' k count : ℕ) (list : List Statement) (statement : Statement) (w0 w1 whole : Written) →
+    k < length list →
     statement ≡ get_or list k statement → count ≡ length (drop (k + 1) list) →
     with_block_steps (list_steps here next (statement_list_of (drop k list))) w0 ≡ whole →
     w1 ≡ with_block_step (count == 0) (step_of here next (statement_of statement)) w0 →

@@ -44,7 +44,8 @@ outer_around meant number =
     ap (option_and_then (λ (c : ClassCode). c.outer)) (slice_get-map (class_code (names_of meant)) meant.classes number)
     ∙ outer_same (names_of meant) (slice_get meant.classes number)
 
-pub declaration_around : (meant : m.Meant) (level number : ℕ) → v.declaration_at (code_of meant) level number ≡ t.declaration_out meant level number
+pub declaration_around : (meant : m.Meant) (level number : ℕ) →
+    v.declaration_at (code_of meant) level number ≡ t.declaration_out meant level number
 declaration_around meant zero number = refl
 declaration_around meant (suc level) number =
     ap (option_and_then (v.outer_of (code_of meant))) (declaration_around meant level number)

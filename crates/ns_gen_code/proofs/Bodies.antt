@@ -31,7 +31,8 @@ use Rattle.ns_gen_code.proofs.Unfaulted.{lines_unfaulted, home, Ending}
 -- ---- sizes
 
 -- what no item has, one of them has not
-pub none_has : {A : Type 0} (has : A → Bool) (items : List A) (n : ℕ) (item : A) → list_any has items ≡ false → slice_get items n ≡ Some item → has item ≡ false
+pub none_has : {A : Type 0} (has : A → Bool) (items : List A) (n : ℕ) (item : A) → list_any has items ≡ false →
+    slice_get items n ≡ Some item → has item ≡ false
 none_has has [] n item h e = absurd (let f : None ≡ Some item = e in cc)
 none_has has (first ∷ items) zero item h e = ap has (sym (same_Some first item e)) ∙ left_false (has first) (list_any has items) h where
   left_false : (a b : Bool) → (a || b) ≡ false → a ≡ false
@@ -49,7 +50,8 @@ pub record AreWithin (code : CodeProgram) : Type 0 where
   pub long : list_any is_too_long code.bodies ≡ false
   pub high : list_any is_too_high code.bodies ≡ false
 
-within : (a b c d : Bool) → (if a then Some Names else if b then Some Bodies else if c then Some Code else if d then Some Height else None) ≡ None →
+within : (a b c d : Bool) →
+    (if a then Some Names else if b then Some Bodies else if c then Some Code else if d then Some Height else None) ≡ None →
     (a ≡ false) × (b ≡ false) × (c ≡ false) × (d ≡ false)
 within true b c d h = absurd (let f : Some Names ≡ None = h in cc)
 within false true c d h = absurd (let f : Some Bodies ≡ None = h in cc)

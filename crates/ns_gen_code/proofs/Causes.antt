@@ -52,7 +52,8 @@ level_there meant level number class e = ap is_none (declaration_around meant le
 
 pub no_level : (meant : m.Meant) (body : BodyCode) (level class : ℕ) → t.declaration_out meant level body.class ≡ Some class →
     w.is_no_level (code_of meant) body level ≡ false
-no_level meant body level class e = and_false (nat_lt body.class (length (code_of meant).classes)) _ (level_there meant level body.class class e) where
+no_level meant body level class e =
+    and_false (nat_lt body.class (length (code_of meant).classes)) _ (level_there meant level body.class class e) where
   and_false : (a b : Bool) → b ≡ false → (a && b) ≡ false
   and_false true b h = h
   and_false false b h = refl
@@ -79,7 +80,8 @@ good_send meant selector count h e =
     ap (λ b. not b || not (count == selector_arity (code_of meant) sel.0)) (is_named meant selector h)
     ∙ ap (λ n. not (count == n)) (arity_named meant selector h ∙ sym e) ∙ ap not (same count)
 
-pub good_start : (meant : m.Meant) (body : m.Body) (count : ℕ) → t.IsStartOf meant body count → w.is_bad_start (code_of meant) body.class count ≡ false
+pub good_start : (meant : m.Meant) (body : m.Body) (count : ℕ) → t.IsStartOf meant body count →
+    w.is_bad_start (code_of meant) body.class count ≡ false
 good_start meant body count (class, there, e) =
     let sel = sel_of (names_of meant) class.super_selector in
     let h = (class_named meant body.class class there).1.1.0 in
@@ -90,14 +92,16 @@ good_start meant body count (class, there, e) =
 
 -- ---- slots
 
-pub slot_there : (meant : m.Meant) (body : m.Body) (slot : ℕ) → t.HasSlot meant body slot → w.is_no_slot (code_of meant) body.class slot ≡ false
+pub slot_there : (meant : m.Meant) (body : m.Body) (slot : ℕ) → t.HasSlot meant body slot →
+    w.is_no_slot (code_of meant) body.class slot ≡ false
 slot_there meant body slot (class, there, below) =
     ap (λ o. option_map_or (λ (declared : ClassCode). not (nat_lt slot (length declared.slots))) o false) (class_there meant body.class class there)
     ∙ ap (λ n. not (nat_lt slot n)) (length-map class.slots (slot_code (names_of meant))) ∙ ap not (less slot (length class.slots) below)
 
 -- ---- private members
 
-side_same : (level : Bool) (own : CodeSide) → (if level then side_number own else instance_side) ≡ side_number (if level then own else side.Instance)
+side_same : (level : Bool) (own : CodeSide) →
+    (if level then side_number own else instance_side) ≡ side_number (if level then own else side.Instance)
 side_same true own = refl
 side_same false own = refl
 

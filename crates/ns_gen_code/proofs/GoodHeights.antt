@@ -26,7 +26,8 @@ none_known zero k = refl
 none_known (suc count) zero = refl
 none_known (suc count) (suc k) = none_known count k
 
-set_before : (known : List (Option ℕ)) (number k : ℕ) (value : Option ℕ) → number < k → known_at (slice_set known number value) k ≡ known_at known k
+set_before : (known : List (Option ℕ)) (number k : ℕ) (value : Option ℕ) → number < k →
+    known_at (slice_set known number value) k ≡ known_at known k
 set_before [] number k value h = refl
 set_before (one ∷ known) zero zero value h = absurd (omega (h, arith))
 set_before (one ∷ known) zero (suc k) value h = refl
@@ -50,7 +51,8 @@ none_falls known (Some height) e = ap (λ k. differs k height) e
 
 none_jumps : (pass : Pass) (number : ℕ) (instr : Instr) (at : Option ℕ) → at ≡ None →
     option_map_or (λ a. differs (known_beside pass number a) (height_after instr (height_at pass number))) at false ≡ false
-none_jumps pass number instr at e = ap (λ a. option_map_or (λ b. differs (known_beside pass number b) (height_after instr (height_at pass number))) a false) e
+none_jumps pass number instr at e =
+    ap (λ a. option_map_or (λ b. differs (known_beside pass number b) (height_after instr (height_at pass number))) a false) e
 
 good : (body : BodyCode) (instrs : List Instr) (pass : Pass) (number height : ℕ) → ((k : ℕ) → number ≤ k → known_at pass.known k ≡ None) →
     unwrap_or pass.falls 0 ≡ height → FindsOperands height instrs → Within body.height height instrs → HaveGoodHeights body pass number instrs

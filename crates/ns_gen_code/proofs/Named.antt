@@ -18,7 +18,8 @@ less a b h = grind (arith, h)
 
 -- ---- the names of a class's record
 
-one_class : (table : List (List ℕ)) (classes : List m.Declaration) (n : ℕ) (class : m.Declaration) → AreThere table (flat_map class_names classes) →
+one_class : (table : List (List ℕ)) (classes : List m.Declaration) (n : ℕ) (class : m.Declaration) →
+    AreThere table (flat_map class_names classes) →
     slice_get classes n ≡ Some class → AreThere table (class_names class)
 one_class table [] n class h e = absurd (let f : None ≡ Some class = e in cc)
 one_class table (first ∷ classes) zero class h e =
@@ -27,14 +28,16 @@ one_class table (first ∷ classes) (suc n) class h e =
     one_class table classes n class (right_there table (class_names first) (flat_map class_names classes) h) e
 
 -- the names of a class's record
-pub class_named : (meant : m.Meant) (n : ℕ) (class : m.Declaration) → slice_get meant.classes n ≡ Some class → AreThere (names_of meant) (class_names class)
+pub class_named : (meant : m.Meant) (n : ℕ) (class : m.Declaration) → slice_get meant.classes n ≡ Some class →
+    AreThere (names_of meant) (class_names class)
 class_named meant n class e =
     one_class (names_of meant) meant.classes n class
     (left_there (names_of meant) (flat_map class_names meant.classes) (flat_map body_names meant.bodies) (all_there (used_names meant) [])) e
 
 -- ---- a name that is there
 
-pub is_named : (meant : m.Meant) (name : List ℕ) → has (names_of meant) name ≡ true → is_name (code_of meant) (sel_of (names_of meant) name) ≡ true
+pub is_named : (meant : m.Meant) (name : List ℕ) → has (names_of meant) name ≡ true →
+    is_name (code_of meant) (sel_of (names_of meant) name) ≡ true
 is_named meant name h = less _ _ (place_below (names_of meant) name h)
 
 pub text_named : (meant : m.Meant) (name : List ℕ) → has (names_of meant) name ≡ true →

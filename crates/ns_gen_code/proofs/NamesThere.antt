@@ -12,15 +12,18 @@ use Rattle.ns_gen_code.specs.laws.Names.{body_used, all_there, left_there, right
 
 -- ---- they are there
 
-one_there : (table : List (List ℕ)) (bodies : List m.Body) (n : ℕ) (body : m.Body) → AreThere table (flat_map body_names bodies) → slice_get bodies n
+one_there : (table : List (List ℕ)) (bodies : List m.Body) (n : ℕ) (body : m.Body) → AreThere table (flat_map body_names bodies) →
+    slice_get bodies n
     ≡ Some body → AreThere table (body_names body)
 one_there table [] n body h e = absurd (let f : None ≡ Some body = e in cc)
 one_there table (first ∷ bodies) zero body h e =
     subst (λ b. AreThere table (body_names b)) (same_Some first body e) (left_there table (body_names first) (flat_map body_names bodies) h)
-one_there table (first ∷ bodies) (suc n) body h e = one_there table bodies n body (right_there table (body_names first) (flat_map body_names bodies) h) e
+one_there table (first ∷ bodies) (suc n) body h e =
+    one_there table bodies n body (right_there table (body_names first) (flat_map body_names bodies) h) e
 
 -- those of the lines of a body of the program
-pub names_there : (meant : m.Meant) (n k : ℕ) (body : m.Body) → slice_get meant.bodies n ≡ Some body → AreThere (names_of meant) (used (body_lines k body.does))
+pub names_there : (meant : m.Meant) (n k : ℕ) (body : m.Body) → slice_get meant.bodies n ≡ Some body →
+    AreThere (names_of meant) (used (body_lines k body.does))
 names_there meant n k body e =
     subst (AreThere (names_of meant)) (sym (body_used body k))
     (one_there (names_of meant) meant.bodies n body

@@ -40,7 +40,8 @@ slots_step : (meant : m.Meant) (b : Bool) (first : List (List ℕ)) (slot : Slot
     s.slot_selectors (code_of meant) slot ≡ t.slot_selectors mine →
     s.all_slot_selectors (code_of meant) slots ≡ flat_map t.slot_selectors others →
     s.all_slot_selectors (code_of meant) (if b then slot ∷ slots else slots) ≡ flat_map t.slot_selectors (if b then mine ∷ others else others)
-slots_step meant true first slot slots mine others e f = ap (λ x. x ++ s.all_slot_selectors (code_of meant) slots) e ∙ ap (t.slot_selectors mine ++◌) f
+slots_step meant true first slot slots mine others e f =
+    ap (λ x. x ++ s.all_slot_selectors (code_of meant) slots) e ∙ ap (t.slot_selectors mine ++◌) f
 slots_step meant false first slot slots mine others e f = f
 
 slots_same : (meant : m.Meant) (slots : List m.Slot) → AreThere (names_of meant) (map (λ slot. slot.name) slots) →
@@ -61,7 +62,8 @@ text_step meant name numbers names h e =
     ap (λ o. option_map_or (λ (n : List ℕ). n ∷ s.texts_of (code_of meant) numbers) o (s.texts_of (code_of meant) numbers)) (text_named meant name h)
     ∙ ap (name ∷◌) e
 
-methods_step : (meant : m.Meant) (b : Bool) (method : m.Method) (kept : List MethodCode) (mine : List m.Method) → has (names_of meant) method.selector ≡ true →
+methods_step : (meant : m.Meant) (b : Bool) (method : m.Method) (kept : List MethodCode) (mine : List m.Method) →
+    has (names_of meant) method.selector ≡ true →
     s.texts_of (code_of meant) (map (λ (method : MethodCode). method.sel.0) kept) ≡ map (λ (method : m.Method). method.selector) mine →
     s.texts_of (code_of meant) (map (λ (method : MethodCode). method.sel.0) (if b then method_code (names_of meant) method ∷ kept else kept))
     ≡ map (λ (method : m.Method). method.selector) (if b then method ∷ mine else mine)
@@ -105,7 +107,8 @@ nested_step : (meant : m.Meant) (b : Bool) (nested : m.Nested) (kept : List Nest
     s.texts_of (code_of meant) (s.nested_names (code_of meant) kept) ≡ t.nested_names meant mine →
     s.texts_of (code_of meant) (s.nested_names (code_of meant) (if b then nested_code nested ∷ kept else kept))
     ≡ t.nested_names meant (if b then nested ∷ mine else mine)
-nested_step meant true nested kept mine e = nested_one meant nested.class (s.nested_names (code_of meant) kept) (t.nested_names meant mine) e
+nested_step meant true nested kept mine e =
+    nested_one meant nested.class (s.nested_names (code_of meant) kept) (t.nested_names meant mine) e
 nested_step meant false nested kept mine e = e
 
 nested_same : (meant : m.Meant) (nested : List m.Nested) →

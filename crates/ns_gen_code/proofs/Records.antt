@@ -63,7 +63,8 @@ nested_all meant (nested ∷ others) =
 
 -- ---- bodies that a record names
 
-pub body_is : (meant : m.Meant) (number : ℕ) (body : m.Body) (kind side class : ℕ) (has_params : ℕ → Bool) → slice_get meant.bodies number ≡ Some body →
+pub body_is : (meant : m.Meant) (number : ℕ) (body : m.Body) (kind side class : ℕ) (has_params : ℕ → Bool) →
+    slice_get meant.bodies number ≡ Some body →
     kind_of body.does ≡ kind → side_number body.side ≡ side → body.class ≡ class → has_params body.params ≡ true →
     s.is_body_of (code_of meant) number kind side class has_params ≡ true
 body_is meant number body kind side class has_params here k d c p =
@@ -72,7 +73,8 @@ body_is meant number body kind side class has_params here k d c p =
     ∙ both _ _ (both _ _ (equal (kind_of body.does) kind k) (equal (side_number body.side) side d)) (both _ _ (equal body.class class c) p)
 
 -- a number of parameters that is the arity of a selector
-pub params_named : (meant : m.Meant) (selector : List ℕ) (params : ℕ) → has (names_of meant) selector ≡ true → params ≡ text_arity selector →
+pub params_named : (meant : m.Meant) (selector : List ℕ) (params : ℕ) → has (names_of meant) selector ≡ true →
+    params ≡ text_arity selector →
     s.has_params_of (code_of meant) (sel_of (names_of meant) selector) params ≡ true
 params_named meant selector params h e =
     ap (λ b. not b || params == selector_arity (code_of meant) (sel_of (names_of meant) selector).0) (is_named meant selector h)
@@ -131,10 +133,12 @@ pub identifier : (meant : m.Meant) (name : List ℕ) → has (names_of meant) na
     s.is_identifier_name (code_of meant) (sel_of (names_of meant) name) ≡ true
 identifier meant name h e = ap (λ o. option_map_or is_identifier o false) (text_named meant name h) ∙ e
 
-pub slots_named : (meant : m.Meant) (slots : List m.Slot) → r.AreIdentifiers slots → AreThere (names_of meant) (map (λ slot. slot.name) slots) →
+pub slots_named : (meant : m.Meant) (slots : List m.Slot) → r.AreIdentifiers slots →
+    AreThere (names_of meant) (map (λ slot. slot.name) slots) →
     list_any (λ (slot : SlotCode). not (s.is_identifier_name (code_of meant) slot.name)) (map (slot_code (names_of meant)) slots) ≡ false
 slots_named meant [] right h = refl
-slots_named meant (slot ∷ slots) right h = neither _ _ (ap not (identifier meant slot.name h.0 right.0)) (slots_named meant slots right.1 h.1)
+slots_named meant (slot ∷ slots) right h =
+    neither _ _ (ap not (identifier meant slot.name h.0 right.0)) (slots_named meant slots right.1 h.1)
 
 pub methods_named : (meant : m.Meant) (methods : List m.Method) → AreThere (names_of meant) (map (λ method. method.selector) methods) →
     list_any (λ (method : MethodCode). not (s.is_name (code_of meant) method.sel)) (map (method_code (names_of meant)) methods) ≡ false

@@ -47,7 +47,8 @@ members_named meant class h =
       side_methods = right_there names (selectors class.methods) (selectors class.side_methods) behind;
     }
 
-good_names : (meant : m.Meant) (number : ℕ) (class : m.Declaration) → slice_get meant.classes number ≡ Some class → r.IsRightClass meant number class →
+good_names : (meant : m.Meant) (number : ℕ) (class : m.Declaration) → slice_get meant.classes number ≡ Some class →
+    r.IsRightClass meant number class →
     s.has_bad_literal (code_of meant) (class_code (names_of meant) class) ≡ false
 good_names meant number class here right =
     let h = class_named meant number class here in
@@ -58,7 +59,8 @@ good_names meant number class here right =
     (neither _ _ (slots_named meant class.slots right.slots members.slots)
     (neither _ _ (methods_named meant class.methods members.methods) (methods_named meant class.side_methods members.side_methods)))))
 
-good_bodies : (meant : m.Meant) (number : ℕ) (class : m.Declaration) → slice_get meant.classes number ≡ Some class → r.IsRightClass meant number class →
+good_bodies : (meant : m.Meant) (number : ℕ) (class : m.Declaration) → slice_get meant.classes number ≡ Some class →
+    r.IsRightClass meant number class →
     s.has_bodies (code_of meant) number (class_code (names_of meant) class) ≡ true
 good_bodies meant number class here right =
     let members = members_named meant class (class_named meant number class here) in
@@ -69,7 +71,8 @@ good_bodies meant number class here right =
     (both _ _ (methods_there meant side.Instance number class.methods right.methods members.methods)
     (methods_there meant side.Class number class.side_methods right.side_methods members.side_methods))
 
-good_scope : (meant : m.Meant) (number : ℕ) (class : m.Declaration) → slice_get meant.classes number ≡ Some class → r.IsRightClass meant number class →
+good_scope : (meant : m.Meant) (number : ℕ) (class : m.Declaration) → slice_get meant.classes number ≡ Some class →
+    r.IsRightClass meant number class →
     s.has_bad_scope (code_of meant) number (class_code (names_of meant) class) ≡ false
 good_scope meant number class here right =
     let h = class_named meant number class here in
@@ -83,7 +86,8 @@ good_scope meant number class here right =
     (both _ _ (ap s.are_different instance ∙ right.members_differ)
     (ap s.are_different (methods_all meant class.side_methods members.side_methods) ∙ right.side_members_differ))))
 
-class_unfaulted : (meant : m.Meant) (number : ℕ) (class : m.Declaration) → slice_get meant.classes number ≡ Some class → r.IsRightClass meant number class →
+class_unfaulted : (meant : m.Meant) (number : ℕ) (class : m.Declaration) → slice_get meant.classes number ≡ Some class →
+    r.IsRightClass meant number class →
     class_cause (code_of meant) number (class_code (names_of meant) class) ≡ None
 class_unfaulted meant number class here right =
     let code = class_code (names_of meant) class in
@@ -103,7 +107,8 @@ all_unfaulted code names (class ∷ classes) number none =
     ∙ all_unfaulted code names classes (number + 1) (λ k c f. let same_number : suc k + number ≡ k + (number + 1) = omega arith in
     subst (λ n. class_cause code n (class_code names c) ≡ None) same_number (none (suc k) c f))
 
-some_class : (code : CodeProgram) (classes : List ClassCode) → 1 ≤ length classes → classes_fault code 0 classes ≡ None → first_class_fault code classes ≡ None
+some_class : (code : CodeProgram) (classes : List ClassCode) → 1 ≤ length classes → classes_fault code 0 classes ≡ None →
+    first_class_fault code classes ≡ None
 some_class code [] h e = absurd (omega (h, arith))
 some_class code (class ∷ classes) h e = e
 
@@ -115,7 +120,8 @@ classes_unfaulted meant right =
     subst (λ n. class_cause (code_of meant) n (class_code (names_of meant) class) ≡ None) same_number
     (class_unfaulted meant k class here (right.classes k class here))))
 
-pub code_sound : (meant : m.Meant) → r.IsRight meant → size_fault (code_of meant) ≡ None → HomesAre (code_of meant) → IsSound (code_of meant)
+pub code_sound : (meant : m.Meant) → r.IsRight meant → size_fault (code_of meant) ≡ None → HomesAre (code_of meant) →
+    IsSound (code_of meant)
 code_sound meant right size homes =
     ap (λ f. option_or f (bodies_fault (code_of meant) 0 (code_of meant).bodies)) (classes_unfaulted meant right)
     ∙ bodies_unfaulted meant right.bodies size homes

@@ -18,8 +18,10 @@ numbers_append k (text ∷ a) b =
     ap (k ∷◌) (numbers_append (k + 1) a b ∙ ap (λ n. numbers_from (k + 1) a ++ numbers_from n b) e)
 
 -- the numbers of two parts, and then more
-two_parts : (k : ℕ) (a b : List (List ℕ)) (more : List ℕ) → numbers_from k a ++ (numbers_from (k + length a) b ++ more) ≡ numbers_from k (a ++ b) ++ more
-two_parts k a b more = sym (append_assoc (numbers_from k a) (numbers_from (k + length a) b) more) ∙ ap (λ numbers. numbers ++ more) (sym (numbers_append k a b))
+two_parts : (k : ℕ) (a b : List (List ℕ)) (more : List ℕ) →
+    numbers_from k a ++ (numbers_from (k + length a) b ++ more) ≡ numbers_from k (a ++ b) ++ more
+two_parts k a b more =
+    sym (append_assoc (numbers_from k a) (numbers_from (k + length a) b) more) ∙ ap (λ numbers. numbers ++ more) (sym (numbers_append k a b))
 
 mutual
   pub texts_in_order : (node : m.Node) → TextsInOrder node

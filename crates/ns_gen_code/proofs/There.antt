@@ -25,7 +25,8 @@ texts_within (first ∷ bodies) (suc n) body h =
       arith,
     )
 
-pub lines_there : (meant : m.Meant) (number : ℕ) (body : m.Body) → slice_get meant.bodies number ≡ Some body → IsRightBody meant number body →
+pub lines_there : (meant : m.Meant) (number : ℕ) (body : m.Body) → slice_get meant.bodies number ≡ Some body →
+    IsRightBody meant number body →
     LinesHave (IsThere meant number body) (length (texts_of meant)) (kind_of body.does) false (body_lines (first_text meant.bodies number) body.does)
 lines_there meant number body e right =
     body_has (IsThere meant number body) (length (texts_of meant)) body.does (first_text meant.bodies number) right.uses

@@ -35,7 +35,8 @@ abbrev Unfaulted : CodeProgram → ℕ → BodyCode → ℕ → Bool → Instr �
 Unfaulted code number body home started instr =
     (w.has_bad_slot code number body instr ≡ false) × (w.has_bad_use code number body home started instr ≡ false) × (w.has_bad_name code body instr ≡ false)
 
-returns_home : (meant : m.Meant) → t.AreRightBodies meant → HomesAre (code_of meant) → (number : ℕ) (body : m.Body) → slice_get meant.bodies number ≡ Some body →
+returns_home : (meant : m.Meant) → t.AreRightBodies meant → HomesAre (code_of meant) → (number : ℕ) (body : m.Body) →
+    slice_get meant.bodies number ≡ Some body →
     t.StandsInMethod meant number → kind_of body.does ≡ block_kind →
     not (kind_of body.does == block_kind && home_of (code_of meant) number (coded meant number body) == method_kind) ≡ false
 returns_home meant right homes number body here stands kind =

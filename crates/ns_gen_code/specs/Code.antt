@@ -99,15 +99,18 @@ abbrev pub method_lines : List m.Step → ℕ → List CodeLine
 method_lines [] k = does i.ReturnSelf ∷ []
 method_lines (m.evaluate node ∷ steps) k = node_lines k node (does i.Pop ∷ method_lines steps (k + length (node_texts node)))
 method_lines (m.return node ∷ []) k = node_lines k node (does i.Return ∷ [])
-method_lines (m.return node ∷ (step ∷ steps)) k = node_lines k node (does i.Return ∷ method_lines (step ∷ steps) (k + length (node_texts node)))
+method_lines (m.return node ∷ (step ∷ steps)) k =
+    node_lines k node (does i.Return ∷ method_lines (step ∷ steps) (k + length (node_texts node)))
 
 -- the steps of a block, which ends with the value of the last one unless that returns from the home
 abbrev pub block_lines : List m.Step → ℕ → List CodeLine
 block_lines [] k = does i.PushNil ∷ does i.Return ∷ []
 block_lines (m.evaluate node ∷ []) k = node_lines k node (does i.Return ∷ [])
 block_lines (m.return node ∷ []) k = node_lines k node (does i.ReturnHome ∷ [])
-block_lines (m.evaluate node ∷ (step ∷ steps)) k = node_lines k node (does i.Pop ∷ block_lines (step ∷ steps) (k + length (node_texts node)))
-block_lines (m.return node ∷ (step ∷ steps)) k = node_lines k node (does i.ReturnHome ∷ block_lines (step ∷ steps) (k + length (node_texts node)))
+block_lines (m.evaluate node ∷ (step ∷ steps)) k =
+    node_lines k node (does i.Pop ∷ block_lines (step ∷ steps) (k + length (node_texts node)))
+block_lines (m.return node ∷ (step ∷ steps)) k =
+    node_lines k node (does i.ReturnHome ∷ block_lines (step ∷ steps) (k + length (node_texts node)))
 
 -- the expressions of an initialiser, which ends with self
 abbrev pub expressions_lines : List m.Node → ℕ → List CodeLine

@@ -63,7 +63,8 @@ GoOn node = (k : ℕ) (rest more : List CodeLine) → node_lines k node (rest ++
 -- ---- the walks over expressions meet names and texts in the order of the instructions
 
 abbrev pub NamesInOrder : m.Node → Type 0
-NamesInOrder node = (k : ℕ) (rest : List CodeLine) → flat_map line_names (node_lines k node rest) ≡ node_names node ++ flat_map line_names rest
+NamesInOrder node =
+    (k : ℕ) (rest : List CodeLine) → flat_map line_names (node_lines k node rest) ≡ node_names node ++ flat_map line_names rest
 
 -- the numbers from one on, so many
 abbrev pub numbers_from : ℕ → List (List ℕ) → List ℕ
@@ -71,7 +72,8 @@ numbers_from k [] = []
 numbers_from k (text ∷ texts) = k ∷ numbers_from (k + 1) texts
 
 abbrev pub TextsInOrder : m.Node → Type 0
-TextsInOrder node = (k : ℕ) (rest : List CodeLine) → flat_map line_texts (node_lines k node rest) ≡ numbers_from k (node_texts node) ++ flat_map line_texts rest
+TextsInOrder node =
+    (k : ℕ) (rest : List CodeLine) → flat_map line_texts (node_lines k node rest) ≡ numbers_from k (node_texts node) ++ flat_map line_texts rest
 
 -- The texts stand in a table from that number on.
 abbrev pub TextsStand : List (List ℕ) → ℕ → List (List ℕ) → Type 0

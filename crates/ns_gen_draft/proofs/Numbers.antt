@@ -24,21 +24,25 @@ behind name (other ∷ names) (suc n) all h = behind name names n all.1 (omega (
 
 pub place_of_at : (names : List (List ℕ)) (n : ℕ) → NoRepeats names → n < length names → place_of names (slice_index_or names n []) ≡ n
 place_of_at [] n distinct h = absurd (omega (h, arith))
-place_of_at (name ∷ names) zero distinct h = ap (λ b. cond (not b) (1 + position_or_len (bytes_eq name) names) 0) ((bytes_eq-Decides name name).1 refl)
+place_of_at (name ∷ names) zero distinct h =
+    ap (λ b. cond (not b) (1 + position_or_len (bytes_eq name) names) 0) ((bytes_eq-Decides name name).1 refl)
 place_of_at (name ∷ names) (suc n) distinct h =
     ap (λ b. cond (not b) (1 + place_of names (slice_index_or names n [])) 0)
     (behind name names n (IsDistinct-head bytes_eq name names distinct) (omega (h, arith)))
     ∙ ap (1 +◌) (place_of_at names n (IsDistinct-tail bytes_eq name names distinct) (omega (h, arith))) ∙ omega arith
 
-sel_is : (names : List (List ℕ)) (sel : Sel) → NoRepeats names → sel.0 < length names → record { 0 = place_of names (slice_index_or names sel.0 []) } ≡ sel
+sel_is : (names : List (List ℕ)) (sel : Sel) → NoRepeats names → sel.0 < length names →
+    record { 0 = place_of names (slice_index_or names sel.0 []) } ≡ sel
 sel_is names sel distinct h = ap (λ n. record { 0 = n }) (place_of_at names sel.0 distinct h)
 
-one_is : (names : List (List ℕ)) (draft : Draft) → NoRepeats names → IsBelow (length names) draft → instruction draft ≡ instr_of names (line_of names draft)
+one_is : (names : List (List ℕ)) (draft : Draft) → NoRepeats names → IsBelow (length names) draft →
+    instruction draft ≡ instr_of names (line_of names draft)
 one_is names (d.Does instr) distinct h = refl
 one_is names (d.Symbol sel) distinct h = ap i.PushSym (sym (sel_is names sel distinct h))
 one_is names (d.Sends w.Plain sel place argc) distinct h = ap (λ s. i.Send s argc) (sym (sel_is names sel distinct h))
 one_is names (d.Sends w.Inner sel place argc) distinct h = ap (λ s. i.SendInner s argc) (sym (sel_is names sel distinct h))
-one_is names (d.Sends (w.PrivateAt level) sel place argc) distinct h = ap (λ s. i.SendPrivate level s argc) (sym (sel_is names sel distinct h))
+one_is names (d.Sends (w.PrivateAt level) sel place argc) distinct h =
+    ap (λ s. i.SendPrivate level s argc) (sym (sel_is names sel distinct h))
 one_is names (d.Sends w.Super sel place argc) distinct h = ap (λ s. i.SendSuper s argc) (sym (sel_is names sel distinct h))
 one_is names (d.Starts place argc) distinct h = refl
 
@@ -50,7 +54,8 @@ instructions_are names (draft ∷ drafts) distinct h =
     (instructions_are names drafts distinct h.1)
 
 -- places don't hang on names
-pub places_are : (names : List (List ℕ)) (number : ℕ) (drafts : List Draft) → places_from number (map (line_of names) drafts) ≡ draft_places number drafts
+pub places_are : (names : List (List ℕ)) (number : ℕ) (drafts : List Draft) →
+    places_from number (map (line_of names) drafts) ≡ draft_places number drafts
 places_are names number [] = refl
 places_are names number (d.Does instr ∷ drafts) = places_are names (number + 1) drafts
 places_are names number (d.Symbol sel ∷ drafts) = places_are names (number + 1) drafts

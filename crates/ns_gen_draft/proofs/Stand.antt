@@ -23,7 +23,8 @@ text_stands names name number h = tested (has names name) where
   tested true = refl
   tested false = get_or_append_left names (name ∷ []) [] number h
 
-line_stands : (names : List (List ℕ)) (name : List ℕ) (draft : Draft) → IsBelow (length names) draft → line_of (put_in names name) draft ≡ line_of names draft
+line_stands : (names : List (List ℕ)) (name : List ℕ) (draft : Draft) → IsBelow (length names) draft →
+    line_of (put_in names name) draft ≡ line_of names draft
 line_stands names name (d.Does instr) h = refl
 line_stands names name (d.Symbol sel) h = ap symbol (text_stands names name sel.0 h)
 line_stands names name (d.Sends way sel place argc) h =
@@ -41,7 +42,8 @@ lines_stand names name (draft ∷ drafts) h =
 
 pub named : (names texts : List (List ℕ)) (drafts : List Draft) (text : List ℕ) → AreBelow (length names) drafts →
     written (put_in names text) texts drafts ≡ with_name (written names texts drafts) text
-named names texts drafts text h = ap (λ lines. record { names = put_in names text; texts = texts; lines = lines }) (lines_stand names text drafts h)
+named names texts drafts text h =
+    ap (λ lines. record { names = put_in names text; texts = texts; lines = lines }) (lines_stand names text drafts h)
 
 one_below : (n k : ℕ) (draft : Draft) → n ≤ k → IsBelow n draft → IsBelow k draft
 one_below n k (d.Does instr) le h = tt
@@ -59,11 +61,13 @@ longer names text = tested (has names text) where
   tested true = omega arith
   tested false = omega (length-append names (text ∷ []), arith)
 
-pub below_named : (names : List (List ℕ)) (drafts : List Draft) (text : List ℕ) → AreBelow (length names) drafts → AreBelow (length (put_in names text)) drafts
+pub below_named : (names : List (List ℕ)) (drafts : List Draft) (text : List ℕ) → AreBelow (length names) drafts →
+    AreBelow (length (put_in names text)) drafts
 below_named names drafts text h = below (length names) (length (put_in names text)) drafts (longer names text) h
 
 -- the place that it has is the one that it was to get
-same_place : (p : List ℕ → Bool) (names : List (List ℕ)) (text : List ℕ) → p text ≡ true → position_or_len p (names ++ text ∷ []) ≡ position_or_len p names
+same_place : (p : List ℕ → Bool) (names : List (List ℕ)) (text : List ℕ) → p text ≡ true →
+    position_or_len p (names ++ text ∷ []) ≡ position_or_len p names
 same_place p [] text h = ap (λ b. cond (not b) (1 + 0) 0) h
 same_place p (name ∷ names) text h = ap (λ n. cond (not (p name)) (1 + n) 0) (same_place p names text h)
 
@@ -73,7 +77,8 @@ put_place names text = tested (has names text) where
   tested true = refl
   tested false = same_place (bytes_eq text) names text ((bytes_eq-Decides text text).1 refl)
 
-pub text_at_number : (names : List (List ℕ)) (text : List ℕ) (sel : Sel) → sel.0 ≡ place_of names text → IsNumberOf (put_in names text) sel text
+pub text_at_number : (names : List (List ℕ)) (text : List ℕ) (sel : Sel) → sel.0 ≡ place_of names text →
+    IsNumberOf (put_in names text) sel text
 text_at_number names text sel e =
     let at : sel.0 ≡ place_of (put_in names text) text = e ∙ sym (put_place names text) in (
       subst (λ n. n < length (put_in names text)) (sym at) (place_below (put_in names text) text (has_put names text)),

@@ -22,7 +22,8 @@ use Rattle.ns_gen_draft.specs.laws.Writing.{written_is, put_more}
 use Rattle.ns_gen_exprs.specs.laws.Composing.{behind_node}
 use Rattle.ns_gen_exprs.proofs.Firsts.{left_counted}
 
-pub copies_some : (left : ℕ) (receiver : Receiver) (before : Written) → 0 < left → with_copies left receiver before ≡ with_copy receiver before
+pub copies_some : (left : ℕ) (receiver : Receiver) (before : Written) → 0 < left →
+    with_copies left receiver before ≡ with_copy receiver before
 copies_some zero receiver before h = absurd (omega (h, arith))
 copies_some (suc left) receiver before h = refl
 
@@ -101,12 +102,15 @@ pub cascade_put : (here : e.Standing) (next : ℕ) (last : e.Said) (more : p.Cas
     is_repeated (said_kept last) ≡ true → 0 < left_of more →
     with_rest here next (said_kept last) more (with_first here last before) ≡ with_node (e.with_cascade here last (e.cascade_messages here next more)) before
 cascade_put here next last p.no_messages before said repeated some = absurd (omega (some, arith))
-cascade_put here next (e.nothing receiver) (p.more_messages at first rest) before said repeated some = absurd (let f : false ≡ true = said in cc)
+cascade_put here next (e.nothing receiver) (p.more_messages at first rest) before said repeated some =
+    absurd (let f : false ≡ true = said in cc)
 cascade_put here next (e.said (e.to_value value) message) (p.more_messages at first rest) before said repeated some =
     values_put here next at first rest message (with_node value before)
     ∙ value_whole value (e.messages_of message (e.cascade_messages here next (p.more_messages at first rest))) before
-cascade_put here next (e.said e.to_self message) (p.more_messages at first rest) before said repeated some = turns_put here next at first rest message before
-cascade_put here next (e.said e.to_super message) (p.more_messages at first rest) before said repeated some = absurd (let f : false ≡ true = repeated in cc)
+cascade_put here next (e.said e.to_self message) (p.more_messages at first rest) before said repeated some =
+    turns_put here next at first rest message before
+cascade_put here next (e.said e.to_super message) (p.more_messages at first rest) before said repeated some =
+    absurd (let f : false ≡ true = repeated in cc)
 cascade_put here next (e.said (e.to_outer class) message) (p.more_messages at first rest) before said repeated some =
     absurd (let f : false ≡ true = repeated in cc)
 

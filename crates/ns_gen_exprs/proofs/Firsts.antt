@@ -179,7 +179,8 @@ rest_step here next next' k count receiver messages message w0 w1 w2 w3 whole wi
     ∙ ap (λ all. with_rest here next receiver (cascade_of all) w0) (sym parts)
     ∙ before
 
-pub rest_number : (here : e.Standing) (next next' k last : ℕ) (messages : List (ℕ × Message)) (message : ℕ × Message) → k < length messages →
+pub rest_number : (here : e.Standing) (next next' k last : ℕ) (messages : List (ℕ × Message)) (message : ℕ × Message) →
+    k < length messages →
     message ≡ get_or messages k message → next + length (b.cascade_blocks here.scope (cascade_of (drop k messages))) ≡ last →
     next' ≡ next + length (b.message_blocks here.scope (message_of message.1)) →
     next' + length (b.cascade_blocks here.scope (cascade_of (drop (k + 1) messages))) ≡ last

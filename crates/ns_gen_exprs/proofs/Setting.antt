@@ -20,10 +20,12 @@ use Rattle.ns_gen_exprs.specs.laws.Composing.{behind_node}
 
 -- ---- one name
 
-in_line : (before under : List CodeLine) (pick send pop : CodeLine) → (((before ++ under) ++ pick ∷ []) ++ send ∷ []) ++ pop ∷ [] ≡ before ++ (under ++ pick ∷ send ∷ pop ∷ [])
+in_line : (before under : List CodeLine) (pick send pop : CodeLine) →
+    (((before ++ under) ++ pick ∷ []) ++ send ∷ []) ++ pop ∷ [] ≡ before ++ (under ++ pick ∷ send ∷ pop ∷ [])
 in_line before under pick send pop = simp append_assoc
 
-pub setter_put : (reach : Reach) (sent : m.Sent) (way : Way) (depth : ℕ) (before : Written) → way ≡ way_of (meant_reach reach) → depth ≡ below reach →
+pub setter_put : (reach : Reach) (sent : m.Sent) (way : Way) (depth : ℕ) (before : Written) → way ≡ way_of (meant_reach reach) →
+    depth ≡ below reach →
     with_line (with_line (with_name (with_line (with_lines (object_lines (meant_reach reach) []) before) (does (i.Pick depth))) sent.selector) (sends way sent 1)) (does i.Pop)
     ≡ with_setter (meant_reach reach) sent before
 setter_put r.Own sent way depth before p q =

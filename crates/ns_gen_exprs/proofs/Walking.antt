@@ -141,7 +141,8 @@ keys_number here next next' k last keys key within is before number =
     ap (λ all. next + length (b.keys_blocks here.scope (keys_of all))) (sym parts) ∙ before in
     omega (e, number, length-append (b.bin_blocks here.scope (bin_of key.1)) (b.keys_blocks here.scope (keys_of (drop (k + 1) keys))), arith)
 
-pub items_step : (here : e.Standing) (next next' k : ℕ) (items : List Expr) (item : Expr) (writer after whole : Written) → k < length items →
+pub items_step : (here : e.Standing) (next next' k : ℕ) (items : List Expr) (item : Expr) (writer after whole : Written) →
+    k < length items →
     item ≡ get_or items k item → with_nodes (e.items_nodes here next (exprs_of (drop k items))) writer ≡ whole →
     after ≡ with_node (e.expr_node here next (expr_of item)) writer → next' ≡ next + length (b.expr_blocks here.scope (expr_of item)) →
     with_nodes (e.items_nodes here next' (exprs_of (drop (k + 1) items))) after ≡ whole

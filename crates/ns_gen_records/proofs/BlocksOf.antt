@@ -17,7 +17,8 @@ message_counted scope message = counts.message_counted message scope
 pub statements_counted : (scope : Scope) (body : p.Statements) → length (b.statements_blocks scope body) ≡ counting.statements_count body
 statements_counted scope body = counts.statements_counted body scope
 
-pub routine_counted : (scope : Scope) (bars : p.Bars) (body : p.Statements) (first middle last : ℕ) → middle ≡ first + length (b.bars_blocks scope bars) →
+pub routine_counted : (scope : Scope) (bars : p.Bars) (body : p.Statements) (first middle last : ℕ) →
+    middle ≡ first + length (b.bars_blocks scope bars) →
     last ≡ middle + counting.statements_count body → last ≡ first + length (b.bars_blocks scope bars ++ b.statements_blocks scope body)
 routine_counted scope bars body first middle last one two =
     omega (one, two, length-append (b.bars_blocks scope bars) (b.statements_blocks scope body), statements_counted scope body, arith)

@@ -7,8 +7,10 @@ use Rattle.ns_gen_draft.specs.Drafts.{Written, with_name}
 use Rattle.ns_gen_draft.specs.laws.Writing.{put_more}
 use Rattle.ns_gen_records.specs.Naming.{with_names}
 
-pub names_more : (names more : List (List ℕ)) (before : Written) → with_names (names ++ more) before ≡ with_names more (with_names names before)
-names_more names more before = ap (λ (n : List (List ℕ)). (let w : Written = record before { names = n } in w)) (put_more names more before.names)
+pub names_more : (names more : List (List ℕ)) (before : Written) →
+    with_names (names ++ more) before ≡ with_names more (with_names names before)
+names_more names more before =
+    ap (λ (n : List (List ℕ)). (let w : Written = record before { names = n } in w)) (put_more names more before.names)
 
 pub class_put : (class : m.Declaration) (w0 w1 w2 w3 w4 w5 w6 : Written) → w1 ≡ with_name w0 class.name → w2 ≡ with_name w1 class.factory →
     w3 ≡ with_name w2 class.super_selector → w4 ≡ with_names (map (λ slot. slot.name) class.slots) w3 →

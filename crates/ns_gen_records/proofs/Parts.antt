@@ -127,7 +127,8 @@ class_listed around number number' next n1 n2 class classes declaration l0 l1 l2
     ∙ ap (λ all. l0 ++ first all at ∷ rest all (number + 1) behind) seen
     ∙ ap (l0 ++◌) parts
 
-pub class_number : (outer classes : List ClassScope) (next n1 n2 last : ℕ) (class : Class) → classes ≡ class_scope (class_of class) ∷ outer →
+pub class_number : (outer classes : List ClassScope) (next n1 n2 last : ℕ) (class : Class) →
+    classes ≡ class_scope (class_of class) ∷ outer →
     n1 ≡ next + length (b.clause_bodies outer (option_map clause_of (out-Class class).clause)) → n2 ≡ n1 + length (b.own_bodies classes (class_of class)) →
     last ≡ n2 + length (b.nested_bodies classes (side_of (out-Class class).side)) → last ≡ next + length (b.class_bodies outer (class_of class))
 class_number outer classes next n1 n2 last class seen e1 e2 e3 =
@@ -141,7 +142,8 @@ class_number outer classes next n1 n2 last class seen e1 e2 e3 =
     let whole : last ≡ next + length (clause ++ (own ++ nested)) = omega (e1, q2, q3, length-append clause (own ++ nested), length-append own nested, arith) in
     whole ∙ ap (λ l. next + length l) parts
 
-pub class_counted : (number number' last : ℕ) (class : Class) → number' ≡ number + 1 → last ≡ number' + c.side_count (side_of (out-Class class).side) →
+pub class_counted : (number number' last : ℕ) (class : Class) → number' ≡ number + 1 →
+    last ≡ number' + c.side_count (side_of (out-Class class).side) →
     last ≡ number + c.class_count (class_of class)
 class_counted number number' last class one two =
     let parts : c.class_count (class_of class) ≡ 1 + c.side_count (side_of (out-Class class).side) = rw (class_out class) refl in

@@ -28,7 +28,8 @@ abbrev head_of : BodyCode → BodyCode
 head_of x = record x { places = []; local_names = [] }
 
 head_is : (x : BodyCode) → IsHead x → x ≡ head_of x
-head_is x is = ap (λ (places : List (ℕ × Place)). record x { places = places }) is.0 ∙ ap (λ (names : List (List ℕ)). record x { places = []; local_names = names }) is.1
+head_is x is =
+    ap (λ (places : List (ℕ × Place)). record x { places = places }) is.0 ∙ ap (λ (names : List (List ℕ)). record x { places = []; local_names = names }) is.1
 
 abbrev pub HeadGood : BodyCode → Type 0
 HeadGood x =
@@ -86,7 +87,8 @@ head_format =
 -- ---- version 2
 
 -- so many items
-exactly_format : {A : Type 0} {item : Reader A} {Good : A → Type 0} {bytes_of : A → List ℕ} (n : ℕ) → Format item Good bytes_of → Format (times n item) (λ xs. (length xs ≡ n) × All Good xs) (flat_map bytes_of)
+exactly_format : {A : Type 0} {item : Reader A} {Good : A → Type 0} {bytes_of : A → List ℕ} (n : ℕ) → Format item Good bytes_of →
+    Format (times n item) (λ xs. (length xs ≡ n) × All Good xs) (flat_map bytes_of)
 exactly_format n format = refit (times_format n format) (λ xs k g. (tt, (k.1, g))) (λ xs k g. ((tt, g.0), g.1))
 
 -- what is good of a body of code with so many files

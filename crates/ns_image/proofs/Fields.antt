@@ -17,7 +17,8 @@ use Rattle.ns_image.proofs.Format.{IsBytes, IsBytes-drop, IsBytes-take, Step, An
 
 -- ---- bytes
 
-cut_got : {A : Type 0} (short : Bool) (x : A) (rest : List ℕ) (y : A) (rest' : List ℕ) → cond short truncated (got x rest) ≡ got y rest' → (short ≡ false) × (x ≡ y) × (rest ≡ rest')
+cut_got : {A : Type 0} (short : Bool) (x : A) (rest : List ℕ) (y : A) (rest' : List ℕ) → cond short truncated (got x rest) ≡ got y rest' →
+    (short ≡ false) × (x ≡ y) × (rest ≡ rest')
 cut_got true x rest y rest' e = absurd cc
 cut_got false x rest y rest' e = (refl, cc, cc)
 
@@ -120,10 +121,13 @@ cast_below z fits =
     omega arith
 
 pub long_format : Format long (FitsSigned w64) b.long
-long_format = mapped (cast_signed w64) (cast_unsigned w64) (FitsSigned w64) (number_format w64 (2 ^ 64) wide64) (λ n lt. (of_z-to_z w64 n lt, cast_fits n lt)) (λ z fits. (to_z-of_z w64 z fits, cast_below z fits))
+long_format =
+    mapped (cast_signed w64) (cast_unsigned w64) (FitsSigned w64) (number_format w64 (2 ^ 64) wide64) (λ n lt. (of_z-to_z w64 n lt, cast_fits n lt)) (λ z fits. (to_z-of_z w64 z fits, cast_below z fits))
 
-up_to_format : (p : Reader ℕ) (limit : ℕ) (bytes_of : ℕ → List ℕ) (most : ℕ) → Format p (λ n. n < limit) bytes_of → most < limit → Format (checked (λ n. nat_le n most) p) (λ n. n ≤ most) bytes_of
-up_to_format p limit bytes_of most format below = refit (checks (λ n. nat_le n most) format) (λ n k g. (tt, leb-true n most g.1)) (λ n k g. (tt, (lt_of n g, le-leb n most g)))
+up_to_format : (p : Reader ℕ) (limit : ℕ) (bytes_of : ℕ → List ℕ) (most : ℕ) → Format p (λ n. n < limit) bytes_of → most < limit →
+    Format (checked (λ n. nat_le n most) p) (λ n. n ≤ most) bytes_of
+up_to_format p limit bytes_of most format below =
+    refit (checks (λ n. nat_le n most) format) (λ n k g. (tt, leb-true n most g.1)) (λ n k g. (tt, (lt_of n g, le-leb n most g)))
   where
     lt_of : (n : ℕ) → n ≤ most → n < limit
     lt_of n le = omega arith
@@ -235,6 +239,7 @@ All-AllGood Good [] good = tt
 All-AllGood Good (x ∷ xs) good = (good 0 x (omega arith), All-AllGood Good xs (λ k d lt. good (suc k) d (omega arith)))
 
 -- so many items
-pub times_format : {A : Type 0} {item : Reader A} {Good : A → Type 0} {bytes_of : A → List ℕ} (n : ℕ) → Format item Good bytes_of → Step (λ xs. Any xs × (length xs ≡ n)) (times n item) (All Good) (flat_map bytes_of)
+pub times_format : {A : Type 0} {item : Reader A} {Good : A → Type 0} {bytes_of : A → List ℕ} (n : ℕ) → Format item Good bytes_of →
+    Step (λ xs. Any xs × (length xs ≡ n)) (times n item) (All Good) (flat_map bytes_of)
 times_format {A} {item} {Good} {bytes_of} n format =
     refit (chained_format (λ (s : Unit {0}). item) (λ s _. s) (λ s x. Good x) bytes_of (λ s. format) n tt) (λ xs k g. (k, AllGood-All Good xs g)) (λ xs k g. (k, All-AllGood Good xs g))

@@ -30,19 +30,22 @@ Format p Good bytes_of = Step Any p Good bytes_of
 
 -- ---- what an outcome was made of
 
-pub bind_got : {A B : Type 0} (o : Outcome A) (f : A → Reader B) (y : B) (rest : List ℕ) → and_then o f ≡ got y rest → (a : A) × (mid : List ℕ) × (o ≡ got a mid) × (f a mid ≡ got y rest)
+pub bind_got : {A B : Type 0} (o : Outcome A) (f : A → Reader B) (y : B) (rest : List ℕ) → and_then o f ≡ got y rest →
+    (a : A) × (mid : List ℕ) × (o ≡ got a mid) × (f a mid ≡ got y rest)
 bind_got (got a mid) f y rest e = (a, mid, refl, e)
 bind_got truncated f y rest e = absurd cc
 bind_got (bad left) f y rest e = absurd cc
 
-pub passed_got : {A : Type 0} (passes : Bool) (a b : A) (left : ℕ) (mid rest : List ℕ) → passed passes a left mid ≡ got b rest → (passes ≡ true) × (a ≡ b) × (mid ≡ rest)
+pub passed_got : {A : Type 0} (passes : Bool) (a b : A) (left : ℕ) (mid rest : List ℕ) → passed passes a left mid ≡ got b rest →
+    (passes ≡ true) × (a ≡ b) × (mid ≡ rest)
 passed_got true a b left mid rest e = (refl, cc, cc)
 passed_got false a b left mid rest e = absurd cc
 
 -- ---- sequences
 
 -- no field: the value is known
-pub done : {C : Type 0} {Known : C → Type 0} (made : C) → ((c : C) → Known c → c ≡ made) → Known made → Step Known (given made) (λ _. Unit {0}) (λ _. [])
+pub done : {C : Type 0} {Known : C → Type 0} (made : C) → ((c : C) → Known c → c ≡ made) → Known made →
+    Step Known (given made) (λ _. Unit {0}) (λ _. [])
 done {C} {Known} made is_made known = record {
   takes = λ bytes c rest fits e.
       let at : made ≡ c = cc in
@@ -92,7 +95,8 @@ refit step forth back = record {
 }
 
 -- The same reader, with the bytes said otherwise.
-pub rewrite : {C : Type 0} {Known : C → Type 0} {p : Reader C} {Good : C → Type 0} {bytes_of bytes_of' : C → List ℕ} → Step Known p Good bytes_of → ((c : C) → bytes_of c ≡ bytes_of' c) → Step Known p Good bytes_of'
+pub rewrite : {C : Type 0} {Known : C → Type 0} {p : Reader C} {Good : C → Type 0} {bytes_of bytes_of' : C → List ℕ} →
+    Step Known p Good bytes_of → ((c : C) → bytes_of c ≡ bytes_of' c) → Step Known p Good bytes_of'
 rewrite {C} {Known} {p} step same = record {
   takes = λ bytes c rest fits e.
       let t = step.takes bytes c rest fits e in
@@ -119,14 +123,17 @@ mapped {A} {B} {p} {Good} {bytes_of} to from Good' format forth back = record {
 }
 
 -- a field, and then another
-pub pair_format : {A B : Type 0} {p : Reader A} {q : Reader B} {Good : A → Type 0} {Good' : B → Type 0} {bytes_of : A → List ℕ} {bytes_of' : B → List ℕ} → Format p Good bytes_of → Format q Good' bytes_of' → Format (pair p q) (λ x. Good x.0 × Good' x.1) (λ x. bytes_of x.0 ++ bytes_of' x.1)
+pub pair_format :
+    {A B : Type 0} {p : Reader A} {q : Reader B} {Good : A → Type 0} {Good' : B → Type 0} {bytes_of : A → List ℕ} {bytes_of' : B → List ℕ} →
+    Format p Good bytes_of → Format q Good' bytes_of' → Format (pair p q) (λ x. Good x.0 × Good' x.1) (λ x. bytes_of x.0 ++ bytes_of' x.1)
 pair_format {A} {B} {p} {q} {Good} {Good'} {bytes_of} {bytes_of'} first second =
     let both : Step Any (pair p q) (λ x. Good x.0 × (Good' x.1 × Unit {0})) (λ x. bytes_of x.0 ++ (bytes_of' x.1 ++ [])) =
     field (λ x. x.0) first (λ a. field (λ x. x.1) second (λ b. done (a, b) (λ x k. rw (← k.1, ← k.0.1) refl) ((tt, refl), refl))) in
     rewrite (refit both (λ x k g. (tt, (g.0, g.1.0))) (λ x k g. (tt, (g.0, (g.1, tt))))) (λ x. ap (λ (m : List ℕ). bytes_of x.0 ++ m) (append-nil (bytes_of' x.1)))
 
 -- a field that is tested
-pub checks : {A : Type 0} {p : Reader A} {Good : A → Type 0} {bytes_of : A → List ℕ} (test : A → Bool) → Format p Good bytes_of → Format (checked test p) (λ a. Good a × (test a ≡ true)) bytes_of
+pub checks : {A : Type 0} {p : Reader A} {Good : A → Type 0} {bytes_of : A → List ℕ} (test : A → Bool) → Format p Good bytes_of →
+    Format (checked test p) (λ a. Good a × (test a ≡ true)) bytes_of
 checks {A} {p} {Good} {bytes_of} test format = record {
   takes = λ bytes a rest fits e.
       let b = bind_got (p bytes) (λ a rest. passed (test a) a (length bytes) rest) a rest e in

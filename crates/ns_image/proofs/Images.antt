@@ -56,20 +56,23 @@ answer_ok size (bad left) code e = absurd (cc (e))
 abbrev IsImage : List ℕ → CodeProgram → Type 0
 IsImage bytes code = (bytes ≡ bytes_of code) ⊎ ((bytes ≡ old_bytes_of code) × (bare code ≡ code))
 
-new_read : (bytes mid : List ℕ) (code : CodeProgram) → IsBytes mid → bytes ≡ mark ++ (b.half 2 ++ mid) → program mid ≡ got code [] → Fits code × IsImage bytes code
+new_read : (bytes mid : List ℕ) (code : CodeProgram) → IsBytes mid → bytes ≡ mark ++ (b.half 2 ++ mid) → program mid ≡ got code [] →
+    Fits code × IsImage bytes code
 new_read bytes mid code fits parts e =
     let t = program_format.takes mid code [] fits e in
     let is-mid : mid ≡ b.program code = t.1 ∙ append-nil (b.program code) in
     (t.3, inl (parts ∙ ap (λ (m : List ℕ). mark ++ (b.half 2 ++ m)) is-mid))
 
-old_read : (bytes mid : List ℕ) (code : CodeProgram) → IsBytes mid → bytes ≡ mark ++ (b.half 1 ++ mid) → old_program mid ≡ got code [] → Fits code × IsImage bytes code
+old_read : (bytes mid : List ℕ) (code : CodeProgram) → IsBytes mid → bytes ≡ mark ++ (b.half 1 ++ mid) → old_program mid ≡ got code [] →
+    Fits code × IsImage bytes code
 old_read bytes mid code fits parts e =
     let t = old_program_format.takes mid code [] fits e in
     let is-mid : mid ≡ b.old_program code = t.1 ∙ append-nil (b.old_program code) in
     let o = old_fits code t.3 in
     (o.0, inr (parts ∙ ap (λ (m : List ℕ). mark ++ (b.half 1 ++ m)) is-mid, o.1))
 
-versioned_read : (size : ℕ) (bytes behind : List ℕ) (outcome : Outcome ℕ) (code : CodeProgram) → IsBytes behind → bytes ≡ mark ++ behind → half behind ≡ outcome → versioned size outcome ≡ Ok code → Fits code × IsImage bytes code
+versioned_read : (size : ℕ) (bytes behind : List ℕ) (outcome : Outcome ℕ) (code : CodeProgram) → IsBytes behind → bytes ≡ mark ++ behind →
+    half behind ≡ outcome → versioned size outcome ≡ Ok code → Fits code × IsImage bytes code
 versioned_read size bytes behind truncated code fits parts is e = absurd (cc (e))
 versioned_read size bytes behind (bad left) code fits parts is e = absurd (cc (e))
 versioned_read size bytes behind (got version mid) code fits parts is e =
@@ -105,11 +108,13 @@ read_bytes bytes code fits e =
       | inr none ↦ absurd (cc (none.1))
     ]
 
-pub read_was_written : (bytes : List ℕ) (code : CodeProgram) → All IsByte bytes → read_image bytes ≡ Ok code → Fits code × IsImage bytes code
+pub read_was_written : (bytes : List ℕ) (code : CodeProgram) → All IsByte bytes → read_image bytes ≡ Ok code →
+    Fits code × IsImage bytes code
 read_was_written bytes code all e = read_bytes bytes code (all_bytes bytes all) e
 
 -- What is answered is code that fits.
-pub answer_fits : (bytes : List ℕ) (result : Result CodeProgram ImageFault) → IsBytes bytes → ReadingAnswers (read_image bytes) result → IfOk result Fits
+pub answer_fits : (bytes : List ℕ) (result : Result CodeProgram ImageFault) → IsBytes bytes → ReadingAnswers (read_image bytes) result →
+    IfOk result Fits
 answer_fits bytes (Ok code) fits e = (read_bytes bytes code fits e).0
 answer_fits bytes (Err fault) fits e = tt
 
@@ -117,7 +122,8 @@ answer_fits bytes (Err fault) fits e = tt
 versions_differ : (mid rest : List ℕ) → mark ++ (b.half 2 ++ mid) ≡ mark ++ (b.half 1 ++ rest) → ⊥
 versions_differ mid rest e = cc (e)
 
-pub written_again : (bytes rest : List ℕ) (code : CodeProgram) → All IsByte bytes → bytes ≡ mark ++ (b.half 2 ++ rest) → read_image bytes ≡ Ok code → bytes_of code ≡ bytes
+pub written_again : (bytes rest : List ℕ) (code : CodeProgram) → All IsByte bytes → bytes ≡ mark ++ (b.half 2 ++ rest) →
+    read_image bytes ≡ Ok code → bytes_of code ≡ bytes
 written_again bytes rest code all begins e =
     elim (read_was_written bytes code all e).1 [
       | inl new ↦ sym new

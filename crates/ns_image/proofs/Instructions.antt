@@ -29,7 +29,8 @@ record Wrote (code : ℕ) (bytes : List ℕ) (made : Instr) (rest : List ℕ) : 
 
 -- The operands of a code are read as they are written.
 abbrev Says : ℕ → Operands → Type 0
-Says code form = (bytes : List ℕ) (made : Instr) (rest : List ℕ) → IsBytes bytes → operands form bytes ≡ got made rest → Wrote code bytes made rest
+Says code form =
+    (bytes : List ℕ) (made : Instr) (rest : List ℕ) → IsBytes bytes → operands form bytes ≡ got made rest → Wrote code bytes made rest
 
 none_says : (code : ℕ) (instr : Instr) → b.instr instr ≡ b.byte code ++ [] → InstrFits instr → Says code (none instr)
 none_says code instr layout good bytes made rest fits e =
@@ -146,7 +147,8 @@ instructions_say = (
   ),
 )
 
-says_at : (code : ℕ) (forms : List Operands) (place : ℕ) (form : Operands) → AllSay code forms → slice_get forms place ≡ Some form → Says (code + place) form
+says_at : (code : ℕ) (forms : List Operands) (place : ℕ) (form : Operands) → AllSay code forms → slice_get forms place ≡ Some form →
+    Says (code + place) form
 unfolding AllSay
 says_at code [] place form say e = absurd (cc (e))
 says_at code (first ∷ forms) zero form say e =
@@ -157,7 +159,8 @@ says_at code (first ∷ forms) (suc place) form say e =
     let there : suc code + place ≡ code + suc place = omega arith in
     subst (λ (k : ℕ). Says k form) there (says_at (suc code) forms place form say.1 e)
 
-behind_wrote : (left code : ℕ) (mid : List ℕ) (made : Instr) (rest : List ℕ) → IsBytes mid → behind left (operands_of code) mid ≡ got made rest → Wrote code mid made rest
+behind_wrote : (left code : ℕ) (mid : List ℕ) (made : Instr) (rest : List ℕ) → IsBytes mid →
+    behind left (operands_of code) mid ≡ got made rest → Wrote code mid made rest
 behind_wrote left zero mid made rest fits e = absurd (cc (e))
 behind_wrote left (suc place) mid made rest fits e = found (slice_get instructions place) refl e
   where
@@ -169,40 +172,59 @@ behind_wrote left (suc place) mid made rest fits e = found (slice_get instructio
 
 -- ---- what was written is read again
 
-coded : (code : ℕ) → code < 256 → (tail rest : List ℕ) (made : Instr) → ((left : ℕ) → behind left (operands_of code) (tail ++ rest) ≡ got made rest) → instr ((b.byte code ++ tail) ++ rest) ≡ got made rest
+coded : (code : ℕ) → code < 256 → (tail rest : List ℕ) (made : Instr) →
+    ((left : ℕ) → behind left (operands_of code) (tail ++ rest) ≡ got made rest) → instr ((b.byte code ++ tail) ++ rest) ≡ got made rest
 unfolding instr
-coded code below tail rest made told = ap instr (append_assoc (b.byte code) tail rest) ∙ rw (byte_format.again code (tail ++ rest) tt below) (told _)
+coded code below tail rest made told =
+    ap instr (append_assoc (b.byte code) tail rest) ∙ rw (byte_format.again code (tail ++ rest) tt below) (told _)
 
-one_again : {A : Type 0} {p : Reader A} {Good : A → Type 0} {bytes_of : A → List ℕ} (make : A → Instr) → Format p Good bytes_of → (a : A) (rest : List ℕ) → Good a → and_then (p (bytes_of a ++ rest)) (λ x. given (make x)) ≡ got (make a) rest
+one_again : {A : Type 0} {p : Reader A} {Good : A → Type 0} {bytes_of : A → List ℕ} (make : A → Instr) → Format p Good bytes_of →
+    (a : A) (rest : List ℕ) → Good a → and_then (p (bytes_of a ++ rest)) (λ x. given (make x)) ≡ got (make a) rest
 one_again make format a rest good = rw (format.again a rest tt good) refl
 
 instr_again : (made : Instr) (rest : List ℕ) → InstrFits made → instr (b.instr made ++ rest) ≡ got made rest
 instr_again i.PushNil rest good = coded 1 (omega arith) [] rest i.PushNil (λ left. refl)
 instr_again i.PushTrue rest good = coded 2 (omega arith) [] rest i.PushTrue (λ left. refl)
 instr_again i.PushFalse rest good = coded 3 (omega arith) [] rest i.PushFalse (λ left. refl)
-instr_again (i.PushInt x) rest good = coded 4 (omega arith) (b.long x) rest (i.PushInt x) (λ left. one_again i.PushInt long_format x rest good)
-instr_again (i.PushSym x) rest good = coded 5 (omega arith) (b.word x.0) rest (i.PushSym x) (λ left. one_again i.PushSym selector_format x rest good)
-instr_again (i.PushText x) rest good = coded 6 (omega arith) (b.word x) rest (i.PushText x) (λ left. one_again i.PushText word_format x rest good)
+instr_again (i.PushInt x) rest good =
+    coded 4 (omega arith) (b.long x) rest (i.PushInt x) (λ left. one_again i.PushInt long_format x rest good)
+instr_again (i.PushSym x) rest good =
+    coded 5 (omega arith) (b.word x.0) rest (i.PushSym x) (λ left. one_again i.PushSym selector_format x rest good)
+instr_again (i.PushText x) rest good =
+    coded 6 (omega arith) (b.word x) rest (i.PushText x) (λ left. one_again i.PushText word_format x rest good)
 instr_again i.PushSelf rest good = coded 7 (omega arith) [] rest i.PushSelf (λ left. refl)
-instr_again (i.PushOuter x) rest good = coded 8 (omega arith) (b.byte x) rest (i.PushOuter x) (λ left. one_again i.PushOuter byte_format x rest good)
-instr_again (i.PushLocal x y) rest good = coded 9 (omega arith) (b.byte x ++ b.byte y) rest (i.PushLocal x y) (λ left. one_again (λ p. i.PushLocal p.0 p.1) two_bytes_format (x, y) rest good)
-instr_again (i.StoreLocal x y) rest good = coded 10 (omega arith) (b.byte x ++ b.byte y) rest (i.StoreLocal x y) (λ left. one_again (λ p. i.StoreLocal p.0 p.1) two_bytes_format (x, y) rest good)
-instr_again (i.PushBlock x) rest good = coded 11 (omega arith) (b.word x) rest (i.PushBlock x) (λ left. one_again i.PushBlock word_format x rest good)
-instr_again (i.MakeArray x) rest good = coded 12 (omega arith) (b.byte x) rest (i.MakeArray x) (λ left. one_again i.MakeArray byte_format x rest good)
+instr_again (i.PushOuter x) rest good =
+    coded 8 (omega arith) (b.byte x) rest (i.PushOuter x) (λ left. one_again i.PushOuter byte_format x rest good)
+instr_again (i.PushLocal x y) rest good =
+    coded 9 (omega arith) (b.byte x ++ b.byte y) rest (i.PushLocal x y) (λ left. one_again (λ p. i.PushLocal p.0 p.1) two_bytes_format (x, y) rest good)
+instr_again (i.StoreLocal x y) rest good =
+    coded 10 (omega arith) (b.byte x ++ b.byte y) rest (i.StoreLocal x y) (λ left. one_again (λ p. i.StoreLocal p.0 p.1) two_bytes_format (x, y) rest good)
+instr_again (i.PushBlock x) rest good =
+    coded 11 (omega arith) (b.word x) rest (i.PushBlock x) (λ left. one_again i.PushBlock word_format x rest good)
+instr_again (i.MakeArray x) rest good =
+    coded 12 (omega arith) (b.byte x) rest (i.MakeArray x) (λ left. one_again i.MakeArray byte_format x rest good)
 instr_again i.Pop rest good = coded 13 (omega arith) [] rest i.Pop (λ left. refl)
 instr_again (i.Pick x) rest good = coded 14 (omega arith) (b.byte x) rest (i.Pick x) (λ left. one_again i.Pick byte_format x rest good)
-instr_again (i.Send x y) rest good = coded 15 (omega arith) (b.word x.0 ++ b.byte y) rest (i.Send x y) (λ left. one_again (λ p. i.Send p.0 p.1) message_format (x, y) rest good)
-instr_again (i.SendInner x y) rest good = coded 16 (omega arith) (b.word x.0 ++ b.byte y) rest (i.SendInner x y) (λ left. one_again (λ p. i.SendInner p.0 p.1) message_format (x, y) rest good)
-instr_again (i.SendPrivate x y z) rest good = coded 17 (omega arith) (b.byte x ++ (b.word y.0 ++ b.byte z)) rest (i.SendPrivate x y z) (λ left. one_again (λ p. i.SendPrivate p.0 p.1.0 p.1.1) message_at_format (x, (y, z)) rest (good.0, (good.1, good.2)))
-instr_again (i.SendSuper x y) rest good = coded 18 (omega arith) (b.word x.0 ++ b.byte y) rest (i.SendSuper x y) (λ left. one_again (λ p. i.SendSuper p.0 p.1) message_format (x, y) rest good)
-instr_again (i.InitSuper x) rest good = coded 19 (omega arith) (b.byte x) rest (i.InitSuper x) (λ left. one_again i.InitSuper byte_format x rest good)
-instr_again (i.StoreSlot x) rest good = coded 20 (omega arith) (b.half x) rest (i.StoreSlot x) (λ left. one_again i.StoreSlot half_format x rest good)
+instr_again (i.Send x y) rest good =
+    coded 15 (omega arith) (b.word x.0 ++ b.byte y) rest (i.Send x y) (λ left. one_again (λ p. i.Send p.0 p.1) message_format (x, y) rest good)
+instr_again (i.SendInner x y) rest good =
+    coded 16 (omega arith) (b.word x.0 ++ b.byte y) rest (i.SendInner x y) (λ left. one_again (λ p. i.SendInner p.0 p.1) message_format (x, y) rest good)
+instr_again (i.SendPrivate x y z) rest good =
+    coded 17 (omega arith) (b.byte x ++ (b.word y.0 ++ b.byte z)) rest (i.SendPrivate x y z) (λ left. one_again (λ p. i.SendPrivate p.0 p.1.0 p.1.1) message_at_format (x, (y, z)) rest (good.0, (good.1, good.2)))
+instr_again (i.SendSuper x y) rest good =
+    coded 18 (omega arith) (b.word x.0 ++ b.byte y) rest (i.SendSuper x y) (λ left. one_again (λ p. i.SendSuper p.0 p.1) message_format (x, y) rest good)
+instr_again (i.InitSuper x) rest good =
+    coded 19 (omega arith) (b.byte x) rest (i.InitSuper x) (λ left. one_again i.InitSuper byte_format x rest good)
+instr_again (i.StoreSlot x) rest good =
+    coded 20 (omega arith) (b.half x) rest (i.StoreSlot x) (λ left. one_again i.StoreSlot half_format x rest good)
 instr_again i.Return rest good = coded 21 (omega arith) [] rest i.Return (λ left. refl)
 instr_again i.ReturnSelf rest good = coded 22 (omega arith) [] rest i.ReturnSelf (λ left. refl)
 instr_again i.ReturnHome rest good = coded 23 (omega arith) [] rest i.ReturnHome (λ left. refl)
 instr_again (i.Jump x) rest good = coded 24 (omega arith) (b.word x) rest (i.Jump x) (λ left. one_again i.Jump word_format x rest good)
-instr_again (i.JumpFalse x) rest good = coded 25 (omega arith) (b.word x) rest (i.JumpFalse x) (λ left. one_again i.JumpFalse word_format x rest good)
-instr_again (i.JumpTrue x) rest good = coded 26 (omega arith) (b.word x) rest (i.JumpTrue x) (λ left. one_again i.JumpTrue word_format x rest good)
+instr_again (i.JumpFalse x) rest good =
+    coded 25 (omega arith) (b.word x) rest (i.JumpFalse x) (λ left. one_again i.JumpFalse word_format x rest good)
+instr_again (i.JumpTrue x) rest good =
+    coded 26 (omega arith) (b.word x) rest (i.JumpTrue x) (λ left. one_again i.JumpTrue word_format x rest good)
 
 pub instr_format : Format instr InstrFits b.instr
 unfolding instr

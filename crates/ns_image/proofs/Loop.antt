@@ -10,7 +10,8 @@ use Rattle.ns_image.specs.Reads.{FailsReading}
 abbrev pub with_front : {A : Type 0} → List A → Outcome (List A) → Outcome (List A)
 with_front front outcome = and_then outcome (λ xs. given (front ++ xs))
 
-regroup : {A : Type 0} (front : List A) (x : A) (outcome : Outcome (List A)) → with_front front (and_then outcome (λ xs. given (x ∷ xs))) ≡ with_front (front ++ x ∷ []) outcome
+regroup : {A : Type 0} (front : List A) (x : A) (outcome : Outcome (List A)) →
+    with_front front (and_then outcome (λ xs. given (x ∷ xs))) ≡ with_front (front ++ x ∷ []) outcome
 regroup {A} front x (got xs rest) = ap (λ (all : List A). got all rest) (simp append_assoc)
 regroup front x truncated = refl
 regroup front x (bad left) = refl

@@ -17,11 +17,13 @@ digit_is d lt = together (nat_le 48 (48 + d)) (nat_le (48 + d) 57) (le-leb 48 (4
 
 digits_are : (ds : List ℕ) → AllBelowBase 10 ds → list_all is_digit (map (λ d. 48 + d) ds) ≡ true
 digits_are [] below = refl
-digits_are (d ∷ ds) below = together (is_digit (48 + d)) (list_all is_digit (map (λ d. 48 + d) ds)) (digit_is d below.0) (digits_are ds below.1)
+digits_are (d ∷ ds) below =
+    together (is_digit (48 + d)) (list_all is_digit (map (λ d. 48 + d) ds)) (digit_is d below.0) (digits_are ds below.1)
 
 decimal_digits : (n : ℕ) → n < 2 ^ 64 → list_all is_digit (decimal n) ≡ true
 decimal_digits zero lt = ap (list_all is_digit) (decimal_digit 0 (omega arith))
-decimal_digits (suc n) lt = ap (list_all is_digit) (decimal-digits_of (suc n) (omega arith) lt) ∙ digits_are (digits_of 10 (suc n)) (all_below_base_digits_of 10 (suc n) (omega arith))
+decimal_digits (suc n) lt =
+    ap (list_all is_digit) (decimal-digits_of (suc n) (omega arith) lt) ∙ digits_are (digits_of 10 (suc n)) (all_below_base_digits_of 10 (suc n) (omega arith))
 
 or_true : (p : Bool) → (p || true) ≡ true
 or_true true = refl

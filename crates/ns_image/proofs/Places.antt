@@ -40,7 +40,8 @@ carrier_told instrs number e = found (slice_get instrs number) refl e
               ap carries_place (sym same) ∙ h;
         }
 
-told_carrier : (instrs : List Instr) (number : ℕ) → number < length instrs → ((d : Instr) → IsTrue (carries_place (slice_index_or instrs number d))) → r.is_carrier instrs number ≡ true
+told_carrier : (instrs : List Instr) (number : ℕ) → number < length instrs →
+    ((d : Instr) → IsTrue (carries_place (slice_index_or instrs number d))) → r.is_carrier instrs number ≡ true
 told_carrier instrs number within carries =
     ap (λ (o : Option Instr). option_map_or carries_place o false) (slice_get-get_or instrs number i.PushNil within) ∙ carries i.PushNil
 

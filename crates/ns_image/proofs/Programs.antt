@@ -142,7 +142,8 @@ old_body_fits code x good = record {
     none_in_order = λ i j d lt below. absurd (omega (arith, below))
 
 bare_same : (x : BodyCode) → OldGood x → b.bare_body x ≡ x
-bare_same x good = sym (ap (λ (places : List (ℕ × Place)). record x { places = places }) good.0 ∙ ap (λ (names : List (List ℕ)). record x { places = []; local_names = names }) good.1.0)
+bare_same x good =
+    sym (ap (λ (places : List (ℕ × Place)). record x { places = places }) good.0 ∙ ap (λ (names : List (List ℕ)). record x { places = []; local_names = names }) good.1.0)
 
 map_same : {A : Type 0} (g : A → A) (xs : List A) → All (λ x. g x ≡ x) xs → map g xs ≡ xs
 map_same g [] same = refl
@@ -179,7 +180,8 @@ old_fits code good =
     )
 
 old_good : (code : CodeProgram) (x : BodyCode) → BodyFits code x → b.bare_body x ≡ x → OldGood x
-old_good code x fits same = (sym (ap (λ (y : BodyCode). y.places) same), (sym (ap (λ (y : BodyCode). y.local_names) same), (body_good code x fits).0))
+old_good code x fits same =
+    (sym (ap (λ (y : BodyCode). y.places) same), (sym (ap (λ (y : BodyCode). y.local_names) same), (body_good code x fits).0))
 
 pub old_parts : (code : CodeProgram) → Fits code → b.bare code ≡ code → (code.files ≡ []) × OldParts code
 old_parts code fits same =

@@ -22,11 +22,13 @@ access_format : Format r.access IsAccess b.byte
 access_format = byte_up_to_format 2 (omega arith)
 
 -- items behind their count of two bytes
-counted_half_format : {A : Type 0} {item : Reader A} {Good : A → Type 0} {bytes_of : A → List ℕ} → Format item Good bytes_of → Format (r.counted_half item) (λ xs. IsHalf (length xs) × All Good xs) (b.counted_half bytes_of)
+counted_half_format : {A : Type 0} {item : Reader A} {Good : A → Type 0} {bytes_of : A → List ℕ} → Format item Good bytes_of →
+    Format (r.counted_half item) (λ xs. IsHalf (length xs) × All Good xs) (b.counted_half bytes_of)
 counted_half_format format = field length half_format (λ n. times_format n format)
 
 -- items behind their count of four bytes, which has a greatest
-pub up_to_format : {A : Type 0} {item : Reader A} {Good : A → Type 0} {bytes_of : A → List ℕ} (most : ℕ) → most < 2 ^ 32 → Format item Good bytes_of → Format (r.up_to most item) (λ xs. (length xs ≤ most) × All Good xs) (b.counted bytes_of)
+pub up_to_format : {A : Type 0} {item : Reader A} {Good : A → Type 0} {bytes_of : A → List ℕ} (most : ℕ) → most < 2 ^ 32 →
+    Format item Good bytes_of → Format (r.up_to most item) (λ xs. (length xs ≤ most) × All Good xs) (b.counted bytes_of)
 up_to_format most below format = field length (word_up_to_format most below) (λ n. times_format n format)
 
 pub slot_format : Format r.slot SlotFits b.slot

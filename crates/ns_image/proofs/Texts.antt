@@ -38,7 +38,8 @@ file_name_format =
     (λ name k g. (tt, (g.short, together (nat_lt 0 (length name)) (is_utf8 name) (lt-ltb 0 (length name) g.some) (is_utf8-from_IsUtf8 name g.utf8))))
 
 pub local_name_format : Format r.local_name IsLocalName b.text
-local_name_format = refit (checks r.is_local_name text_format) (λ name k g. (tt, record { short = g.0; spelled = g.1 })) (λ name k g. (tt, (g.short, g.spelled)))
+local_name_format =
+    refit (checks r.is_local_name text_format) (λ name k g. (tt, record { short = g.0; spelled = g.1 })) (λ name k g. (tt, (g.short, g.spelled)))
 
 -- ---- names, of which no two are equal
 
@@ -61,13 +62,16 @@ both_false : (p q : Bool) → p ≡ false → q ≡ false → (p || q) ≡ false
 both_false true q e f = absurd (cc)
 both_false false q e f = f
 
-last_differs : (earlier : List (List ℕ)) (last name : List ℕ) → has (r.with_name earlier last) name ≡ false → (has earlier name ≡ false) × (bytes_eq name last ≡ false)
+last_differs : (earlier : List (List ℕ)) (last name : List ℕ) → has (r.with_name earlier last) name ≡ false →
+    (has earlier name ≡ false) × (bytes_eq name last ≡ false)
 last_differs earlier last name e =
     let split = or_false (has earlier name) (bytes_eq name last || false) (sym (list_any-append (bytes_eq name) earlier (last ∷ [])) ∙ e) in
     (split.0, (or_false (bytes_eq name last) false split.1).0)
 
-differs_too : (earlier : List (List ℕ)) (last name : List ℕ) → has earlier name ≡ false → bytes_eq name last ≡ false → has (r.with_name earlier last) name ≡ false
-differs_too earlier last name e f = list_any-append (bytes_eq name) earlier (last ∷ []) ∙ both_false (has earlier name) (bytes_eq name last || false) e (both_false (bytes_eq name last) false f refl)
+differs_too : (earlier : List (List ℕ)) (last name : List ℕ) → has earlier name ≡ false → bytes_eq name last ≡ false →
+    has (r.with_name earlier last) name ≡ false
+differs_too earlier last name e f =
+    list_any-append (bytes_eq name) earlier (last ∷ []) ∙ both_false (has earlier name) (bytes_eq name last || false) e (both_false (bytes_eq name last) false f refl)
 
 flipped : (x y : List ℕ) → bytes_eq x y ≡ false → bytes_eq y x ≡ false
 flipped x y e = tested (bytes_eq y x) refl
@@ -79,18 +83,22 @@ flipped x y e = tested (bytes_eq y x) refl
         let true_too : bytes_eq x y ≡ true = subst (λ (z : List ℕ). bytes_eq z y ≡ true) same (subst (λ (z : List ℕ). bytes_eq y z ≡ true) (sym same) h) in
         absurd (cc (e, true_too))
 
-split_new : (earlier : List (List ℕ)) (last : List ℕ) (names : List (List ℕ)) → AreNew (r.with_name earlier last) names → AreNew earlier names × AllByRecursion (λ y. bytes_eq last y ≡ false) names
+split_new : (earlier : List (List ℕ)) (last : List ℕ) (names : List (List ℕ)) → AreNew (r.with_name earlier last) names →
+    AreNew earlier names × AllByRecursion (λ y. bytes_eq last y ≡ false) names
 split_new earlier last [] new = (tt, tt)
 split_new earlier last (name ∷ names) new =
     let one = last_differs earlier last name new.0 in
     let more = split_new earlier last names new.1 in
     ((one.0, more.0), (flipped name last one.1, more.1))
 
-join_new : (earlier : List (List ℕ)) (last : List ℕ) (names : List (List ℕ)) → AreNew earlier names → AllByRecursion (λ y. bytes_eq last y ≡ false) names → AreNew (r.with_name earlier last) names
+join_new : (earlier : List (List ℕ)) (last : List ℕ) (names : List (List ℕ)) → AreNew earlier names →
+    AllByRecursion (λ y. bytes_eq last y ≡ false) names → AreNew (r.with_name earlier last) names
 join_new earlier last [] new differ = tt
-join_new earlier last (name ∷ names) new differ = (differs_too earlier last name new.0 (flipped last name differ.0), join_new earlier last names new.1 differ.1)
+join_new earlier last (name ∷ names) new differ =
+    (differs_too earlier last name new.0 (flipped last name differ.0), join_new earlier last names new.1 differ.1)
 
-good_names : (earlier names : List (List ℕ)) → AllGood IsNew r.with_name earlier names → All IsName names × IsDistinct bytes_eq names × AreNew earlier names
+good_names : (earlier names : List (List ℕ)) → AllGood IsNew r.with_name earlier names →
+    All IsName names × IsDistinct bytes_eq names × AreNew earlier names
 unfolding IsDistinct
 good_names earlier [] good = (All-nil IsName, tt, tt)
 good_names earlier (name ∷ names) good =
@@ -99,7 +107,8 @@ good_names earlier (name ∷ names) good =
     let split = split_new earlier name names more.2 in
     (All-cons IsName name names (record { short = good.0.0; spelled = tested.0 }) more.0, (split.1, more.1), (not_false (has earlier name) tested.1, split.0))
 
-names_good : (earlier names : List (List ℕ)) → All IsName names → IsDistinct bytes_eq names → AreNew earlier names → AllGood IsNew r.with_name earlier names
+names_good : (earlier names : List (List ℕ)) → All IsName names → IsDistinct bytes_eq names → AreNew earlier names →
+    AllGood IsNew r.with_name earlier names
 unfolding IsDistinct
 names_good earlier [] fit distinct new = tt
 names_good earlier (name ∷ names) fit distinct new =

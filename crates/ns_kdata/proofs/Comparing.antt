@@ -22,11 +22,13 @@ other_heads : (a b : ℕ) (firsts seconds : List ℕ) → a ≢ b → bytes_eq (
 other_heads a b firsts seconds h = rw (differs a b h) refl
 
 -- where two bytes are equal, what stands behind them decides
-pub equal_on : (one other : List ℕ) (i : ℕ) → i < length one → i < length other → get_or one i 0 ≡ get_or other i 0 → bytes_eq (drop i one) (drop i other) ≡ bytes_eq (drop (i + 1) one) (drop (i + 1) other)
+pub equal_on : (one other : List ℕ) (i : ℕ) → i < length one → i < length other → get_or one i 0 ≡ get_or other i 0 →
+    bytes_eq (drop i one) (drop i other) ≡ bytes_eq (drop (i + 1) one) (drop (i + 1) other)
 equal_on one other i h k e = rw (drop_more one i 0 h, drop_more other i 0 k) (same_heads _ _ (drop (i + 1) one) (drop (i + 1) other) e)
 
 -- where they differ, the texts do
-pub equal_no : (one other : List ℕ) (i : ℕ) → i < length one → i < length other → get_or one i 0 ≢ get_or other i 0 → bytes_eq (drop i one) (drop i other) ≡ false
+pub equal_no : (one other : List ℕ) (i : ℕ) → i < length one → i < length other → get_or one i 0 ≢ get_or other i 0 →
+    bytes_eq (drop i one) (drop i other) ≡ false
 equal_no one other i h k e = rw (drop_more one i 0 h, drop_more other i 0 k) (other_heads _ _ (drop (i + 1) one) (drop (i + 1) other) e)
 
 -- behind the last bytes nothing differs
@@ -48,15 +50,18 @@ other_next : (a b : ℕ) (firsts seconds : List ℕ) → a ≢ b → is_before (
 other_next a b firsts seconds h = rw (differs a b h) refl
 
 -- where two bytes are equal, what stands behind them decides the order
-pub before_on : (one other : List ℕ) (i : ℕ) → i < length one → i < length other → get_or one i 0 ≡ get_or other i 0 → is_before (drop i one) (drop i other) ≡ is_before (drop (i + 1) one) (drop (i + 1) other)
+pub before_on : (one other : List ℕ) (i : ℕ) → i < length one → i < length other → get_or one i 0 ≡ get_or other i 0 →
+    is_before (drop i one) (drop i other) ≡ is_before (drop (i + 1) one) (drop (i + 1) other)
 before_on one other i h k e = rw (drop_more one i 0 h, drop_more other i 0 k) (same_next _ _ (drop (i + 1) one) (drop (i + 1) other) e)
 
 -- where they differ, they decide it
-pub before_here : (one other : List ℕ) (i : ℕ) → i < length one → i < length other → get_or one i 0 ≢ get_or other i 0 → is_before (drop i one) (drop i other) ≡ nat_lt (get_or one i 0) (get_or other i 0)
+pub before_here : (one other : List ℕ) (i : ℕ) → i < length one → i < length other → get_or one i 0 ≢ get_or other i 0 →
+    is_before (drop i one) (drop i other) ≡ nat_lt (get_or one i 0) (get_or other i 0)
 before_here one other i h k e = rw (drop_more one i 0 h, drop_more other i 0 k) (other_next _ _ (drop (i + 1) one) (drop (i + 1) other) e)
 
 -- where one text ends, it comes first if the other goes on
-pub before_end : (one other : List ℕ) (i : ℕ) → i ≡ min (length one) (length other) → is_before (drop i one) (drop i other) ≡ nat_lt (length one) (length other)
+pub before_end : (one other : List ℕ) (i : ℕ) → i ≡ min (length one) (length other) →
+    is_before (drop i one) (drop i other) ≡ nat_lt (length one) (length other)
 before_end one other i e = tested (nat_lt (length one) (length other)) refl
   where
     goes_on : (bytes : List ℕ) → 0 < length bytes → is_before [] bytes ≡ true
@@ -80,7 +85,8 @@ same_rows one other h = tested (bytes_eq one other) refl h
     tested false e h = absurd (cc)
 
 -- where so many rows of eight are the same, and the next is, so are the bytes of one row more
-pub front_on : (one other : List ℕ) (row : ℕ) → take (8 * row) one ≡ take (8 * row) other → take 8 (drop (8 * row) one) ≡ take 8 (drop (8 * row) other) → take (8 * (row + 1)) one ≡ take (8 * (row + 1)) other
+pub front_on : (one other : List ℕ) (row : ℕ) → take (8 * row) one ≡ take (8 * row) other →
+    take 8 (drop (8 * row) one) ≡ take 8 (drop (8 * row) other) → take (8 * (row + 1)) one ≡ take (8 * (row + 1)) other
 front_on one other row e next =
     let more : 8 * (row + 1) ≡ 8 * row + 8 = omega arith in
     let split : (bytes : List ℕ) → take (8 * (row + 1)) bytes ≡ take (8 * row) bytes ++ take 8 (drop (8 * row) bytes) =
@@ -88,7 +94,8 @@ front_on one other row e next =
     split one ∙ (ap (λ front. front ++ take 8 (drop (8 * row) one)) e ∙ (ap (λ rest. take (8 * row) other ++ rest) next ∙ sym (split other)))
 
 -- behind fronts that are the same the rest decides
-pub equal_behind : (n : ℕ) (one other : List ℕ) → n ≤ length one → n ≤ length other → take n one ≡ take n other → bytes_eq (drop n one) (drop n other) ≡ bytes_eq one other
+pub equal_behind : (n : ℕ) (one other : List ℕ) → n ≤ length one → n ≤ length other → take n one ≡ take n other →
+    bytes_eq (drop n one) (drop n other) ≡ bytes_eq one other
 equal_behind zero one other h k e = refl
 equal_behind (suc n) [] other h k e = absurd (omega (arith, h))
 equal_behind (suc n) (a ∷ one) [] h k e = absurd (omega (arith, k))
@@ -97,7 +104,8 @@ equal_behind (suc n) (a ∷ one) (b ∷ other) h k e =
     let rest : take n one ≡ take n other = cc in
     equal_behind n one other (omega (arith, h)) (omega (arith, k)) rest ∙ sym (same_heads a b one other first)
 
-pub before_behind : (n : ℕ) (one other : List ℕ) → n ≤ length one → n ≤ length other → take n one ≡ take n other → is_before (drop n one) (drop n other) ≡ is_before one other
+pub before_behind : (n : ℕ) (one other : List ℕ) → n ≤ length one → n ≤ length other → take n one ≡ take n other →
+    is_before (drop n one) (drop n other) ≡ is_before one other
 before_behind zero one other h k e = refl
 before_behind (suc n) [] other h k e = absurd (omega (arith, h))
 before_behind (suc n) (a ∷ one) [] h k e = absurd (omega (arith, k))

@@ -18,12 +18,16 @@ use Rattle.ns_kdata.proofs.Filling.{with_cells, fills}
 use Rattle.ns_kdata.proofs.Parts.{text_in_more, there_in_more, not_next_cell}
 
 -- whether a text fits tells its size alone
-same_test : (world : World) (bytes : List ℕ) → nat_le (heap_size world.cells + cell_size (TextCell (replicate (length bytes) 0))) world.limits.cells ≡ nat_le (heap_size world.cells + cell_size (TextCell bytes)) world.limits.cells
-same_test world bytes = ap (λ n. nat_le (heap_size world.cells + (1 + text_words n)) world.limits.cells) (length-replicate {A = ℕ} (length bytes) 0)
+same_test : (world : World) (bytes : List ℕ) →
+    nat_le (heap_size world.cells + cell_size (TextCell (replicate (length bytes) 0))) world.limits.cells ≡ nat_le (heap_size world.cells + cell_size (TextCell bytes)) world.limits.cells
+same_test world bytes =
+    ap (λ n. nat_le (heap_size world.cells + (1 + text_words n)) world.limits.cells) (length-replicate {A = ℕ} (length bytes) 0)
 
 -- filled with as many bytes as it has, the new text is the one that was to be made
-pub text_made : (old mid : WorldView) (bytes : List ℕ) (to : ℕ) → MakesText old (length bytes) (Ok to) mid → Gives (making old.world (TextCell bytes)) old (Ok (Ref to)) (filled mid to 0 bytes)
-text_made old mid bytes to (e, number, room) = tested (nat_le (heap_size old.world.cells + cell_size (TextCell (replicate (length bytes) 0))) old.world.limits.cells) refl (sym (same_test old.world bytes)) e
+pub text_made : (old mid : WorldView) (bytes : List ℕ) (to : ℕ) → MakesText old (length bytes) (Ok to) mid →
+    Gives (making old.world (TextCell bytes)) old (Ok (Ref to)) (filled mid to 0 bytes)
+text_made old mid bytes to (e, number, room) =
+    tested (nat_le (heap_size old.world.cells + cell_size (TextCell (replicate (length bytes) 0))) old.world.limits.cells) refl (sym (same_test old.world bytes)) e
   where
     zeros : List ℕ
     zeros = replicate (length bytes) 0
@@ -44,8 +48,10 @@ text_made old mid bytes to (e, number, room) = tested (nat_le (heap_size old.wor
         rw (all, same, t) (ap Ref number, refl, room)
 
 -- where the new text doesn't fit, neither does the other
-pub text_refused : (old mid : WorldView) (bytes : List ℕ) (fault : Fault) → MakesText old (length bytes) (Err fault) mid → Gives (making old.world (TextCell bytes)) old (Err fault) mid
-text_refused old mid bytes fault (e, limit, same) = tested (nat_le (heap_size old.world.cells + cell_size (TextCell (replicate (length bytes) 0))) old.world.limits.cells) refl (sym (same_test old.world bytes)) e
+pub text_refused : (old mid : WorldView) (bytes : List ℕ) (fault : Fault) → MakesText old (length bytes) (Err fault) mid →
+    Gives (making old.world (TextCell bytes)) old (Err fault) mid
+text_refused old mid bytes fault (e, limit, same) =
+    tested (nat_le (heap_size old.world.cells + cell_size (TextCell (replicate (length bytes) 0))) old.world.limits.cells) refl (sym (same_test old.world bytes)) e
   where
     zeros : List ℕ
     zeros = replicate (length bytes) 0
@@ -64,7 +70,8 @@ pub record IsNewText (old mid : WorldView) (count to : ℕ) : Type 0 where
   pub size : length (bytes_at mid.world.cells to) ≡ count
 
 pub new_text_is : (old mid : WorldView) (count to : ℕ) → MakesText old count (Ok to) mid → IsNewText old mid count to
-new_text_is old mid count to (e, number, room) = tested (nat_le (heap_size old.world.cells + cell_size (TextCell (replicate count 0))) old.world.limits.cells) e
+new_text_is old mid count to (e, number, room) =
+    tested (nat_le (heap_size old.world.cells + cell_size (TextCell (replicate count 0))) old.world.limits.cells) e
   where
     newest : (n : ℕ) → n ≡ heap_size old.world.cells → length (bytes_at (TextCell (replicate count 0) ∷ old.world.cells) n) ≡ count
     newest n is = ap (λ k. length (bytes_at (TextCell (replicate count 0) ∷ old.world.cells) k)) is ∙ (ap (λ o. length (option_map_or cell_bytes o [])) (found_new old.world.cells (TextCell (replicate count 0))) ∙ length-replicate {A = ℕ} count 0)
@@ -77,24 +84,30 @@ new_text_is old mid count to (e, number, room) = tested (nat_le (heap_size old.w
         record { number = number; cells = cells; size = ap (λ cs. length (bytes_at cs to)) cells ∙ newest to number }
 
 -- a String that was there has its bytes, is there, and isn't the new text
-pub text_kept : (old mid : WorldView) (count to : ℕ) (value : Value) → CellIsThere old.world.cells value → IsNewText old mid count to → bytes_of mid.world.cells value ≡ bytes_of old.world.cells value
-text_kept old mid count to value there new = ap (λ cells. bytes_of cells value) new.cells ∙ text_in_more old.world.cells (TextCell (replicate count 0)) value there
+pub text_kept : (old mid : WorldView) (count to : ℕ) (value : Value) → CellIsThere old.world.cells value → IsNewText old mid count to →
+    bytes_of mid.world.cells value ≡ bytes_of old.world.cells value
+text_kept old mid count to value there new =
+    ap (λ cells. bytes_of cells value) new.cells ∙ text_in_more old.world.cells (TextCell (replicate count 0)) value there
 
-pub still_there : (old mid : WorldView) (count to : ℕ) (value : Value) → CellIsThere old.world.cells value → IsNewText old mid count to → CellIsThere mid.world.cells value
+pub still_there : (old mid : WorldView) (count to : ℕ) (value : Value) → CellIsThere old.world.cells value → IsNewText old mid count to →
+    CellIsThere mid.world.cells value
 still_there old mid count to value there new =
     let e = new.cells in rw e (there_in_more old.world.cells (TextCell (replicate count 0)) value there)
 
-pub text_apart : (old mid : WorldView) (count to : ℕ) (value : Value) → CellIsThere old.world.cells value → IsNewText old mid count to → value ≢ Ref to
+pub text_apart : (old mid : WorldView) (count to : ℕ) (value : Value) → CellIsThere old.world.cells value → IsNewText old mid count to →
+    value ≢ Ref to
 text_apart old mid count to value there new = not_next_cell old.world.cells value to there new.number
 
 -- a text that is filled is finished
-pub text_finished : (old mid last : WorldView) (bytes : List ℕ) (count to : ℕ) → count ≡ length bytes → last ≡ filled mid to 0 bytes → MakesText old count (Ok to) mid → Gives (making old.world (TextCell bytes)) old (Ok (Ref to)) last
+pub text_finished : (old mid last : WorldView) (bytes : List ℕ) (count to : ℕ) → count ≡ length bytes → last ≡ filled mid to 0 bytes →
+    MakesText old count (Ok to) mid → Gives (making old.world (TextCell bytes)) old (Ok (Ref to)) last
 text_finished old mid last bytes count to e f m =
     let makes : MakesText old (length bytes) (Ok to) mid = subst (λ n. MakesText old n (Ok to) mid) e m in
     subst (λ v. Gives (making old.world (TextCell bytes)) old (Ok (Ref to)) v) (sym f) (text_made old mid bytes to makes)
 
 -- a text that doesn't fit isn't made
-pub text_unfit : (old mid : WorldView) (bytes : List ℕ) (count : ℕ) (fault : Fault) → count ≡ length bytes → MakesText old count (Err fault) mid → Gives (making old.world (TextCell bytes)) old (Err fault) mid
+pub text_unfit : (old mid : WorldView) (bytes : List ℕ) (count : ℕ) (fault : Fault) → count ≡ length bytes →
+    MakesText old count (Err fault) mid → Gives (making old.world (TextCell bytes)) old (Err fault) mid
 text_unfit old mid bytes count fault e m = text_refused old mid bytes fault (subst (λ n. MakesText old n (Err fault) mid) e m)
 
 -- a text of so many bytes is too large for any world

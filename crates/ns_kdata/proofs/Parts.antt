@@ -24,7 +24,8 @@ pub part_byte : (bytes : List ℕ) (part : Part) (i : ℕ) → i < part.count �
 part_byte bytes part i h = get_or-take part.count (drop part.start bytes) i 0 h ∙ get_or-drop part.start bytes i 0
 
 -- a String that isn't written keeps its bytes
-pub text_elsewhere : (heap : Heap) (to place byte : ℕ) (value : Value) → value ≢ Ref to → bytes_of (write_byte heap to place byte) value ≡ bytes_of heap value
+pub text_elsewhere : (heap : Heap) (to place byte : ℕ) (value : Value) → value ≢ Ref to →
+    bytes_of (write_byte heap to place byte) value ≡ bytes_of heap value
 text_elsewhere heap to place byte (Ref at) h = bytes_elsewhere heap to place byte at (λ e. h (ap Ref e))
 text_elsewhere heap to place byte Nil h = refl
 text_elsewhere heap to place byte True h = refl
@@ -33,7 +34,8 @@ text_elsewhere heap to place byte (Int number) h = refl
 text_elsewhere heap to place byte (Sym sel) h = refl
 text_elsewhere heap to place byte (Kernel class) h = refl
 
-pub text_unfilled : (view : WorldView) (to at : ℕ) (bytes : List ℕ) (value : Value) → value ≢ Ref to → bytes_of (filled view to at bytes).world.cells value ≡ bytes_of view.world.cells value
+pub text_unfilled : (view : WorldView) (to at : ℕ) (bytes : List ℕ) (value : Value) → value ≢ Ref to →
+    bytes_of (filled view to at bytes).world.cells value ≡ bytes_of view.world.cells value
 text_unfilled view to at bytes (Ref from) h = filled_elsewhere view to at from bytes (λ e. h (ap Ref e))
 text_unfilled view to at bytes Nil h = refl
 text_unfilled view to at bytes True h = refl

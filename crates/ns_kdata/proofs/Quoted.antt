@@ -3,8 +3,10 @@ use Rattle.std.proofs.Common.{◌≡◌, ℕ, ◌+◌, ◌*◌, ◌<◌, ◌≤�
 use Rattle.ns_base.specs.Quoted.{doubled, quoted}
 use Rattle.ns_base.specs.laws.Quoted.{doubled_next, doubled_step}
 
-pub doubled_step_size : (bytes : List ℕ) (i : ℕ) → i < length bytes → length (doubled (drop i bytes)) ≡ length (doubled (get_or bytes i 0 ∷ [])) + length (doubled (drop (i + 1) bytes))
-doubled_step_size bytes i h = ap length (doubled_step bytes i h) ∙ length-append (doubled (get_or bytes i 0 ∷ [])) (doubled (drop (i + 1) bytes))
+pub doubled_step_size : (bytes : List ℕ) (i : ℕ) → i < length bytes →
+    length (doubled (drop i bytes)) ≡ length (doubled (get_or bytes i 0 ∷ [])) + length (doubled (drop (i + 1) bytes))
+doubled_step_size bytes i h =
+    ap length (doubled_step bytes i h) ∙ length-append (doubled (get_or bytes i 0 ∷ [])) (doubled (drop (i + 1) bytes))
 
 pub quoted_size : (bytes : List ℕ) → length (quoted bytes) ≡ 2 + length (doubled bytes)
 quoted_size bytes = omega (arith, length-append (doubled bytes) (39 ∷ []))

@@ -19,7 +19,8 @@ bytes_with (MirrorCell mirrored) place byte = refl
 bytes_with (MessageCell sel args) place byte = refl
 
 -- other cells keep their bytes
-pub bytes_elsewhere : (heap : Heap) (at place byte number : ℕ) → number ≢ at → bytes_at (write_byte heap at place byte) number ≡ bytes_at heap number
+pub bytes_elsewhere : (heap : Heap) (at place byte number : ℕ) → number ≢ at →
+    bytes_at (write_byte heap at place byte) number ≡ bytes_at heap number
 bytes_elsewhere heap at place byte number h = ap (λ o. option_map_or cell_bytes o []) ((byte_leaves heap at place byte).others number h)
 
 -- the written one keeps its size
@@ -33,7 +34,8 @@ size_here heap at place byte = found (find_cell heap at) refl
         ∙ bytes_with cell place byte
 
 -- so each cell has as many bytes as before
-pub sizes_stay : (heap : Heap) (at place byte number : ℕ) → length (bytes_at (write_byte heap at place byte) number) ≡ length (bytes_at heap number)
+pub sizes_stay : (heap : Heap) (at place byte number : ℕ) →
+    length (bytes_at (write_byte heap at place byte) number) ≡ length (bytes_at heap number)
 sizes_stay heap at place byte number = tested (eqb number at) refl
   where
     tested : (b : Bool) → eqb number at ≡ b → length (bytes_at (write_byte heap at place byte) number) ≡ length (bytes_at heap number)
@@ -43,5 +45,6 @@ sizes_stay heap at place byte number = tested (eqb number at) refl
     tested false e = ap length (bytes_elsewhere heap at place byte number (λ q. let t : true ≡ false = sym (eq-eqb number at q) ∙ e in absurd (cc)))
 
 -- the newest cell is written in place
-pub write_newest : (heap : Heap) (bytes : List ℕ) (place byte : ℕ) → write_byte (TextCell bytes ∷ heap) (heap_size heap) place byte ≡ TextCell (set bytes place byte) ∷ heap
+pub write_newest : (heap : Heap) (bytes : List ℕ) (place byte : ℕ) →
+    write_byte (TextCell bytes ∷ heap) (heap_size heap) place byte ≡ TextCell (set bytes place byte) ∷ heap
 write_newest heap bytes place byte = rw (eq-eqb (heap_size heap) (heap_size heap) refl) refl

@@ -1,5 +1,5 @@
 -- What lines of the code's table are rows of.
-use Rattle.std.specs.Prelude.{ℕ, List, map, Option}
+use Rattle.std.specs.Prelude.{ℕ, List, map}
 use Rattle.std.specs.Option.{option_map}
 use Rattle.ns_kernel.specs.declared.table.Line.{Line as CodeLine}
 use Rattle.ns_kernel.specs.declared.table.Rows.{Rows}

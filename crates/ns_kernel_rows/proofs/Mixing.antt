@@ -13,7 +13,9 @@ use Rattle.ns_world.specs.Keeping.{IsEnclosed}
 use Rattle.ns_kdata.specs.Arguments.{shape_of_value}
 
 -- the declaration, the enclosing object and the holder of a class fit each other
-pub mixin_enclosed : (world : World) (code : CodeProgram) (mixin : Value) (decl base : ℕ) (encl holder under : Value) → IsLawful world code → shape_of_value world.cells mixin ≡ new.Class decl base encl holder under → IsEnclosed world.cells code decl encl holder
+pub mixin_enclosed : (world : World) (code : CodeProgram) (mixin : Value) (decl base : ℕ) (encl holder under : Value) →
+    IsLawful world code → shape_of_value world.cells mixin ≡ new.Class decl base encl holder under →
+    IsEnclosed world.cells code decl encl holder
 mixin_enclosed world code (Ref at) decl base encl holder under lawful is = cell (find_cell world.cells at) refl is
   where
     cell : (o : Option Cell) → find_cell world.cells at ≡ o → option_map_or shape_of o (new.Mirror Nil) ≡ new.Class decl base encl holder under → IsEnclosed world.cells code decl encl holder

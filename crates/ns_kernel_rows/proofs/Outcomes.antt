@@ -22,7 +22,9 @@ use Rattle.ns_actions.specs.Kernel.{outcome_reached, data_reached}
 use Rattle.ns_kernel_rows.specs.Reaching.{progress_of, answered}
 
 -- an outcome that is given is what the action comes to
-pub outcome_given : (code : CodeProgram) (values : List Value) (outcome : RowOutcome) (answer : Result Value Fault) (old new : WorldView) (after : Board) (site : Site) (begun : ℕ) → Gives outcome old answer new
+pub outcome_given :
+    (code : CodeProgram) (values : List Value) (outcome : RowOutcome) (answer : Result Value Fault) (old new : WorldView) (after : Board) (site : Site) (begun : ℕ) →
+    Gives outcome old answer new
     → reached_shown code site values (answered answer) (progress_of new after begun) ≡ outcome_reached outcome site (progress_of old after begun)
 outcome_given code values (Answers value world) (Ok answer) old new after site begun g =
     ap (λ (v : Value). gives v (progress_of new after begun)) g.0
@@ -40,26 +42,30 @@ room_kept (Fails fault) (Err found) old new g = (ap (λ (v : WorldView). v.cell_
 room_kept (Answers value world) (Err found) old new g = absurd g
 room_kept (Fails fault) (Ok answer) old new g = absurd g
 
-pub limits_kept : (outcome : RowOutcome) (answer : Result Value Fault) (old new : WorldView) → Gives outcome old answer new → LeadsOn old.world outcome → new.world.limits ≡ old.world.limits
+pub limits_kept : (outcome : RowOutcome) (answer : Result Value Fault) (old new : WorldView) → Gives outcome old answer new →
+    LeadsOn old.world outcome → new.world.limits ≡ old.world.limits
 limits_kept (Answers value world) (Ok answer) old new g later = ap (λ (w : World). w.limits) g.1 ∙ later.limits
 limits_kept (Fails fault) (Err found) old new g later = ap (λ (v : WorldView). v.world.limits) g.1
 limits_kept (Answers value world) (Err found) old new g later = absurd g
 limits_kept (Fails fault) (Ok answer) old new g later = absurd g
 
-pub mirror_room_kept : (outcome : Reflected) (answer : Result Mirrored Fault) (old new : WorldView) → GivesMirrored outcome old answer new → SameRoom old new
+pub mirror_room_kept : (outcome : Reflected) (answer : Result Mirrored Fault) (old new : WorldView) → GivesMirrored outcome old answer new →
+    SameRoom old new
 mirror_room_kept (Reflects answer world) (Ok found) old new g = g.2
 mirror_room_kept (Refuses fault) (Err found) old new g = (ap (λ (v : WorldView). v.cell_room) g.1, ap (λ (v : WorldView). v.out_room) g.1)
 mirror_room_kept (Reflects answer world) (Err found) old new g = absurd g
 mirror_room_kept (Refuses fault) (Ok found) old new g = absurd g
 
-pub mirror_limits_kept : (outcome : Reflected) (answer : Result Mirrored Fault) (old new : WorldView) → GivesMirrored outcome old answer new → ReflectsOn old.world outcome → new.world.limits ≡ old.world.limits
+pub mirror_limits_kept : (outcome : Reflected) (answer : Result Mirrored Fault) (old new : WorldView) →
+    GivesMirrored outcome old answer new → ReflectsOn old.world outcome → new.world.limits ≡ old.world.limits
 mirror_limits_kept (Reflects answer world) (Ok found) old new g later = ap (λ (w : World). w.limits) g.1 ∙ later.limits
 mirror_limits_kept (Refuses fault) (Err found) old new g later = ap (λ (v : WorldView). v.world.limits) g.1
 mirror_limits_kept (Reflects answer world) (Err found) old new g later = absurd g
 mirror_limits_kept (Refuses fault) (Ok found) old new g later = absurd g
 
 -- a row of data other than `doesNotUnderstand:`
-pub data_other : (code : CodeProgram) (about : DataRow) (receiver : Value) (arguments : List Value) (site : Site) (progress : Progress) → (about ≡ row.DoesNotUnderstand → ⊥)
+pub data_other : (code : CodeProgram) (about : DataRow) (receiver : Value) (arguments : List Value) (site : Site) (progress : Progress) →
+    (about ≡ row.DoesNotUnderstand → ⊥)
     → data_reached code about receiver arguments site progress ≡ outcome_reached (datum progress.world code about receiver arguments) site progress
 data_other code row.Identical receiver arguments site progress other = refl
 data_other code row.Equal receiver arguments site progress other = refl

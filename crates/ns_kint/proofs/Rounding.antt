@@ -69,14 +69,16 @@ pub rounds : (left right : ℤ) → right ≢ pos 0 → IsFlooredDivision left r
 rounds left right h = grind (arith, common_steps)
 
 -- and no other is
-pub alone : (left right quotient rest : ℤ) → IsFlooredDivision left right quotient rest → (quotient ≡ floored_quotient left right) × (rest ≡ floored_remainder left right)
+pub alone : (left right quotient rest : ℤ) → IsFlooredDivision left right quotient rest →
+    (quotient ≡ floored_quotient left right) × (rest ≡ floored_remainder left right)
 alone left right quotient rest d =
     let known = rounds left right (not_zero right rest d.size) in
     let same = one_quotient left right quotient rest _ _ d known in
     (same, one_remainder left right quotient rest _ _ same d known)
 
 -- the division toward zero is that division where the remainder has the divisor's sign
-pub kept : (left right q r : ℤ) → q *ℤ right +ℤ r ≡ left → unsigned_abs r < unsigned_abs right → signs_differ r right ≡ false → (q ≡ floored_quotient left right) × (r ≡ floored_remainder left right)
+pub kept : (left right q r : ℤ) → q *ℤ right +ℤ r ≡ left → unsigned_abs r < unsigned_abs right → signs_differ r right ≡ false →
+    (q ≡ floored_quotient left right) × (r ≡ floored_remainder left right)
 kept left right q r sum small same = alone left right q r (record { sum = sym sum; size = sized right r small same })
   where
     sized : (right r : ℤ) → unsigned_abs r < unsigned_abs right → signs_differ r right ≡ false → IsRemainderOf right r
@@ -84,7 +86,8 @@ kept left right q r sum small same = alone left right q r (record { sum = sym su
     sized (negsuc n) r small same = grind (arith, ints)
 
 -- and is one too great where it has not
-pub moved : (left right q r : ℤ) → q *ℤ right +ℤ r ≡ left → unsigned_abs r < unsigned_abs right → signs_differ r right ≡ true → (q -ℤ pos 1 ≡ floored_quotient left right) × (r +ℤ right ≡ floored_remainder left right)
+pub moved : (left right q r : ℤ) → q *ℤ right +ℤ r ≡ left → unsigned_abs r < unsigned_abs right → signs_differ r right ≡ true →
+    (q -ℤ pos 1 ≡ floored_quotient left right) × (r +ℤ right ≡ floored_remainder left right)
 moved left right q r sum small other =
     let e = one_less q right in
     alone left right (q -ℤ pos 1) (r +ℤ right) (record { sum = omega (arith, ints); size = sized right r small other })
@@ -98,14 +101,18 @@ nonzero (pos n) h = h
 nonzero (negsuc n) h = omega arith
 
 -- what the code's quotient and remainder toward zero come to
-pub quotient_kept : (left right : ℤ) → IsNonZero w64 right → signs_differ (int_rem left right) right ≡ false → int_div left right ≡ floored_quotient left right
+pub quotient_kept : (left right : ℤ) → IsNonZero w64 right → signs_differ (int_rem left right) right ≡ false →
+    int_div left right ≡ floored_quotient left right
 quotient_kept left right h same = (kept left right _ _ (quot-rem left right) (rem_below left right (nonzero right h)) same).0
 
-pub remainder_kept : (left right : ℤ) → IsNonZero w64 right → signs_differ (int_rem left right) right ≡ false → int_rem left right ≡ floored_remainder left right
+pub remainder_kept : (left right : ℤ) → IsNonZero w64 right → signs_differ (int_rem left right) right ≡ false →
+    int_rem left right ≡ floored_remainder left right
 remainder_kept left right h same = (kept left right _ _ (quot-rem left right) (rem_below left right (nonzero right h)) same).1
 
-pub quotient_moved : (left right : ℤ) → IsNonZero w64 right → signs_differ (int_rem left right) right ≡ true → int_div left right -ℤ pos 1 ≡ floored_quotient left right
+pub quotient_moved : (left right : ℤ) → IsNonZero w64 right → signs_differ (int_rem left right) right ≡ true →
+    int_div left right -ℤ pos 1 ≡ floored_quotient left right
 quotient_moved left right h other = (moved left right _ _ (quot-rem left right) (rem_below left right (nonzero right h)) other).0
 
-pub remainder_moved : (left right : ℤ) → IsNonZero w64 right → signs_differ (int_rem left right) right ≡ true → int_rem left right +ℤ right ≡ floored_remainder left right
+pub remainder_moved : (left right : ℤ) → IsNonZero w64 right → signs_differ (int_rem left right) right ≡ true →
+    int_rem left right +ℤ right ≡ floored_remainder left right
 remainder_moved left right h other = (moved left right _ _ (quot-rem left right) (rem_below left right (nonzero right h)) other).1

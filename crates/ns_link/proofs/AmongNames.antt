@@ -35,7 +35,8 @@ pub left_first : (there : Bool) (name : List ℕ) (first second : List (List ℕ
 left_first true name first second e = ap (λ x. (x || list_any (bytes_eq name) first) || list_any (bytes_eq name) second) (bytes_same name)
 left_first false name first second e = absurd (let f : false ≡ true = e in cc)
 
-pub left_more : (there : Bool) (name : List ℕ) (first second : List (List ℕ)) (text : List ℕ) → Either first second text → Either (If there name first) second text
+pub left_more : (there : Bool) (name : List ℕ) (first second : List (List ℕ)) (text : List ℕ) → Either first second text →
+    Either (If there name first) second text
 left_more false name first second text h = h
 left_more true name first second text h = by (bytes_eq text name) (list_any (bytes_eq text) first) (list_any (bytes_eq text) second) h where
   by : (x y z : Bool) → (y || z) ≡ true → ((x || y) || z) ≡ true
@@ -43,12 +44,15 @@ left_more true name first second text h = by (bytes_eq text name) (list_any (byt
   by false y z h = h
 
 pub right_first : (there : Bool) (name : List ℕ) (first second : List (List ℕ)) → there ≡ true → Either first (If there name second) name
-right_first true name first second e = or_else (list_any (bytes_eq name) first) (list_any (bytes_eq name) (name ∷ second)) (first_one name second)
+right_first true name first second e =
+    or_else (list_any (bytes_eq name) first) (list_any (bytes_eq name) (name ∷ second)) (first_one name second)
 right_first false name first second e = absurd (let f : false ≡ true = e in cc)
 
-pub right_more : (there : Bool) (name : List ℕ) (first second : List (List ℕ)) (text : List ℕ) → Either first second text → Either first (If there name second) text
+pub right_more : (there : Bool) (name : List ℕ) (first second : List (List ℕ)) (text : List ℕ) → Either first second text →
+    Either first (If there name second) text
 right_more false name first second text h = h
-right_more true name first second text h = by (bytes_eq text name) (list_any (bytes_eq text) first) (list_any (bytes_eq text) second) h where
+right_more true name first second text h =
+    by (bytes_eq text name) (list_any (bytes_eq text) first) (list_any (bytes_eq text) second) h where
   by : (x y z : Bool) → (y || z) ≡ true → (y || (x || z)) ≡ true
   by x true z h = refl
   by true false z h = refl

@@ -22,7 +22,8 @@ use Rattle.ns_link.proofs.Differ.{not_past, and_left, and_right, not_true}
 
 -- ---- operators
 
-none_of : (byte : ℕ) (bytes : List ℕ) → list_any (nat_eq byte) bytes ≡ true → list_all (λ b. not (begins_name b)) bytes ≡ true → begins_name byte ≡ false
+none_of : (byte : ℕ) (bytes : List ℕ) → list_any (nat_eq byte) bytes ≡ true → list_all (λ b. not (begins_name b)) bytes ≡ true →
+    begins_name byte ≡ false
 none_of byte [] h all = absurd (let f : false ≡ true = h in cc)
 none_of byte (first ∷ bytes) h all = by (nat_eq byte first) refl h (none_of byte bytes) where
   by : (same : Bool) → nat_eq byte first ≡ same → (same || list_any (nat_eq byte) bytes) ≡ true →
@@ -42,7 +43,8 @@ operator_starts (byte ∷ bytes) o = by (list_all is_operator_byte (byte ∷ byt
 pub oper_arity : (text : List ℕ) → is_operator text ≡ true → 1 ≡ text_arity text
 oper_arity text o = sym (operator_arity text o (operator_starts text o))
 
-joined_colons : (keys : p.Keys) (here : Standing) (next : ℕ) → AllHaveText (flat_keys keys) → how_many (keys_nodes here next keys) ≡ colons (joined keys)
+joined_colons : (keys : p.Keys) (here : Standing) (next : ℕ) → AllHaveText (flat_keys keys) →
+    how_many (keys_nodes here next keys) ≡ colons (joined keys)
 joined_colons p.no_keys here next texts = refl
 joined_colons (p.more_keys name argument rest) here next texts =
     let rest_next = next + length (bin_blocks here.scope argument) in
@@ -62,7 +64,8 @@ as_many_places (p.more_keys name argument rest) here next =
     let further = as_many_places rest here (next + length (bin_blocks here.scope argument)) in omega (further, arith)
 
 -- a keyword message has as many arguments as its selector takes, and they are few
-pub keys_arity : (keys : p.Keys) (here : Standing) (next : ℕ) → AllHaveText (flat_keys keys) → how_many (keys_nodes here next keys) ≡ text_arity (joined keys)
+pub keys_arity : (keys : p.Keys) (here : Standing) (next : ℕ) → AllHaveText (flat_keys keys) →
+    how_many (keys_nodes here next keys) ≡ text_arity (joined keys)
 keys_arity keys here next texts = joined_colons keys here next texts ∙ sym (joined_arity keys texts)
 
 pub keys_few : (keys : p.Keys) (here : Standing) (next : ℕ) → keywords_found keys ≡ [] → how_many (keys_nodes here next keys) < 2 ^ 8

@@ -32,7 +32,8 @@ params_turns (name ∷ names) depth = params_turns names depth
 
 pub params_balanced : (params : List Named) → Balanced (f.flat_params params)
 params_balanced [] depth = refl
-params_balanced (n ∷ ns) depth = both (flat_map (λ (n : Named). k.Colon ∷ f.ident n ∷ []) (n ∷ ns)) (f.bar ∷ []) (params_turns (n ∷ ns)) (λ depth. refl) depth
+params_balanced (n ∷ ns) depth =
+    both (flat_map (λ (n : Named). k.Colon ∷ f.ident n ∷ []) (n ∷ ns)) (f.bar ∷ []) (params_turns (n ∷ ns)) (λ depth. refl) depth
 
 pub access_balanced : (access : Option Access) → Balanced (f.flat_access access)
 access_balanced None depth = refl

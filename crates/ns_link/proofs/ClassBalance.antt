@@ -13,7 +13,8 @@ use Rattle.ns_tree.specs.Plain as p
 use Rattle.ns_link.proofs.Balance.{nothing, idents, access_balanced, message_balanced, bars_balanced, statements_balanced}
 use Rattle.ns_link.proofs.Tokens.{Balanced, Closes, open_after, both, closes, one_less}
 
-turns_balanced : (pairs : List (Named × Named)) → Balanced (flat_map (λ (x : Named × Named). f.part_before x.0.text ∷ f.ident x.1 ∷ []) pairs)
+turns_balanced : (pairs : List (Named × Named)) →
+    Balanced (flat_map (λ (x : Named × Named). f.part_before x.0.text ∷ f.ident x.1 ∷ []) pairs)
 turns_balanced [] depth = refl
 turns_balanced (pair ∷ pairs) depth = by (starts_name pair.0.text) (turns_balanced pairs) where
   rest : List Kind

@@ -12,13 +12,15 @@ use Rattle.ns_resolved.specs.laws.Counting.{units_listed}
 use Rattle.ns_link.proofs.Named.{classes_name_what_is_there}
 use Rattle.ns_link.proofs.Declared.{members_of_classes_differ}
 
-pub as_many_marks : (number : ℕ) (units : List p.SourceUnit) (marks : List (List Place)) → AreWholeUnits number units marks → length units ≡ length marks
+pub as_many_marks : (number : ℕ) (units : List p.SourceUnit) (marks : List (List Place)) → AreWholeUnits number units marks →
+    length units ≡ length marks
 as_many_marks number [] [] whole = refl
 as_many_marks number [] (places ∷ marks) whole = absurd whole
 as_many_marks number (unit ∷ units) [] whole = absurd whole
 as_many_marks number (unit ∷ units) (places ∷ marks) whole = ap suc (as_many_marks (number + 1) units marks whole.1)
 
-pub some_class : (files : List (List ℕ)) (units : List p.SourceUnit) (marks : List (List Place)) → AreWholeUnits 0 units marks → 1 ≤ length units →
+pub some_class : (files : List (List ℕ)) (units : List p.SourceUnit) (marks : List (List Place)) → AreWholeUnits 0 units marks →
+    1 ≤ length units →
     1 ≤ length (meant_of files units marks).classes
 some_class files [] marks whole some = absurd (omega (some, arith))
 some_class files (p.unit_with marker category (p.class_with name factory clause bars body members others) ∷ units) marks whole some =

@@ -39,20 +39,23 @@ skipped number place places k (x ∷ instrs) h =
     ∙ ap (λ (l : List PlacedInstr). (x, place_in places k) ∷ l) (skipped number place places (k + 1) instrs (omega (arith, h)))
 
 -- an instruction with its place
-found : (x : Instr) (place : Place) (places : List (ℕ × Place)) (n : ℕ) (instrs : List Instr) (lines : List PlacedInstr) → placed places (n + 1) instrs ≡ lines
+found : (x : Instr) (place : Place) (places : List (ℕ × Place)) (n : ℕ) (instrs : List Instr) (lines : List PlacedInstr) →
+    placed places (n + 1) instrs ≡ lines
     → placed ((n, place) ∷ places) n (x ∷ instrs) ≡ (x, Some place) ∷ lines
 found x place places n instrs lines e =
     ap (λ b. (x, cond b (Some place) (place_in places n)) ∷ placed ((n, place) ∷ places) (n + 1) instrs) (eq-eqb n n refl)
     ∙ ap (λ (l : List PlacedInstr). (x, Some place) ∷ l) (skipped n place places (n + 1) instrs (omega arith) ∙ e)
 
 -- an instruction without one
-bare : (x : Instr) (more : List CodeLine) (n : ℕ) (instrs : List Instr) (lines : List PlacedInstr) → placed (places_from (n + 1) more) (n + 1) instrs ≡ lines
+bare : (x : Instr) (more : List CodeLine) (n : ℕ) (instrs : List Instr) (lines : List PlacedInstr) →
+    placed (places_from (n + 1) more) (n + 1) instrs ≡ lines
     → placed (places_from (n + 1) more) n (x ∷ instrs) ≡ (x, None) ∷ lines
 bare x more n instrs lines e =
     ap (λ (o : Option Place). (x, o) ∷ placed (places_from (n + 1) more) (n + 1) instrs) (places_later more (n + 1) n (omega arith))
     ∙ ap (λ (l : List PlacedInstr). (x, None) ∷ l) e
 
-placed_shown : (names : List (List ℕ)) (lines : List CodeLine) (n : ℕ) → placed (places_from n lines) n (map (instr_of names) lines) ≡ shown names lines
+placed_shown : (names : List (List ℕ)) (lines : List CodeLine) (n : ℕ) →
+    placed (places_from n lines) n (map (instr_of names) lines) ≡ shown names lines
 placed_shown names [] n = refl
 placed_shown names (does x ∷ lines) n = bare x lines n (map (instr_of names) lines) (shown names lines) (placed_shown names lines (n + 1))
 placed_shown names (symbol name ∷ lines) n =
@@ -65,11 +68,13 @@ placed_shown names (starts place count ∷ lines) n =
 
 -- ---- texts
 
-at_seam : (before : List (List ℕ)) (text : List ℕ) (after : List (List ℕ)) → slice_index_or (before ++ text ∷ after) (length before) [] ≡ text
+at_seam : (before : List (List ℕ)) (text : List ℕ) (after : List (List ℕ)) →
+    slice_index_or (before ++ text ∷ after) (length before) [] ≡ text
 at_seam [] text after = refl
 at_seam (x ∷ before) text after = at_seam before text after
 
-texts_from : (code : CodeProgram) (k : ℕ) (before after : List (List ℕ)) → code.texts ≡ before ++ after → length before ≡ k → Texts code k after
+texts_from : (code : CodeProgram) (k : ℕ) (before after : List (List ℕ)) → code.texts ≡ before ++ after → length before ≡ k →
+    Texts code k after
 texts_from code k before [] e l = tt
 texts_from code k before (text ∷ after) e l =
     let here : literal code k ≡ text = ap (λ (ts : List (List ℕ)). slice_index_or ts k []) e
@@ -92,7 +97,8 @@ record BodyShown (code : CodeProgram) (bodies : List Body) (first k : ℕ) : Typ
   pub is : steps_in (slice_get (bodies_code code.names first bodies) k) ≡ shown code.names (body_lines text (does_in (slice_get bodies k)))
   pub texts : Texts code text (gathered node_texts nodes_texts (does_in (slice_get bodies k)))
 
-body_shown : (code : CodeProgram) (bodies : List Body) (first k : ℕ) → Texts code first (flat_map body_texts bodies) → BodyShown code bodies first k
+body_shown : (code : CodeProgram) (bodies : List Body) (first k : ℕ) → Texts code first (flat_map body_texts bodies) →
+    BodyShown code bodies first k
 body_shown code [] first k h = record { text = 0; is = refl; texts = tt }
 body_shown code (body ∷ bodies) first zero h =
     record {

@@ -41,7 +41,8 @@ slots_same : (slots : p.Slots) → flat_map slot_selectors (slots_of slots) ≡ 
 slots_same p.no_slots = refl
 slots_same (p.more_slots (p.slot_with access name (p.bare stop)) rest) = ap (λ l. name.text ∷ (name.text ++ 58 ∷ []) ∷ l) (slots_same rest)
 slots_same (p.more_slots (p.slot_with access name (p.fixed value)) rest) = ap (λ l. name.text ∷ l) (slots_same rest)
-slots_same (p.more_slots (p.slot_with access name (p.mutable value)) rest) = ap (λ l. name.text ∷ (name.text ++ 58 ∷ []) ∷ l) (slots_same rest)
+slots_same (p.more_slots (p.slot_with access name (p.mutable value)) rest) =
+    ap (λ l. name.text ∷ (name.text ++ 58 ∷ []) ∷ l) (slots_same rest)
 
 bars_same : (bars : p.Bars) → flat_map slot_selectors (bars_slots bars) ≡ names_of (bars_members bars)
 bars_same p.no_bars = refl
@@ -50,7 +51,8 @@ bars_same (p.bars_around slots) = slots_same slots
 methods_same : (members : p.Members) (around : Around) (side : CodeSide) (next : ℕ) (other : Access) →
     map (λ (method : m.Method). method.selector) (methods_listed around side next other members) ≡ methods_of members
 methods_same p.no_members around side next other = refl
-methods_same (p.more_members (p.member_with categories access (p.class_member class)) rest) around side next other = methods_same rest around side (next + 0) other
+methods_same (p.more_members (p.member_with categories access (p.class_member class)) rest) around side next other =
+    methods_same rest around side (next + 0) other
 methods_same (p.more_members (p.member_with categories access (p.method_member (p.method_with (p.pattern_with parts params) bars body))) rest) around side next other =
     ap (λ l. flat_map (λ (part : Named). part.text) parts ∷ l)
     (methods_same rest around side (next + length (b.member_methods around.classes side (p.method_member (p.method_with (p.pattern_with parts params) bars body)))) other)
@@ -141,7 +143,8 @@ module _ (meant : m.Meant) where
             };
       }
 
-pub members_of_classes_differ : (files : List (List ℕ)) (units : List p.SourceUnit) (marks : List (List Place)) → AreWholeUnits 0 units marks →
+pub members_of_classes_differ : (files : List (List ℕ)) (units : List p.SourceUnit) (marks : List (List Place)) →
+    AreWholeUnits 0 units marks →
     least (faults units marks) ≡ None → (number : ℕ) (class : m.Declaration) →
     slice_get (meant_of files units marks).classes number ≡ Some class → MembersDiffer (meant_of files units marks) number class
 members_of_classes_differ files units marks whole e number class here =

@@ -93,6 +93,7 @@ units_faultless number (p.unit_with marker category class ∷ units) (places ∷
       units_faultless (number + 1) units marks (with_top seen (class_name class)) (before + length (class_names class)) whole.1 (empty_right here behind e),
     )
 
-pub program_faultless : (units : List p.SourceUnit) (marks : List (List Place)) → AreWholeUnits 0 units marks → least (faults units marks) ≡ None →
+pub program_faultless : (units : List p.SourceUnit) (marks : List (List Place)) → AreWholeUnits 0 units marks →
+    least (faults units marks) ≡ None →
     EachUnit Faultless units
 program_faultless units marks whole e = units_faultless 0 units marks [] 0 whole (none_found (faults units marks) e)

@@ -44,7 +44,8 @@ few_names (at ∷ names) before h e =
     let further = few_names names (before + 1) other (empty_right found (classes_found (before + 1) names) e) in
     omega (further, arith)
 
-units_few : (number : ℕ) (units : List p.SourceUnit) (marks : List (List Place)) (seen : TableOf ℕ) (before : ℕ) → AreWholeUnits number units marks →
+units_few : (number : ℕ) (units : List p.SourceUnit) (marks : List (List Place)) (seen : TableOf ℕ) (before : ℕ) →
+    AreWholeUnits number units marks →
     before ≤ 4096 → faults_behind seen before (zip units marks) ≡ [] → before + units_count units ≤ 4096
 units_few number [] marks seen before whole h e = omega (h, arith)
 units_few number (unit ∷ units) [] seen before whole h e = absurd whole

@@ -26,7 +26,8 @@ use Rattle.ns_link.proofs.FewLocals.{AllFew, few_both, few_locals, message_few, 
 
 -- ---- the bodies of a declaration
 
-super_few : (clause : Option p.SuperClause) (here : Standing) (next : ℕ) → f.super_faults here.scope clause ≡ [] → AllFew (super_bodies here next clause)
+super_few : (clause : Option p.SuperClause) (here : Standing) (next : ℕ) → f.super_faults here.scope clause ≡ [] →
+    AllFew (super_bodies here next clause)
 super_few (Some (p.clause_with head over (Some message))) here next e = message_few message here next e
 super_few (Some (p.clause_with head over None)) here next e = tt
 super_few None here next e = tt
@@ -49,7 +50,8 @@ what_methods_few : (what : p.What) (around : Around) (side : CodeSide) (class ne
 what_methods_few (p.class_member inner) around side class next e = tt
 what_methods_few (p.method_member method) around side class next e = method_few method around side class next e
 
-members_methods_few : (members : p.Members) (around : Around) (side : CodeSide) (class next : ℕ) → f.members_faults around.classes side members ≡ [] →
+members_methods_few : (members : p.Members) (around : Around) (side : CodeSide) (class next : ℕ) →
+    f.members_faults around.classes side members ≡ [] →
     AllFew (members_methods around side class next members)
 members_methods_few p.no_members around side class next e = tt
 members_methods_few (p.more_members (p.member_with categories access what) rest) around side class next e =
@@ -138,7 +140,8 @@ mutual
 
 -- ---- programs
 
-units_few : (units : List p.SourceUnit) (marks : List (List Place)) (number next : ℕ) → EachUnit Faultless units → AllFew (units_bodies number next units marks)
+units_few : (units : List p.SourceUnit) (marks : List (List Place)) (number next : ℕ) → EachUnit Faultless units →
+    AllFew (units_bodies number next units marks)
 units_few [] marks number next each = tt
 units_few (unit ∷ units) [] number next each = tt
 units_few (p.unit_with marker category class ∷ units) (places ∷ marks) number next each =

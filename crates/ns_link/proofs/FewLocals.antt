@@ -30,7 +30,8 @@ pub few_both : (a b : List m.Body) → AllFew a → AllFew b → AllFew (a ++ b)
 few_both [] b left right = right
 few_both (body ∷ a) b left right = (left.0, few_both a b left.1 right)
 
-pub few_locals : (params : List Named) (bars : p.Bars) → locals_found (locals_of params bars) ≡ [] → length (local_names params bars) < 2 ^ 8
+pub few_locals : (params : List Named) (bars : p.Bars) → locals_found (locals_of params bars) ≡ [] →
+    length (local_names params bars) < 2 ^ 8
 few_locals params bars e =
     let locals = locals_of params bars in
     let few = not_past 255 many.Locals (map (λ (d : Declared Local). d.at) locals) (empty_right (found_repeated c.DuplicateLocal [] locals) _ e) in

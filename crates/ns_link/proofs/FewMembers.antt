@@ -71,14 +71,16 @@ side_counted : (members : p.Side) (around : Around) (side : CodeSide) (number ne
     length (side_nested number members) + length (side_listed around side next other members) ≡ length (side_members other members)
 side_counted (p.side_with members tail) around side number next other = members_counted members around side number next other
 
-pub few_nested : (bars : p.Bars) (members : p.Side) (around : Around) (number next : ℕ) → members_found (instance_members bars members) ≡ [] →
+pub few_nested : (bars : p.Bars) (members : p.Side) (around : Around) (number next : ℕ) →
+    members_found (instance_members bars members) ≡ [] →
     length (side_nested number members) ≤ 1023
 few_nested bars members around number next e =
     let few = few_declared (instance_members bars members) e in
     let counted = side_counted members around side.Instance number next a.Protected in
     omega (few, counted, length-append (bars_members bars) (side_members a.Protected members), arith)
 
-pub few_methods : (bars : p.Bars) (members : p.Side) (around : Around) (number next : ℕ) → members_found (instance_members bars members) ≡ [] →
+pub few_methods : (bars : p.Bars) (members : p.Side) (around : Around) (number next : ℕ) →
+    members_found (instance_members bars members) ≡ [] →
     length (side_listed around side.Instance next a.Protected members) ≤ 1023
 few_methods bars members around number next e =
     let few = few_declared (instance_members bars members) e in

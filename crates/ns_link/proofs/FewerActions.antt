@@ -60,7 +60,8 @@ pub follows_on : {A B : Type 0} (k : ℕ) (to : A → A) (stop : Ending → Prog
 follows_on k to stop to' stop' p f x' x e s (inl same) = inl (ap f same ∙ e)
 follows_on k to stop to' stop' p f x' x e s (inr spent) = inr (ap f spent ∙ s)
 
-pub steps_follow : {A : Type 0} (k : ℕ) (to : A → A) (stop : Ending → Progress → A) (p : Progress) (go' go : Progress → A) → k ≤ p.world.limits.steps
+pub steps_follow : {A : Type 0} (k : ℕ) (to : A → A) (stop : Ending → Progress → A) (p : Progress) (go' go : Progress → A) →
+    k ≤ p.world.limits.steps
     → ((q : Progress) → go' (to_steps k q) ≡ to (go q))
     → Follows k to stop p (charged stop Steps (stepped (world_to k p.world)) (to_steps k p) go') (charged stop Steps (stepped p.world) p go)
 steps_follow k to stop p go' go le goes = tested (nat_lt p.world.steps k) (nat_lt p.world.steps p.world.limits.steps) refl refl

@@ -66,7 +66,8 @@ abbrev HasLimits : Limits → After → Type 0
 HasLimits limits (Gives value p) = p.world.limits ≡ limits
 HasLimits limits (Halts ending p) = p.world.limits ≡ limits
 
-made_limits : (limits : Limits) (world : World) (cell : Cell) (p : Progress) (go : Progress → After) → p.world ≡ world → world.limits ≡ limits
+made_limits : (limits : Limits) (world : World) (cell : Cell) (p : Progress) (go : Progress → After) → p.world ≡ world →
+    world.limits ≡ limits
     → ((q : Progress) → q.world.limits ≡ limits → HasLimits limits (go q)) → HasLimits limits (charged Halts Cells (made world cell) p go)
 made_limits limits world cell p go same e goes = tested (nat_le (heap_size world.cells + cell_size cell) world.limits.cells)
   where
@@ -77,13 +78,15 @@ made_limits limits world cell p go same e goes = tested (nat_le (heap_size world
     tested true = goes (in_world p next) e
     tested false = ap (λ (w : World). w.limits) same ∙ e
 
-pub all_limits : (limits : Limits) (cells : List Cell) (last : Value) (p : Progress) → p.world.limits ≡ limits → HasLimits limits (all_made cells last p)
+pub all_limits : (limits : Limits) (cells : List Cell) (last : Value) (p : Progress) → p.world.limits ≡ limits →
+    HasLimits limits (all_made cells last p)
 all_limits limits [] last p e = e
 all_limits limits (cell ∷ cells) last p e =
     made_limits limits p.world cell p (all_made cells (Ref (heap_size p.world.cells))) refl e
     (λ q f. all_limits limits cells (Ref (heap_size p.world.cells)) q f)
 
-pub started_limits : (limits : Limits) (code : CodeProgram) (after : After) → HasLimits limits after → (world_of (started code (unbegun after))).limits ≡ limits
+pub started_limits : (limits : Limits) (code : CodeProgram) (after : After) → HasLimits limits after →
+    (world_of (started code (unbegun after))).limits ≡ limits
 started_limits limits code (Gives array p) e = e
 started_limits limits code (Halts ending p) e = e
 

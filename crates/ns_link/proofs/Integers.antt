@@ -15,7 +15,8 @@ less size e few = by (eqb_tells size 9223372036854775808) where
   by (inl same) = absurd (let f : true ≡ false = sym same.0 ∙ e in cc)
   by (inr other) = omega (few, other.1, arith)
 
-pub integer_fits : (minus : Bool) (size at : ℕ) → number_found minus size at ≡ [] → size ≤ 9223372036854775808 → FitsSigned w64 (integer_of minus size)
+pub integer_fits : (minus : Bool) (size at : ℕ) → number_found minus size at ≡ [] → size ≤ 9223372036854775808 →
+    FitsSigned w64 (integer_of minus size)
 integer_fits true zero at e few = record { sfits = omega arith }
 integer_fits true (suc n) at e few = record { sfits = omega (few, arith) }
 integer_fits false size at e few = record { sfits = less size (if_none (nat_eq size 9223372036854775808) at c.PlainTooLarge e) few }

@@ -74,14 +74,16 @@ module _ (code : CodeProgram) (stay : (state : State) → StaysStill code state)
 
 -- ---- runs within their limits
 
-within_steps : (code : CodeProgram) (grants : Grants) (s : State) → Valid code grants s → is_still s ≡ false → (world_of s).steps ≤ (world_of s).limits.steps
+within_steps : (code : CodeProgram) (grants : Grants) (s : State) → Valid code grants s → is_still s ≡ false →
+    (world_of s).steps ≤ (world_of s).limits.steps
 within_steps code grants (Unbegun arguments p) valid e = absurd (cc)
 within_steps code grants (Ended ending phase p) valid e = absurd (cc)
 within_steps code grants (Stuck p) valid e = absurd (cc)
 within_steps code grants (Going phase frames p) valid e = valid.0.world.lawful.within.steps
 within_steps code grants (Pends phase pending frames p) valid e = valid.0.world.lawful.within.steps
 
-reached : (code : CodeProgram) (steps : ℕ) (old new : State) (P : State → Type 0) → ((count : ℕ) → P (moves code count old)) → Turns code steps old new → P new
+reached : (code : CodeProgram) (steps : ℕ) (old new : State) (P : State → Type 0) → ((count : ℕ) → P (moves code count old)) →
+    Turns code steps old new → P new
 reached code steps old new P all (inl turn) = subst P turn.is (all turn.count)
 reached code steps old new P all (inr turn) = subst P turn.is (all turn.count)
 
@@ -90,7 +92,8 @@ record Within (limits : Limits) (state : State) : Type 0 where
   limits_are : (world_of state).limits ≡ limits
   steps : is_still state ≡ false → (world_of state).steps < limits.steps + 1
 
-pub few_steps : (code : CodeProgram) → MovesGoOnward code → (grants : Grants) → MovesKeepValid code grants → (limits : Limits) (steps : ℕ) (old new : State)
+pub few_steps : (code : CodeProgram) → MovesGoOnward code → (grants : Grants) → MovesKeepValid code grants →
+    (limits : Limits) (steps : ℕ) (old new : State)
     → Valid code grants old → (world_of old).limits ≡ limits → Turns code steps old new → is_still new ≡ false → (world_of new).steps < limits.steps + 1
 few_steps code onward grants keeps limits steps old new valid is turns on = (reached code steps old new (Within limits) all turns).steps on
   where

@@ -18,7 +18,8 @@ any_both test (x ∷ xs) ys = ap (λ b. test x || b) (any_both test xs ys) ∙ o
   or_assoc true y z = refl
   or_assoc false y z = refl
 
-any_moved : (test : List ℕ → Bool) (xs : List (List ℕ)) (y : List ℕ) (ys : List (List ℕ)) → list_any test (xs ++ y ∷ ys) ≡ (test y || list_any test (xs ++ ys))
+any_moved : (test : List ℕ → Bool) (xs : List (List ℕ)) (y : List ℕ) (ys : List (List ℕ)) →
+    list_any test (xs ++ y ∷ ys) ≡ (test y || list_any test (xs ++ ys))
 any_moved test [] y ys = refl
 any_moved test (x ∷ xs) y ys = ap (λ b. test x || b) (any_moved test xs y ys) ∙ turned (test x) (test y) (list_any test (xs ++ ys)) where
   turned : (x y z : Bool) → (x || (y || z)) ≡ (y || (x || z))
@@ -27,7 +28,8 @@ any_moved test (x ∷ xs) y ys = ap (λ b. test x || b) (any_moved test xs y ys)
   turned false y z = refl
 
 -- an item that is none of the others, put among them
-differ_with : (xs : List (List ℕ)) (y : List ℕ) (ys : List (List ℕ)) → list_any (bytes_eq y) (xs ++ ys) ≡ false → are_different (xs ++ ys) ≡ true →
+differ_with : (xs : List (List ℕ)) (y : List ℕ) (ys : List (List ℕ)) → list_any (bytes_eq y) (xs ++ ys) ≡ false →
+    are_different (xs ++ ys) ≡ true →
     are_different (xs ++ y ∷ ys) ≡ true
 differ_with [] y ys none differ = and_is (list_any (bytes_eq y) ys) (are_different ys) none differ
 differ_with (x ∷ xs) y ys none differ =
@@ -91,7 +93,8 @@ pub differ_further : (xs ys : List (List ℕ)) → are_different (xs ++ ys) ≡ 
 differ_further [] ys h = h
 differ_further (x ∷ xs) ys h = differ_further xs ys (and_right (not (list_any (bytes_eq x) (xs ++ ys))) (are_different (xs ++ ys)) h)
 
-pub side_differs : (slots : List (List ℕ)) (other : Access) (members : p.Members) → are_different (slots ++ names_of (members_named other members)) ≡ true →
+pub side_differs : (slots : List (List ℕ)) (other : Access) (members : p.Members) →
+    are_different (slots ++ names_of (members_named other members)) ≡ true →
     are_different (slots ++ (nested_of members ++ methods_of members)) ≡ true
 side_differs slots other members h =
     differ_behind slots (names_of (members_named other members)) (nested_of members ++ methods_of members)

@@ -26,7 +26,8 @@ use Rattle.ns_link.proofs.Bodies.{clause_there, initialiser_there, side_there, c
 
 -- ---- names
 
-factory_takes : (factory : Option p.Pattern) → FactoryTakes factory → length (factory_params factory) ≡ text_arity (factory_selector factory)
+factory_takes : (factory : Option p.Pattern) → FactoryTakes factory →
+    length (factory_params factory) ≡ text_arity (factory_selector factory)
 factory_takes None h = refl
 factory_takes (Some (p.pattern_with parts params)) h = h
 
@@ -85,7 +86,8 @@ module _ (meant : m.Meant) where
             (sits_right meant.bodies methods_next sides methods others_methods (side_counted members inner side.Instance number methods_next) all_methods);
       }
 
-pub classes_name_what_is_there : (files : List (List ℕ)) (units : List p.SourceUnit) (marks : List (List Place)) → AreWholeUnits 0 units marks →
+pub classes_name_what_is_there : (files : List (List ℕ)) (units : List p.SourceUnit) (marks : List (List Place)) →
+    AreWholeUnits 0 units marks →
     (number : ℕ) (class : m.Declaration) → slice_get (meant_of files units marks).classes number ≡ Some class → NamesWhatIsThere (meant_of files units marks) number class
 classes_name_what_is_there files units marks whole number class here =
     let meant = meant_of files units marks in

@@ -66,7 +66,8 @@ module _ (names : List (List ℕ)) where
         skips_all args k (sends plain message (how_many args) ∷ does i.Pop ∷ messages_lines next more rest) ∙ skips_messages more next rest
 
 -- the superclass message of an initialiser
-begins : (names : List (List ℕ)) (k : ℕ) (init : m.Initialiser) → super_place (shown names (body_lines k (m.as_initialiser init))) ≡ Some init.place
+begins : (names : List (List ℕ)) (k : ℕ) (init : m.Initialiser) →
+    super_place (shown names (body_lines k (m.as_initialiser init))) ≡ Some init.place
 begins names k init =
     skips_all names init.arguments k
     (starts init.place (how_many init.arguments) ∷ slots_lines (k + length (nodes_texts init.arguments)) init.slots (expressions_lines init.expressions))

@@ -26,7 +26,8 @@ same_tables meant one = record {
   heads = bare_heads meant.bodies ∙ sym (ap (λ (code : CodeProgram). code.bodies) one);
 }
 
-pub over_tables : (meant : m.Meant) → ReturnsGoHome meant (code_of meant) → RunsEnd meant (code_of meant) → MeansTheSame meant (code_of meant) (tables meant) → RunsAsMeant meant
+pub over_tables : (meant : m.Meant) → ReturnsGoHome meant (code_of meant) → RunsEnd meant (code_of meant) →
+    MeansTheSame meant (code_of meant) (tables meant) → RunsAsMeant meant
 over_tables meant home end same first grants arguments limits =
     subst (EndsAs (code_of meant) (begins meant grants arguments limits)) (same.runs grants arguments limits)
     (runs_over_code meant home end first grants arguments limits)

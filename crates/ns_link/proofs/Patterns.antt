@@ -50,7 +50,8 @@ map_there f (Some a) h = tt
 abbrev turns : List Named → List Named → List Kind
 turns parts params = flat_map (λ x. part_before x.0.text ∷ ident x.1 ∷ []) (zip parts params)
 
-paired_keys : (parts params : List Named) → IsThere (paired parts params) → AllHaveText (turns parts params) → AreKeys parts × (length params ≡ length parts)
+paired_keys : (parts params : List Named) → IsThere (paired parts params) → AllHaveText (turns parts params) →
+    AreKeys parts × (length params ≡ length parts)
 paired_keys [] [] h texts = (tt, refl)
 paired_keys [] (param ∷ params) h texts = absurd h
 paired_keys (part ∷ parts) [] h texts = absurd h
@@ -64,7 +65,8 @@ paired_keys (part ∷ parts) (param ∷ params) h texts = by (starts_name part.t
       ((texts.0, rest.0), ap suc rest.1)
   by false further h texts = absurd h
 
-params_take : (parts : List Named) (param : Named) (params : List Named) → IsThere (params_form parts param params) → AllHaveText (turns parts (param ∷ params)) →
+params_take : (parts : List Named) (param : Named) (params : List Named) → IsThere (params_form parts param params) →
+    AllHaveText (turns parts (param ∷ params)) →
     length (param ∷ params) ≡ text_arity (flat_map (λ part. part.text) parts)
 params_take [] param params h texts = absurd h
 params_take (part ∷ parts) param params h texts = by (starts_name part.text) refl h texts where

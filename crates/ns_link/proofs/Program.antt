@@ -86,10 +86,12 @@ all_named [] table names all = all
 all_named (name ∷ others) table names all =
     all_named others (put_in table name) (All-tail IsName name others names) (put_named table name all (All-head IsName name others names))
 
-pub flat_all : {A : Type 0} → (P : List ℕ → Type 0) (f : A → List (List ℕ)) (items : List A) → ((n : ℕ) (item : A) → slice_get items n ≡ Some item → All P (f item)) →
+pub flat_all : {A : Type 0} → (P : List ℕ → Type 0) (f : A → List (List ℕ)) (items : List A) →
+    ((n : ℕ) (item : A) → slice_get items n ≡ Some item → All P (f item)) →
     All P (flat_map f items)
 flat_all P f [] h = All-nil P
-flat_all P f (item ∷ items) h = All-append P (f item) (flat_map f items) (h zero item refl) (flat_all P f items (λ n other e. h (suc n) other e))
+flat_all P f (item ∷ items) h =
+    All-append P (f item) (flat_map f items) (h zero item refl) (flat_all P f items (λ n other e. h (suc n) other e))
 
 pub got : {A : Type 0} → (P : A → Type 0) (items : List A) (n : ℕ) (item : A) → All P items → slice_get items n ≡ Some item → P item
 got P [] n item all e = absurd (let f : None ≡ Some item = e in cc)

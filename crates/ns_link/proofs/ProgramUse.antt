@@ -158,7 +158,8 @@ module _ (meant : m.Meant) where
       (sits_right meant.classes number count here behind (class_listed class (in_file places) number next) classes)
       (sits_right meant.bodies next bodies_count bodies_here bodies_behind counted bodies))
 
-pub bodies_use_what_is_there : (files : List (List ℕ)) (units : List p.SourceUnit) (marks : List (List Place)) → AreWholeUnits 0 units marks →
+pub bodies_use_what_is_there : (files : List (List ℕ)) (units : List p.SourceUnit) (marks : List (List Place)) →
+    AreWholeUnits 0 units marks →
     least (faults units marks) ≡ None → UseWhatIsThere (meant_of files units marks)
 bodies_use_what_is_there files units marks whole e number body here =
     let meant = meant_of files units marks in

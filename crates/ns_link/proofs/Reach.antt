@@ -31,7 +31,8 @@ use Rattle.ns_link.proofs.Differ.{if_none}
 abbrev FoundIn : {V : Type 0} → List (TableOf V) → List ℕ → ℕ × V → Type 0
 FoundIn {V} tables name found = (table : TableOf V) × (slice_get tables found.0 ≡ Some table) × (look_up table name ≡ Some found.1)
 
-found_in : {V : Type 0} → (tables : List (TableOf V)) (name : List ℕ) (found : ℕ × V) → innermost tables name ≡ Some found → FoundIn tables name found
+found_in : {V : Type 0} → (tables : List (TableOf V)) (name : List ℕ) (found : ℕ × V) → innermost tables name ≡ Some found →
+    FoundIn tables name found
 found_in [] name found e = absurd (let f : None ≡ Some found = e in cc)
 found_in {V} (table ∷ tables) name found e = by (look_up table name) refl (innermost tables name) refl (found_in tables name) e where
   by : (here : Option V) → look_up table name ≡ here → (outer : Option (ℕ × V)) → innermost tables name ≡ outer →
@@ -46,7 +47,8 @@ found_in {V} (table ∷ tables) name found e = by (look_up table name) refl (inn
       subst (λ (f : ℕ × V). FoundIn (table ∷ tables) name f) (same_Some (other.0 + 1, other.1) found e)
       (behind.0, subst (λ n. slice_get (table ∷ tables) n ≡ Some behind.0) z behind.1, behind.2)
 
-found_below : {V : Type 0} → (tables : List (TableOf V)) (name : List ℕ) (found : ℕ × V) → innermost tables name ≡ Some found → found.0 < length tables
+found_below : {V : Type 0} → (tables : List (TableOf V)) (name : List ℕ) (found : ℕ × V) → innermost tables name ≡ Some found →
+    found.0 < length tables
 found_below tables name found e =
     let in_table = found_in tables name found e in slice_get_within tables found.0 in_table.0 in_table.1
 
@@ -62,7 +64,8 @@ get_below (item ∷ items) zero h = (item, refl)
 get_below (item ∷ items) (suc k) h = get_below items k (omega (h, arith))
 
 -- a private member further out is one of instances
-private_further : (outer : List ClassScope) (level : ℕ) (name : List ℕ) → private_in (slice_get (map (λ (c : ClassScope). c.instance) outer) level) name ≡ true →
+private_further : (outer : List ClassScope) (level : ℕ) (name : List ℕ) →
+    private_in (slice_get (map (λ (c : ClassScope). c.instance) outer) level) name ≡ true →
     (scope : ClassScope) × (slice_get outer level ≡ Some scope) × (private_in (Some scope.instance) name ≡ true)
 private_further [] level name e = absurd (let f : false ≡ true = e in cc)
 private_further (class ∷ outer) zero name e = (class, refl, e)
@@ -76,7 +79,8 @@ side_further : (s : CodeSide) (level : ℕ) → side_at s (suc level) ≡ side.I
 side_further s level = let e : (suc level == 0) ≡ false = grind arith in ap (λ (b : Bool). if b then s else side.Instance) e
 
 -- a private member at a level is one of a declaration around, on the side that counts there
-private_level : (s : CodeSide) (classes : List ClassScope) (level : ℕ) (name : List ℕ) → private_in (slice_get (levels s classes) level) name ≡ true →
+private_level : (s : CodeSide) (classes : List ClassScope) (level : ℕ) (name : List ℕ) →
+    private_in (slice_get (levels s classes) level) name ≡ true →
     (scope : ClassScope) × (slice_get classes level ≡ Some scope) × (private_in (Some (own_members (side_at s level) scope)) name ≡ true)
 private_level s [] level name e = absurd (let f : false ≡ true = e in cc)
 private_level s (class ∷ outer) zero name e = (class, refl, e)
@@ -84,7 +88,8 @@ private_level s (class ∷ outer) (suc level) name e =
     let found = private_further outer level name e in
     (found.0, found.1, subst (λ (t : CodeSide). private_in (Some (own_members t found.0)) name ≡ true) (sym (side_further s level)) found.2)
 
-told : (meant : m.Meant) (scope : ClassScope) (declared : m.Declaration) → TellsPrivate meant scope declared → (name : List ℕ) (s : CodeSide) →
+told : (meant : m.Meant) (scope : ClassScope) (declared : m.Declaration) → TellsPrivate meant scope declared →
+    (name : List ℕ) (s : CodeSide) →
     private_in (Some (own_members s scope)) name ≡ true → list_any (bytes_eq name) (private_members meant s declared) ≡ true
 told meant scope declared tells name side.Instance e = tells.of_instances name e
 told meant scope declared tells name side.Class e = tells.of_class name e

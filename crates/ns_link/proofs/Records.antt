@@ -21,7 +21,8 @@ access_small a.Public = omega arith
 access_small a.Protected = omega arith
 access_small a.Private = omega arith
 
-outer_small : (number : ℕ) (class : m.Declaration) (outer : Option ℕ) → number < 4096 → StandsIn number class outer → ForSome outer (λ k. k < 2 ^ 32 - 1)
+outer_small : (number : ℕ) (class : m.Declaration) (outer : Option ℕ) → number < 4096 → StandsIn number class outer →
+    ForSome outer (λ k. k < 2 ^ 32 - 1)
 outer_small number class None few h = λ k e. absurd (let f : None ≡ Some k = e in cc)
 outer_small number class (Some outer) few h = λ k e. let same = same_Some outer k e in omega (few, h, same, arith)
 

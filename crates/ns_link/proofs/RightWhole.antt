@@ -6,7 +6,8 @@ use Rattle.ns_resolved.specs.There.{BlocksIn, IsThere}
 use Rattle.ns_link.specs.Reached.{IsThereButBlocks}
 use Rattle.ns_link.proofs.Merged.{does_merged}
 
-use_there : (meant : m.Meant) (number : ℕ) (body : m.Body) (used : Use) → IsThereButBlocks meant number body used → BlocksIn meant number used →
+use_there : (meant : m.Meant) (number : ℕ) (body : m.Body) (used : Use) → IsThereButBlocks meant number body used →
+    BlocksIn meant number used →
     IsThere meant number body used
 use_there meant number body (a_local hops index) p q = p
 use_there meant number body (a_level level) p q = p

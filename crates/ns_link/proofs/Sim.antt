@@ -59,7 +59,8 @@ CallOk code phase call =
     (c : Control) (fs : List Frame) → Lands code phase (arrived code phase c fs) (λ v _ p. delivered code phase v fs p) fs (call c (homes fs))
 
 abbrev pub PartOk : CodeProgram → Phase → PartCall → Type 0
-PartOk code phase part = (c : PartControl) (fs : List Frame) → Lands code phase (part_arrived code phase c fs) (λ _ _ p. Going phase fs p) fs (part c (homes fs))
+PartOk code phase part =
+    (c : PartControl) (fs : List Frame) → Lands code phase (part_arrived code phase c fs) (λ _ _ p. Going phase fs p) fs (part c (homes fs))
 
 -- the texts from a number on
 abbrev pub Texts : CodeProgram → ℕ → List (List ℕ) → Type 0

@@ -15,7 +15,8 @@ use Rattle.ns_gen_code.specs.Code.{bodies_code}
 use Rattle.ns_gen_code.specs.Sizes.{size_fault, most, is_too_long, is_too_high}
 use Rattle.ns_gen_code.specs.declared.size.SizeKind.TheVariants.{Names, Bodies, Code, Height}
 
-pub all_got : {A : Type 0} → (Is : A → Type 0) (items : List A) → ((n : ℕ) (item : A) → slice_get items n ≡ Some item → Is item) → All Is items
+pub all_got : {A : Type 0} → (Is : A → Type 0) (items : List A) → ((n : ℕ) (item : A) → slice_get items n ≡ Some item → Is item) →
+    All Is items
 all_got Is [] h = All-nil Is
 all_got Is (item ∷ items) h = All-cons Is item items (h zero item refl) (all_got Is items (λ n other e. h (suc n) other e))
 
@@ -36,7 +37,8 @@ pub record SizesAreWithin (code : CodeProgram) : Type 0 where
 not_below : (most n : ℕ) → nat_lt most n ≡ false → n ≤ most
 not_below most n e = grind (arith, e)
 
-none_has : {A : Type 0} → (has : A → Bool) (items : List A) (n : ℕ) (item : A) → list_any has items ≡ false → slice_get items n ≡ Some item → has item ≡ false
+none_has : {A : Type 0} → (has : A → Bool) (items : List A) (n : ℕ) (item : A) → list_any has items ≡ false →
+    slice_get items n ≡ Some item → has item ≡ false
 none_has has [] n item h e = absurd (let f : None ≡ Some item = e in cc)
 none_has has (first ∷ items) zero item h e = ap has (sym (same_Some first item e)) ∙ left_false (has first) (list_any has items) h where
   left_false : (a b : Bool) → (a || b) ≡ false → a ≡ false
@@ -47,7 +49,8 @@ none_has has (first ∷ items) (suc n) item h e = none_has has items n item (rig
   right_false true b f = absurd (let g : true ≡ false = f in cc)
   right_false false b f = f
 
-no_fault : (a b c d : Bool) → (if a then Some Names else if b then Some Bodies else if c then Some Code else if d then Some Height else None) ≡ None →
+no_fault : (a b c d : Bool) →
+    (if a then Some Names else if b then Some Bodies else if c then Some Code else if d then Some Height else None) ≡ None →
     (a ≡ false) × (b ≡ false) × (c ≡ false) × (d ≡ false)
 no_fault true b c d h = absurd (let f : Some Names ≡ None = h in cc)
 no_fault false true c d h = absurd (let f : Some Bodies ≡ None = h in cc)

@@ -148,7 +148,9 @@ unit_spelled (p.unit_with marker category class) tree =
     class_spelled (g.primary tree.depth) class [] tree.depth _ tree.given.1.1
     (texts_right (flat_category category) (flat_class class) (texts_right (flat_marker marker) (flat_category category ++ flat_class class) tree.told))
 
-pub units_spelled : (number : ℕ) (units : List p.SourceUnit) (marks : List (List Place)) → AreWholeUnits number units marks → EachUnit SpelledIn units
+pub units_spelled : (number : ℕ) (units : List p.SourceUnit) (marks : List (List Place)) → AreWholeUnits number units marks →
+    EachUnit SpelledIn units
 units_spelled number [] marks whole = tt
 units_spelled number (unit ∷ units) [] whole = absurd whole
-units_spelled number (unit ∷ units) (places ∷ marks) whole = (unit_spelled unit whole.0.tree, units_spelled (number + 1) units marks whole.1)
+units_spelled number (unit ∷ units) (places ∷ marks) whole =
+    (unit_spelled unit whole.0.tree, units_spelled (number + 1) units marks whole.1)

@@ -36,7 +36,8 @@ in_charged : (o : Option World) (progress : Progress) (go : Progress → After) 
 in_charged (Some world) progress go goes = goes (in_world progress world)
 in_charged None progress go goes = tt
 
-all_numbered : (cells : List Cell) (last : Value) (progress : Progress) → last ≡ Ref (cell_number last) → HasNumber (all_made cells last progress)
+all_numbered : (cells : List Cell) (last : Value) (progress : Progress) → last ≡ Ref (cell_number last) →
+    HasNumber (all_made cells last progress)
 all_numbered [] last progress e = e
 all_numbered (cell ∷ cells) last progress e =
     in_charged (made progress.world cell) progress (all_made cells (Ref (heap_size progress.world.cells)))
@@ -74,7 +75,8 @@ module _ (meant : Meant) (home : ReturnsGoHome meant (code_of meant)) where
       subst (λ place. EndsAs code (waiting_at place number progress) (opened_after meant code (Gives (Ref number) progress))) (sym same)
       (whole meant home number progress same ends)) ends
 
-pub runs_over_code : (meant : Meant) → ReturnsGoHome meant (code_of meant) → RunsEnd meant (code_of meant) → HasFirst meant → (grants : Grants) (arguments : List (List ℕ)) (limits : Limits)
+pub runs_over_code : (meant : Meant) → ReturnsGoHome meant (code_of meant) → RunsEnd meant (code_of meant) → HasFirst meant →
+    (grants : Grants) (arguments : List (List ℕ)) (limits : Limits)
     → EndsAs (code_of meant) (begins meant grants arguments limits) (ran meant (code_of meant) grants arguments limits)
 runs_over_code meant home end first grants arguments limits =
     let code = code_of meant in

@@ -86,7 +86,8 @@ hidden_moved P Q moved (d ∷ rest) all = (λ e. moved d.name (all.0 e), hidden_
 abbrev Below : ℕ → List ℕ → Local → Type 0
 Below most name local = local.index < most
 
-numbered_below : (settings : List (Named × Setting)) (index most : ℕ) → index + length settings ≤ most → AllAre (Below most) (numbered index settings)
+numbered_below : (settings : List (Named × Setting)) (index most : ℕ) → index + length settings ≤ most →
+    AllAre (Below most) (numbered index settings)
 numbered_below [] index most h = tt
 numbered_below (setting ∷ settings) index most h = (omega (h, arith), numbered_below settings (index + 1) most (omega (h, arith)))
 
@@ -94,7 +95,8 @@ pub numbered_length : (index : ℕ) (settings : List (Named × Setting)) → len
 numbered_length index [] = refl
 numbered_length index (setting ∷ settings) = let f = numbered_length (index + 1) settings in omega (f, arith)
 
-pub has_locals : (params : List Named) (bars : p.Bars) (body : m.Body) → body.locals ≡ local_names params bars → length (local_names params bars) < 2 ^ 8 →
+pub has_locals : (params : List Named) (bars : p.Bars) (body : m.Body) → body.locals ≡ local_names params bars →
+    length (local_names params bars) < 2 ^ 8 →
     HasLocals (table_of (locals_of params bars)) body
 has_locals params bars body e few =
     let settings = param_settings params ++ bars_settings bars in

@@ -147,7 +147,8 @@ module _ (order : (node : m.Node) → TextsInOrder node) where
       omega (few, same, arith)
 
 -- what all bodies have where each has few
-pub few_in_all : (bodies : List m.Body) (most : ℕ) → ((n : ℕ) (body : m.Body) → slice_get bodies n ≡ Some body → length (body_texts body) ≤ 65535) →
+pub few_in_all : (bodies : List m.Body) (most : ℕ) →
+    ((n : ℕ) (body : m.Body) → slice_get bodies n ≡ Some body → length (body_texts body) ≤ 65535) →
     length bodies ≤ most → length (flat_map body_texts bodies) ≤ 65535 * most
 few_in_all [] most h few = omega arith
 few_in_all (body ∷ bodies) zero h few = absurd (omega (few, arith))

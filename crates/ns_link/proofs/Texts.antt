@@ -31,7 +31,8 @@ keys_colons (key ∷ keys) h =
     ∙ omega arith
 
 -- the selector of some keys takes one argument for each
-pub keys_arity : (key : Named) (keys : List Named) → AreKeys (key ∷ keys) → text_arity (flat_map (λ key. key.text) (key ∷ keys)) ≡ length (key ∷ keys)
+pub keys_arity : (key : Named) (keys : List Named) → AreKeys (key ∷ keys) →
+    text_arity (flat_map (λ key. key.text) (key ∷ keys)) ≡ length (key ∷ keys)
 keys_arity key keys h =
     starts_arity (flat_map (λ key. key.text) (key ∷ keys)) (starts_left key.text (flat_map (λ key. key.text) keys) (key_starts key.text h.0))
     ∙ keys_colons (key ∷ keys) h

@@ -37,7 +37,8 @@ lawful_texts (kind ∷ rest) depth h = (h.0, lawful_texts rest (open_behind dept
 -- a source in which no bracket opens too deep
 pub lawful_source : (tokens : List Kind) (depth at : ℕ) → AllHaveText tokens → deep_from depth at tokens ≡ None → Lawful depth tokens
 lawful_source [] depth at texts e = tt
-lawful_source (kind ∷ rest) depth at texts e = by (opens kind && nat_le most_brackets depth) (lawful_source rest (open_behind depth kind) (at + 1) texts.1) e where
+lawful_source (kind ∷ rest) depth at texts e =
+    by (opens kind && nat_le most_brackets depth) (lawful_source rest (open_behind depth kind) (at + 1) texts.1) e where
   by : (deep : Bool) → (deep_from (open_behind depth kind) (at + 1) rest ≡ None → Lawful (open_behind depth kind) rest) →
       (if deep then Some at else deep_from (open_behind depth kind) (at + 1) rest) ≡ None →
       HasText kind × (deep ≡ false) × Lawful (open_behind depth kind) rest

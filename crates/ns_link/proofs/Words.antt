@@ -29,10 +29,12 @@ or_right false y h = h
 -- ---- how selectors are spelled
 
 identifier_spelled : (text : List ℕ) → is_identifier text ≡ true → is_selector text ≡ true
-identifier_spelled text h = or_left (is_identifier text || is_operator text) (is_keyword text) (or_left (is_identifier text) (is_operator text) h)
+identifier_spelled text h =
+    or_left (is_identifier text || is_operator text) (is_keyword text) (or_left (is_identifier text) (is_operator text) h)
 
 operator_spelled : (text : List ℕ) → is_operator text ≡ true → is_selector text ≡ true
-operator_spelled text h = or_left (is_identifier text || is_operator text) (is_keyword text) (or_right (is_identifier text) (is_operator text) h)
+operator_spelled text h =
+    or_left (is_identifier text || is_operator text) (is_keyword text) (or_right (is_identifier text) (is_operator text) h)
 
 keyword_spelled : (text : List ℕ) → is_keyword text ≡ true → is_selector text ≡ true
 keyword_spelled text h = or_right (is_identifier text || is_operator text) (is_keyword text) h
@@ -56,7 +58,8 @@ no_colon byte h = by (byte == 58) refl where
   by true e = absurd (let f : goes_on_name 58 ≡ true = subst (λ b. goes_on_name b ≡ true) (eqb-true byte 58 e) h in let g : false ≡ true = f in cc)
 
 -- the rest of a name and a colon before other keys
-keys_go_on : (bytes rest : List ℕ) → list_all goes_on_name bytes ≡ true → are_keys false rest ≡ true → are_keys true (bytes ++ 58 ∷ rest) ≡ true
+keys_go_on : (bytes rest : List ℕ) → list_all goes_on_name bytes ≡ true → are_keys false rest ≡ true →
+    are_keys true (bytes ++ 58 ∷ rest) ≡ true
 keys_go_on [] rest h r = r
 keys_go_on (byte ∷ bytes) rest h r =
     let one = and_left (goes_on_name byte) (list_all goes_on_name bytes) h in

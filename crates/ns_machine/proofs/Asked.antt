@@ -1,6 +1,6 @@
 -- Names and their numbers; and what may be asked may be begun.
 use Rattle.std.proofs.Common.{◌≡◌, ℕ, zero, suc, ◌+◌, ◌-◌, ◌<◌, ◌≤◌, ◌⊎◌, inl, inr, List, [], ◌∷◌, length, refl, ap, sym, ◌∙◌, arith}
-use Rattle.std.proofs.Common.{Bool, true, false, cond, nat_lt, Option, Some, None, SomeIff, IfSome, Contains, subst}
+use Rattle.std.proofs.Common.{Bool, true, false, cond, Option, Some, None, SomeIff, IfSome, Contains, subst}
 use Rattle.std.proofs.lemmas.Bool.{lt-ltb}
 use Rattle.std.proofs.lemmas.List.{get_or_default}
 use Rattle.std.proofs.lemmas.Slice.Eq.{bytes_eq-Decides}
@@ -8,11 +8,11 @@ use Rattle.std.specs.List.{slice_index_or}
 use Rattle.std.specs.Str.{bytes_eq}
 use Rattle.ns_base.specs.declared.selector.Sel.{Sel}
 use Rattle.ns_code.specs.declared.program.CodeProgram.{CodeProgram}
-use Rattle.ns_code.specs.Selector.{own_text_at, selector_text, text_arity, selector_arity, is_selector_number, name_number}
+use Rattle.ns_code.specs.Selector.{own_text_at, selector_text, text_arity, is_selector_number, name_number}
 use Rattle.ns_world.specs.declared.value.Value.{Value}
-use Rattle.ns_machine_moves.specs.State.{State, world_of}
+use Rattle.ns_machine_moves.specs.State.{State}
 use Rattle.ns_machine_moves.specs.Beginning.{MayBegin}
-use Rattle.ns_machine.specs.Asking.{named, HasSelector, MayAsk}
+use Rattle.ns_machine.specs.Asking.{named, MayAsk}
 
 -- ---- names
 
@@ -44,7 +44,8 @@ found (name ∷ names) first text other = tested (bytes_eq name text) refl (foun
     tested false t (inr is) = inr is
 
 -- the number of a text that stands at a place is none behind it
-before : (names : List (List ℕ)) (first place : ℕ) (text : List ℕ) (other : ℕ) → place < length names → slice_index_or names place text ≡ text
+before : (names : List (List ℕ)) (first place : ℕ) (text : List ℕ) (other : ℕ) → place < length names →
+    slice_index_or names place text ≡ text
     → name_number names first text other ≤ first + place
 before [] first place text other inside is = absurd (omega (arith, inside))
 before (name ∷ names) first zero text other inside is =
@@ -81,7 +82,8 @@ has_number names text has = omega (arith, before names 0 has.0 text (length name
 
 -- ---- selectors
 
-text_of_number : (code : CodeProgram) (number : ℕ) → number < length code.names → selector_text code number ≡ slice_index_or code.names number []
+text_of_number : (code : CodeProgram) (number : ℕ) → number < length code.names →
+    selector_text code number ≡ slice_index_or code.names number []
 text_of_number code number inside =
     ap (λ b. cond b (slice_index_or code.names number []) (own_text_at (number - length code.names))) (lt-ltb number (length code.names) inside)
 

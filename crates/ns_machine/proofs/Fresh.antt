@@ -8,4 +8,5 @@ use Rattle.ns_find.specs.Memo.{IsEmpty, PlaceIsRight}
 
 -- nothing that is kept is right
 pub none_right : (heap : Heap) (code : CodeProgram) (places : List (Option Kept)) → All IsEmpty places → All (PlaceIsRight heap code) places
-none_right heap code places none = All-weaker IsEmpty (PlaceIsRight heap code) (λ place is. subst (PlaceIsRight heap code) (sym is) tt) places none
+none_right heap code places none =
+    All-weaker IsEmpty (PlaceIsRight heap code) (λ place is. subst (PlaceIsRight heap code) (sym is) tt) places none

@@ -11,7 +11,8 @@ use Rattle.ns_machine_moves.specs.State.{Phase, State, Unbegun, Going, Pends, En
 use Rattle.ns_machine_moves.specs.State as state
 use Rattle.ns_machine_moves.specs.Valid.{EndIsValid, Valid}
 
-pub live_ending : (code : CodeProgram) (grants : Grants) (ending : Ending) (phase : Phase) (p : Progress) → EndIsValid code grants ending phase p
+pub live_ending : (code : CodeProgram) (grants : Grants) (ending : Ending) (phase : Phase) (p : Progress) →
+    EndIsValid code grants ending phase p
     → IsLiveEnding p.world.cells code ending
 live_ending code grants (Done value) state.Start p valid = absurd valid
 live_ending code grants (Done value) (state.First arguments) p valid = absurd valid
@@ -21,7 +22,8 @@ live_ending code grants (Error error) phase p valid = tt
 live_ending code grants (Limit limit) phase p valid = tt
 
 -- what a valid state ended with is live there
-pub live_at : (code : CodeProgram) (grants : Grants) (ending : Ending) (state : State) → Valid code grants state → ending_of state ≡ Some ending
+pub live_at : (code : CodeProgram) (grants : Grants) (ending : Ending) (state : State) → Valid code grants state →
+    ending_of state ≡ Some ending
     → IsLiveEnding (world_of state).cells code ending
 live_at code grants ending (Unbegun arguments p) valid ends = absurd (cc)
 live_at code grants ending (Going phase frames p) valid ends = absurd (cc)

@@ -35,7 +35,8 @@ pub on_over : (code : CodeProgram) (body next : ℕ) (step : Step) → IsStepAt 
 on_over code body next step is none =
     ap super_place is.shown ∙ passed_over (places_of code) (super_place (steps_from code body (next + 1))) step none
 
-pub found_here : (code : CodeProgram) (body next : ℕ) (step : Step) (number : ℕ) → IsStepAt code body next step → super_number step ≡ Some number
+pub found_here : (code : CodeProgram) (body next : ℕ) (step : Step) (number : ℕ) → IsStepAt code body next step →
+    super_number step ≡ Some number
     → super_place (steps_from code body next) ≡ slice_get (places_of code) number
 found_here code body next step number is found =
     ap super_place is.shown ∙ is_found (places_of code) (super_place (steps_from code body (next + 1))) number step found

@@ -68,7 +68,8 @@ spent code onward stay zero s = omega arith
 spent code onward stay (suc count) s = spent_more code onward stay count s (spent code onward stay count (move code s))
 
 -- a turn after which the run goes on has taken all of its steps
-all_taken : (code : CodeProgram) → MovesGoOnward code → ((s : State) → StaysStill code s) → (steps : ℕ) (old new : State) → Turned code steps old new
+all_taken : (code : CodeProgram) → MovesGoOnward code → ((s : State) → StaysStill code s) → (steps : ℕ) (old new : State) →
+    Turned code steps old new
     → steps + (world_of old).steps ≤ (world_of new).steps
 all_taken code onward stay steps old new turned =
     let all = spent code onward stay turned.count old in
@@ -87,7 +88,8 @@ all_taken code onward stay steps old new turned =
 -- ---- machines
 
 -- what a run can't have: it is ready, goes on, and took a step more than the limit
-pub must_end : (code : CodeProgram) (grants : Grants) → MovesGoOnward code → ((s : State) → StaysStill code s) → (old new : Core) (from n : Next) (steps : ℕ)
+pub must_end : (code : CodeProgram) (grants : Grants) → MovesGoOnward code → ((s : State) → StaysStill code s) →
+    (old new : Core) (from n : Next) (steps : ℕ)
     → MachineIsReady code grants old from → MachineIsReady code grants new n → KeepsRooms old new → steps ≡ min (old.run.world.world.limits.steps + 1) 18446744073709551615
     → Turns code steps (shown code old from) (shown code new n) → is_still (shown code new n) ≡ false → ⊥
 must_end code grants onward stay old new from n steps before after stays is (inl turned) going =

@@ -114,7 +114,8 @@ stage_swapped code core board (stage.Begun (next.On at)) = refl
 stage_swapped code core board (stage.Begun (next.Waits at)) = waiting_swapped code core board core.waiting at
 stage_swapped code core board (stage.Begun next.Ended) = refl
 
-stand_swapped : (code : CodeProgram) (core : Core) (board : Board) (stage : Stage) → StandIn code core stage → StandIn code (with_board_of core board) stage
+stand_swapped : (code : CodeProgram) (core : Core) (board : Board) (stage : Stage) → StandIn code core stage →
+    StandIn code (with_board_of core board) stage
 stand_swapped code core board (stage.Unbegun arguments) stand = tt
 stand_swapped code core board (stage.Begun (next.On at)) stand = stand
 stand_swapped code core board (stage.Begun (next.Waits at)) stand = stand

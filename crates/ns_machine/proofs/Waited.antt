@@ -27,7 +27,8 @@ none_shown : (code : CodeProgram) (places : List SourcePlace) (frames : List Fra
     → frames_shown code places (standing (at_next next frames) values) ≡ []
 none_shown code places frames next values none = ap (λ (f : List Frame). frames_shown code places (standing (at_next next f) values)) none
 
-none_within : (code : CodeProgram) (filled : ℕ) (frames : List Frame) → frames ≡ [] → FramesFitWithin (height_in code) (greatest_of code.bodies) filled frames
+none_within : (code : CodeProgram) (filled : ℕ) (frames : List Frame) → frames ≡ [] →
+    FramesFitWithin (height_in code) (greatest_of code.bodies) filled frames
 none_within code filled frames none = subst (FramesFitWithin (height_in code) (greatest_of code.bodies) filled) (sym none) tt
 
 none_standing : (code : CodeProgram) (stack : Stack) (at : Registers) (top : ℕ) → stack.frames.items ≡ [] → IsLaid stack at → top ≤ at.top

@@ -21,7 +21,8 @@ use Rattle.ns_machine_alike.proofs.There.{roots_reached}
 use Rattle.ns_machine_reach.specs.laws.Holding.{all_in_from}
 
 -- of two alike cells each may receive a send, or neither
-receiver_alike : (pairs : Renaming) (one two : Cell) → AlikeCell pairs one two → is_receiver_cell (Some one) ≡ true → is_receiver_cell (Some two) ≡ true
+receiver_alike : (pairs : Renaming) (one two : Cell) → AlikeCell pairs one two → is_receiver_cell (Some one) ≡ true →
+    is_receiver_cell (Some two) ≡ true
 receiver_alike pairs (ObjectCell class entries) (ObjectCell class' entries') c e = refl
 receiver_alike pairs (ClassCell decl base encl holder over) (ClassCell decl' base' encl' holder' over') c e = refl
 receiver_alike pairs (BlockCell body env home receiver holder) (BlockCell body' env' home' receiver' holder') c e = refl
@@ -65,7 +66,9 @@ same_count pairs [] (other ∷ partners) c = absurd c
 same_count pairs (value ∷ values) [] c = absurd c
 
 -- A host may make the alike send of an idle machine.
-pub may_begin_too : (code : CodeProgram) (pairs : Renaming) (receiver other : Value) (sel : Sel) (arguments others : List Value) (first second : State) → MayBegin code receiver sel arguments first → IsTrue (is_idle second)
+pub may_begin_too :
+    (code : CodeProgram) (pairs : Renaming) (receiver other : Value) (sel : Sel) (arguments others : List Value) (first second : State) →
+    MayBegin code receiver sel arguments first → IsTrue (is_idle second)
     → Alike pairs (world_of first) (world_of second) (receiver ∷ arguments) (other ∷ others) → MayBegin code other sel others second
 may_begin_too code pairs receiver other sel arguments others first second may idle alike =
     let reached = all_in_from (InReach (world_of first).cells (all_referred (receiver ∷ arguments))) (receiver ∷ arguments) (roots_reached (world_of first).cells (all_referred (receiver ∷ arguments))) in

@@ -46,10 +46,13 @@ some_if true false x y e = absurd (cc (e))
 some_if false true x y e = absurd (cc (e))
 
 pub made_is : (world : World) (cell : Cell) (new : World) → made world cell ≡ Some new → new ≡ record world { cells = cell ∷ world.cells }
-made_is world cell new e = one_world (nat_le (heap_size world.cells + cell_size cell) world.limits.cells) (record world { cells = cell ∷ world.cells }) new e
+made_is world cell new e =
+    one_world (nat_le (heap_size world.cells + cell_size cell) world.limits.cells) (record world { cells = cell ∷ world.cells }) new e
 
-pub made_fits : (world : World) (cell : Cell) (new : World) → made world cell ≡ Some new → nat_le (heap_size world.cells + cell_size cell) world.limits.cells ≡ true
-made_fits world cell new e = tested (nat_le (heap_size world.cells + cell_size cell) world.limits.cells) (record world { cells = cell ∷ world.cells }) new e
+pub made_fits : (world : World) (cell : Cell) (new : World) → made world cell ≡ Some new →
+    nat_le (heap_size world.cells + cell_size cell) world.limits.cells ≡ true
+made_fits world cell new e =
+    tested (nat_le (heap_size world.cells + cell_size cell) world.limits.cells) (record world { cells = cell ∷ world.cells }) new e
 
 pub stepped_is : (world new : World) → stepped world ≡ Some new → new ≡ record world { steps = world.steps + 1 }
 stepped_is world new e = one_world (nat_lt world.steps world.limits.steps) (record world { steps = world.steps + 1 }) new e
@@ -57,11 +60,15 @@ stepped_is world new e = one_world (nat_lt world.steps world.limits.steps) (reco
 pub entered_is : (world new : World) → entered world ≡ Some new → new ≡ record world { depth = world.depth + 1 }
 entered_is world new e = one_world (nat_lt world.depth world.limits.depth) (record world { depth = world.depth + 1 }) new e
 
-pub printed_is : (world new : World) (bytes : List ℕ) → printed world bytes ≡ Some new → new ≡ record world { output = world.output ++ bytes }
-printed_is world new bytes e = one_world (nat_le (length world.output + length bytes) world.limits.out) (record world { output = world.output ++ bytes }) new e
+pub printed_is : (world new : World) (bytes : List ℕ) → printed world bytes ≡ Some new →
+    new ≡ record world { output = world.output ++ bytes }
+printed_is world new bytes e =
+    one_world (nat_le (length world.output + length bytes) world.limits.out) (record world { output = world.output ++ bytes }) new e
 
-printed_fits : (world new : World) (bytes : List ℕ) → printed world bytes ≡ Some new → nat_le (length world.output + length bytes) world.limits.out ≡ true
-printed_fits world new bytes e = tested (nat_le (length world.output + length bytes) world.limits.out) (record world { output = world.output ++ bytes }) new e
+printed_fits : (world new : World) (bytes : List ℕ) → printed world bytes ≡ Some new →
+    nat_le (length world.output + length bytes) world.limits.out ≡ true
+printed_fits world new bytes e =
+    tested (nat_le (length world.output + length bytes) world.limits.out) (record world { output = world.output ++ bytes }) new e
 
 -- ---- tests of counters
 
@@ -72,7 +79,8 @@ same_bool true false f g = absurd (let x = f refl in cc)
 same_bool false true f g = absurd (let x = g refl in cc)
 
 pub same_lt : (a b c d : ℕ) → b - a ≡ d - c → nat_lt a b ≡ nat_lt c d
-same_lt a b c d e = same_bool (nat_lt a b) (nat_lt c d) (λ t. lt-ltb c d (let x = ltb-true a b t in omega arith)) (λ t. lt-ltb a b (let x = ltb-true c d t in omega arith))
+same_lt a b c d e =
+    same_bool (nat_lt a b) (nat_lt c d) (λ t. lt-ltb c d (let x = ltb-true a b t in omega arith)) (λ t. lt-ltb a b (let x = ltb-true c d t in omega arith))
 
 pub same_le : (a z b c d : ℕ) → b - a ≡ d - c → 1 ≤ z → nat_le (a + z) b ≡ nat_le (c + z) d
 same_le a z b c d e h =
@@ -83,7 +91,8 @@ same_le_within a z b c d e h k =
     same_bool (nat_le (a + z) b) (nat_le (c + z) d) (λ t. le-leb (c + z) d (let x = leb-true (a + z) b t in omega arith)) (λ t. le-leb (a + z) b (let x = leb-true (c + z) d t in omega arith))
 
 -- a fault ends both with the same
-pub faulted : (Pair : ℕ → ℕ → Type 0) (fault : Fault) (site site' : Site) → site ≡ site' → EndingPaired Pair (fault_ending fault site) (fault_ending fault site')
+pub faulted : (Pair : ℕ → ℕ → Type 0) (fault : Fault) (site site' : Site) → site ≡ site' →
+    EndingPaired Pair (fault_ending fault site) (fault_ending fault site')
 faulted Pair (fault.Kind kind) site site' e = ap (λ s. record { kind = kind; place = s.place; class = s.class; sel = s.sel }) e
 faulted Pair (fault.Limit limit) site site' e = refl
 

@@ -21,8 +21,10 @@ use Rattle.ns_machine_alike.proofs.Values.{cond_so, at_index}
 use Rattle.ns_machine_alike.proofs.Charging.{faulted}
 
 -- a fault and its site
-pub same_fault : (Pair : ℕ → ℕ → Type 0) (one two : Fault) (site site' : Site) → one ≡ two → site ≡ site' → EndingPaired Pair (fault_ending one site) (fault_ending two site')
-same_fault Pair one two site site' e s = subst (λ f. EndingPaired Pair (fault_ending one site) (fault_ending f site')) e (faulted Pair one site site' s)
+pub same_fault : (Pair : ℕ → ℕ → Type 0) (one two : Fault) (site site' : Site) → one ≡ two → site ≡ site' →
+    EndingPaired Pair (fault_ending one site) (fault_ending two site')
+same_fault Pair one two site site' e s =
+    subst (λ f. EndingPaired Pair (fault_ending one site) (fault_ending f site')) e (faulted Pair one site site' s)
 
 module _ (Pair : ℕ → ℕ → Type 0) where
   -- two answers are paired, or the same fault

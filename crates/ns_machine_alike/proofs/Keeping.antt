@@ -48,7 +48,8 @@ found_written heap at word value n = by (n == at) refl (find_cell heap at) refl
     by false t o f = (writing_leaves heap at word value).others n (λ q. let x : (n == at) ≡ true = eq-eqb n at q in absurd (cc))
 
 -- a facet is no other cell's written form
-pub facet_word : (cell : Cell) (word : ℕ) (value : Value) (kind : FacetKind) → with_word cell word value ≡ FacetCell kind → cell ≡ FacetCell kind
+pub facet_word : (cell : Cell) (word : ℕ) (value : Value) (kind : FacetKind) → with_word cell word value ≡ FacetCell kind →
+    cell ≡ FacetCell kind
 facet_word (ObjectCell class entries) word value kind e = absurd (cc (e))
 facet_word (ClassCell decl base encl holder over) word value kind e = e
 facet_word (BlockCell body env home receiver holder) word value kind e = e
@@ -68,12 +69,14 @@ set_itself (newest ∷ earlier) at cell e = by (eqb at (heap_size earlier)) e (s
     by false f below = ap (λ cs. newest ∷ cs) (below f)
 
 -- a word of Manifest that is written changes no cell
-pub manifest_unwritten : (heap : Heap) (word : ℕ) (value : Value) → find_cell heap 0 ≡ Some (FacetCell Manifest) → write_word heap 0 word value ≡ heap
+pub manifest_unwritten : (heap : Heap) (word : ℕ) (value : Value) → find_cell heap 0 ≡ Some (FacetCell Manifest) →
+    write_word heap 0 word value ≡ heap
 manifest_unwritten heap word value e =
     let after : write_word heap 0 word value ≡ set_cell heap 0 (FacetCell Manifest) = rw e refl in
     after ∙ set_itself heap 0 (FacetCell Manifest) e
 
-manifest_written : (heap : Heap) (at word : ℕ) (value : Value) → find_cell heap 0 ≡ Some (FacetCell Manifest) → find_cell (write_word heap at word value) 0 ≡ Some (FacetCell Manifest)
+manifest_written : (heap : Heap) (at word : ℕ) (value : Value) → find_cell heap 0 ≡ Some (FacetCell Manifest) →
+    find_cell (write_word heap at word value) 0 ≡ Some (FacetCell Manifest)
 manifest_written heap at word value e = by (eqb 0 at) refl
   where
     by : (b : Bool) → eqb 0 at ≡ b → find_cell (write_word heap at word value) 0 ≡ Some (FacetCell Manifest)

@@ -52,7 +52,8 @@ each_right P (x ∷ xs) ys all = each_right P xs ys all.1
 
 each_reverse : (P : Cell → Type 0) (xs : List Cell) → Each P xs → Each P (reverse xs)
 each_reverse P [] all = tt
-each_reverse P (x ∷ xs) all = subst (Each P) (sym (reverse-append (x ∷ []) xs)) (each_append P (reverse xs) (x ∷ []) (each_reverse P xs all.1) (all.0, tt))
+each_reverse P (x ∷ xs) all =
+    subst (Each P) (sym (reverse-append (x ∷ []) xs)) (each_append P (reverse xs) (x ∷ []) (each_reverse P xs all.1) (all.0, tt))
 
 each_found : (P : Cell → Type 0) (heap : Heap) (n : ℕ) (cell : Cell) → Each P heap → find_cell heap n ≡ Some cell → P cell
 each_found P [] n cell all e = absurd (cc (e))
@@ -93,7 +94,8 @@ none_passes test (newest ∷ earlier) e = by (none_passes test earlier) (first_s
 
 older_first : (test : Cell → Bool) (newer older : Heap) (n : ℕ) → first_such test older ≡ Some n → first_such test (newer ++ older) ≡ Some n
 older_first test [] older n e = e
-older_first test (newest ∷ newer) older n e = ap (λ o. earlier_or o (cond (test newest) (Some (heap_size (newer ++ older))) None)) (older_first test newer older n e)
+older_first test (newest ∷ newer) older n e =
+    ap (λ o. earlier_or o (cond (test newest) (Some (heap_size (newer ++ older))) None)) (older_first test newer older n e)
 
 older_found : (newer older : Heap) (n : ℕ) (cell : Cell) → find_cell older n ≡ Some cell → find_cell (newer ++ older) n ≡ Some cell
 older_found [] older n cell e = e
@@ -122,14 +124,17 @@ all_facets decl grants =
 
 top_of : (decl : ℕ) (outer : Option ℕ) (number : ℕ) → Each (IsIt decl) (top_if outer number)
 top_of decl (Some outer) number = tt
-top_of decl None number = (λ e. let same : decl ≡ number = eqb-true decl number (both_of (decl == number) true e).0 in subst (λ k. module_cell k ≡ module_cell decl) same refl, tt)
+top_of decl None number =
+    (λ e. let same : decl ≡ number = eqb-true decl number (both_of (decl == number) true e).0 in subst (λ k. module_cell k ≡ module_cell decl) same refl, tt)
 
 all_tops : (decl number : ℕ) (classes : List ClassCode) → Each (IsIt decl) (tops_of number classes)
 all_tops decl number [] = tt
-all_tops decl number (class ∷ classes) = each_append (IsIt decl) (top_if class.outer number) (tops_of (number + 1) classes) (top_of decl class.outer number) (all_tops decl (number + 1) classes)
+all_tops decl number (class ∷ classes) =
+    each_append (IsIt decl) (top_if class.outer number) (tops_of (number + 1) classes) (top_of decl class.outer number) (all_tops decl (number + 1) classes)
 
 -- each top-level declaration has one
-tops_fail : (number : ℕ) (classes : List ClassCode) (k : ℕ) (class : ClassCode) → slice_get classes k ≡ Some class → class.outer ≡ None → Each (λ cell. is_top (number + k) cell ≡ false) (tops_of number classes) → ⊥
+tops_fail : (number : ℕ) (classes : List ClassCode) (k : ℕ) (class : ClassCode) → slice_get classes k ≡ Some class → class.outer ≡ None →
+    Each (λ cell. is_top (number + k) cell ≡ false) (tops_of number classes) → ⊥
 tops_fail number [] k class e top fails = absurd (cc (e))
 tops_fail number (first ∷ classes) zero class e top fails =
     let is : first ≡ class = cc (e) in
@@ -169,7 +174,8 @@ nil_only (Sym sel) e = absurd (cc (e))
 nil_only (Kernel class) e = absurd (cc (e))
 nil_only (Ref at) e = absurd (cc (e))
 
-top_level : (world : World) (code : CodeProgram) (decl number : ℕ) (cell : Cell) → IsLawful world code → find_cell world.cells number ≡ Some cell → is_top decl cell ≡ true → IsTopLevel code decl
+top_level : (world : World) (code : CodeProgram) (decl number : ℕ) (cell : Cell) → IsLawful world code →
+    find_cell world.cells number ≡ Some cell → is_top decl cell ≡ true → IsTopLevel code decl
 top_level world code decl number (ClassCell other base encl holder over) lawful e t =
     let both = both_of (decl == other) (is_nil encl) t in
     let l : ClassIsLawful world.cells code number other base encl holder = lawful.cells number (ClassCell other base encl holder over) e in
@@ -192,7 +198,8 @@ top_level world code decl number (MirrorCell mirrored) lawful e t = absurd (cc (
 top_level world code decl number (MessageCell sel args) lawful e t = absurd (cc (t))
 
 -- What Manifest holds for a declaration is the class that was made at the start.
-module_is : (code : CodeProgram) (grants : Grants) (world : World) (decl number : ℕ) → IsLawful world code → BeginsWith (standing_cells code grants) world.cells → first_such (is_top decl) world.cells ≡ Some number
+module_is : (code : CodeProgram) (grants : Grants) (world : World) (decl number : ℕ) → IsLawful world code →
+    BeginsWith (standing_cells code grants) world.cells → first_such (is_top decl) world.cells ≡ Some number
     → find_cell world.cells number ≡ Some (module_cell decl)
 module_is code grants world decl number lawful begins e = by (first_such (is_top decl) (reverse standing)) refl
   where
@@ -295,7 +302,8 @@ modules_are code grants grants' decl number other first second valid valid' idle
     let two = idle_world code grants' second valid' idle' in
     modules_alike decl number other first second (module_is code grants (world_of first) decl number one.world.lawful one.world.begins holds) (module_is code grants' (world_of second) decl other two.world.lawful two.world.begins holds') left
 
-pub modules_come : (code : CodeProgram) (grants grants' : Grants) → SendsAreAlike code grants grants' → ModulesComeToTheSame code grants grants'
+pub modules_come : (code : CodeProgram) (grants grants' : Grants) → SendsAreAlike code grants grants' →
+    ModulesComeToTheSame code grants grants'
 modules_come code grants grants' sends decl number other sel arguments count first second valid valid' may idle holds holds' left plain =
     let alike = modules_are code grants grants' decl number other first second valid valid' may.idle idle holds holds' left in
     sends ((number, other) ∷ []) (Ref number) (Ref other) sel arguments arguments count first second valid valid' may idle (plain_alike ((number, other) ∷ []) (Ref number) (Ref other) arguments first second plain alike)
@@ -303,12 +311,14 @@ modules_come code grants grants' sends decl number other sel arguments count fir
 -- ---- modules touch nothing else
 
 -- what a send to a module names
-begun_roots : (number : ℕ) (sel : Sel) (arguments : List Value) (idle : State) → is_idle idle ≡ true → ArePlain arguments → roots_of (begun (Ref number) sel arguments idle) ≡ number ∷ []
+begun_roots : (number : ℕ) (sel : Sel) (arguments : List Value) (idle : State) → is_idle idle ≡ true → ArePlain arguments →
+    roots_of (begun (Ref number) sel arguments idle) ≡ number ∷ []
 begun_roots number sel arguments idle e plain =
     let begins : begun (Ref number) sel arguments idle ≡ Pends Hosted (Sending (Ref number) sel arguments (site_at (world_of idle).cells None (Ref number) sel)) [] (progress_of idle) = rw e refl in
     ap roots_of begins ∙ ap (λ ns. number ∷ (ns ++ [])) (plain_referred arguments plain)
 
-begun_progress : (number : ℕ) (sel : Sel) (arguments : List Value) (idle : State) → is_idle idle ≡ true → progress_of (begun (Ref number) sel arguments idle) ≡ progress_of idle
+begun_progress : (number : ℕ) (sel : Sel) (arguments : List Value) (idle : State) → is_idle idle ≡ true →
+    progress_of (begun (Ref number) sel arguments idle) ≡ progress_of idle
 begun_progress number sel arguments idle e = rw e refl
 
 -- a module's class alone has no facet
@@ -318,7 +328,8 @@ lacks kind heap n decl e k r f =
     let both : Some (FacetCell kind) ≡ Some (module_cell decl) = sym f ∙ (ap (find_cell heap) same ∙ e) in
     cc (both)
 
-touches : (number decl : ℕ) (idle start after : State) → progress_of start ≡ progress_of idle → roots_of start ≡ number ∷ [] → find_cell (world_of idle).cells number ≡ Some (module_cell decl) → StaysInReach start after → TouchesOnly number idle after
+touches : (number decl : ℕ) (idle start after : State) → progress_of start ≡ progress_of idle → roots_of start ≡ number ∷ [] →
+    find_cell (world_of idle).cells number ≡ Some (module_cell decl) → StaysInReach start after → TouchesOnly number idle after
 touches number decl idle start after same roots is stays =
     let world : world_of start ≡ world_of idle = ap (λ (p : Progress). p.world) same in
     let here : find_cell (world_of start).cells number ≡ Some (module_cell decl) = ap (λ (w : World). find_cell w.cells number) world ∙ is in

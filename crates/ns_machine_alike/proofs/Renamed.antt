@@ -116,7 +116,8 @@ module _ (pairs : Renaming) (from other : ℕ) where
       by false e false f s go = shifted (from + k, other + k) (heap_size earlier, other + (heap_size earlier - from)) (all earlier) (go s)
 
 -- It goes on so.
-pub renames_on : (pairs : Renaming) (one two : World) (firsts seconds : List Value) (now : Heap) → Alike pairs one two firsts seconds → heap_size one.cells ≤ heap_size now
+pub renames_on : (pairs : Renaming) (one two : World) (firsts seconds : List Value) (now : Heap) → Alike pairs one two firsts seconds →
+    heap_size one.cells ≤ heap_size now
     → RenamesOn pairs (renamed_on pairs one two now) one two (all_referred firsts) (all_referred seconds) now
 renames_on pairs one two firsts seconds now alike h = record {
   once_first = once_first pairs (heap_size one.cells) (heap_size two.cells) now alike.once_first h;

@@ -39,12 +39,14 @@ small_homes bound (Running (Loud FromMethod) activation locals rest stack ∷ fr
     let parts = both_of (nat_lt activation.home bound) (homes_fall activation.home frames) e in
     let less = ltb-true activation.home bound parts.0 in (omega (arith, less, small), small_homes activation.home frames (omega (arith, less, small)) parts.1)
 small_homes bound (Running (Loud FromBody) activation locals rest stack ∷ frames) small e = (tt, small_homes bound frames small e)
-small_homes bound (Running (Loud (FromClause object holder class)) activation locals rest stack ∷ frames) small e = (tt, small_homes bound frames small e)
+small_homes bound (Running (Loud (FromClause object holder class)) activation locals rest stack ∷ frames) small e =
+    (tt, small_homes bound frames small e)
 small_homes bound (Running Silent activation locals rest stack ∷ frames) small e = (tt, small_homes bound frames small e)
 small_homes bound (Looping method state site ∷ frames) small e = small_homes bound frames small e
 
 -- homes that are paired are the homes of methods in both, or in neither
-same_home : (own other mine yours home partner : ℕ) → BeganAlike own other mine yours → HomePaired own other home partner → mine < no_home → yours < no_home → (mine == home) ≡ (yours == partner)
+same_home : (own other mine yours home partner : ℕ) → BeganAlike own other mine yours → HomePaired own other home partner → mine < no_home →
+    yours < no_home → (mine == home) ≡ (yours == partner)
 same_home own other mine yours home partner b (Began c) small small' =
     same_bool (mine == home) (yours == partner) (λ t. eq-eqb yours partner (let e = eqb-true mine home t in omega (arith, e, b.one, b.two, c.one, c.two)))
     (λ t. eq-eqb mine home (let e = eqb-true yours partner t in omega (arith, e, b.one, b.two, c.one, c.two)))

@@ -38,7 +38,8 @@ pub record IdleWorld (code : CodeProgram) (grants : Grants) (progress : Progress
   pub world : WorldIsValid code (standing_cells code grants) progress
   pub depth : progress.world.depth ≡ 0
 
-pub idle_world : (code : CodeProgram) (grants : Grants) (state : State) → Valid code grants state → is_idle state ≡ true → IdleWorld code grants (progress_of state)
+pub idle_world : (code : CodeProgram) (grants : Grants) (state : State) → Valid code grants state → is_idle state ≡ true →
+    IdleWorld code grants (progress_of state)
 idle_world code grants (Unbegun arguments progress) valid e = record { world = valid.0; depth = valid.2 }
 idle_world code grants (Ended (Done value) Start progress) valid e = absurd valid
 idle_world code grants (Ended (Done value) (First arguments) progress) valid e = absurd valid
@@ -60,13 +61,15 @@ manifest_first heap cell rest e =
     ap (λ h. find_cell h 0) whole ∙ last_found (reverse rest) cell
 
 -- the first cell of a run is Manifest
-pub manifest_is : (code : CodeProgram) (grants : Grants) (heap : Heap) → BeginsWith (standing_cells code grants) heap → find_cell heap 0 ≡ Some (FacetCell Manifest)
+pub manifest_is : (code : CodeProgram) (grants : Grants) (heap : Heap) → BeginsWith (standing_cells code grants) heap →
+    find_cell heap 0 ≡ Some (FacetCell Manifest)
 manifest_is code grants heap begins =
     let n : ℕ = length (standing_cells code grants) in
     let whole : reverse heap ≡ standing_cells code grants ++ drop n (reverse heap) = sym (take-append-drop n (reverse heap)) ∙ ap (λ cells. cells ++ drop n (reverse heap)) begins.start in
     manifest_first heap (FacetCell Manifest) _ whole
 
-pub send_pairing : (code : CodeProgram) (grants grants' : Grants) (pairs : Renaming) (firsts seconds : List Value) (first second : State) → Valid code grants first → Valid code grants' second → is_idle first ≡ true → is_idle second ≡ true
+pub send_pairing : (code : CodeProgram) (grants grants' : Grants) (pairs : Renaming) (firsts seconds : List Value) (first second : State) →
+    Valid code grants first → Valid code grants' second → is_idle first ≡ true → is_idle second ≡ true
     → Alike pairs (world_of first) (world_of second) firsts seconds
     → IsPairing (SendPair pairs (world_of first) (world_of second) (all_referred firsts) (all_referred seconds)) (world_of first) (world_of second)
 send_pairing code grants grants' pairs firsts seconds first second valid valid' idle idle' alike =

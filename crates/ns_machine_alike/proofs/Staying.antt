@@ -123,7 +123,8 @@ module _ (Pair : ℕ → ℕ → Type 0) (first second : Progress) (pairing : Is
 -- ---- valid states that a send of a host leads to
 
 -- its world is valid
-hosted_end : (code : CodeProgram) (grants : Grants) (ending : Ending) (now : Progress) → EndIsValid code grants ending Hosted now → WorldIsValid code (standing_cells code grants) now × EndingIsValid code ending now
+hosted_end : (code : CodeProgram) (grants : Grants) (ending : Ending) (now : Progress) → EndIsValid code grants ending Hosted now →
+    WorldIsValid code (standing_cells code grants) now × EndingIsValid code ending now
 hosted_end code grants (Done value) now v = v
 hosted_end code grants (Error error) now v = v
 hosted_end code grants (Limit Steps) now v = v
@@ -139,24 +140,30 @@ pub record HostedWorld (code : CodeProgram) (grants : Grants) (state : State) : 
   pub world : WorldIsValid code (standing_cells code grants) (progress_of state)
   pub done : DoneLive code state
 
-done_there : (code : CodeProgram) (ending : Ending) (now : Progress) → EndingIsValid code ending now → AllThere now.world.cells (ended_with ending)
+done_there : (code : CodeProgram) (ending : Ending) (now : Progress) → EndingIsValid code ending now →
+    AllThere now.world.cells (ended_with ending)
 done_there code (Done value) now v = (live_there now.world.cells code value v.0.0, tt)
 done_there code (Error error) now v = tt
 done_there code (Limit limit) now v = tt
 
-hosted_ended : (code : CodeProgram) (grants : Grants) (ending : Ending) (phase : Phase) (now : Progress) → phase ≡ Hosted → EndIsValid code grants ending phase now → HostedWorld code grants (Ended ending phase now)
+hosted_ended : (code : CodeProgram) (grants : Grants) (ending : Ending) (phase : Phase) (now : Progress) → phase ≡ Hosted →
+    EndIsValid code grants ending phase now → HostedWorld code grants (Ended ending phase now)
 hosted_ended code grants ending phase now e v =
     let both = hosted_end code grants ending now (subst (λ f. EndIsValid code grants ending f now) e v) in
     record { world = both.0; done = done_there code ending now both.1 }
 
-phase_is : (Pair : ℕ → ℕ → Type 0) (first second : Progress) (phase phase' : Phase) → PhasePaired Pair first second phase phase' → (phase ≡ Hosted) × (phase' ≡ Hosted)
+phase_is : (Pair : ℕ → ℕ → Type 0) (first second : Progress) (phase phase' : Phase) → PhasePaired Pair first second phase phase' →
+    (phase ≡ Hosted) × (phase' ≡ Hosted)
 phase_is Pair first second Hosted Hosted p = (refl, refl)
 phase_is Pair first second phase phase' p = absurd p
 
-hosted_worlds : (Pair : ℕ → ℕ → Type 0) (first second : Progress) (code : CodeProgram) (grants grants' : Grants) (one two : State) → Valid code grants one → Valid code grants' two → StatePaired Pair first second one two
+hosted_worlds : (Pair : ℕ → ℕ → Type 0) (first second : Progress) (code : CodeProgram) (grants grants' : Grants) (one two : State) →
+    Valid code grants one → Valid code grants' two → StatePaired Pair first second one two
     → HostedWorld code grants one × HostedWorld code grants' two
-hosted_worlds Pair first second code grants grants' (Going phase frames one) (Going phase' frames' two) valid valid' p = (record { world = valid.0.world; done = tt }, record { world = valid'.0.world; done = tt })
-hosted_worlds Pair first second code grants grants' (Pends phase pending frames one) (Pends phase' pending' frames' two) valid valid' p = (record { world = valid.0.world; done = tt }, record { world = valid'.0.world; done = tt })
+hosted_worlds Pair first second code grants grants' (Going phase frames one) (Going phase' frames' two) valid valid' p =
+    (record { world = valid.0.world; done = tt }, record { world = valid'.0.world; done = tt })
+hosted_worlds Pair first second code grants grants' (Pends phase pending frames one) (Pends phase' pending' frames' two) valid valid' p =
+    (record { world = valid.0.world; done = tt }, record { world = valid'.0.world; done = tt })
 hosted_worlds Pair first second code grants grants' (Ended ending phase one) (Ended ending' phase' two) valid valid' p =
     let both = phase_is Pair first second phase phase' p.1 in
     (hosted_ended code grants ending phase one both.0 valid, hosted_ended code grants' ending' phase' two both.1 valid')
@@ -379,7 +386,8 @@ module _ (code : CodeProgram) (grants grants' : Grants) (pairs : Renaming) (firs
 -- ---- the law
 
 -- as many steps were charged
-same_use : (Pair : ℕ → ℕ → Type 0) (first second one two : Progress) → Abreast Pair first second one two → first.world.limits.steps - first.world.steps ≡ second.world.limits.steps - second.world.steps
+same_use : (Pair : ℕ → ℕ → Type 0) (first second one two : Progress) → Abreast Pair first second one two →
+    first.world.limits.steps - first.world.steps ≡ second.world.limits.steps - second.world.steps
     → first.world.steps ≤ first.world.limits.steps → second.world.steps ≤ second.world.limits.steps → one.world.steps ≤ one.world.limits.steps → two.world.steps ≤ two.world.limits.steps
     → one.world.steps + second.world.steps ≡ two.world.steps + first.world.steps
 same_use Pair first second one two a left within within' now now' =
@@ -423,18 +431,21 @@ sends_alike code grants grants' laws laws' pairs receiver other sel arguments ot
     }
 
 -- what a send leads to, it leads to in each alike state
-pub come_to_the_same : (code : CodeProgram) (grants grants' : Grants) → SendsAreAlike code grants grants' → SendsComeToTheSame code grants grants'
+pub come_to_the_same : (code : CodeProgram) (grants grants' : Grants) → SendsAreAlike code grants grants' →
+    SendsComeToTheSame code grants grants'
 come_to_the_same code grants grants' alike receiver sel arguments count first valid may pairs other others second valid' idle states =
     (moves code count (begun other sel others second), record { count = count; is = refl }, alike pairs receiver other sel arguments others count first second valid valid' may idle states)
 
 -- two runs from one state that move no more have come to one state
-still_one : (code : CodeProgram) (start : State) → MovesAdd code start → ((state : State) → StaysStill code state) → (a b : ℕ) → is_still (moves code a start) ≡ true → is_still (moves code b start) ≡ true
+still_one : (code : CodeProgram) (start : State) → MovesAdd code start → ((state : State) → StaysStill code state) → (a b : ℕ) →
+    is_still (moves code a start) ≡ true → is_still (moves code b start) ≡ true
     → moves code a start ≡ moves code b start
 still_one code start adds stays a b still still' =
     let same : a + b ≡ b + a = omega arith in
     sym (stays (moves code a start) b still) ∙ (sym (adds a b) ∙ (ap (λ k. moves code k start) same ∙ (adds b a ∙ stays (moves code b start) a still')))
 
-pub ended_alike : (code : CodeProgram) (grants grants' : Grants) → SendsAreAlike code grants grants' → ((state : State) → MovesAdd code state) → ((state : State) → StaysStill code state) → EndedSendsAreAlike code grants grants'
+pub ended_alike : (code : CodeProgram) (grants grants' : Grants) → SendsAreAlike code grants grants' →
+    ((state : State) → MovesAdd code state) → ((state : State) → StaysStill code state) → EndedSendsAreAlike code grants grants'
 ended_alike code grants grants' alike adds stays pairs receiver other sel arguments others first second one two valid valid' may idle states leads leads' still still' =
     let start = begun receiver sel arguments first in
     let start' = begun other sel others second in

@@ -40,7 +40,8 @@ no_class_out : (heap : Heap) (roots : List ℕ) → heap_size heap ≤ no_class 
 no_class_out heap roots small some = absurd (omega (arith, there_below heap no_class some))
 
 -- what a reached cell holds is reached, as far as it is there
-pub reach_cell : (heap : Heap) (roots : List ℕ) (n : ℕ) (cell : Cell) → heap_size heap ≤ no_class → IsInReach heap roots n → find_cell heap n ≡ Some cell → CellIn (InReach heap roots) heap cell
+pub reach_cell : (heap : Heap) (roots : List ℕ) (n : ℕ) (cell : Cell) → heap_size heap ≤ no_class → IsInReach heap roots n →
+    find_cell heap n ≡ Some cell → CellIn (InReach heap roots) heap cell
 reach_cell heap roots n cell small reached e =
     cell_from (InReach heap roots) heap cell (no_class_out heap roots small) (each_has (InReach heap roots) (held heap cell) (λ m among some. IsHeld n m cell reached e among some))
 
@@ -123,7 +124,8 @@ holder_there heap (Int number) holder h = tt
 holder_there heap (Sym sel) holder h = tt
 holder_there heap (Kernel class) holder h = tt
 
-enclosing_there : (heap : Heap) (code : CodeProgram) (outer : Option ℕ) (encl holder : Value) → HasEnclosing heap code outer encl holder → CellIsThere heap encl × CellIsThere heap holder
+enclosing_there : (heap : Heap) (code : CodeProgram) (outer : Option ℕ) (encl holder : Value) → HasEnclosing heap code outer encl holder →
+    CellIsThere heap encl × CellIsThere heap holder
 enclosing_there heap code None encl holder h = (subst (CellIsThere heap) (sym h.0) tt, subst (CellIsThere heap) (sym h.1) tt)
 enclosing_there heap code (Some outer) encl (Ref holder) h = (holder_there heap encl holder h.0, class_there heap holder h.1)
 enclosing_there heap code (Some outer) encl Nil h = absurd h
@@ -153,9 +155,11 @@ body_side code number body fits e =
     let has : BodyFits code body = subst (BodyFits code) (get_or_from_slice_get code.bodies number body body e) (fits.bodies number body within) in
     has.side
 
-body_self_there : (heap : Heap) (code : CodeProgram) (number : ℕ) (body : BodyCode) (self : Value) (holder : ℕ) → Fits code → slice_get code.bodies number ≡ Some body → FitsBody heap code body self holder
+body_self_there : (heap : Heap) (code : CodeProgram) (number : ℕ) (body : BodyCode) (self : Value) (holder : ℕ) → Fits code →
+    slice_get code.bodies number ≡ Some body → FitsBody heap code body self holder
     → CellIsThere heap self × IsSome (find_cell heap holder)
-body_self_there heap code number body (Ref at) holder fits e f = (sided body.side refl (body_side code number body fits e), class_there heap holder f.0)
+body_self_there heap code number body (Ref at) holder fits e f =
+    (sided body.side refl (body_side code number body fits e), class_there heap holder f.0)
   where
     sided : (side : ℕ) → body.side ≡ side → side ≤ 1 → IsSome (find_cell heap at)
     sided zero s h = object_there heap at (f.2 s).1
@@ -168,7 +172,8 @@ body_self_there heap code number body (Int n) holder fits e f = absurd f
 body_self_there heap code number body (Sym sel) holder fits e f = absurd f
 body_self_there heap code number body (Kernel class) holder fits e f = absurd f
 
-body_env_there : (depth : ℕ) (heap : Heap) (code : CodeProgram) (parent : Option ℕ) (env : Value) → FitsEnvironment depth heap code parent env → CellIsThere heap env
+body_env_there : (depth : ℕ) (heap : Heap) (code : CodeProgram) (parent : Option ℕ) (env : Value) →
+    FitsEnvironment depth heap code parent env → CellIsThere heap env
 body_env_there depth heap code None env f = subst (CellIsThere heap) (sym f) tt
 body_env_there zero heap code (Some body) env f = absurd f
 body_env_there (suc depth) heap code (Some body) (Ref at) f = by (find_cell heap at) f.1
@@ -183,7 +188,8 @@ body_env_there (suc depth) heap code (Some body) (Int n) f = tt
 body_env_there (suc depth) heap code (Some body) (Sym sel) f = tt
 body_env_there (suc depth) heap code (Some body) (Kernel class) f = tt
 
-block_there : (heap : Heap) (code : CodeProgram) (number : ℕ) (env receiver : Value) (holder : ℕ) → Fits code → BlockIsLawful heap code number env receiver holder → CellIsThere heap env × CellIsThere heap receiver × ClassThere heap holder
+block_there : (heap : Heap) (code : CodeProgram) (number : ℕ) (env receiver : Value) (holder : ℕ) → Fits code →
+    BlockIsLawful heap code number env receiver holder → CellIsThere heap env × CellIsThere heap receiver × ClassThere heap holder
 block_there heap code number env receiver holder fits block = by (slice_get code.bodies number) refl block.declared
   where
     by : (o : Option BodyCode) → slice_get code.bodies number ≡ o → IsSome o → CellIsThere heap env × CellIsThere heap receiver × ClassThere heap holder
@@ -205,7 +211,8 @@ message_there heap code sel (Int n) h = tt
 message_there heap code sel (Sym name) h = tt
 message_there heap code sel (Kernel class) h = tt
 
-pub cell_there : (world : World) (code : CodeProgram) (number : ℕ) (cell : Cell) → IsLawful world code → find_cell world.cells number ≡ Some cell → CellThere world.cells cell
+pub cell_there : (world : World) (code : CodeProgram) (number : ℕ) (cell : Cell) → IsLawful world code →
+    find_cell world.cells number ≡ Some cell → CellThere world.cells cell
 cell_there world code number (ObjectCell class entries) lawful e =
     let l : CellIsLawful world.cells code number (ObjectCell class entries) = lawful.cells number (ObjectCell class entries) e in
     (by (class_or_none (is_class (find_cell world.cells class)) (class == no_class) l.0.class_is), all_live_there world.cells code entries l.1)
@@ -221,7 +228,8 @@ cell_there world code number (ClassCell decl base encl holder over) lawful e =
     by : (o : Option ClassCode) → slice_get code.classes decl ≡ o → ClassIsLawful world.cells code number decl base encl holder → CellIsThere world.cells encl × CellIsThere world.cells holder
     by None q l = absurd (let s : is_some (slice_get code.classes decl) ≡ true = l.declared in let n : is_some (slice_get code.classes decl) ≡ false = ap is_some q in cc)
     by (Some class) q l = enclosing_there world.cells code class.outer encl holder (l.enclosing class q)
-cell_there world code number (BlockCell body env home receiver holder) lawful e = block_there world.cells code body env receiver holder lawful.fits (lawful.cells number (BlockCell body env home receiver holder) e)
+cell_there world code number (BlockCell body env home receiver holder) lawful e =
+    block_there world.cells code body env receiver holder lawful.fits (lawful.cells number (BlockCell body env home receiver holder) e)
 cell_there world code number (EnvironmentCell parent locals) lawful e =
     let l : CellIsLawful world.cells code number (EnvironmentCell parent locals) = lawful.cells number (EnvironmentCell parent locals) e in
     (environment_or_nil world.cells parent l.0, all_live_there world.cells code locals l.1)
@@ -230,7 +238,8 @@ cell_there world code number (TextCell bytes) lawful e = tt
 cell_there world code number (FacetCell kind) lawful e = tt
 cell_there world code number (MirrorCell mirrored) lawful e =
     let l : CellIsLawful world.cells code number (MirrorCell mirrored) = lawful.cells number (MirrorCell mirrored) e in live_there world.cells code mirrored l.0
-cell_there world code number (MessageCell sel args) lawful e = message_there world.cells code sel args (lawful.cells number (MessageCell sel args) e)
+cell_there world code number (MessageCell sel args) lawful e =
+    message_there world.cells code sel args (lawful.cells number (MessageCell sel args) e)
 
 -- a first cell is there
 pub first_there : (test : Cell → Bool) (heap : Heap) (n : ℕ) → first_such test heap ≡ Some n → IsSome (find_cell heap n)

@@ -132,13 +132,15 @@ module _ (code : CodeProgram) (adds : (state : State) → MovesAdd code state) (
 -- ---- the laws
 
 -- the same turns lead to one state
-leads_one : (code : CodeProgram) (turns : List ℕ) (start one two : State) → TurnsLeaveOne code → TurnsLead code turns start one → TurnsLead code turns start two → one ≡ two
+leads_one : (code : CodeProgram) (turns : List ℕ) (start one two : State) → TurnsLeaveOne code → TurnsLead code turns start one →
+    TurnsLead code turns start two → one ≡ two
 leads_one code [] start one two only e f = sym e ∙ f
 leads_one code (steps ∷ earlier) start one two only (between, leads, turn) (between', leads', turn') =
     let same = leads_one code earlier start between between' only leads leads' in
     only steps between one two turn (subst (λ s. Turns code steps s two) (sym same) turn')
 
-pub turns_to_the_same : (code : CodeProgram) (grants grants' : Grants) → SendsAreAlike code grants grants' → RenamingsGoOn → ((state : State) → MovesAdd code state) → TurnsComeToTheSame code grants grants'
+pub turns_to_the_same : (code : CodeProgram) (grants grants' : Grants) → SendsAreAlike code grants grants' → RenamingsGoOn →
+    ((state : State) → MovesAdd code state) → TurnsComeToTheSame code grants grants'
 turns_to_the_same code grants grants' sends renamings adds receiver sel arguments turns first one under pairs other others second valid idle alike =
     let runs : (count : ℕ) → RunsAlike pairs (receiver ∷ arguments) (other ∷ others) first second (moves code count (begun receiver sel arguments first)) (moves code count (begun other sel others second))
     = λ count. sends pairs receiver other sel arguments others count first second under.valid valid under.may idle alike in
@@ -149,12 +151,14 @@ turns_to_the_same code grants grants' sends renamings adds receiver sel argument
       subst (λ s. RunsAlike pairs (receiver ∷ arguments) (other ∷ others) first second s two) too.is (runs too.count),
     )
 
-pub turns_alike : (code : CodeProgram) (grants grants' : Grants) → TurnsComeToTheSame code grants grants' → TurnsLeaveOne code → TurnsAreAlike code grants grants'
+pub turns_alike : (code : CodeProgram) (grants grants' : Grants) → TurnsComeToTheSame code grants grants' → TurnsLeaveOne code →
+    TurnsAreAlike code grants grants'
 turns_alike code grants grants' comes only pairs receiver other sel arguments others turns first second one two under under' alike =
     let too = comes receiver sel arguments turns first one under pairs other others second under'.valid under'.may.idle alike in
     subst (λ s. RunsAlike pairs (receiver ∷ arguments) (other ∷ others) first second one s) (leads_one code turns (begun other sel others second) too.0 two only too.1.leads under'.leads) too.2
 
-pub turns_go_on : (code : CodeProgram) (grants : Grants) → ((grants' : Grants) → TurnsComeToTheSame code grants grants') → TurnsGoOnAlike code grants
+pub turns_go_on : (code : CodeProgram) (grants : Grants) → ((grants' : Grants) → TurnsComeToTheSame code grants grants') →
+    TurnsGoOnAlike code grants
 turns_go_on code grants comes steps old new turn receiver sel arguments turns idle under =
     let on : SendIsUnderway code grants receiver sel arguments idle (steps ∷ turns) new = record { valid = under.valid; may = under.may; leads = (old, under.leads, turn) } in
     (on, λ grants'. comes grants' receiver sel arguments (steps ∷ turns) idle new on)

@@ -14,7 +14,8 @@ use Rattle.ns_machine_alike.specs.Paired.{Paired, Partners, Same, AllPaired, Cel
 -- ---- tests
 
 -- Two choices by the same test are related where their parts are.
-pub cond_so : {A B : Type 0} (P : A → B → Type 0) (b c : Bool) (x y : A) (x' y' : B) → b ≡ c → (b ≡ true → P x x') → (b ≡ false → P y y') → P (cond b x y) (cond c x' y')
+pub cond_so : {A B : Type 0} (P : A → B → Type 0) (b c : Bool) (x y : A) (x' y' : B) → b ≡ c → (b ≡ true → P x x') → (b ≡ false → P y y') →
+    P (cond b x y) (cond c x' y')
 cond_so P true true x y x' y' e then other = then refl
 cond_so P false false x y x' y' e then other = other refl
 cond_so P true false x y x' y' e then other = absurd (cc (e))

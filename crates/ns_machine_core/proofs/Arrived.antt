@@ -39,7 +39,8 @@ use Rattle.ns_machine_core.specs.laws.Sizes.{size_fits, frame_floor, frame_base,
 
 -- ---- methods of the kernel
 
-pub method_begins : (code : CodeProgram) (core : Core) (at to : Registers) (stack : Stack) (looping : LoopingFrame) → CanBegin code core at looping.floor looping.floor
+pub method_begins : (code : CodeProgram) (core : Core) (at to : Registers) (stack : Stack) (looping : LoopingFrame) →
+    CanBegin code core at looping.floor looping.floor
     → stood stack to ≡ Loops looping ∷ stood core.stack (with_top looping.floor at) → IsLaid stack to
     → stack.frames.items ≡ Looping looping ∷ at_next at.next core.stack.frames.items → stack.values ≡ core.stack.values
     → stack.frames.room ≡ core.stack.frames.room
@@ -104,7 +105,8 @@ entered_by bodies_begin entering code core at to stack call exit entered told sa
 
 -- ---- what waits
 
-pub block_waits : (code : CodeProgram) (core : Core) (at : Registers) (block : Value) (site : KeptSite) (floor first : ℕ) → AreStanding code core.stack at
+pub block_waits : (code : CodeProgram) (core : Core) (at : Registers) (block : Value) (site : KeptSite) (floor first : ℕ) →
+    AreStanding code core.stack at
     → ArgumentsWait code core.stack at floor first
     → Arrives code core at floor (reached_shown code (site_shown core.places site) (drop first (in_use core.stack at)) (reached.Evaluates block given.Listed) (progress_in core))
     (record core { waiting = pending.Evaluating block site floor first }) (next.Waits at)
@@ -116,7 +118,8 @@ block_waits code core at block site floor first stands waits = record {
 }
 
 -- The same with the arguments that are kept.
-pub block_waits_kept : (code : CodeProgram) (core : Core) (at : Registers) (block : Value) (site : KeptSite) (floor : ℕ) → AreStanding code core.stack at
+pub block_waits_kept : (code : CodeProgram) (core : Core) (at : Registers) (block : Value) (site : KeptSite) (floor : ℕ) →
+    AreStanding code core.stack at
     → ArgumentsWait code core.stack at floor floor
     → Arrives code core at floor (reached_shown code (site_shown core.places site) core.arguments.items (reached.Evaluates block given.Listed) (progress_in core))
     (record core { waiting = pending.EvaluatingKept block site floor }) (next.Waits at)

@@ -35,7 +35,8 @@ pub lawful_there : (code : CodeProgram) (core : Core) (at : Registers) (instr : 
     → core.stack.frames.items ≡ Running running ∷ below core.stack.frames.items → IsLawful core.run.world.world code
 lawful_there code core at instr running can top = (finds_in code core at instr running can top).lawful
 
-pub declared_there : (code : CodeProgram) (core : Core) (at : Registers) (level : ℕ) (running : RunningFrame) → CanDo code core at (instr.PushOuter level)
+pub declared_there : (code : CodeProgram) (core : Core) (at : Registers) (level : ℕ) (running : RunningFrame) →
+    CanDo code core at (instr.PushOuter level)
     → core.stack.frames.items ≡ Running running ∷ below core.stack.frames.items → IsSome (declaration_at code (running_of running.activation).body level)
 declared_there code core at level running can top = by_body (slice_get code.bodies running.activation.body) refl finds.fits.there
   where

@@ -56,7 +56,8 @@ given_count there count given.Listed e = e
 given_count there count (given.Message at) e = refl
 given_count there count (given.Items at) e = e
 
-arguments_count : (stack : Stack) (at : Registers) (call : Call) → IsLaid stack at → length (arguments_of call stack at) ≡ at.top - call.first
+arguments_count : (stack : Stack) (at : Registers) (call : Call) → IsLaid stack at →
+    length (arguments_of call stack at) ≡ at.top - call.first
 arguments_count stack at call laid =
     length-drop call.first (take at.top stack.values.items) ∙ ap (λ (n : ℕ). n - call.first) (length-take-le at.top stack.values.items laid.filled)
 

@@ -22,7 +22,8 @@ use Rattle.ns_act.specs.Locals.{HasEnvironments, LocalIsReadable}
 -- ---- one environment
 
 -- the cell of an environment
-environment_cell : (o : Option Cell) → IsSome (environment_in o) → (parent : Value) × (locals : List Value) × (o ≡ Some (EnvironmentCell parent locals))
+environment_cell : (o : Option Cell) → IsSome (environment_in o) →
+    (parent : Value) × (locals : List Value) × (o ≡ Some (EnvironmentCell parent locals))
 environment_cell (Some (EnvironmentCell parent locals)) some = (parent, locals, refl)
 environment_cell None some = absurd (cc)
 environment_cell (Some (ObjectCell class entries)) some = absurd (cc)
@@ -166,7 +167,8 @@ module _ (heap : Heap) (code : CodeProgram) (activation : Activation) (index : �
   local_outside hops fits named = record { way = λ beside. (away hops fits named beside).0; inside = λ beside. (away hops fits named beside).1 }
 
 -- one of a body without an environment is among those beside it
-pub local_beside : (code : CodeProgram) (activation : Activation) (hops index : ℕ) (locals : List Value) → length locals ≡ locals_beside code activation.body
+pub local_beside : (code : CodeProgram) (activation : Activation) (hops index : ℕ) (locals : List Value) →
+    length locals ≡ locals_beside code activation.body
     → NamesLocal code activation.body hops index → is_beside code activation hops ≡ true → index < length locals
 local_beside code activation zero index locals many (out, holder, is, there, small) beside =
     let same : activation.body ≡ out = cc in

@@ -133,7 +133,8 @@ module _ (code : CodeProgram) (known : HeightsKnown code) (sound : IsSound code)
           rooms (awaited_below code (frame_shown code places (Runs frame locals stack))) stood all.1,
         )
 
-pub valid_framed : (code : CodeProgram) → HeightsKnown code → (grants : Grants) (places : List SourcePlace) (phase : Phase) (stood : List Stood) (p : Progress)
+pub valid_framed : (code : CodeProgram) → HeightsKnown code →
+    (grants : Grants) (places : List SourcePlace) (phase : Phase) (stood : List Stood) (p : Progress)
     → Valid code grants (Going phase (frames_shown code places stood) p) → AreFramed code stood p
 valid_framed code known grants places phase stood p valid = record {
   depth = valid.0.depth ∙ many_shown code places stood;
@@ -141,7 +142,8 @@ valid_framed code known grants places phase stood p valid = record {
 }
 
 -- where a send waits, its answer has room
-pub waiting_room : (code : CodeProgram) → HeightsKnown code → (grants : Grants) (places : List SourcePlace) (phase : Phase) (pending : Pending) (stood : List Stood) (p : Progress)
+pub waiting_room : (code : CodeProgram) → HeightsKnown code →
+    (grants : Grants) (places : List SourcePlace) (phase : Phase) (pending : Pending) (stood : List Stood) (p : Progress)
     → awaited_for pending ≡ SendValue → Valid code grants (Pends phase pending (frames_shown code places stood) p) → HasRoomOnTop code stood
 waiting_room code known grants places phase pending stood p e valid =
     room_for_send code known valid.0.world.sound places p stood

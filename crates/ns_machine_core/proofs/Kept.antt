@@ -57,7 +57,9 @@ module _ (keeps : (code : CodeProgram) (grants : Grants) → MovesKeepValid code
       → MovesTwice code old from new n → MachineIsReady code grants new n
   passing_keeps_ready code grants old new from n ready passed = ready_after 2 code grants old new from n ready passed.state passed.stand passed.stays passed.kept
 
-pub can_be_done : ((code : CodeProgram) → HeightsKnown code) → (code : CodeProgram) (grants : Grants) (core : Core) (at : Registers) (step : PlacedInstr) → MachineIsReady code grants core (next.On at)
+pub can_be_done : ((code : CodeProgram) → HeightsKnown code) →
+    (code : CodeProgram) (grants : Grants) (core : Core) (at : Registers) (step : PlacedInstr) →
+    MachineIsReady code grants core (next.On at)
     → IsNextStep code core at step → CanDo code core (behind at) step.0
 can_be_done known code grants core at step ready is = record {
   stands = record {

@@ -39,7 +39,8 @@ use Rattle.ns_machine_core.proofs.Environments.{local_outside, local_beside}
 
 -- ---- a local that an instruction names is there
 
-there_in : (code : CodeProgram) (core : Core) (at : Registers) (instr : Instr) (hops index : ℕ) (running : RunningFrame) → CanDo code core at instr
+there_in : (code : CodeProgram) (core : Core) (at : Registers) (instr : Instr) (hops index : ℕ) (running : RunningFrame) →
+    CanDo code core at instr
     → core.stack.frames.items ≡ Running running ∷ below core.stack.frames.items
     → ((body : BodyCode) (number : ℕ) → IsUsable code running.activation.body body number instr → NamesLocal code running.activation.body hops index)
     → LocalIsThere code core.stack at core.run.world.world.cells (running_of running.activation) hops index
@@ -59,13 +60,15 @@ there_in code core at instr hops index running can top names = by_body (slice_ge
         }
     by_body None e some = absurd (cc)
 
-pub read_there : (code : CodeProgram) (core : Core) (at : Registers) (hops index : ℕ) (running : RunningFrame) → CanDo code core at (instr.PushLocal hops index)
+pub read_there : (code : CodeProgram) (core : Core) (at : Registers) (hops index : ℕ) (running : RunningFrame) →
+    CanDo code core at (instr.PushLocal hops index)
     → core.stack.frames.items ≡ Running running ∷ below core.stack.frames.items
     → LocalIsThere code core.stack at core.run.world.world.cells (running_of running.activation) hops index
 read_there code core at hops index running can top =
     there_in code core at (instr.PushLocal hops index) hops index running can top (λ body number named. named)
 
-pub stored_there : (code : CodeProgram) (core : Core) (at : Registers) (hops index : ℕ) (running : RunningFrame) → CanDo code core at (instr.StoreLocal hops index)
+pub stored_there : (code : CodeProgram) (core : Core) (at : Registers) (hops index : ℕ) (running : RunningFrame) →
+    CanDo code core at (instr.StoreLocal hops index)
     → core.stack.frames.items ≡ Running running ∷ below core.stack.frames.items
     → LocalIsThere code core.stack at core.run.world.world.cells (running_of running.activation) hops index
 stored_there code core at hops index running can top =
@@ -88,7 +91,8 @@ not_taken b x y e = rw e refl
 -- ---- storing
 
 -- one that stands outside is stored in the world alone
-beside_stay : (code : CodeProgram) (activation : Activation) (locals : List Value) (hops index : ℕ) (value : Value) → is_beside code activation hops ≡ false
+beside_stay : (code : CodeProgram) (activation : Activation) (locals : List Value) (hops index : ℕ) (value : Value) →
+    is_beside code activation hops ≡ false
     → locals_with code activation locals hops index value ≡ locals
 beside_stay code activation locals hops index value e = rw e refl
 

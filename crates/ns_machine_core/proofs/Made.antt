@@ -95,7 +95,8 @@ text_done code old new world at text place own answer next can makes rest is =
     by_stood (Loops frame ∷ s) finds = absurd finds
     by_stood (Runs frame locals stack ∷ s) finds = refl
 
-pub array_done : ((missing : State) → ComeOffAgain missing) → (code : CodeProgram) (old new : Core) (world : WorldView) (at : Registers) (count : ℕ) (place : Option SourcePlace)
+pub array_done : ((missing : State) → ComeOffAgain missing) →
+    (code : CodeProgram) (old new : Core) (world : WorldView) (at : Registers) (count : ℕ) (place : Option SourcePlace)
     (own : KeptSite) (items : List Value) (answer : Result Value Fault) (next : Next) → CanDo code old at (instr.MakeArray count)
     → stood old.stack at ≡ pushed_all items (stood old.stack (with_top (at.top - count) at)) → length items ≡ count
     → ((site : Site) (rest : Progress) → answer_shown site answer (in_world rest world.world) ≡ new_array items (in_world rest old.run.world.world))

@@ -50,7 +50,8 @@ Pushes code core at instr place value =
     → Going (phase_shown core.phase) (frames_shown code core.places (Runs frame locals (value ∷ stack) ∷ others)) (progress_in core)
     ≡ done code core.places (phase_shown core.phase) instr place (Runs frame locals stack ∷ others) (progress_in core)
 
-pub push_does : (code : CodeProgram) (old new : Core) (at to : Registers) (instr : Instr) (place : Option SourcePlace) (value : Value) → CanDo code old at instr
+pub push_does : (code : CodeProgram) (old new : Core) (at to : Registers) (instr : Instr) (place : Option SourcePlace) (value : Value) →
+    CanDo code old at instr
     → Pushed code old at value new to → Pushes code old at instr place value → IsDone code instr place old at new (next.On to)
 push_does code old new at to instr place value can is pushes = record {
   state = pushed_state ∙ by_stood (stood old.stack at) refl can.finds;
@@ -75,21 +76,28 @@ nil_done code old new at to place can is = push_does code old new at to instr.Pu
 
 pub true_done : (code : CodeProgram) (old new : Core) (at to : Registers) (place : Option SourcePlace) → CanDo code old at instr.PushTrue
     → Pushed code old at True new to → IsDone code instr.PushTrue place old at new (next.On to)
-true_done code old new at to place can is = push_does code old new at to instr.PushTrue place True can is (λ frame locals stack others e. refl)
+true_done code old new at to place can is =
+    push_does code old new at to instr.PushTrue place True can is (λ frame locals stack others e. refl)
 
 pub false_done : (code : CodeProgram) (old new : Core) (at to : Registers) (place : Option SourcePlace) → CanDo code old at instr.PushFalse
     → Pushed code old at False new to → IsDone code instr.PushFalse place old at new (next.On to)
-false_done code old new at to place can is = push_does code old new at to instr.PushFalse place False can is (λ frame locals stack others e. refl)
+false_done code old new at to place can is =
+    push_does code old new at to instr.PushFalse place False can is (λ frame locals stack others e. refl)
 
-pub int_done : (code : CodeProgram) (old new : Core) (at to : Registers) (number : ℤ) (place : Option SourcePlace) → CanDo code old at (instr.PushInt number)
+pub int_done : (code : CodeProgram) (old new : Core) (at to : Registers) (number : ℤ) (place : Option SourcePlace) →
+    CanDo code old at (instr.PushInt number)
     → Pushed code old at (Int number) new to → IsDone code (instr.PushInt number) place old at new (next.On to)
-int_done code old new at to number place can is = push_does code old new at to (instr.PushInt number) place (Int number) can is (λ frame locals stack others e. refl)
+int_done code old new at to number place can is =
+    push_does code old new at to (instr.PushInt number) place (Int number) can is (λ frame locals stack others e. refl)
 
-pub sym_done : (code : CodeProgram) (old new : Core) (at to : Registers) (sel : Sel) (place : Option SourcePlace) → CanDo code old at (instr.PushSym sel)
+pub sym_done : (code : CodeProgram) (old new : Core) (at to : Registers) (sel : Sel) (place : Option SourcePlace) →
+    CanDo code old at (instr.PushSym sel)
     → Pushed code old at (Sym sel) new to → IsDone code (instr.PushSym sel) place old at new (next.On to)
-sym_done code old new at to sel place can is = push_does code old new at to (instr.PushSym sel) place (Sym sel) can is (λ frame locals stack others e. refl)
+sym_done code old new at to sel place can is =
+    push_does code old new at to (instr.PushSym sel) place (Sym sel) can is (λ frame locals stack others e. refl)
 
-pub self_done : (code : CodeProgram) (old new : Core) (at to : Registers) (running : RunningFrame) (place : Option SourcePlace) → CanDo code old at instr.PushSelf
+pub self_done : (code : CodeProgram) (old new : Core) (at to : Registers) (running : RunningFrame) (place : Option SourcePlace) →
+    CanDo code old at instr.PushSelf
     → old.stack.frames.items ≡ Running running ∷ below old.stack.frames.items
     → Pushed code old at running.activation.me new to → IsDone code instr.PushSelf place old at new (next.On to)
 self_done code old new at to running place can top is =

@@ -41,4 +41,5 @@ given code old new at to site value runs is = record {
 
 pub ended : (code : CodeProgram) (core : Core) (at : Registers) (site : KeptSite) (fault : Fault)
     → IsSettled code core at site (Err fault) (record core { ending = fault_ending fault (site_shown core.places site) }) next.Ended
-ended code core at site fault = record { state = refl; stand = tt; run = refl; stays = ended_stays core (fault_ending fault (site_shown core.places site)) }
+ended code core at site fault =
+    record { state = refl; stand = tt; run = refl; stays = ended_stays core (fault_ending fault (site_shown core.places site)) }

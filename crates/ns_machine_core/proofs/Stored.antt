@@ -31,11 +31,13 @@ use Rattle.ns_machine_core.specs.laws.Finds.{finds_in, fits_anywhere}
 
 -- ---- slots
 
-pub slot_lawful : (code : CodeProgram) (core : Core) (at : Registers) (slot : ℕ) (running : RunningFrame) → CanDo code core at (instr.StoreSlot slot)
+pub slot_lawful : (code : CodeProgram) (core : Core) (at : Registers) (slot : ℕ) (running : RunningFrame) →
+    CanDo code core at (instr.StoreSlot slot)
     → core.stack.frames.items ≡ Running running ∷ below core.stack.frames.items → IsLawful core.run.world.world code
 slot_lawful code core at slot running can top = (finds_in code core at (instr.StoreSlot slot) running can top).lawful
 
-pub slot_fits : (code : CodeProgram) (core : Core) (at : Registers) (slot : ℕ) (running : RunningFrame) → CanDo code core at (instr.StoreSlot slot)
+pub slot_fits : (code : CodeProgram) (core : Core) (at : Registers) (slot : ℕ) (running : RunningFrame) →
+    CanDo code core at (instr.StoreSlot slot)
     → core.stack.frames.items ≡ Running running ∷ below core.stack.frames.items
     → FitsSlot core.run.world.world.cells code (code_of (running_of running.activation)) slot
 slot_fits code core at slot running can top =

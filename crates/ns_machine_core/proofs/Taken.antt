@@ -20,7 +20,8 @@ use Rattle.std.specs.List.{slice_index_or}
 use Rattle.ns_machine_core.specs.laws.Pushed.{stack_stays}
 use Rattle.ns_machine_core.proofs.Pushed.{push_does}
 
-pub pop_done : (code : CodeProgram) (core : Core) (at to : Registers) (value : Value) (place : Option SourcePlace) → CanDo code core at instr.Pop
+pub pop_done : (code : CodeProgram) (core : Core) (at to : Registers) (value : Value) (place : Option SourcePlace) →
+    CanDo code core at instr.Pop
     → stood core.stack at ≡ pushed value (stood core.stack to) → IsLaid core.stack to → IsDone code instr.Pop place core at core (next.On to)
 pop_done code core at to value place can is laid = record {
   state = sym (ap (λ (s : List Stood). done code core.places (phase_shown core.phase) instr.Pop place s (progress_in core)) is
@@ -37,7 +38,8 @@ pop_done code core at to value place can is laid = record {
     by_stood (Loops frame ∷ s) finds = absurd finds
     by_stood (Runs frame locals stack ∷ s) finds = refl
 
-pub pick_done : ((missing : State) → IsPicked missing) → (code : CodeProgram) (old new : Core) (at to : Registers) (number : ℕ) (place : Option SourcePlace)
+pub pick_done : ((missing : State) → IsPicked missing) →
+    (code : CodeProgram) (old new : Core) (at to : Registers) (number : ℕ) (place : Option SourcePlace)
     → CanDo code old at (instr.Pick number) → Pushed code old at (slice_index_or (operands_in (stood old.stack at)) number Nil) new to
     → IsDone code (instr.Pick number) place old at new (next.On to)
 pick_done picks code old new at to number place can is =

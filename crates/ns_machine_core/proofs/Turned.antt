@@ -14,8 +14,10 @@ counted : (code : CodeProgram) (b : Bool) (now : State) (count : ℕ) → charge
     → charged_in code (suc count) now ≡ one_if b (charged_in code count (move code now))
 counted code b now count e = ap (λ c. one_if c (charged_in code count (move code now))) e
 
-free_before : (code : CodeProgram) (left : ℕ) (now last : State) → charges code now ≡ false → Turns code left (move code now) last → Turns code left now last
-free_before code left now last e (inl t) = inl (record { count = suc t.count; is = t.is; charged = counted code false now t.count e ∙ t.charged; next = t.next })
+free_before : (code : CodeProgram) (left : ℕ) (now last : State) → charges code now ≡ false → Turns code left (move code now) last →
+    Turns code left now last
+free_before code left now last e (inl t) =
+    inl (record { count = suc t.count; is = t.is; charged = counted code false now t.count e ∙ t.charged; next = t.next })
 free_before code left now last e (inr t) =
     let c = counted code false now t.count e in let s = t.charged in
     inr (record { count = suc t.count; spared = t.spared; is = t.is; charged = omega (arith, c, s); still = t.still })
@@ -32,14 +34,17 @@ pub free_on : (code : CodeProgram) (steps left : ℕ) (first now : State) → En
     → EndsTheWhole code steps first left (move code now)
 free_on code steps left first now within e last turn = within last (free_before code left now last e turn)
 
-pub charged_on : (code : CodeProgram) (steps left : ℕ) (first now : State) → EndsTheWhole code steps first (suc left) now → charges code now ≡ true
+pub charged_on : (code : CodeProgram) (steps left : ℕ) (first now : State) → EndsTheWhole code steps first (suc left) now →
+    charges code now ≡ true
     → EndsTheWhole code steps first left (move code now)
 charged_on code steps left first now within e last turn = within last (charged_before code left now last e turn)
 
-pub ends : (code : CodeProgram) (steps : ℕ) (first now : State) → EndsTheWhole code steps first zero now → charges code now ≡ true → Turns code steps first now
+pub ends : (code : CodeProgram) (steps : ℕ) (first now : State) → EndsTheWhole code steps first zero now → charges code now ≡ true →
+    Turns code steps first now
 ends code steps first now within e = within now (inl (record { count = zero; is = refl; charged = refl; next = e }))
 
-pub rests : (code : CodeProgram) (steps left : ℕ) (first now : State) → EndsTheWhole code steps first left now → is_still now ≡ true → Turns code steps first now
+pub rests : (code : CodeProgram) (steps left : ℕ) (first now : State) → EndsTheWhole code steps first left now → is_still now ≡ true →
+    Turns code steps first now
 rests code steps left first now within e =
     let none : zero + left ≡ left = omega arith in
     within now (inr (record { count = zero; spared = left; is = refl; charged = none; still = e }))

@@ -25,7 +25,8 @@ use Rattle.ns_machine_core.specs.laws.Worlds.{in_other}
 -- a run that ends at the limit has charged nothing
 none_charged : (world : Option World) (rest : Progress) (old new : World) (ending : Ending) (go : Progress → After)
     → ((p : Progress) (e : Ending) (q : Progress) → go p ≡ Halts e q → ⊥) → Halts ending (in_world rest new) ≡ charged Halts Cells world (in_world rest old) go → new ≡ old
-none_charged (Some world) rest old new ending go gives e = absurd (gives (in_world (in_world rest old) world) ending (in_world rest new) (sym e))
+none_charged (Some world) rest old new ending go gives e =
+    absurd (gives (in_world (in_world rest old) world) ending (in_world rest new) (sym e))
 none_charged None rest old new ending go gives e = let same : in_world rest new ≡ in_world rest old = cc in ap (λ (p : Progress). p.world) same
 
 same_view : (old new : WorldView) → new.world ≡ old.world → SameRest old new → new ≡ old

@@ -31,7 +31,8 @@ answers Part = false
 -- There is such room below each frame whose end gives a value.
 abbrev pub AnswersHaveRoom : CodeProgram → List Stood → Type 0
 AnswersHaveRoom code [] = Unit {0}
-AnswersHaveRoom code (Runs frame locals stack ∷ stood) = (answers frame.leaving ≡ true → HasRoomOnTop code stood) × AnswersHaveRoom code stood
+AnswersHaveRoom code (Runs frame locals stack ∷ stood) =
+    (answers frame.leaving ≡ true → HasRoomOnTop code stood) × AnswersHaveRoom code stood
 AnswersHaveRoom code (Loops frame ∷ stood) = HasRoomOnTop code stood × AnswersHaveRoom code stood
 
 -- There is as much depth as frames, and an answer has room where it goes.

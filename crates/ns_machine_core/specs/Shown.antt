@@ -26,5 +26,6 @@ progress_in core = progress_of core.run
 -- where it stands, by where it goes next
 abbrev pub shown : CodeProgram → Core → Next → State
 shown code core (next.On at) = Going (phase_shown core.phase) (frames_shown code core.places (stood core.stack at)) (progress_in core)
-shown code core (next.Waits at) = state_shown code core.places (phase_shown core.phase) core.waiting core.arguments.items core.stack at (progress_in core)
+shown code core (next.Waits at) =
+    state_shown code core.places (phase_shown core.phase) core.waiting core.arguments.items core.stack at (progress_in core)
 shown code core next.Ended = Ended core.ending (phase_shown core.phase) (progress_in core)

@@ -26,7 +26,9 @@ ChargedMovesGoOn code =
 
 -- With none left the turn ends where the next move charges, and at any time where the run is still.
 abbrev pub TurnsEnd : CodeProgram → Type 0
-TurnsEnd code = (steps : ℕ) (first now : State) → EndsTheWhole code steps first zero now → charges code now ≡ true → Turns code steps first now
+TurnsEnd code =
+    (steps : ℕ) (first now : State) → EndsTheWhole code steps first zero now → charges code now ≡ true → Turns code steps first now
 
 abbrev pub TurnsRest : CodeProgram → Type 0
-TurnsRest code = (steps left : ℕ) (first now : State) → EndsTheWhole code steps first left now → is_still now ≡ true → Turns code steps first now
+TurnsRest code =
+    (steps left : ℕ) (first now : State) → EndsTheWhole code steps first left now → is_still now ≡ true → Turns code steps first now

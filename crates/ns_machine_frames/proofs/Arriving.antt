@@ -28,13 +28,15 @@ use Rattle.ns_machine_frames.specs.View.{site_shown, leaving_shown, activation_s
 use Rattle.ns_machine_frames.specs.Arriving.{IsShapeOf, with_body}
 
 -- what its value is for
-exit_kept : (exit : ExitKind) (entered : Entered) (site : KeptSite) → leaving_shown (leaving_of exit) (activation_of entered site) ≡ Loud (exit_shown exit entered.me entered.holder)
+exit_kept : (exit : ExitKind) (entered : Entered) (site : KeptSite) →
+    leaving_shown (leaving_of exit) (activation_of entered site) ≡ Loud (exit_shown exit entered.me entered.holder)
 exit_kept exit.Method entered site = refl
 exit_kept exit.Body entered site = refl
 exit_kept (exit.Clause class) entered site = refl
 
 -- its locals
-locals_kept : (code : CodeProgram) (heap : Heap) (shape : BodyShape) (entered : Entered) (values there : List Value) → IsShapeOf code entered.body shape
+locals_kept : (code : CodeProgram) (heap : Heap) (shape : BodyShape) (entered : Entered) (values there : List Value) →
+    IsShapeOf code entered.body shape
     → arguments_for there entered.given ≡ given_values heap values entered.given
     → begun_locals shape entered.given there ≡ locals_shown code heap values entered
 locals_kept code heap shape entered values there fits same =

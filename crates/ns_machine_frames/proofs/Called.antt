@@ -9,14 +9,16 @@ use Rattle.ns_machine_frames.specs.Standing.{standing, at_next}
 use Rattle.ns_machine_frames.specs.Stack.{stood, IsLaid, put_at}
 
 -- no locals stand behind the values in use
-pub none_beside : (items : List Value) (floor : ℕ) → floor ≤ length items → drop floor (take floor items) ++ replicate (floor + 0 - floor) Nil ≡ []
+pub none_beside : (items : List Value) (floor : ℕ) → floor ≤ length items →
+    drop floor (take floor items) ++ replicate (floor + 0 - floor) Nil ≡ []
 none_beside items floor within =
     let count : floor + 0 - floor ≡ 0 = omega arith in
     ap (λ rest. rest ++ replicate (floor + 0 - floor) Nil) (drop_all floor (take floor items) (omega (arith, length-take-le floor items within)))
     ∙ ap (λ number. replicate number Nil) count
 
 -- a value that is written above those in use
-pub put_stood : (stack : Stack) (at : Registers) (place : ℕ) (value : Value) → at.top ≤ place → stood (put_at place value stack) at ≡ stood stack at
+pub put_stood : (stack : Stack) (at : Registers) (place : ℕ) (value : Value) → at.top ≤ place →
+    stood (put_at place value stack) at ≡ stood stack at
 put_stood stack at place value above =
     ap (λ values. standing (at_next at.next stack.frames.items) values) (take-set-le at.top stack.values.items place value above)
 
@@ -30,5 +32,6 @@ put_laid stack at place value laid = record {
 }
 
 -- it is all that stands behind them
-pub one_beside : (items : List Value) (floor : ℕ) (value : Value) → floor ≤ length items → drop floor (take floor items ++ value ∷ []) ≡ value ∷ []
+pub one_beside : (items : List Value) (floor : ℕ) (value : Value) → floor ≤ length items →
+    drop floor (take floor items ++ value ∷ []) ≡ value ∷ []
 one_beside items floor value within = drop_at (take floor items) (value ∷ []) floor (length-take-le floor items within)

@@ -31,7 +31,8 @@ within_use next base (Looping frame ∷ frames) values index is few = absurd (om
 within_use next base (Running frame ∷ frames) values index is few =
     omega (arith, few, is, length-take (frame.operands - frame.base) (drop frame.base values), length-drop frame.base values)
 
-pub local_used : (stack : Stack) (at : Registers) (index : ℕ) → IsLaid stack at → index < length (locals_in (stood stack at)) → at.base + index < at.top
+pub local_used : (stack : Stack) (at : Registers) (index : ℕ) → IsLaid stack at → index < length (locals_in (stood stack at)) →
+    at.base + index < at.top
 local_used stack at index laid few =
     omega (arith, within_use at.next at.base stack.frames.items (in_use stack at) index laid.base few, length-take-le at.top stack.values.items laid.filled)
 
@@ -58,7 +59,8 @@ stored_of next base (Running frame ∷ frames) values index value is laid few =
       take-set-le frame.floor values (frame.base + index) value (omega (arith, laid.0)),
     ) refl
 
-pub stored_stood : (stack : Stack) (at : Registers) (index : ℕ) (value : Value) → IsLaid stack at → index < length (locals_in (stood stack at))
+pub stored_stood : (stack : Stack) (at : Registers) (index : ℕ) (value : Value) → IsLaid stack at →
+    index < length (locals_in (stood stack at))
     → stood (put_at (at.base + index) value stack) at ≡ stored index value (stood stack at)
 stored_stood stack at index value laid few =
     let size : length (in_use stack at) ≡ at.top = length-take-le at.top stack.values.items laid.filled in
@@ -67,7 +69,8 @@ stored_stood stack at index value laid few =
     (take-set-lt at.top stack.values.items (at.base + index) value (local_used stack at index laid few))
     ∙ stored_of at.next at.base stack.frames.items (in_use stack at) index value laid.base used few
 
-pub stored_laid : (stack : Stack) (at : Registers) (index : ℕ) (value : Value) → IsLaid stack at → IsLaid (put_at (at.base + index) value stack) at
+pub stored_laid : (stack : Stack) (at : Registers) (index : ℕ) (value : Value) → IsLaid stack at →
+    IsLaid (put_at (at.base + index) value stack) at
 stored_laid stack at index value laid = record {
   frames = laid.frames;
   base = laid.base;

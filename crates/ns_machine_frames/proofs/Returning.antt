@@ -56,7 +56,8 @@ home_in code places home (Looping frame ∷ frames) values =
 
 pub home_is : (code : CodeProgram) (places : List SourcePlace) (home next : ℕ) (frames : List Frame) (values : List Value)
     → returns.has_home home (frames_shown code places (standing (at_next next frames) values)) ≡ is_there (frames_to home frames)
-home_is code places home next frames values = home_in code places home (at_next next frames) values ∙ ap is_there (next_apart home next frames)
+home_is code places home next frames values =
+    home_in code places home (at_next next frames) values ∙ ap is_there (next_apart home next frames)
 
 -- ---- unwinding
 

@@ -37,14 +37,16 @@ others_keep height greatest filled more next state value frames le within = (
 -- ---- operands on top
 
 -- the values in use end so many behind where the operands of the topmost begin
-operands_end : (next : ℕ) (frame : RunningFrame) (frames : List Frame) (values : List Value) → AreLaid (Running frame ∷ frames) (length values)
+operands_end : (next : ℕ) (frame : RunningFrame) (frames : List Frame) (values : List Value) →
+    AreLaid (Running frame ∷ frames) (length values)
     → frame.operands + length (operands_in (standing (at_next next (Running frame ∷ frames)) values)) ≡ length values
 operands_end next frame frames values laid =
     let all = length-reverse (drop frame.operands values) in
     let some = length-drop frame.operands values in
     omega (arith, laid.2, all, some)
 
-top_is : (stack : Stack) (at : Registers) (frame : RunningFrame) (frames : List Frame) → IsLaid stack at → stack.frames.items ≡ Running frame ∷ frames
+top_is : (stack : Stack) (at : Registers) (frame : RunningFrame) (frames : List Frame) → IsLaid stack at →
+    stack.frames.items ≡ Running frame ∷ frames
     → frame.operands + length (operands_in (stood stack at)) ≡ at.top
 top_is stack at frame frames laid is =
     let size : length (in_use stack at) ≡ at.top = length-take-le at.top stack.values.items laid.filled in
@@ -53,7 +55,8 @@ top_is stack at frame frames laid is =
     ap (λ (kept : List Frame). frame.operands + length (operands_in (standing (at_next at.next kept) (in_use stack at)))) is
     ∙ (operands_end at.next frame frames (in_use stack at) used ∙ size)
 
-pub one_more_fits : (height : ℕ → ℕ) (greatest : ℕ) (stack : Stack) (at : Registers) (frame : RunningFrame) (frames : List Frame) → IsLaid stack at
+pub one_more_fits : (height : ℕ → ℕ) (greatest : ℕ) (stack : Stack) (at : Registers) (frame : RunningFrame) (frames : List Frame) →
+    IsLaid stack at
     → FramesFitWithin height greatest (length stack.values.items) stack.frames.items → stack.frames.items ≡ Running frame ∷ frames
     → length (operands_in (stood stack at)) < height frame.activation.body → at.top < length stack.values.items
 one_more_fits height greatest stack at frame frames laid within is few =
@@ -61,7 +64,8 @@ one_more_fits height greatest stack at frame frames laid within is few =
     subst (λ (kept : List Frame). FramesFitWithin height greatest (length stack.values.items) kept) is within in
     omega (arith, here.0, few, top_is stack at frame frames laid is)
 
-pub top_within : (height : ℕ → ℕ) (greatest : ℕ) (stack : Stack) (at : Registers) (frame : RunningFrame) (frames : List Frame) → IsLaid stack at
+pub top_within : (height : ℕ → ℕ) (greatest : ℕ) (stack : Stack) (at : Registers) (frame : RunningFrame) (frames : List Frame) →
+    IsLaid stack at
     → FramesFitWithin height greatest (length stack.values.items) stack.frames.items → stack.frames.items ≡ Running frame ∷ frames
     → length (operands_in (stood stack at)) ≤ height frame.activation.body → at.top ≤ bound greatest stack.frames.items
 top_within height greatest stack at frame frames laid within is few =
@@ -85,7 +89,8 @@ entering_keeps height greatest old new at to frame locals most entered within lo
 
 -- ---- the limit on depth
 
-pub depth_gives_room : (greatest depth place size : ℕ) (frames : List Frame) → length frames < depth → place ≤ bound greatest frames → size ≤ greatest
+pub depth_gives_room : (greatest depth place size : ℕ) (frames : List Frame) → length frames < depth → place ≤ bound greatest frames →
+    size ≤ greatest
     → place + size ≤ depth * greatest
 depth_gives_room greatest depth place size frames few low small =
     let more : (length frames + 1) * greatest ≤ depth * greatest = mul-le (length frames + 1) greatest depth greatest (omega (arith, few)) (omega arith) in

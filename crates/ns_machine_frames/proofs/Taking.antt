@@ -16,7 +16,8 @@ use Rattle.ns_machine_frames.proofs.Pushing.{one_pushed}
 use Rattle.ns_machine_frames.specs.laws.Taking.{operands_used, taken_laid}
 
 -- one value that is taken
-pub popped_laid : (stack : Stack) (at : Registers) → IsLaid stack at → 1 ≤ length (operands_in (stood stack at)) → IsLaid stack (with_top (at.top - 1) at)
+pub popped_laid : (stack : Stack) (at : Registers) → IsLaid stack at → 1 ≤ length (operands_in (stood stack at)) →
+    IsLaid stack (with_top (at.top - 1) at)
 popped_laid stack at laid some = taken_laid stack at 1 laid some
 
 pub popped_stood : (stack : Stack) (at : Registers) → IsLaid stack at → 1 ≤ length (operands_in (stood stack at))
@@ -33,7 +34,8 @@ popped_stood stack at laid some =
     ∙ one_pushed value (stood stack lower))
 
 -- the operand of a number, from the row of values
-operand_of : (next : ℕ) (frames : List Frame) (values : List Value) (number : ℕ) → number < length (operands_in (standing (at_next next frames) values))
+operand_of : (next : ℕ) (frames : List Frame) (values : List Value) (number : ℕ) →
+    number < length (operands_in (standing (at_next next frames) values))
     → slice_index_or values (length values - 1 - number) Nil ≡ slice_index_or (operands_in (standing (at_next next frames) values)) number Nil
 operand_of next [] values number few = absurd (omega (arith, few))
 operand_of next (Looping frame ∷ frames) values number few = absurd (omega (arith, few))

@@ -11,7 +11,8 @@ use Rattle.ns_machine_frames.specs.Standing.{below, with_next, at_next}
 use Rattle.ns_machine_frames.specs.Leaving.{answered, with_answer, with_count}
 
 -- in a list that is written backwards
-behind_set : {A : Type 0} (items : List A) (last : ℕ) (item : A) → last + 1 ≡ length items → reverse (set (reverse items) last item) ≡ item ∷ below items
+behind_set : {A : Type 0} (items : List A) (last : ℕ) (item : A) → last + 1 ≡ length items →
+    reverse (set (reverse items) last item) ≡ item ∷ below items
 behind_set [] last item e = absurd (omega (arith, e))
 behind_set (first ∷ items) last item e =
     let at : length (reverse items) ≡ last = length-reverse items ∙ omega (arith, e) in
@@ -20,7 +21,8 @@ behind_set (first ∷ items) last item e =
     ∙ (reverse-append (reverse items) (item ∷ []) ∙ ap (λ rest. item ∷ rest) (reverse-reverse items)))
 
 -- a write to the last one
-pub topmost_set : {A : Type 0} (items : List A) (item : A) → 0 < length items → reverse (set items (length items - 1) item) ≡ item ∷ below (reverse items)
+pub topmost_set : {A : Type 0} (items : List A) (item : A) → 0 < length items →
+    reverse (set items (length items - 1) item) ≡ item ∷ below (reverse items)
 topmost_set items item some =
     let at : (length items - 1) + 1 ≡ length (reverse items) = omega (arith, some, length-reverse items) in
     ap (λ all. reverse (set all (length items - 1) item)) (sym (reverse-reverse items)) ∙ behind_set (reverse items) (length items - 1) item at
@@ -31,7 +33,8 @@ first_is [] other some = absurd (omega (arith, some))
 first_is (item ∷ items) other some = refl
 
 -- a read of the last one
-pub topmost_is : {A : Type 0} (items : List A) (other : A) → 0 < length items → reverse items ≡ get_or items (length items - 1) other ∷ below (reverse items)
+pub topmost_is : {A : Type 0} (items : List A) (other : A) → 0 < length items →
+    reverse items ≡ get_or items (length items - 1) other ∷ below (reverse items)
 topmost_is items other some =
     let place : length items - 1 - 0 ≡ length items - 1 = omega arith in
     first_is (reverse items) other (omega (arith, some, length-reverse items))

@@ -81,7 +81,8 @@ base_for call (Items at) = call.first
 
 -- its frame
 abbrev pub layout_for : BodyShape → Call → Given → Layout
-layout_for shape call given = if shape.environment then bare_layout call.floor shape.height else layout_from call.floor (base_for call given) shape
+layout_for shape call given =
+    if shape.environment then bare_layout call.floor shape.height else layout_from call.floor (base_for call given) shape
 
 abbrev pub frame_for : BodyShape → Call → Entered → RunningFrame
 frame_for shape call entered = entered_frame call.leaving (activation_of entered call.site) (layout_for shape call entered.given)

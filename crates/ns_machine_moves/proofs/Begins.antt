@@ -85,7 +85,8 @@ standing_may code grants =
 
 texts_may : (code : CodeProgram) (texts : List (List ℕ)) (heap : Heap) → AllMayStart code heap (map TextCell texts)
 texts_may code [] heap = tt
-texts_may code (text ∷ texts) heap = (record { superclass = refl; made = tt; holds = tt; homes = λ h. h }, texts_may code texts (TextCell text ∷ heap))
+texts_may code (text ∷ texts) heap =
+    (record { superclass = refl; made = tt; holds = tt; homes = λ h. h }, texts_may code texts (TextCell text ∷ heap))
 
 -- the texts of the arguments and their array
 abbrev behind_standing : CodeProgram → Grants → List (List ℕ) → List Cell

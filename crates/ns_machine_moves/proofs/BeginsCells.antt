@@ -48,7 +48,8 @@ abbrev pub AllMayStart : CodeProgram → Heap → List Cell → Type 0
 AllMayStart code heap [] = Unit {0}
 AllMayStart code heap (cell ∷ cells) = MayStart code heap cell × AllMayStart code (cell ∷ heap) cells
 
-pub may_start_on : (code : CodeProgram) (heap : Heap) (first second : List Cell) → AllMayStart code heap first → AllMayStart code (made_all first heap) second
+pub may_start_on : (code : CodeProgram) (heap : Heap) (first second : List Cell) → AllMayStart code heap first →
+    AllMayStart code (made_all first heap) second
     → AllMayStart code heap (first ++ second)
 may_start_on code heap [] second one two = two
 may_start_on code heap (cell ∷ first) second one two = (one.0, may_start_on code (cell ∷ heap) first second one.1 two)
@@ -75,7 +76,8 @@ MadeAll code room heap cells last (Gives v q) = Whole code heap cells last v q
 MadeAll code room heap cells last (Halts ending q) = Cut code room heap cells ending q
 
 reverse_more : (cell : Cell) (heap : Heap) (cells : List Cell) → reverse (cell ∷ heap) ++ cells ≡ reverse heap ++ cell ∷ cells
-reverse_more cell heap cells = ap (λ front. front ++ cells) (reverse-append (cell ∷ []) heap) ∙ append_assoc (reverse heap) (cell ∷ []) cells
+reverse_more cell heap cells =
+    ap (λ front. front ++ cells) (reverse-append (cell ∷ []) heap) ∙ append_assoc (reverse heap) (cell ∷ []) cells
 
 -- one more cell was made before these
 more_made : (code : CodeProgram) (room : ℕ) (heap : Heap) (cell : Cell) (cells : List Cell) (last : Value) (after : After)
@@ -90,7 +92,8 @@ more_made code room heap cell cells last (Halts ending q) e m = record {
   cells_are = m.cells_are ∙ (reverse_more cell heap (fitting room (heap_size (cell ∷ heap)) cells) ∙ ap (λ cells. reverse heap ++ cells) (rw e refl));
 }
 
-pub all_made_all : (code : CodeProgram) (cells : List Cell) (last : Value) (p : Progress) → IsClean code p → AllMayStart code p.world.cells cells
+pub all_made_all : (code : CodeProgram) (cells : List Cell) (last : Value) (p : Progress) → IsClean code p →
+    AllMayStart code p.world.cells cells
     → MadeAll code p.world.limits.cells p.world.cells cells last (all_made cells last p)
 all_made_all code [] last p clean may = record { clean = clean; cells_are = sym (append-nil (reverse p.world.cells)); last_is = refl }
 all_made_all code (cell ∷ cells) last p clean may =
@@ -132,7 +135,8 @@ pub made_size : (cells : List Cell) (heap : Heap) → heap_size (made_all cells 
 made_size [] heap = omega arith
 made_size (cell ∷ cells) heap = omega (arith, made_size cells (cell ∷ heap))
 
-pub last_at : (last : Value) (number : ℕ) (cells : List Cell) (cell : Cell) → last_of last number (cells ++ cell ∷ []) ≡ Ref (number + size_of_cells cells)
+pub last_at : (last : Value) (number : ℕ) (cells : List Cell) (cell : Cell) →
+    last_of last number (cells ++ cell ∷ []) ≡ Ref (number + size_of_cells cells)
 last_at last number [] cell = ap Ref (omega arith)
 last_at last number (first ∷ cells) cell = last_at (Ref number) (number + cell_size first) cells cell ∙ ap Ref (omega arith)
 

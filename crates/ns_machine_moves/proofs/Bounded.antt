@@ -22,7 +22,8 @@ use Rattle.ns_machine_moves.specs.Falling.{LeftIsBounded}
 use Rattle.ns_machine_moves.proofs.Weights.{weight_up, steps_within}
 
 -- a holder is among the cells used
-fitted_below : (heap : Heap) (code : CodeProgram) (body : BodyCode) (self : Value) (holder : ℕ) → FitsBody heap code body self holder → holder < heap_size heap
+fitted_below : (heap : Heap) (code : CodeProgram) (body : BodyCode) (self : Value) (holder : ℕ) → FitsBody heap code body self holder →
+    holder < heap_size heap
 fitted_below heap code body (value.Ref self) holder fits = class_below heap holder fits.0
 fitted_below heap code body value.Nil holder fits = absurd fits
 fitted_below heap code body value.True holder fits = absurd fits

@@ -96,7 +96,8 @@ falls_same bound Silent a ls ls' rest rest' stack stack' frames f = f
 -- ---- frames
 
 -- the run has done more, but as many frames stand
-pub still_counted : (frames : List Frame) (old new : Progress) → new.world.depth ≡ old.world.depth → new.begun ≡ old.begun → DepthIsCounted frames old
+pub still_counted : (frames : List Frame) (old new : Progress) → new.world.depth ≡ old.world.depth → new.begun ≡ old.begun →
+    DepthIsCounted frames old
     → DepthIsCounted frames new
 still_counted frames old new d b c = record { depth = d ∙ c.depth; homes = ap (λ bound. homes_fall bound frames) b ∙ c.homes }
 
@@ -114,7 +115,8 @@ changed leaving a ls ls' rest rest' stack stack' frames p c =
 
 -- ---- a value comes to where it goes
 
-concluded_counted : (code : CodeProgram) (phase : Phase) (v : Value) (p : Progress) → DepthIsCounted [] p → FramesAreCounted (concluded code phase v p)
+concluded_counted : (code : CodeProgram) (phase : Phase) (v : Value) (p : Progress) → DepthIsCounted [] p →
+    FramesAreCounted (concluded code phase v p)
 concluded_counted code Start v p c = tt
 concluded_counted code (First arguments) v p c = c
 concluded_counted code Second v p c = tt
@@ -123,10 +125,12 @@ concluded_counted code Hosted v p c = tt
 delivered_counted : (code : CodeProgram) (phase : Phase) (v : Value) (frames : List Frame) (p : Progress) → DepthIsCounted frames p
     → FramesAreCounted (delivered code phase v frames p)
 delivered_counted code phase v [] p c = concluded_counted code phase v p c
-delivered_counted code phase v (Running leaving a ls rest stack ∷ frames) p c = changed leaving a ls ls rest rest stack (v ∷ stack) frames p c
+delivered_counted code phase v (Running leaving a ls rest stack ∷ frames) p c =
+    changed leaving a ls ls rest rest stack (v ∷ stack) frames p c
 delivered_counted code phase v (Looping method state site ∷ frames) p c = record { depth = c.depth; homes = c.homes }
 
-cell_counted : (code : CodeProgram) (phase : Phase) (after : After) (frames : List Frame) (p : Progress) → CellSpends p after → DepthIsCounted frames p
+cell_counted : (code : CodeProgram) (phase : Phase) (after : After) (frames : List Frame) (p : Progress) → CellSpends p after →
+    DepthIsCounted frames p
     → FramesAreCounted (settled code phase after frames)
 cell_counted code phase (Gives v q) frames p s c =
     let d : q.world.depth ≡ p.world.depth = omega (arith, s.depth) in
@@ -154,7 +158,8 @@ unwound_counted code phase home v (frame ∷ frames) p c =
 
 -- ---- where control goes
 
-entered : (frame : Frame) (frames : List Frame) (p q : Progress) → q.world.depth ≡ p.world.depth + 1 → homes_fall q.begun (frame ∷ frames) ≡ true
+entered : (frame : Frame) (frames : List Frame) (p q : Progress) → q.world.depth ≡ p.world.depth + 1 →
+    homes_fall q.begun (frame ∷ frames) ≡ true
     → DepthIsCounted frames p → DepthIsCounted (frame ∷ frames) q
 entered frame frames p q d homes c = record { depth = omega (arith, d, c.depth); homes = homes }
 
@@ -167,7 +172,8 @@ next_home home begun now frames b e f =
     let under : nat_lt home now ≡ true = grind (arith, b, e) in
     and_both (nat_lt home now) (homes_fall home frames) under (ap (λ bound. homes_fall bound frames) e ∙ f)
 
-pub arrived_counted : (code : CodeProgram) (phase : Phase) (steps : ℕ) (c : Control) (frames : List Frame) (p : Progress) → ControlSpends steps p c
+pub arrived_counted : (code : CodeProgram) (phase : Phase) (steps : ℕ) (c : Control) (frames : List Frame) (p : Progress) →
+    ControlSpends steps p c
     → DepthIsCounted frames p
     → FramesAreCounted (arrived code phase c frames)
 arrived_counted code phase steps (Now (Gives v q)) frames p s c =
@@ -192,7 +198,8 @@ arrived_counted code phase steps (Perform receiver sel array site q) frames p s 
     let b : q.begun ≡ p.begun = omega (arith, s.begun) in
     still_counted frames p q d b c
 
-part_counted : (code : CodeProgram) (phase : Phase) (part : PartControl) (frames : List Frame) (p : Progress) → PartSpends p part → DepthIsCounted frames p
+part_counted : (code : CodeProgram) (phase : Phase) (part : PartControl) (frames : List Frame) (p : Progress) → PartSpends p part →
+    DepthIsCounted frames p
     → FramesAreCounted (part_arrived code phase part frames)
 part_counted code phase (Skip q) frames p s c =
     let d : q.world.depth ≡ p.world.depth = omega (arith, s.depth) in

@@ -22,7 +22,8 @@ use Rattle.ns_actions.specs.laws.Onward.{charged_all}
 
 -- ---- superclasses
 
-class_over : (earlier : Heap) (cell : Cell) (over : ℕ) → has_superclass earlier cell ≡ true → superclass_in (Some cell) ≡ value.Ref over → over < heap_size earlier
+class_over : (earlier : Heap) (cell : Cell) (over : ℕ) → has_superclass earlier cell ≡ true → superclass_in (Some cell) ≡ value.Ref over →
+    over < heap_size earlier
 class_over earlier (ClassCell decl base encl holder above) over s e = class_below earlier over (ap (is_superclass earlier) (sym e) ∙ s)
 class_over earlier (ObjectCell class entries) over s e = absurd (cc)
 class_over earlier (BlockCell body env home receiver holder) over s e = absurd (cc)
@@ -85,7 +86,8 @@ declared_earlier holder code a over sel arguments p earlier = tested (eqb sel (f
         (λ world e. opened_earlier holder code inner arguments (in_world p world) earlier)
     tested false = tt
 
-object_earlier : (holder : ℕ) (code : CodeProgram) (a : Activation) (sel : ℕ) (p : Progress) → EntersEarlier holder (object_part code a sel p)
+object_earlier : (holder : ℕ) (code : CodeProgram) (a : Activation) (sel : ℕ) (p : Progress) →
+    EntersEarlier holder (object_part code a sel p)
 object_earlier holder code a sel p = tested (bytes_eq (selector_text code sel) (codes "new"))
   where
     tested : (b : Bool) → EntersEarlier holder (cond b (Skip p) (Stop (error InitMismatch a.site) p))

@@ -33,7 +33,8 @@ some_left code (Stuck p) e = absurd (cc)
 some_left code (Going phase frames p) e = omega arith
 some_left code (Pends phase pending frames p) e = omega arith
 
-within_steps : (code : CodeProgram) (grants : Grants) (s : State) → Valid code grants s → is_still s ≡ false → (world_of s).steps ≤ (world_of s).limits.steps
+within_steps : (code : CodeProgram) (grants : Grants) (s : State) → Valid code grants s → is_still s ≡ false →
+    (world_of s).steps ≤ (world_of s).limits.steps
 within_steps code grants (Unbegun arguments p) valid e = absurd (cc)
 within_steps code grants (Ended ending phase p) valid e = absurd (cc)
 within_steps code grants (Stuck p) valid e = absurd (cc)

@@ -67,7 +67,8 @@ program method block =
     }
 
 abbrev early : CodeProgram
-early = program (instr.PushBlock 2 ∷ instr.Send (sel 4) 0 ∷ instr.Pop ∷ instr.ReturnSelf ∷ []) (instr.PushInt (pos 7) ∷ instr.ReturnHome ∷ [])
+early =
+    program (instr.PushBlock 2 ∷ instr.Send (sel 4) 0 ∷ instr.Pop ∷ instr.ReturnSelf ∷ []) (instr.PushInt (pos 7) ∷ instr.ReturnHome ∷ [])
 
 abbrev nothing_granted : Grants
 nothing_granted = record { console = false; kernel = false; mirrors = false; board = false }

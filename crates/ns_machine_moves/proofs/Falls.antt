@@ -16,7 +16,8 @@ homes_below bound home [] f h = absurd (cc)
 homes_below bound home (Running (Loud FromMethod) activation locals rest stack ∷ frames) f h =
     let ih = homes_below activation.home home frames in grind (arith, ih)
 homes_below bound home (Running (Loud FromBody) activation locals rest stack ∷ frames) f h = homes_below bound home frames f h
-homes_below bound home (Running (Loud (FromClause object holder class)) activation locals rest stack ∷ frames) f h = homes_below bound home frames f h
+homes_below bound home (Running (Loud (FromClause object holder class)) activation locals rest stack ∷ frames) f h =
+    homes_below bound home frames f h
 homes_below bound home (Running Silent activation locals rest stack ∷ frames) f h = homes_below bound home frames f h
 homes_below bound home (Looping method state site ∷ frames) f h = homes_below bound home frames f h
 
@@ -25,7 +26,8 @@ and_second true c e = e
 and_second false c e = absurd (cc)
 
 -- what is left by a return has earlier homes
-pub lands_below : (code : CodeProgram) (phase : Phase) (bound home : ℕ) (value : Value) (frames : List Frame) (p : Progress) → homes_fall bound frames ≡ true
+pub lands_below : (code : CodeProgram) (phase : Phase) (bound home : ℕ) (value : Value) (frames : List Frame) (p : Progress) →
+    homes_fall bound frames ≡ true
     → has_home home frames ≡ true → LandedBelow code phase home value (unwound code phase home value frames p)
 lands_below code phase bound home value [] p f h = absurd (cc)
 lands_below code phase bound home value (Running (Loud FromMethod) a ls rest stack ∷ frames) p f h =
@@ -43,5 +45,7 @@ lands_below code phase bound home value (Running (Loud FromBody) a ls rest stack
     lands_below code phase bound home value frames (frame_left p) f h
 lands_below code phase bound home value (Running (Loud (FromClause object holder class)) a ls rest stack ∷ frames) p f h =
     lands_below code phase bound home value frames (frame_left p) f h
-lands_below code phase bound home value (Running Silent a ls rest stack ∷ frames) p f h = lands_below code phase bound home value frames (frame_left p) f h
-lands_below code phase bound home value (Looping method state site ∷ frames) p f h = lands_below code phase bound home value frames (frame_left p) f h
+lands_below code phase bound home value (Running Silent a ls rest stack ∷ frames) p f h =
+    lands_below code phase bound home value frames (frame_left p) f h
+lands_below code phase bound home value (Looping method state site ∷ frames) p f h =
+    lands_below code phase bound home value frames (frame_left p) f h

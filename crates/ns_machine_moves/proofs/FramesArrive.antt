@@ -43,7 +43,8 @@ leaves_of code own q FromBody a fits = tt
 leaves_of code own q (FromClause object holder class) a fits = let is = fits.own in (fits.met, is.0, is.1, is.2)
 
 -- a send enters no block
-sent_kind : (kind : ℕ) (exit : Exit) → own_kind initialiser_kind exit kind ≡ true → (ends_kind (Loud exit) kind ≡ true) × ((kind == block_kind) ≡ false)
+sent_kind : (kind : ℕ) (exit : Exit) → own_kind initialiser_kind exit kind ≡ true →
+    (ends_kind (Loud exit) kind ≡ true) × ((kind == block_kind) ≡ false)
 sent_kind kind FromMethod e = let is = eqb-true kind method_kind e in (e, ap (λ k. k == block_kind) is)
 sent_kind kind FromBody e =
     let is = eqb-true kind initialiser_kind e in
@@ -62,12 +63,14 @@ sent_home code q (FromClause object holder class) a e has =
     subst (λ kind. has_home_of code q.begun kind a.body a.home ≡ true) (sym (eqb-true (kind_of code a.body) clause_kind e)) (ap (λ home. home == no_home) has)
 
 -- what a send waits for, below what isn't a block's body
-below_sent : (code : CodeProgram) (p : Progress) (kind : ℕ) (frames : List Frame) → (kind == block_kind) ≡ false → FramesAreValid code p SendValue frames
+below_sent : (code : CodeProgram) (p : Progress) (kind : ℕ) (frames : List Frame) → (kind == block_kind) ≡ false →
+    FramesAreValid code p SendValue frames
     → FramesAreValid code p (cond (kind == block_kind) BlockValue SendValue) frames
 below_sent code p kind frames is valid = subst (λ b. FramesAreValid code p (cond b BlockValue SendValue) frames) (sym is) valid
 
 -- a block may be waited for where a send may
-block_too : (code : CodeProgram) (p : Progress) (frames : List Frame) → FramesAreValid code p SendValue frames → FramesAreValid code p BlockValue frames
+block_too : (code : CodeProgram) (p : Progress) (frames : List Frame) → FramesAreValid code p SendValue frames →
+    FramesAreValid code p BlockValue frames
 block_too code p [] valid = valid
 block_too code p (Running leaving a ls rest stack ∷ frames) (own, others) = (
   record {
@@ -104,7 +107,8 @@ few_charged (Some world) p block arguments state few = few
 few_charged None p block arguments state few = tt
 
 pub few_acted : (a : KAction) (state : KState) (site : Site) (p : Progress) → FewWaits (acted a state site p)
-few_acted (action.Evaluate block argument true count) state site p = few_charged (stepped p.world) p block (listed argument) _ (few_listed argument)
+few_acted (action.Evaluate block argument true count) state site p =
+    few_charged (stepped p.world) p block (listed argument) _ (few_listed argument)
 few_acted (action.Evaluate block argument false count) state site p = few_listed argument
 few_acted (action.EvaluateItem block item count) state site p = stepped_few (stepped p.world)
   where

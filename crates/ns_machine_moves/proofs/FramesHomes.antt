@@ -23,8 +23,10 @@ and_second : (b c : Bool) → (b && c) ≡ true → c ≡ true
 and_second true c e = e
 and_second false c e = absurd (cc)
 
-others_have : (code : CodeProgram) (begun : ℕ) (cell : Cell) (cells : Heap) → blocks_have_homes code begun (cell ∷ cells) ≡ true → blocks_have_homes code begun cells ≡ true
-others_have code begun (BlockCell body env home receiver holder) cells t = and_second (has_block_home code begun body home) (blocks_have_homes code begun cells) t
+others_have : (code : CodeProgram) (begun : ℕ) (cell : Cell) (cells : Heap) → blocks_have_homes code begun (cell ∷ cells) ≡ true →
+    blocks_have_homes code begun cells ≡ true
+others_have code begun (BlockCell body env home receiver holder) cells t =
+    and_second (has_block_home code begun body home) (blocks_have_homes code begun cells) t
 others_have code begun (ObjectCell class entries) cells t = t
 others_have code begun (ClassCell decl base encl holder over) cells t = t
 others_have code begun (EnvironmentCell parent locals) cells t = t
@@ -47,7 +49,8 @@ found_home code begun number body env home receiver holder (cell ∷ cells) e t 
         and_first (has_block_home code begun body home) (blocks_have_homes code begun cells) (ap (λ c. blocks_have_homes code begun (c ∷ cells)) (sym same) ∙ t)
     tested false f further = further f
 
-pub block_home : (code : CodeProgram) (begun : ℕ) (heap : Heap) (block : Value) → blocks_have_homes code begun heap ≡ true → is_block heap block ≡ true
+pub block_home : (code : CodeProgram) (begun : ℕ) (heap : Heap) (block : Value) → blocks_have_homes code begun heap ≡ true →
+    is_block heap block ≡ true
     → has_block_home code begun (block_body_in (shape_of_value heap block)) (home_in (shape_of_value heap block)) ≡ true
 block_home code begun heap (Ref at) t is = found (find_cell heap at) refl is
   where
@@ -73,7 +76,8 @@ block_home code begun heap (Kernel class) t is = absurd (cc)
 below_more : (home low high : ℕ) → low ≤ high → nat_lt home low ≡ true → nat_lt home high ≡ true
 below_more home low high h e = grind (arith, h, e)
 
-pub home_more : (code : CodeProgram) (low high body home : ℕ) → low ≤ high → has_block_home code low body home ≡ true → has_block_home code high body home ≡ true
+pub home_more : (code : CodeProgram) (low high body home : ℕ) → low ≤ high → has_block_home code low body home ≡ true →
+    has_block_home code high body home ≡ true
 home_more code low high body home h t = tested (is_in_method code body) t
   where
     tested : (b : Bool) → cond b (nat_lt home low) (home == no_home) ≡ true → cond b (nat_lt home high) (home == no_home) ≡ true

@@ -25,7 +25,8 @@ pub record Onto (code : CodeProgram) (old new : Progress) : Type 0 where
   pub run : RunsOn code old.world new.world
   pub begun : old.begun ≤ new.begun
 
-pub both_valid : (code : CodeProgram) (p : Progress) (awaited : Awaited) (frame : Frame) (frames : List Frame) → FrameIsValid code p awaited frame
+pub both_valid : (code : CodeProgram) (p : Progress) (awaited : Awaited) (frame : Frame) (frames : List Frame) →
+    FrameIsValid code p awaited frame
     → FramesAreValid code p (awaited_below code frame) frames → FramesAreValid code p awaited (frame ∷ frames)
 both_valid code p Nothing frame frames one more = (one, more)
 both_valid code p SendValue frame frames one more = (one, more)
@@ -37,7 +38,8 @@ both_valid code p PartEnd frame frames one more = (one, more)
 below_more : (home low high : ℕ) → low ≤ high → nat_lt home low ≡ true → nat_lt home high ≡ true
 below_more home low high h e = grind (arith, h, e)
 
-home_more : (b c d none : Bool) (home low high : ℕ) → low ≤ high → cond b (nat_lt home low) (cond c (cond d (nat_lt home low) none) none) ≡ true
+home_more : (b c d none : Bool) (home low high : ℕ) → low ≤ high →
+    cond b (nat_lt home low) (cond c (cond d (nat_lt home low) none) none) ≡ true
     → cond b (nat_lt home high) (cond c (cond d (nat_lt home high) none) none) ≡ true
 home_more true c d none home low high h e = below_more home low high h e
 home_more false true true none home low high h e = below_more home low high h e

@@ -37,7 +37,8 @@ use Rattle.ns_machine_moves.proofs.InstrStacks.{none_at_all}
 abbrev InFile : CodeProgram → Option SourcePlace → Type 0
 InFile code o = ForSome o (λ (place : SourcePlace). place.file < length code.files)
 
-or_fits : (code : CodeProgram) (instr : Instr) (place later : Option SourcePlace) → InFile code place → InFile code later → InFile code (super_place_or instr place later)
+or_fits : (code : CodeProgram) (instr : Instr) (place later : Option SourcePlace) → InFile code place → InFile code later →
+    InFile code (super_place_or instr place later)
 or_fits code i.PushNil place later one two = two
 or_fits code i.PushTrue place later one two = two
 or_fits code i.PushFalse place later one two = two
@@ -65,7 +66,8 @@ or_fits code (i.Jump target) place later one two = two
 or_fits code (i.JumpFalse target) place later one two = two
 or_fits code (i.JumpTrue target) place later one two = two
 
-placed_fits : (code : CodeProgram) (body : BodyCode) (places : List (ℕ × SourcePlace)) (number : ℕ) (instrs : List Instr) → All (PlaceFits code body) places
+placed_fits : (code : CodeProgram) (body : BodyCode) (places : List (ℕ × SourcePlace)) (number : ℕ) (instrs : List Instr) →
+    All (PlaceFits code body) places
     → InFile code (super_place (placed places number instrs))
 placed_fits code body places number [] all = λ place e. absurd (cc)
 placed_fits code body places number (instr ∷ instrs) all =
@@ -122,7 +124,8 @@ size_reversed (cell ∷ cells) =
     omega (arith, split, ih)
 
 -- the cell behind so many that are older
-found_behind : (heap : Heap) (before after : List Cell) (cell : Cell) → reverse heap ≡ before ++ cell ∷ after → find_cell heap (size_of_cells before) ≡ Some cell
+found_behind : (heap : Heap) (before after : List Cell) (cell : Cell) → reverse heap ≡ before ++ cell ∷ after →
+    find_cell heap (size_of_cells before) ≡ Some cell
 found_behind heap before after cell e =
     let turned : heap ≡ (reverse after ++ cell ∷ []) ++ reverse before =
     sym (reverse-reverse heap) ∙ (ap reverse e ∙ (reverse-append before (cell ∷ after) ∙ ap (λ l. l ++ reverse before) (reverse-append (cell ∷ []) after))) in
@@ -173,7 +176,8 @@ arguments_live code grants heap arguments begins has =
     (rw there refl, rw there refl)
 
 -- so is the Platform
-platform_live : (code : CodeProgram) (grants : Grants) (heap : Heap) → BeginsWith (standing_cells code grants) heap → IsLiveValue heap code platform
+platform_live : (code : CodeProgram) (grants : Grants) (heap : Heap) → BeginsWith (standing_cells code grants) heap →
+    IsLiveValue heap code platform
 platform_live code grants heap begins =
     let first = standing_cells code grants in
     let cells = reverse heap in
@@ -184,7 +188,8 @@ platform_live code grants heap begins =
 
 -- ---- after the last frame
 
-pub ends_well : (known : Known) (code : CodeProgram) (grants : Grants) (phase : Phase) (frames : List Frame) (p : Progress) → GoesOn code grants phase frames p
+pub ends_well : (known : Known) (code : CodeProgram) (grants : Grants) (phase : Phase) (frames : List Frame) (p : Progress) →
+    GoesOn code grants phase frames p
     → EndsWell code phase p
 ends_well known code grants Start frames p on = λ q v onto live. tt
 ends_well known code grants Second frames p on = λ q v onto live. tt

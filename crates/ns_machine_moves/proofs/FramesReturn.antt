@@ -57,7 +57,8 @@ pub same_below : (code : CodeProgram) (leaving : Leaving) (a : Activation) (ls l
 same_below code Silent a ls ls' rest rest' stack stack' = refl
 same_below code (Loud exit) a ls ls' rest rest' stack stack' = refl
 
-counts_taken : (heap : Heap) (state : KState) (v : Value) (named : KMethod) → counts_fit heap state named ≡ true → counts_fit heap (taken state v) named ≡ true
+counts_taken : (heap : Heap) (state : KState) (v : Value) (named : KMethod) → counts_fit heap state named ≡ true →
+    counts_fit heap (taken state v) named ≡ true
 counts_taken heap state v method.Do t = t
 counts_taken heap state v method.And t = refl
 counts_taken heap state v method.Or t = refl
@@ -80,23 +81,27 @@ abbrev pub GivesOnto : CodeProgram → Progress → After → Type 0
 GivesOnto code old (Gives v p) = Onto code old p × IsLiveValue p.world.cells code v
 GivesOnto code old (Halts ending p) = Unit {0}
 
-pub onto_of : (code : CodeProgram) (old new : Progress) → LawfulRun code old → LawfulRun code new → IsLater old.world new.world → old.begun ≤ new.begun
+pub onto_of : (code : CodeProgram) (old new : Progress) → LawfulRun code old → LawfulRun code new → IsLater old.world new.world →
+    old.begun ≤ new.begun
     → Onto code old new
 onto_of code old new before after later begun = record { run = record { before = before; after = after; later = later }; begun = begun }
 
-pub cell_gives : (code : CodeProgram) (p : Progress) (after : After) → LawfulRun code p → LawfulAfter code after → IsLater p.world (after_reached after).world
+pub cell_gives : (code : CodeProgram) (p : Progress) (after : After) → LawfulRun code p → LawfulAfter code after →
+    IsLater p.world (after_reached after).world
     → CellSpends p after → GivesOnto code p after
 cell_gives code p (Gives v q) before lawful later s = let b = s.begun in (onto_of code p q before lawful.0 later (omega (arith, b)), lawful.1)
 cell_gives code p (Halts ending q) before lawful later s = tt
 
-end_gives : (code : CodeProgram) (p : Progress) (after : After) → LawfulRun code p → LawfulAfter code after → IsLater p.world (after_reached after).world
+end_gives : (code : CodeProgram) (p : Progress) (after : After) → LawfulRun code p → LawfulAfter code after →
+    IsLater p.world (after_reached after).world
     → EndSpends p after → GivesOnto code p after
 end_gives code p (Gives v q) before lawful later s = let b = s.begun in (onto_of code p q before lawful.0 later (omega (arith, b)), lawful.1)
 end_gives code p (Halts ending q) before lawful later s = tt
 
 -- What comes after the last frame is valid, as long as the run goes on.
 abbrev pub EndsWell : CodeProgram → Phase → Progress → Type 0
-EndsWell code phase p = (q : Progress) (v : Value) → Onto code p q → IsLiveValue q.world.cells code v → FramesStand code (concluded code phase v q)
+EndsWell code phase p =
+    (q : Progress) (v : Value) → Onto code p q → IsLiveValue q.world.cells code v → FramesStand code (concluded code phase v q)
 
 module _ (known : Known) (code : CodeProgram) (sound : IsSound code) where
   -- the run goes on by giving a frame back

@@ -21,7 +21,8 @@ use Rattle.ns_machine_moves.specs.laws.Steps.{placed_length, placed_at}
 -- ---- steps
 
 -- a step and what is left, behind so many
-dropped_at : {A : Type 0} (k : ℕ) (xs : List A) (x : A) (rest : List A) → drop k xs ≡ x ∷ rest → (slice_get xs k ≡ Some x) × (drop (suc k) xs ≡ rest)
+dropped_at : {A : Type 0} (k : ℕ) (xs : List A) (x : A) (rest : List A) → drop k xs ≡ x ∷ rest →
+    (slice_get xs k ≡ Some x) × (drop (suc k) xs ≡ rest)
 dropped_at zero [] x rest e = absurd (cc)
 dropped_at zero (y ∷ ys) x rest e = (let same : y ≡ x = cc in ap Some same, let same : ys ≡ rest = cc in same)
 dropped_at (suc k) [] x rest e = absurd (cc)
@@ -36,7 +37,8 @@ pub record IsNext (code : CodeProgram) (number : ℕ) (body : BodyCode) (step : 
   pub behind : next_number code number rest ≡ suc at
   pub left : rest ≡ steps_from code number (next_number code number rest)
 
-pub next_is : (code : CodeProgram) (number : ℕ) (body : BodyCode) (step : PlacedInstr) (rest : List PlacedInstr) → slice_get code.bodies number ≡ Some body
+pub next_is : (code : CodeProgram) (number : ℕ) (body : BodyCode) (step : PlacedInstr) (rest : List PlacedInstr) →
+    slice_get code.bodies number ≡ Some body
     → step ∷ rest ≡ steps_from code number (next_number code number (step ∷ rest)) → IsNext code number body step rest
 next_is code number body step rest there inside =
     let all : List PlacedInstr = steps_of code number in
@@ -61,13 +63,15 @@ next_is code number body step rest there inside =
     behind_is all more whole one count = omega (arith, one, count)
 
 -- a body that begins has all of its steps left
-pub all_left : (code : CodeProgram) (number : ℕ) → steps_of code number ≡ steps_from code number (next_number code number (steps_of code number))
+pub all_left : (code : CodeProgram) (number : ℕ) →
+    steps_of code number ≡ steps_from code number (next_number code number (steps_of code number))
 all_left code number =
     let none : length (steps_of code number) - length (steps_of code number) ≡ 0 = omega arith in
     sym (ap (λ n. drop n (steps_of code number)) none)
 
 -- behind its last step there is no instruction
-pub no_next : (code : CodeProgram) (number : ℕ) (body : BodyCode) → slice_get code.bodies number ≡ Some body → next_number code number [] < length body.instrs → ⊥
+pub no_next : (code : CodeProgram) (number : ℕ) (body : BodyCode) → slice_get code.bodies number ≡ Some body →
+    next_number code number [] < length body.instrs → ⊥
 no_next code number body there inside =
     let steps : steps_of code number ≡ placed body.places 0 body.instrs = ap (λ o. option_map_or (λ (b : BodyCode). placed b.places 0 b.instrs) o ((i.ReturnSelf, None) ∷ [])) there in
     let many : length (steps_of code number) ≡ length body.instrs = ap length steps ∙ placed_length body.places 0 body.instrs in
@@ -75,7 +79,8 @@ no_next code number body there inside =
     omega (arith, many, none, inside)
 
 -- where a jump goes on
-pub target_left : (code : CodeProgram) (number : ℕ) (body : BodyCode) (to : ℕ) → slice_get code.bodies number ≡ Some body → to < length body.instrs
+pub target_left : (code : CodeProgram) (number : ℕ) (body : BodyCode) (to : ℕ) → slice_get code.bodies number ≡ Some body →
+    to < length body.instrs
     → next_number code number (steps_from code number to) ≡ to
 target_left code number body to there inside =
     let steps : steps_of code number ≡ placed body.places 0 body.instrs = ap (λ o. option_map_or (λ (b : BodyCode). placed b.places 0 b.instrs) o ((i.ReturnSelf, None) ∷ [])) there in

@@ -28,11 +28,13 @@ or_first false c e = absurd (cc)
 pub is_selector : (code : CodeProgram) (number : ℕ) → number < length code.names → is_selector_number code number ≡ true
 is_selector code number inside = or_first (nat_lt number (length code.names)) _ (lt-ltb number (length code.names) inside)
 
-pub body_fits : (code : CodeProgram) (number : ℕ) (body : BodyCode) → Fits code → slice_get code.bodies number ≡ Some body → BodyFits code body
+pub body_fits : (code : CodeProgram) (number : ℕ) (body : BodyCode) → Fits code → slice_get code.bodies number ≡ Some body →
+    BodyFits code body
 body_fits code number body fits e =
     subst (BodyFits code) (get_or_from_slice_get code.bodies number body body e) (fits.bodies number body (slice_get_within code.bodies number body e))
 
-pub instr_fits : (code : CodeProgram) (number at : ℕ) (body : BodyCode) (instr : Instr) → Fits code → slice_get code.bodies number ≡ Some body
+pub instr_fits : (code : CodeProgram) (number at : ℕ) (body : BodyCode) (instr : Instr) → Fits code →
+    slice_get code.bodies number ≡ Some body
     → slice_get body.instrs at ≡ Some instr → InstrFits instr
 instr_fits code number at body instr fits e f =
     subst InstrFits (get_or_from_slice_get body.instrs at instr instr f)
@@ -42,7 +44,8 @@ instr_fits code number at body instr fits e f =
 pub place_there : (code : CodeProgram) (body : BodyCode) (places : List (ℕ × SourcePlace)) (at : ℕ) → All (PlaceFits code body) places
     → ForSome (place_in places at) (λ (place : SourcePlace). place.file < length code.files)
 place_there code body [] at all = λ place e. absurd (cc)
-place_there code body (entry ∷ places) at all = tested (entry.0 == at) (all 0 entry (omega arith)).file (place_there code body places at (λ i d h. all (suc i) d (omega (arith, h))))
+place_there code body (entry ∷ places) at all =
+    tested (entry.0 == at) (all 0 entry (omega arith)).file (place_there code body places at (λ i d h. all (suc i) d (omega (arith, h))))
   where
     tested : (b : Bool) → entry.1.file < length code.files → ForSome (place_in places at) (λ (place : SourcePlace). place.file < length code.files)
         → ForSome (cond b (Some entry.1) (place_in places at)) (λ (place : SourcePlace). place.file < length code.files)
@@ -67,9 +70,11 @@ out_there code number hops out e = rw (out_is code number hops out e) refl
 
 -- ---- blocks
 
-pub block_in : (known : SoundKnown) (code : CodeProgram) (number block : ℕ) (body : BodyCode) → IsSound code → slice_get code.bodies number ≡ Some body
+pub block_in : (known : SoundKnown) (code : CodeProgram) (number block : ℕ) (body : BodyCode) → IsSound code →
+    slice_get code.bodies number ≡ Some body
     → HasBlock code number block → IsBlockOf code block number
-block_in known code number block body sound there (inner, inner_is, kind, parent) = inside ((known.stands code block inner sound inner_is).block kind)
+block_in known code number block body sound there (inner, inner_is, kind, parent) =
+    inside ((known.stands code block inner sound inner_is).block kind)
   where
     inside : StandsInside code block inner → IsBlockOf code block number
     inside (outer, holder, is, below, holder_is, class, side, env) =

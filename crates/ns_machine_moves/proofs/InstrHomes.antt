@@ -27,7 +27,8 @@ kinds_length before (body ∷ bodies) =
     omega (arith, ih, more)
 
 -- the kind of the outermost body, whatever stands for a missing one
-home_is : (code : CodeProgram) (number : ℕ) (body : BodyCode) → slice_get code.bodies number ≡ Some body → get_or (home_kinds code) number clause_kind ≡ home_of code number body
+home_is : (code : CodeProgram) (number : ℕ) (body : BodyCode) → slice_get code.bodies number ≡ Some body →
+    get_or (home_kinds code) number clause_kind ≡ home_of code number body
 home_is code number body e =
     let inside = slice_get_within code.bodies number body e in
     let many = kinds_length [] code.bodies in

@@ -10,19 +10,18 @@ use Rattle.ns_world.specs.Lawful.{IsLiveValue}
 use Rattle.ns_machine_moves.specs.State.{State, Unbegun, Going, Pends, Ended, Stuck, world_of, is_idle}
 use Rattle.ns_machine_moves.specs.Move.{moves}
 use Rattle.ns_machine_moves.specs.Onward.{MovesGoOnward}
-use Rattle.ns_machine_moves.specs.Turn.{Turns}
 use Rattle.ns_machine_moves.specs.Starts.{started, begun}
-use Rattle.ns_machine_moves.specs.Valid.{Valid}
 use Rattle.ns_machine_moves.specs.laws.Worlds.{valid_lawful}
 use Rattle.ns_machine_moves.specs.Standing.{MovesKeepValid}
-use Rattle.ns_machine_moves.specs.Beginning.{HostKeepsValid, MayBegin}
+use Rattle.ns_machine_moves.specs.Beginning.{HostKeepsValid}
 use Rattle.ns_machine_moves.specs.Living.{KeepsLive, MovesKeepLive, TurnsKeepLive, RunsKeepLive, SendsKeepLive}
 
 -- what lives lasts
 abbrev pub ValuesLast : Type 0
 ValuesLast = (value : Value) → Lasts (λ heap code. IsLiveValue heap code value)
 
-pub moves_live : (code : CodeProgram) (grants : Grants) → ValuesLast → MovesGoOnward code → MovesKeepValid code grants → MovesKeepLive code grants
+pub moves_live : (code : CodeProgram) (grants : Grants) → ValuesLast → MovesGoOnward code → MovesKeepValid code grants →
+    MovesKeepLive code grants
 moves_live code grants last onward keeps count state valid value live =
     last value code (world_of state) (world_of (moves code count state))
     (record {
@@ -44,7 +43,8 @@ started_world code (Pends phase pending frames progress) = refl
 started_world code (Ended ending phase progress) = refl
 started_world code (Stuck progress) = refl
 
-begun_world : (receiver : Value) (sel : Sel) (arguments : List Value) (idle : State) → world_of (begun receiver sel arguments idle) ≡ world_of idle
+begun_world : (receiver : Value) (sel : Sel) (arguments : List Value) (idle : State) →
+    world_of (begun receiver sel arguments idle) ≡ world_of idle
 begun_world receiver sel arguments idle = either (is_idle idle) _ refl
   where
     either : (b : Bool) (waits : State) → world_of waits ≡ world_of idle → world_of (if b then waits else idle) ≡ world_of idle
@@ -52,8 +52,10 @@ begun_world receiver sel arguments idle = either (is_idle idle) _ refl
     either false waits same = refl
 
 -- what is live at the same world as before is live
-from_before : (code : CodeProgram) (old begins new : State) → world_of begins ≡ world_of old → KeepsLive code begins new → KeepsLive code old new
-from_before code old begins new same keeps value live = keeps value (subst (λ (world : World). IsLiveValue world.cells code value) (sym same) live)
+from_before : (code : CodeProgram) (old begins new : State) → world_of begins ≡ world_of old → KeepsLive code begins new →
+    KeepsLive code old new
+from_before code old begins new same keeps value live =
+    keeps value (subst (λ (world : World). IsLiveValue world.cells code value) (sym same) live)
 
 pub runs_live : (code : CodeProgram) (grants : Grants) → MovesKeepLive code grants → RunsKeepLive code grants
 runs_live code grants live count state valid =

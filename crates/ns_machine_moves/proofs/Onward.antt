@@ -200,7 +200,8 @@ move_onward code (Ended ending phase p) = stays p
 move_onward code (Stuck p) = stays p
 move_onward code (Goes phase [] p) = stays p
 move_onward code (Goes phase (Running leaving a ls [] stack ∷ frames) p) = stays p
-move_onward code (Goes phase (Running leaving a ls (step ∷ rest) stack ∷ frames) p) = executes code phase leaving a ls rest frames p step.0 step.1 stack
+move_onward code (Goes phase (Running leaving a ls (step ∷ rest) stack ∷ frames) p) =
+    executes code phase leaving a ls rest frames p step.0 step.1 stack
 move_onward code (Goes phase (Looping method state site ∷ frames) p) =
     let w = method_next method state site p in
     at_state p (acted_on code phase method site w frames) _ (acted_at code phase method site w frames) (of_going [] p _ (next_onward [] method state site p))
@@ -214,4 +215,5 @@ move_onward code (Pends phase (Evaluating block arguments site) frames p) =
 
 pub moves_onward : (code : CodeProgram) → MovesGoOnward code
 moves_onward code zero s = stays (progress_of s)
-moves_onward code (suc count) s = then (progress_of s) (progress_of (move code s)) _ (move_onward code s) (moves_onward code count (move code s))
+moves_onward code (suc count) s =
+    then (progress_of s) (progress_of (move code s)) _ (move_onward code s) (moves_onward code count (move code s))

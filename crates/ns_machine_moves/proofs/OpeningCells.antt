@@ -55,12 +55,14 @@ standing_whole code grants heap b =
     let n : ℕ = length (standing_cells code grants) in
     sym (take-append-drop n (reverse heap)) ∙ ap (λ cells. cells ++ drop n (reverse heap)) b.start
 
-pub manifest_live : (code : CodeProgram) (grants : Grants) (heap : Heap) → BeginsWith (standing_cells code grants) heap → IsLiveValue heap code manifest
+pub manifest_live : (code : CodeProgram) (grants : Grants) (heap : Heap) → BeginsWith (standing_cells code grants) heap →
+    IsLiveValue heap code manifest
 manifest_live code grants heap b =
     let found : find_cell heap 0 ≡ Some (FacetCell Manifest) = found_at heap [] (FacetCell Manifest) _ (standing_whole code grants heap b) in
     (rw found refl, rw found refl)
 
-pub platform_live : (code : CodeProgram) (grants : Grants) (heap : Heap) → BeginsWith (standing_cells code grants) heap → IsLiveValue heap code platform
+pub platform_live : (code : CodeProgram) (grants : Grants) (heap : Heap) → BeginsWith (standing_cells code grants) heap →
+    IsLiveValue heap code platform
 platform_live code grants heap b =
     let found : find_cell heap 1 ≡ Some (FacetCell Platform) =
     found_at heap (FacetCell Manifest ∷ []) (FacetCell Platform) _ (standing_whole code grants heap b) in

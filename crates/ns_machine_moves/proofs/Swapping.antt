@@ -86,7 +86,8 @@ module _ (board : Board) where
 
 pub swaps_valid : (code : CodeProgram) (grants : Grants) → SwapsKeepValid code grants
 swaps_valid code grants board (Unbegun arguments p) v = (world_swapped board code (standing_cells code grants) p v.0, v.1, v.2)
-swaps_valid code grants board (Going phase frames p) v = (on_swapped board code grants phase frames p v.0, v.1, frames_swapped board code Nothing frames p v.2)
+swaps_valid code grants board (Going phase frames p) v =
+    (on_swapped board code grants phase frames p v.0, v.1, frames_swapped board code Nothing frames p v.2)
 swaps_valid code grants board (Pends phase pending frames p) v =
     (on_swapped board code grants phase frames p v.0, v.1, frames_swapped board code (awaited_for pending) frames p v.2)
 swaps_valid code grants board (Ended ending phase p) v = ended_swapped board code grants ending phase p v

@@ -6,7 +6,8 @@ use Rattle.ns_machine_moves.specs.State.{State}
 use Rattle.ns_machine_moves.specs.Operands.{taken_off}
 
 turned_over : (value : Value) (taken values : List Value) → reverse taken ++ (value ∷ values) ≡ reverse (value ∷ taken) ++ values
-turned_over value taken values = sym (ap (λ l. l ++ values) (reverse-append (value ∷ []) taken) ∙ append_assoc (reverse taken) (value ∷ []) values)
+turned_over value taken values =
+    sym (ap (λ l. l ++ values) (reverse-append (value ∷ []) taken) ∙ append_assoc (reverse taken) (value ∷ []) values)
 
 pub taken_is : (missing : State) (count : ℕ) (values stack : List Value) (go : List Value → List Value → State) → count ≤ length stack
     → taken_off missing count values stack go ≡ go (reverse (take count stack) ++ values) (drop count stack)

@@ -46,7 +46,8 @@ concluded_none code (First arguments) answer old next e = record { steps = e; go
 concluded_none code Second answer old next e = record { steps = e; going = refl }
 concluded_none code Hosted answer old next e = record { steps = e; going = refl }
 
-pub delivered_none : (code : CodeProgram) (phase : Phase) (answer : Value) (frames : List Frame) (old next : Progress) → next.world.steps ≡ old.world.steps
+pub delivered_none : (code : CodeProgram) (phase : Phase) (answer : Value) (frames : List Frame) (old next : Progress) →
+    next.world.steps ≡ old.world.steps
     → TookNone old (delivered code phase answer frames next)
 delivered_none code phase answer [] old next e = concluded_none code phase answer old next e
 delivered_none code phase answer (Running leaving a ls rest stack ∷ frames) old next e = record { steps = e; going = refl }
@@ -60,7 +61,8 @@ settled_none code phase (Halts ending next) frames old e = record { steps = e.0;
 -- ---- new cells
 
 pub cell_none : (cell : Cell) (p : Progress) → AfterNone p (new_cell cell p)
-cell_none cell p = charged_all (AfterNone p) Halts Cells (made p.world cell) p _ (refl, refl) (λ world e. (made_counts p.world world cell e).steps)
+cell_none cell p =
+    charged_all (AfterNone p) Halts Cells (made p.world cell) p _ (refl, refl) (λ world e. (made_counts p.world world cell e).steps)
 
 -- ---- the end of a body
 
@@ -75,11 +77,13 @@ class_none code object holder class cell (Some CellLimit) site old p s = (s, ref
 class_none code object holder class cell None site old p s =
     charged_all (AfterNone old) Halts Cells (made p.world cell) p _ (s, refl) (λ world e. (made_counts p.world world cell e).steps ∙ s)
 
-kept_none : (kept : Option ℕ) (new : After) (old p : Progress) → p.world.steps ≡ old.world.steps → AfterNone old new → AfterNone old (kept_or kept p new)
+kept_none : (kept : Option ℕ) (new : After) (old p : Progress) → p.world.steps ≡ old.world.steps → AfterNone old new →
+    AfterNone old (kept_or kept p new)
 kept_none (Some number) new old p s h = s
 kept_none None new old p s h = h
 
-pub ended_none : (code : CodeProgram) (exit : Exit) (a : Activation) (answer : Value) (p : Progress) → AfterNone p (body_ended code exit a answer p)
+pub ended_none : (code : CodeProgram) (exit : Exit) (a : Activation) (answer : Value) (p : Progress) →
+    AfterNone p (body_ended code exit a answer p)
 ended_none code FromMethod a answer p = refl
 ended_none code FromBody a answer p = refl
 ended_none code (FromClause object holder class) a answer p =
@@ -90,10 +94,12 @@ ended_none code (FromClause object holder class) a answer p =
 
 pub returned_none : (code : CodeProgram) (phase : Phase) (leaving : Leaving) (a : Activation) (answer : Value) (frames : List Frame) (p : Progress)
     → TookNone p (returned code phase leaving a answer frames p)
-returned_none code phase (Loud exit) a answer frames p = settled_none code phase (body_ended code exit a answer p) frames p (ended_none code exit a answer p)
+returned_none code phase (Loud exit) a answer frames p =
+    settled_none code phase (body_ended code exit a answer p) frames p (ended_none code exit a answer p)
 returned_none code phase Silent a answer frames p = record { steps = refl; going = refl }
 
-unwound_none : (code : CodeProgram) (phase : Phase) (home : ℕ) (answer : Value) (frames : List Frame) (old p : Progress) → p.world.steps ≡ old.world.steps
+unwound_none : (code : CodeProgram) (phase : Phase) (home : ℕ) (answer : Value) (frames : List Frame) (old p : Progress) →
+    p.world.steps ≡ old.world.steps
     → TookNone old (unwound code phase home answer frames p)
 unwound_none code phase home answer [] old p e = record { steps = e; going = refl }
 unwound_none code phase home answer (frame ∷ frames) old p e = tested (is_home home frame)

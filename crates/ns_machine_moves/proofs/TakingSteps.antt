@@ -94,7 +94,8 @@ framed_steps code a arguments p =
 pub evaluation_took : (code : CodeProgram) (phase : Phase) (cell : NewCell) (arguments : List Value) (site : Site) (frames : List Frame) (p : Progress)
     → is_block_shape cell ≡ true
     → MoveTook (eqb (length arguments) (parameters_of code (block_body_in cell))) p (arrived code phase (block_entered code cell arguments site p) frames)
-evaluation_took code phase (new.Block body env home receiver holder) arguments site frames p is = tested (eqb (length arguments) (parameters_of code body))
+evaluation_took code phase (new.Block body env home receiver holder) arguments site frames p is =
+    tested (eqb (length arguments) (parameters_of code body))
   where
     inner : Activation
     inner = record { self = receiver; holder = holder; body = body; home = home; env = env; site = site }
@@ -133,7 +134,8 @@ action_took code phase method (action.Evaluate block argument turn count) state 
     turn_took code phase method site _ frames p turn (λ q. record { steps = refl; going = refl })
 action_took code phase method (action.EvaluateItem block item count) state site frames p =
     turn_took code phase method site _ frames p true (λ q. record { steps = refl; going = refl })
-action_took code phase method (action.Answer answer) state site frames p = settled_none code phase (Gives answer (in_world p (left p.world))) frames p refl
+action_took code phase method (action.Answer answer) state site frames p =
+    settled_none code phase (Gives answer (in_world p (left p.world))) frames p refl
 action_took code phase method (action.Fail kind) state site frames p = record { steps = refl; going = refl }
 
 -- ---- jumps

@@ -152,8 +152,10 @@ takes_as_told code (Going phase [] p) still can = let f = can.finds in absurd (c
 takes_as_told code (Going phase (Running leaving a ls [] stack ∷ frames) p) still can = let f = can.finds in absurd (cc)
 takes_as_told code (Going phase (Running leaving a ls (step ∷ rest) stack ∷ frames) p) still can =
     executed_took code phase leaving a ls rest frames p step.0 step.1 stack can.finds
-takes_as_told code (Going phase (Looping method state site ∷ frames) p) still can = action_took code phase method (next method state) state site frames p
-takes_as_told code (Pends phase (Sending receiver sel arguments site) frames p) still can = plain_took code phase receiver sel arguments site frames p
+takes_as_told code (Going phase (Looping method state site ∷ frames) p) still can =
+    action_took code phase method (next method state) state site frames p
+takes_as_told code (Pends phase (Sending receiver sel arguments site) frames p) still can =
+    plain_took code phase receiver sel arguments site frames p
 takes_as_told code (Pends phase (Performing receiver sel array site) frames p) still can =
     plain_took code phase receiver sel (items_of p.world.cells (value.Ref array)) site frames p
 takes_as_told code (Pends phase (Evaluating block arguments site) frames p) still can =

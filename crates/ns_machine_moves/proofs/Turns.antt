@@ -107,7 +107,8 @@ abbrev count_of : (code : CodeProgram) (steps : ℕ) (state new : State) → Tur
 count_of code steps state new (inl p) = p.count
 count_of code steps state new (inr p) = p.count
 
-ends_of : (code : CodeProgram) (steps : ℕ) (state new : State) (p : Turns code steps state new) → Ends code steps (count_of code steps state new p) state new
+ends_of : (code : CodeProgram) (steps : ℕ) (state new : State) (p : Turns code steps state new) →
+    Ends code steps (count_of code steps state new p) state new
 ends_of code steps state new (inl p) = let c = p.charged in record { spared = 0; is = p.is; charged = omega (arith, c); stops = inr (refl, p.next) }
 ends_of code steps state new (inr p) = record { spared = p.spared; is = p.is; charged = p.charged; stops = inl p.still }
 
@@ -117,7 +118,8 @@ others_end : (code : CodeProgram) (steps left count : ℕ) (state new : State) (
 others_end code steps left count state new x c = record { spared = x.spared; is = x.is; charged = c; stops = x.stops }
 
 -- the first of some moves leaves the steps to the others, or takes one of them
-first_of : {A : Type 0} (b : Bool) (steps m n x y : ℕ) → one_if b m + x ≡ steps → one_if b n + y ≡ steps → ((left : ℕ) → m + x ≡ left → n + y ≡ left → A) → A
+first_of : {A : Type 0} (b : Bool) (steps m n x y : ℕ) → one_if b m + x ≡ steps → one_if b n + y ≡ steps →
+    ((left : ℕ) → m + x ≡ left → n + y ≡ left → A) → A
 first_of false steps m n x y c d again = again steps c d
 first_of true zero m n x y c d again = absurd (omega (arith, c))
 first_of true (suc left) m n x y c d again = again left (omega (arith, c)) (omega (arith, d))
@@ -128,7 +130,8 @@ takes_one true m x e c = omega (arith, c)
 takes_one false m x e c = absurd (cc)
 
 -- where a turn ends at once, another that ends after more moves leaves the same state
-ends_here : (code : CodeProgram) (steps k : ℕ) (state one other : State) → Ends code steps zero state one → Ends code steps (suc k) state other → one ≡ other
+ends_here : (code : CodeProgram) (steps k : ℕ) (state one other : State) → Ends code steps zero state one →
+    Ends code steps (suc k) state other → one ≡ other
 ends_here code steps k state one other x y = on x.stops
   where
     on : (is_still one ≡ true) ⊎ ((x.spared ≡ 0) × (charges code one ≡ true)) → one ≡ other
@@ -138,7 +141,8 @@ ends_here code steps k state one other x y = on x.stops
         let none : steps ≡ 0 = omega (arith, c, h.0) in
         absurd (takes_one (charges code state) (charged_in code k (move code state)) y.spared (ap (charges code) x.is ∙ h.1) (y.charged ∙ none))
 
-same_end : (code : CodeProgram) (j k steps : ℕ) (state one other : State) → Ends code steps j state one → Ends code steps k state other → one ≡ other
+same_end : (code : CodeProgram) (j k steps : ℕ) (state one other : State) → Ends code steps j state one → Ends code steps k state other →
+    one ≡ other
 same_end code zero zero steps state one other x y = sym x.is ∙ y.is
 same_end code zero (suc k) steps state one other x y = ends_here code steps k state one other x y
 same_end code (suc j) zero steps state one other x y = sym (ends_here code steps j state other one y x)

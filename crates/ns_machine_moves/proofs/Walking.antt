@@ -30,7 +30,8 @@ pub settled_at : (code : CodeProgram) (phase : Phase) (after : After) (frames : 
 settled_at code phase (Gives answer p) frames = delivered_at code phase answer frames p
 settled_at code phase (Halts ending p) frames = refl
 
-pub arrived_at : (code : CodeProgram) (phase : Phase) (c : Control) (frames : List Frame) → progress_of (arrived code phase c frames) ≡ reached c
+pub arrived_at : (code : CodeProgram) (phase : Phase) (c : Control) (frames : List Frame) →
+    progress_of (arrived code phase c frames) ≡ reached c
 arrived_at code phase (Now after) frames = settled_at code phase after frames
 arrived_at code phase (Enter exit a ls p) frames = refl
 arrived_at code phase (Evaluate block arguments site p) frames = refl

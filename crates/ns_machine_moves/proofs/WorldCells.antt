@@ -43,7 +43,8 @@ weaker p q [] so e = refl
 weaker p q (shape ∷ shapes) so e =
     both_of (q shape) (list_all q shapes) (so shape (first_of (p shape) (list_all p shapes) e)) (weaker p q shapes so (second_of (p shape) (list_all p shapes) e))
 
-all_more : (p : NewCell → Bool) (first second : List NewCell) → list_all p first ≡ true → list_all p second ≡ true → list_all p (first ++ second) ≡ true
+all_more : (p : NewCell → Bool) (first second : List NewCell) → list_all p first ≡ true → list_all p second ≡ true →
+    list_all p (first ++ second) ≡ true
 all_more p first second e f = list_all-append p first second ∙ both_of (list_all p first) (list_all p second) e f
 
 all_reversed : (p : NewCell → Bool) (shapes : List NewCell) → list_all p shapes ≡ true → list_all p (reverse shapes) ≡ true
@@ -86,7 +87,8 @@ same_facet kind (TextCell bytes) s = absurd (cc)
 same_facet kind (MirrorCell mirrored) s = absurd (cc)
 same_facet kind (MessageCell sel args) s = absurd (cc)
 
-same_class : (decl base : ℕ) (encl holder over : Value) (now : Cell) → shape_of now ≡ new.Class decl base encl holder over → now ≡ ClassCell decl base encl holder over
+same_class : (decl base : ℕ) (encl holder over : Value) (now : Cell) → shape_of now ≡ new.Class decl base encl holder over →
+    now ≡ ClassCell decl base encl holder over
 same_class decl base encl holder over (ClassCell decl' base' encl' holder' over') s = cc
 same_class decl base encl holder over (FacetCell other) s = absurd (cc)
 same_class decl base encl holder over (ObjectCell class entries) s = absurd (cc)
@@ -124,7 +126,8 @@ starts_with (cell ∷ first) (now ∷ cells) others f e =
     let same : now ≡ cell = same_fixed cell now (first_of (is_fixed (shape_of cell)) (list_all is_fixed (map shape_of first)) f) head in
     record { start = ap (λ c. c ∷ take (length first) cells) same ∙ ap (λ cells. cell ∷ cells) below.start; shapes = below.shapes }
 
-started_with : (first : List Cell) (may : NewCell → Bool) (old new : Heap) → list_all is_fixed (map shape_of first) ≡ true → (a : Adds may old new)
+started_with : (first : List Cell) (may : NewCell → Bool) (old new : Heap) → list_all is_fixed (map shape_of first) ≡ true →
+    (a : Adds may old new)
     → BeginsWith first old → Starts first (reverse new) (map shape_of (drop (length first) (reverse old)) ++ reverse a.added)
 started_with first may old new fixed a b =
     let rest : List Cell = drop (length first) (reverse old) in
@@ -217,9 +220,11 @@ abbrev pub home_fits : CodeProgram → ℕ → NewCell → Bool
 home_fits code begun (new.Block body env home receiver holder) = has_block_home code begun body home
 home_fits code begun shape = true
 
-homes_told : (code : CodeProgram) (begun : ℕ) (heap : Heap) → blocks_have_homes code begun heap ≡ list_all (home_fits code begun) (map shape_of heap)
+homes_told : (code : CodeProgram) (begun : ℕ) (heap : Heap) →
+    blocks_have_homes code begun heap ≡ list_all (home_fits code begun) (map shape_of heap)
 homes_told code begun [] = refl
-homes_told code begun (BlockCell body env home receiver holder ∷ cells) = ap (λ b. has_block_home code begun body home && b) (homes_told code begun cells)
+homes_told code begun (BlockCell body env home receiver holder ∷ cells) =
+    ap (λ b. has_block_home code begun body home && b) (homes_told code begun cells)
 homes_told code begun (TextCell bytes ∷ cells) = homes_told code begun cells
 homes_told code begun (ArrayCell items ∷ cells) = homes_told code begun cells
 homes_told code begun (FacetCell kind ∷ cells) = homes_told code begun cells
@@ -240,7 +245,8 @@ block_home_more code low high body home h e = tested (is_in_method code body) e
     tested true e = below_more home low high h e
     tested false e = e
 
-home_more : (code : CodeProgram) (low high : ℕ) (shape : NewCell) → low ≤ high → home_fits code low shape ≡ true → home_fits code high shape ≡ true
+home_more : (code : CodeProgram) (low high : ℕ) (shape : NewCell) → low ≤ high → home_fits code low shape ≡ true →
+    home_fits code high shape ≡ true
 home_more code low high (new.Block body env home receiver holder) h e = block_home_more code low high body home h e
 home_more code low high (new.Text bytes) h e = refl
 home_more code low high (new.Array size) h e = refl

@@ -43,7 +43,8 @@ use Rattle.ns_machine_moves.proofs.WorldEnds.{InWorldOf, ended_in, settled_in, c
 
 -- ---- operands
 
-top_live : (P : State → Type 0) (Q : Value → Type 0) (missing : State) (stack : List Value) (go : Value → List Value → State) → P missing → All Q stack
+top_live : (P : State → Type 0) (Q : Value → Type 0) (missing : State) (stack : List Value) (go : Value → List Value → State) → P missing →
+    All Q stack
     → ((v : Value) (below : List Value) → Q v → All Q below → P (go v below)) → P (on_top missing stack go)
 top_live P Q missing [] go m all g = m
 top_live P Q missing (v ∷ below) go m all g = g v below (All-head Q v below all) (All-tail Q v below all)
@@ -59,7 +60,8 @@ taken_live P Q missing (suc count) vs (v ∷ stack) go m all rest g =
     (λ taken below e more other. let one : length (v ∷ vs) ≡ length vs + 1 = omega arith in
     let many : length taken ≡ suc count + length vs = omega (arith, e, one) in g taken below many more other)
 
-picked_in : (P : State → Type 0) (missing : State) (place : ℕ) (stack : List Value) (go : Value → State) → P missing → ((v : Value) → P (go v))
+picked_in : (P : State → Type 0) (missing : State) (place : ℕ) (stack : List Value) (go : Value → State) → P missing →
+    ((v : Value) → P (go v))
     → P (picked missing place stack go)
 picked_in P missing place [] go m g = m
 picked_in P missing zero (v ∷ stack) go m g = g v

@@ -73,7 +73,8 @@ top_fixed (Some outer) decl = refl
 
 tops_fixed : (decl : ℕ) (classes : List ClassCode) → list_all is_fixed (map shape_of (tops_of decl classes)) ≡ true
 tops_fixed decl [] = refl
-tops_fixed decl (class ∷ classes) = fixed_more (top_if class.outer decl) (tops_of (decl + 1) classes) (top_fixed class.outer decl) (tops_fixed (decl + 1) classes)
+tops_fixed decl (class ∷ classes) =
+    fixed_more (top_if class.outer decl) (tops_of (decl + 1) classes) (top_fixed class.outer decl) (tops_fixed (decl + 1) classes)
 
 pub standing_fixed : (code : CodeProgram) (grants : Grants) → list_all is_fixed (map shape_of (standing_cells code grants)) ≡ true
 standing_fixed code grants = fixed_more (facets_of grants) (tops_of 0 code.classes) (facets_fixed grants) (tops_fixed 0 code.classes)

@@ -28,7 +28,8 @@ MovesKeepCount code = (count : ℕ) (state : State) → FramesAreCounted state �
 
 -- A new machine has that count, and its start keeps it.
 abbrev pub NewIsCounted : CodeProgram → Type 0
-NewIsCounted code = (limits : Limits) (grants : Grants) (arguments : List (List ℕ)) → FramesAreCounted (new_machine code limits grants arguments)
+NewIsCounted code =
+    (limits : Limits) (grants : Grants) (arguments : List (List ℕ)) → FramesAreCounted (new_machine code limits grants arguments)
 
 -- the first opening send stands on no frame
 abbrev pub StartKeepsCount : CodeProgram → Type 0

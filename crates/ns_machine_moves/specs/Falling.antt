@@ -31,7 +31,8 @@ run_left code state =
 
 -- Each move of a valid state lowers that, so each run ends.
 abbrev pub MovesLower : CodeProgram → Grants → Type 0
-MovesLower code grants = (state : State) → Valid code grants state → is_still state ≡ false → run_left code (move code state) < run_left code state
+MovesLower code grants =
+    (state : State) → Valid code grants state → is_still state ≡ false → run_left code (move code state) < run_left code state
 
 -- a power of two that passes all that a run within these limits can do
 abbrev pub power_left : CodeProgram → Limits → ℕ

@@ -21,16 +21,19 @@ use Rattle.ns_machine_moves.specs.Jumps.{jumped, jumped_on}
 
 -- the frame goes on with these operands
 abbrev pub on_with : Phase → Leaving → Activation → List Value → List PlacedInstr → List Value → List Frame → Progress → State
-on_with phase leaving activation locals rest stack frames progress = Going phase (Running leaving activation locals rest stack ∷ frames) progress
+on_with phase leaving activation locals rest stack frames progress =
+    Going phase (Running leaving activation locals rest stack ∷ frames) progress
 
 -- the topmost value is stored in a local, and stays
-abbrev pub stored_local : CodeProgram → Phase → ℕ → ℕ → Value → Leaving → Activation → List Value → List PlacedInstr → List Value → List Frame → Progress → State
+abbrev pub stored_local : CodeProgram → Phase → ℕ → ℕ → Value → Leaving → Activation → List Value → List PlacedInstr → List Value →
+    List Frame → Progress → State
 stored_local code phase hops index value leaving activation locals rest below frames progress =
     on_with phase leaving activation (locals_with code activation locals hops index value) rest (value ∷ below) frames
     (local_stored code activation hops index value progress)
 
 -- one instruction
-abbrev pub executed : CodeProgram → Phase → Instr → Option SourcePlace → Leaving → Activation → List Value → List PlacedInstr → List Value → List Frame → Progress
+abbrev pub executed : CodeProgram → Phase → Instr → Option SourcePlace → Leaving → Activation → List Value → List PlacedInstr → List Value →
+    List Frame → Progress
     → State
 executed code phase instr.PushNil place leaving activation locals rest stack frames progress =
     on_with phase leaving activation locals rest (Nil ∷ stack) frames progress

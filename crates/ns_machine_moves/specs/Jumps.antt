@@ -16,7 +16,8 @@ abbrev pub goes_back : List PlacedInstr → List PlacedInstr → Bool
 goes_back rest landing = nat_lt (length rest) (length landing)
 
 -- a jump that is taken
-abbrev pub jumped : Phase → Leaving → Activation → List Value → List PlacedInstr → List PlacedInstr → List Value → List Frame → Progress → State
+abbrev pub jumped : Phase → Leaving → Activation → List Value → List PlacedInstr → List PlacedInstr → List Value → List Frame → Progress →
+    State
 jumped phase leaving activation locals rest landing stack frames progress =
     if goes_back rest landing
     then charged (λ ending progress.
@@ -30,7 +31,8 @@ takes_jump false False = true
 takes_jump wanted value = false
 
 -- a conditional jump on a value, which it takes
-abbrev pub jumped_on : Phase → Bool → Value → Leaving → Activation → List Value → List PlacedInstr → List PlacedInstr → List Value → List Frame → Progress → State
+abbrev pub jumped_on : Phase → Bool → Value → Leaving → Activation → List Value → List PlacedInstr → List PlacedInstr → List Value →
+    List Frame → Progress → State
 jumped_on phase wanted value leaving activation locals rest landing stack frames progress =
     if is_boolean value
     then (if takes_jump wanted value

@@ -26,10 +26,12 @@ sent_on code receiver sel arguments site progress =
 
 -- what waits is done
 abbrev pub resumed : CodeProgram → Phase → Pending → List Frame → Progress → State
-resumed code phase (Sending receiver sel arguments site) frames progress = arrived code phase (sent_on code receiver sel arguments site progress) frames
+resumed code phase (Sending receiver sel arguments site) frames progress =
+    arrived code phase (sent_on code receiver sel arguments site progress) frames
 resumed code phase (Performing receiver sel array site) frames progress =
     arrived code phase (sent_on code receiver sel (items_of progress.world.cells (Ref array)) site progress) frames
-resumed code phase (Evaluating block arguments site) frames progress = arrived code phase (evaluated code block arguments site progress) frames
+resumed code phase (Evaluating block arguments site) frames progress =
+    arrived code phase (evaluated code block arguments site progress) frames
 
 -- one move; a run that has begun nothing or has ended stays as it is
 abbrev pub move : CodeProgram → State → State
@@ -38,7 +40,8 @@ move code (Going phase [] progress) = Stuck progress
 move code (Going phase (Running leaving activation locals [] stack ∷ frames) progress) = Stuck progress
 move code (Going phase (Running leaving activation locals (step ∷ rest) stack ∷ frames) progress) =
     executed code phase step.0 step.1 leaving activation locals rest stack frames progress
-move code (Going phase (Looping method state site ∷ frames) progress) = acted_on code phase method site (method_next method state site progress) frames
+move code (Going phase (Looping method state site ∷ frames) progress) =
+    acted_on code phase method site (method_next method state site progress) frames
 move code (Pends phase pending frames progress) = resumed code phase pending frames progress
 move code (Ended ending phase progress) = Ended ending phase progress
 move code (Stuck progress) = Stuck progress

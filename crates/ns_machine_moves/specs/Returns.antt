@@ -18,7 +18,8 @@ use Rattle.ns_machine_moves.specs.Steps.{opening_place}
 
 -- an opening send, which has the place of the first class's superclass message
 abbrev pub opening : CodeProgram → Value → Sel → List Value → Progress → Pending
-opening code receiver sel arguments progress = Sending receiver sel arguments (site_at progress.world.cells (opening_place code) receiver sel)
+opening code receiver sel arguments progress =
+    Sending receiver sel arguments (site_at progress.world.cells (opening_place code) receiver sel)
 
 -- A value that no frame takes: that of the first opening send is sent the second, and any other ends the run.
 abbrev pub concluded : CodeProgram → Phase → Value → Progress → State
@@ -31,7 +32,8 @@ abbrev pub delivered : CodeProgram → Phase → Value → List Frame → Progre
 delivered code phase value [] progress = concluded code phase value progress
 delivered code phase value (Running leaving activation locals rest stack ∷ frames) progress =
     Going phase (Running leaving activation locals rest (value ∷ stack) ∷ frames) progress
-delivered code phase value (Looping method state site ∷ frames) progress = Going phase (Looping method (taken state value) site ∷ frames) progress
+delivered code phase value (Looping method state site ∷ frames) progress =
+    Going phase (Looping method (taken state value) site ∷ frames) progress
 
 -- a value is delivered, or the run ends
 abbrev pub settled : CodeProgram → Phase → After → List Frame → State
@@ -40,7 +42,8 @@ settled code phase (Halts ending progress) frames = Ended ending phase progress
 
 -- the end of a body with a value
 abbrev pub returned : CodeProgram → Phase → Leaving → Activation → Value → List Frame → Progress → State
-returned code phase (Loud exit) activation value frames progress = settled code phase (body_ended code exit activation value progress) frames
+returned code phase (Loud exit) activation value frames progress =
+    settled code phase (body_ended code exit activation value progress) frames
 returned code phase Silent activation value frames progress = Going phase frames (frame_left progress)
 
 -- ---- returns from a home

@@ -36,11 +36,13 @@ StaysStill code state = (count : ℕ) → is_still state ≡ true → moves code
 
 -- A turn and then another are one turn of all their steps.
 abbrev pub TurnsAdd : CodeProgram → Type 0
-TurnsAdd code = (a b : ℕ) (first second third : State) → Turns code a first second → Turns code b second third → Turns code (a + b) first third
+TurnsAdd code =
+    (a b : ℕ) (first second third : State) → Turns code a first second → Turns code b second third → Turns code (a + b) first third
 
 -- There is only one state that a turn can leave.
 abbrev pub TurnsLeaveOne : CodeProgram → Type 0
-TurnsLeaveOne code = (steps : ℕ) (first second third : State) → Turns code steps first second → Turns code steps first third → second ≡ third
+TurnsLeaveOne code =
+    (steps : ℕ) (first second third : State) → Turns code steps first second → Turns code steps first third → second ≡ third
 
 -- ---- sends that wait
 
@@ -83,7 +85,8 @@ OperandsAreTaken missing =
 
 -- A jump within a body goes back exactly where its target isn't behind it.
 abbrev pub GoesBackTo : List PlacedInstr → Type 0
-GoesBackTo steps = (k target : ℕ) → k < length steps → target < length steps → goes_back (drop (k + 1) steps) (drop target steps) ≡ nat_le target k
+GoesBackTo steps =
+    (k target : ℕ) → k < length steps → target < length steps → goes_back (drop (k + 1) steps) (drop target steps) ≡ nat_le target k
 
 -- ---- one list of values
 

@@ -28,7 +28,8 @@ use Rattle.ns_actions.specs.Fitting.{FitsSite}
 -- whether each block has a home as its body asks for
 abbrev pub blocks_have_homes : CodeProgram → ℕ → Heap → Bool
 blocks_have_homes code begun [] = true
-blocks_have_homes code begun (BlockCell body env home receiver holder ∷ cells) = has_block_home code begun body home && blocks_have_homes code begun cells
+blocks_have_homes code begun (BlockCell body env home receiver holder ∷ cells) =
+    has_block_home code begun body home && blocks_have_homes code begun cells
 blocks_have_homes code begun (cell ∷ cells) = blocks_have_homes code begun cells
 
 -- whether a cell is no facet
@@ -94,7 +95,8 @@ EndingIsValid code (Limit limit) progress = Unit {0}
 
 -- A start that doesn't fit has the cells that did; the first opening send doesn't end a run with a value.
 abbrev pub EndIsValid : CodeProgram → Grants → Ending → Phase → Progress → Type 0
-EndIsValid code grants (Limit Cells) Start progress = WorldIsValid code (fitting progress.world.limits.cells 0 (standing_cells code grants)) progress
+EndIsValid code grants (Limit Cells) Start progress =
+    WorldIsValid code (fitting progress.world.limits.cells 0 (standing_cells code grants)) progress
 EndIsValid code grants ending Start progress = ⊥
 EndIsValid code grants (Done value) (First arguments) progress = ⊥
 EndIsValid code grants ending phase progress = WorldIsValid code (standing_cells code grants) progress × EndingIsValid code ending progress

@@ -39,7 +39,8 @@ pub data Awaited : Type 0 where
 -- what the frame below one waits for
 abbrev pub awaited_below : CodeProgram → Frame → Awaited
 awaited_below code (Running Silent activation locals rest stack) = PartEnd
-awaited_below code (Running (Loud exit) activation locals rest stack) = if kind_of code activation.body == block_kind then BlockValue else SendValue
+awaited_below code (Running (Loud exit) activation locals rest stack) =
+    if kind_of code activation.body == block_kind then BlockValue else SendValue
 awaited_below code (Looping method state site) = SendValue
 
 -- what the topmost frame waits for, by what waits to be done
@@ -108,7 +109,8 @@ has_home_of code begun kind body home =
 -- whether the homes of methods fall from below a number on, the topmost first
 abbrev pub homes_fall : ℕ → List Frame → Bool
 homes_fall bound [] = true
-homes_fall bound (Running (Loud FromMethod) activation locals rest stack ∷ frames) = nat_lt activation.home bound && homes_fall activation.home frames
+homes_fall bound (Running (Loud FromMethod) activation locals rest stack ∷ frames) =
+    nat_lt activation.home bound && homes_fall activation.home frames
 homes_fall bound (frame ∷ frames) = homes_fall bound frames
 
 -- ---- bodies that run
@@ -165,7 +167,8 @@ pub record LoopingIsValid (heap : Heap) (code : CodeProgram) (awaited : Awaited)
 
 -- a frame of either kind, by what it waits for
 abbrev pub FrameIsValid : CodeProgram → Progress → Awaited → Frame → Type 0
-FrameIsValid code progress awaited (Running leaving activation locals rest stack) = RunningIsValid code progress awaited leaving activation locals rest stack
+FrameIsValid code progress awaited (Running leaving activation locals rest stack) =
+    RunningIsValid code progress awaited leaving activation locals rest stack
 FrameIsValid code progress awaited (Looping method state site) = LoopingIsValid progress.world.cells code awaited method state site
 
 -- Each frame is valid where it stands, and a superclass part stands on the initialiser that waits for it.

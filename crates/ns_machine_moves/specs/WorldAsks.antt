@@ -68,5 +68,6 @@ pub record InstructionRunsOn (code : CodeProgram) (step : PlacedInstr) (leaving 
 
 -- So does the next instruction of a run that goes on with one.
 abbrev pub FindsAsked : CodeProgram → State → Type 0
-FindsAsked code (Going phase (Running leaving activation locals (step ∷ rest) stack ∷ frames) progress) = InstructionRunsOn code step leaving activation progress
+FindsAsked code (Going phase (Running leaving activation locals (step ∷ rest) stack ∷ frames) progress) =
+    InstructionRunsOn code step leaving activation progress
 FindsAsked code state = Unit {0}

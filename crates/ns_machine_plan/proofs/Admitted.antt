@@ -90,7 +90,8 @@ one_of true b is = inl refl
 one_of false b is = inr is
 
 -- a part of a list passes
-one_part : (test : List ℕ → Bool) (xs ys : List (List ℕ)) → list_any test (xs ++ ys) ≡ true → (list_any test xs ≡ true) ⊎ (list_any test ys ≡ true)
+one_part : (test : List ℕ → Bool) (xs ys : List (List ℕ)) → list_any test (xs ++ ys) ≡ true →
+    (list_any test xs ≡ true) ⊎ (list_any test ys ≡ true)
 one_part test xs ys is = one_of (list_any test xs) (list_any test ys) (sym (list_any-append test xs ys) ∙ is)
 
 -- The selector is a name of code whose names differ.
@@ -335,7 +336,8 @@ sends_have_members code body at level argc sel b fits is usable =
         rw (out) (rw (there) (rw (looked_at b level) (not_absent (side_member code (side_of (private_side b level == class_side)) sel.0 declared) found)))
 
 -- what is found with a member
-found_with : (heap : Heap) (code : CodeProgram) (holder : ℕ) (member : Member) → member ≢ Absent → found_in heap code holder member ≢ found.Absent
+found_with : (heap : Heap) (code : CodeProgram) (holder : ℕ) (member : Member) → member ≢ Absent →
+    found_in heap code holder member ≢ found.Absent
 found_with heap code holder (Method body) some = λ e. absurd (cc (e))
 found_with heap code holder (Getter entry) some = λ e. absurd (cc (e))
 found_with heap code holder (Setter entry) some = λ e. absurd (cc (e))

@@ -27,7 +27,8 @@ MayBeAmong count (Some member) = SlotIsAmong count member
 
 methods_among : (count sel : ℕ) (methods : List MethodCode) → MayBeAmong count (method_member sel methods)
 methods_among count sel [] = tt
-methods_among count sel (method ∷ methods) = tested (sel == method.sel.0 && method.access == private_access) (methods_among count sel methods)
+methods_among count sel (method ∷ methods) =
+    tested (sel == method.sel.0 && method.access == private_access) (methods_among count sel methods)
   where
     tested : (b : Bool) → MayBeAmong count (method_member sel methods) → MayBeAmong count (cond b (Some (Method method.body)) (method_member sel methods))
     tested true is = tt
@@ -44,7 +45,8 @@ nested_among code count sel (one ∷ nested) other then =
     tested true is = tt
     tested false is = is
 
-slots_among : (code : CodeProgram) (count sel entry : ℕ) (slots : List SlotCode) (other : Option Member) → entry + length slots ≤ count → MayBeAmong count other
+slots_among : (code : CodeProgram) (count sel entry : ℕ) (slots : List SlotCode) (other : Option Member) → entry + length slots ≤ count →
+    MayBeAmong count other
     → MayBeAmong count (option_or (slots_member code sel entry slots) other)
 slots_among code count sel entry [] other fits then = then
 slots_among code count sel entry (slot ∷ slots) other fits then =
@@ -56,7 +58,8 @@ slots_among code count sel entry (slot ∷ slots) other fits then =
     tested false true is = omega arith
     tested false false is = is
 
-side_among : (code : CodeProgram) (side : Side) (sel : ℕ) (class : ClassCode) → MayBeAmong (length class.slots + length class.nested) (side_member code side sel class)
+side_among : (code : CodeProgram) (side : Side) (sel : ℕ) (class : ClassCode) →
+    MayBeAmong (length class.slots + length class.nested) (side_member code side sel class)
 side_among code InstanceSide sel class =
     slots_among code (length class.slots + length class.nested) sel 0 class.slots (option_or (nested_member code sel class.nested) (method_member sel class.methods))
     (omega arith)
@@ -72,10 +75,12 @@ declared_among : (code : CodeProgram) (side : Side) (sel : ℕ) (declared : Opti
     → SlotIsAmong (option_map_or (λ (class : ClassCode). length class.slots + length class.nested) declared 0)
     (unwrap_or (option_map_or (side_member code side sel) declared None) Absent)
 declared_among code side sel None = tt
-declared_among code side sel (Some class) = unwrapped (length class.slots + length class.nested) (side_member code side sel class) (side_among code side sel class)
+declared_among code side sel (Some class) =
+    unwrapped (length class.slots + length class.nested) (side_member code side sel class) (side_among code side sel class)
 
 pub members_are_entries : Declared → (code : CodeProgram) → MembersAreEntries code
-members_are_entries declared code world activation b level sel lawful fits is there = found (declaration_at code activation.body level) refl there
+members_are_entries declared code world activation b level sel lawful fits is there =
+    found (declaration_at code activation.body level) refl there
   where
     holder : ℕ
     holder = (enclosing world.cells activation level).holder

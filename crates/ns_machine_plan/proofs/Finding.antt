@@ -86,11 +86,13 @@ module _ (heap : Heap) (code : CodeProgram) (holder sel : ℕ) where
   private_found : (side : Side) → found_private heap code holder side sel ≡ found_in heap code holder (private_member code side sel (declaration_of heap holder))
   private_found side = declared_found side (slice_get code.classes (declaration_of heap holder))
 
-pub out_is : (code : CodeProgram) (body : ℕ) (b : BodyCode) (level : ℕ) → slice_get code.bodies body ≡ Some b → declaration_at code body level ≡ declaration_out code b.class level
+pub out_is : (code : CodeProgram) (body : ℕ) (b : BodyCode) (level : ℕ) → slice_get code.bodies body ≡ Some b →
+    declaration_at code body level ≡ declaration_out code b.class level
 out_is code body b zero is = ap (λ o. option_map (λ (x : BodyCode). x.class) o) is
 out_is code body b (suc level) is = ap (outer_of code) (out_is code body b level is)
 
-side_is : (code : CodeProgram) (activation : Activation) (b : BodyCode) (level : ℕ) → slice_get code.bodies activation.body ≡ Some b → side_at code activation level ≡ level_side b level
+side_is : (code : CodeProgram) (activation : Activation) (b : BodyCode) (level : ℕ) → slice_get code.bodies activation.body ≡ Some b →
+    side_at code activation level ≡ level_side b level
 side_is code activation b zero is = ap (λ o. side_of (option_map_or (λ (x : BodyCode). x.side == class_side) o false)) is
 side_is code activation b (suc level) is = refl
 
@@ -100,7 +102,8 @@ Declared =
     → declaration_at code activation.body level ≡ Some decl → declaration_of world.cells (enclosing world.cells activation level).holder ≡ decl
 
 pub members_are_found : Declared → (code : CodeProgram) → MembersAreFound code
-members_are_found declared code world activation b level sel lawful fits is there = found (declaration_at code activation.body level) refl there
+members_are_found declared code world activation b level sel lawful fits is there =
+    found (declaration_at code activation.body level) refl there
   where
     heap : Heap
     heap = world.cells

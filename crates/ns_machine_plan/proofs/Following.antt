@@ -23,11 +23,13 @@ use Rattle.ns_machine_plan.specs.laws.Steps.{steps_count}
 use Rattle.ns_machine_plan.proofs.Lookup.{HasInstr, instr_there, left_from}
 
 -- the instruction of a step is that of its number
-instr_is : (code : CodeProgram) (body next : ℕ) (step : Step) (at : HasInstr code body next) → IsStepAt code body next step → instr_of step ≡ at.instr
+instr_is : (code : CodeProgram) (body next : ℕ) (step : Step) (at : HasInstr code body next) → IsStepAt code body next step →
+    instr_of step ≡ at.instr
 instr_is code body next step at is =
     ap (λ (steps : List moves.PlacedInstr). (get_or steps 0 (i.Pop, None)).0) (sym is.shown ∙ left_from code body next at.body at.instr at.is at.has)
 
-step_at : (code : CodeProgram) (body next : ℕ) (b : BodyCode) → slice_get code.bodies body ≡ Some b → next < length b.instrs → HasStep code body next
+step_at : (code : CodeProgram) (body next : ℕ) (b : BodyCode) → slice_get code.bodies body ≡ Some b → next < length b.instrs →
+    HasStep code body next
 step_at code body next b is lt =
     record { body_there = slice_get_within code.bodies body b is; next_there = subst (λ n. next < n) (sym (steps_count code body b is)) lt }
 
@@ -35,10 +37,12 @@ abbrev Sound : Type 0
 Sound = (code : CodeProgram) → IsSound code → HasNoCause code
 
 abbrev Agree : Type 0
-Agree = (code : CodeProgram) (number at : ℕ) (body : BodyCode) (instr : Instr) → IsSound code → slice_get code.bodies number ≡ Some body → slice_get body.instrs at ≡ Some instr → HeightsAgree body at instr
+Agree =
+    (code : CodeProgram) (number at : ℕ) (body : BodyCode) (instr : Instr) → IsSound code → slice_get code.bodies number ≡ Some body → slice_get body.instrs at ≡ Some instr → HeightsAgree body at instr
 
 abbrev Usable : Type 0
-Usable = (code : CodeProgram) (number at : ℕ) (body : BodyCode) (instr : Instr) → IsSound code → slice_get code.bodies number ≡ Some body → slice_get body.instrs at ≡ Some instr → IsUsable code number body at instr
+Usable =
+    (code : CodeProgram) (number at : ℕ) (body : BodyCode) (instr : Instr) → IsSound code → slice_get code.bodies number ≡ Some body → slice_get body.instrs at ≡ Some instr → IsUsable code number body at instr
 
 pub bodies_begin : Sound → (code : CodeProgram) → BodiesHaveSteps code
 bodies_begin none code body sound lt =
@@ -46,8 +50,10 @@ bodies_begin none code body sound lt =
     let some : 1 ≤ length there.body.instrs = (none code sound).some_instr body there.body there.is in
     step_at code body 0 there.body there.is (omega (arith, some))
 
-agreed : Agree → (code : CodeProgram) (body next : ℕ) (step : Step) (at : HasInstr code body next) → IsSound code → IsStepAt code body next step → HeightsAgree at.body next (instr_of step)
-agreed agree code body next step at sound is = agree code body next at.body (instr_of step) sound at.is (at.has ∙ ap Some (sym (instr_is code body next step at is)))
+agreed : Agree → (code : CodeProgram) (body next : ℕ) (step : Step) (at : HasInstr code body next) → IsSound code →
+    IsStepAt code body next step → HeightsAgree at.body next (instr_of step)
+agreed agree code body next step at sound is =
+    agree code body next at.body (instr_of step) sound at.is (at.has ∙ ap Some (sym (instr_is code body next step at is)))
 
 pub steps_go_on : Agree → (code : CodeProgram) → StepsGoOn code
 steps_go_on agree code body next step sound there is goes =
@@ -66,7 +72,8 @@ steps_are_usable usable code body next step b sound there is b_is =
     usable code body next b (instr_of step) sound b_is (subst (λ x. slice_get x.instrs next ≡ Some (instr_of step)) same (at.has ∙ ap Some (sym (instr_is code body next step at is))))
 
 pub running_has_step : (code : CodeProgram) → RunningHasStep code
-running_has_step code progress leaving activation locals stack next rest left valid = found (slice_get code.bodies activation.body) refl valid.fits.there valid.stands
+running_has_step code progress leaving activation locals stack next rest left valid =
+    found (slice_get code.bodies activation.body) refl valid.fits.there valid.stands
   where
     found : (o : Option BodyCode) → slice_get code.bodies activation.body ≡ o → IsSome o → ForSome o (λ (b : BodyCode). Stands b Nothing (next_number code activation.body rest) (length stack)) → HasStep code activation.body next
     found None is there stands = absurd (cc (there))

@@ -32,20 +32,25 @@ first_in (body ∷ bodies) (suc number) = length body.places + first_in bodies n
 
 -- ---- the step of an instruction
 
-prepared_there : (code : CodeProgram) (body : BodyCode) (first : ℕ) (places : List (ℕ × Place)) (at : ℕ) (instrs : List Instr) (k m : ℕ) (instr : Instr) (d : Step) → slice_get instrs k ≡ Some instr → m ≡ at + k → get_or (prepared code body first places at instrs) k d ≡ step_of code body (place_number first places m) instr
+prepared_there :
+    (code : CodeProgram) (body : BodyCode) (first : ℕ) (places : List (ℕ × Place)) (at : ℕ) (instrs : List Instr) (k m : ℕ) (instr : Instr) (d : Step) →
+    slice_get instrs k ≡ Some instr → m ≡ at + k →
+    get_or (prepared code body first places at instrs) k d ≡ step_of code body (place_number first places m) instr
 prepared_there code body first places at [] k m instr d is e = absurd (none-some instr is)
 prepared_there code body first places at (one ∷ instrs) zero m instr d is e =
     let same : one ≡ instr = same_Some one instr is in
     let here : at ≡ m = omega (arith, e) in
     cc (same, here)
-prepared_there code body first places at (one ∷ instrs) (suc k) m instr d is e = prepared_there code body first places (at + 1) instrs k m instr d is (omega (arith, e))
+prepared_there code body first places at (one ∷ instrs) (suc k) m instr d is e =
+    prepared_there code body first places (at + 1) instrs k m instr d is (omega (arith, e))
 
 -- it is there, behind the entry of its body
 pub record StepThere (code : CodeProgram) (first : ℕ) (bodies : List BodyCode) (number next : ℕ) (body : BodyCode) (instr : Instr) (d : Step) : Type 0 where
   pub inside : entry_in bodies number + next < length (all_steps code first bodies)
   pub is : get_or (all_steps code first bodies) (entry_in bodies number + next) d ≡ step_of code body (place_number (first + first_in bodies number) body.places next) instr
 
-pub step_there : (code : CodeProgram) (first : ℕ) (bodies : List BodyCode) (number next : ℕ) (body : BodyCode) (instr : Instr) (d : Step) → slice_get bodies number ≡ Some body → slice_get body.instrs next ≡ Some instr → StepThere code first bodies number next body instr d
+pub step_there : (code : CodeProgram) (first : ℕ) (bodies : List BodyCode) (number next : ℕ) (body : BodyCode) (instr : Instr) (d : Step) →
+    slice_get bodies number ≡ Some body → slice_get body.instrs next ≡ Some instr → StepThere code first bodies number next body instr d
 step_there code first [] number next body instr d is has = absurd (none-some body is)
 step_there code first (one ∷ bodies) zero next body instr d is has =
     subst (λ b. (has : slice_get b.instrs next ≡ Some instr) → StepThere code first (one ∷ bodies) zero next b instr d) (same_Some one body is) here has
@@ -81,7 +86,9 @@ step_there code first (one ∷ bodies) (suc number) next body instr d is has =
 
 -- ---- the place of a number
 
-numbered : (before after : List Place) (entries : List (ℕ × Place)) (at : ℕ) → length (before ++ (map (λ (entry : ℕ × Place). entry.1) entries ++ after)) ≤ no_place → slice_get (before ++ (map (λ (entry : ℕ × Place). entry.1) entries ++ after)) (place_number (length before) entries at) ≡ place_in entries at
+numbered : (before after : List Place) (entries : List (ℕ × Place)) (at : ℕ) →
+    length (before ++ (map (λ (entry : ℕ × Place). entry.1) entries ++ after)) ≤ no_place →
+    slice_get (before ++ (map (λ (entry : ℕ × Place). entry.1) entries ++ after)) (place_number (length before) entries at) ≡ place_in entries at
 numbered before after [] at few = slice_get_past (before ++ ([] ++ after)) no_place few
 numbered before after (entry ∷ entries) at few =
     tested (nat_eq entry.0 at) (numbered (before ++ entry.1 ∷ []) after entries at (subst (λ xs. length xs ≤ no_place) (sym shifted) few))
@@ -136,7 +143,9 @@ split (one ∷ bodies) (suc number) body is =
       count = omega (arith, size, all, rest.count);
     }
 
-place_there : (code : CodeProgram) (number next : ℕ) (body : BodyCode) (more : List Place) → length (places_of code ++ more) ≤ no_place → slice_get code.bodies number ≡ Some body → slice_get (places_of code ++ more) (place_number (0 + first_in code.bodies number) body.places next) ≡ place_in body.places next
+place_there : (code : CodeProgram) (number next : ℕ) (body : BodyCode) (more : List Place) → length (places_of code ++ more) ≤ no_place →
+    slice_get code.bodies number ≡ Some body →
+    slice_get (places_of code ++ more) (place_number (0 + first_in code.bodies number) body.places next) ≡ place_in body.places next
 place_there code number next body more few is =
     let parts : Split code.bodies number body = split code.bodies number body is in
     let n : length parts.before ≡ 0 + first_in code.bodies number = omega (arith, parts.count) in
@@ -147,9 +156,11 @@ place_there code number next body more few is =
     ∙ numbered parts.before (parts.after ++ more) body.places next (subst (λ ps. length ps ≤ no_place) whole few))
 
 -- only what carries a place has one
-no_place_in : (code : CodeProgram) (body : BodyCode) (entries : List (ℕ × Place)) (at : ℕ) (instr : Instr) → All (PlaceFits code body) entries → slice_get body.instrs at ≡ Some instr → carries_place instr ≡ false → place_in entries at ≡ None
+no_place_in : (code : CodeProgram) (body : BodyCode) (entries : List (ℕ × Place)) (at : ℕ) (instr : Instr) →
+    All (PlaceFits code body) entries → slice_get body.instrs at ≡ Some instr → carries_place instr ≡ false → place_in entries at ≡ None
 no_place_in code body [] at instr fit is none = refl
-no_place_in code body (entry ∷ entries) at instr fit is none = tested (nat_eq entry.0 at) refl (no_place_in code body entries at instr tail is none)
+no_place_in code body (entry ∷ entries) at instr fit is none =
+    tested (nat_eq entry.0 at) refl (no_place_in code body entries at instr tail is none)
   where
     tail : All (PlaceFits code body) entries
     tail k d lt = fit (suc k) d (omega (arith, lt))
@@ -164,7 +175,9 @@ no_place_in code body (entry ∷ entries) at instr fit is none = tested (nat_eq 
 
 -- ---- the step and its place
 
-shown_is : (code : CodeProgram) (body : BodyCode) (number : ℕ) (instr : Instr) (places : List Place) (place : Option Place) → slice_get places number ≡ place → (carries_place instr ≡ false → place ≡ None) → step_shown places (step_of code body number instr) ≡ (instr, place)
+shown_is : (code : CodeProgram) (body : BodyCode) (number : ℕ) (instr : Instr) (places : List Place) (place : Option Place) →
+    slice_get places number ≡ place → (carries_place instr ≡ false → place ≡ None) →
+    step_shown places (step_of code body number instr) ≡ (instr, place)
 shown_is code body number i.PushNil places place is none = ap (λ p. (i.PushNil, p)) (sym (none refl))
 shown_is code body number i.PushTrue places place is none = ap (λ p. (i.PushTrue, p)) (sym (none refl))
 shown_is code body number i.PushFalse places place is none = ap (λ p. (i.PushFalse, p)) (sym (none refl))
@@ -220,7 +233,8 @@ its_member code body number (i.Jump n) = tt
 its_member code body number (i.JumpFalse n) = tt
 its_member code body number (i.JumpTrue n) = tt
 
-placed_there : (places : List (ℕ × Place)) (at : ℕ) (instrs : List Instr) (k m : ℕ) (instr : Instr) (d : moves.PlacedInstr) → slice_get instrs k ≡ Some instr → m ≡ at + k → get_or (placed places at instrs) k d ≡ (instr, place_in places m)
+placed_there : (places : List (ℕ × Place)) (at : ℕ) (instrs : List Instr) (k m : ℕ) (instr : Instr) (d : moves.PlacedInstr) →
+    slice_get instrs k ≡ Some instr → m ≡ at + k → get_or (placed places at instrs) k d ≡ (instr, place_in places m)
 placed_there places at [] k m instr d is e = absurd (none-some instr is)
 placed_there places at (one ∷ instrs) zero m instr d is e =
     let same : one ≡ instr = same_Some one instr is in
@@ -229,7 +243,9 @@ placed_there places at (one ∷ instrs) zero m instr d is e =
 placed_there places at (one ∷ instrs) (suc k) m instr d is e = placed_there places (at + 1) instrs k m instr d is (omega (arith, e))
 
 -- what is left from an instruction on begins with it and its place
-pub left_from : (code : CodeProgram) (number next : ℕ) (body : BodyCode) (instr : Instr) → slice_get code.bodies number ≡ Some body → slice_get body.instrs next ≡ Some instr → steps_from code number next ≡ (instr, place_in body.places next) ∷ steps_from code number (next + 1)
+pub left_from : (code : CodeProgram) (number next : ℕ) (body : BodyCode) (instr : Instr) → slice_get code.bodies number ≡ Some body →
+    slice_get body.instrs next ≡ Some instr →
+    steps_from code number next ≡ (instr, place_in body.places next) ∷ steps_from code number (next + 1)
 left_from code number next body instr is has =
     let lt : next < length (steps_of code number) = subst (λ n. next < n) (sym (steps_count code number body is)) (slice_get_within body.instrs next instr has) in
     drop_more (steps_of code number) next (i.ReturnSelf, None) lt
@@ -237,9 +253,12 @@ left_from code number next body instr is has =
     (ap (λ steps. get_or steps next (i.ReturnSelf, None)) (steps_are code number body is) ∙ placed_there body.places 0 body.instrs next next instr (i.ReturnSelf, None) has (omega arith))
 
 fits_at : (code : CodeProgram) (number : ℕ) (body : BodyCode) → Fits code → slice_get code.bodies number ≡ Some body → BodyFits code body
-fits_at code number body fits is = subst (λ b. BodyFits code b) (get_or_from_slice_get code.bodies number body body is) (fits.bodies number body (slice_get_within code.bodies number body is))
+fits_at code number body fits is =
+    subst (λ b. BodyFits code b) (get_or_from_slice_get code.bodies number body body is) (fits.bodies number body (slice_get_within code.bodies number body is))
 
-pub step_read : (code : CodeProgram) (number next : ℕ) (body : BodyCode) (instr : Instr) (d : Step) → Fits code → length (places_of code) ≤ no_place → slice_get code.bodies number ≡ Some body → slice_get body.instrs next ≡ Some instr → IsStepAt code number next (get_or (all_steps code 0 code.bodies) (entry_of code number + next) d)
+pub step_read : (code : CodeProgram) (number next : ℕ) (body : BodyCode) (instr : Instr) (d : Step) → Fits code →
+    length (places_of code) ≤ no_place → slice_get code.bodies number ≡ Some body → slice_get body.instrs next ≡ Some instr →
+    IsStepAt code number next (get_or (all_steps code 0 code.bodies) (entry_of code number + next) d)
 step_read code number next body instr d fits few is has =
     subst (λ s. IsStepAt code number next s) (sym (step_there code 0 code.bodies number next body instr d is has).is)
     (record {
@@ -275,12 +294,14 @@ instr_there code number next step =
     let lt : next < length there.body.instrs = subst (λ n. next < n) (steps_count code number there.body there.is) step.next_there in
     record { body = there.body; is = there.is; instr = get_or there.body.instrs next i.Pop; has = slice_get-get_or there.body.instrs next i.Pop lt }
 
-pub step_inside : (code : CodeProgram) (number next : ℕ) (steps : List Step) → steps ≡ all_steps code 0 code.bodies → HasStep code number next → entry_of code number + next < length steps
+pub step_inside : (code : CodeProgram) (number next : ℕ) (steps : List Step) → steps ≡ all_steps code 0 code.bodies →
+    HasStep code number next → entry_of code number + next < length steps
 step_inside code number next steps are step =
     let at : HasInstr code number next = instr_there code number next step in
     subst (λ xs. entry_of code number + next < length xs) (sym are) (step_there code 0 code.bodies number next at.body at.instr Pop at.is at.has).inside
 
-pub step_told : (code : CodeProgram) (number next : ℕ) (steps : List Step) (d : Step) → steps ≡ all_steps code 0 code.bodies → Fits code → length (places_of code) ≤ no_place → HasStep code number next → IsStepAt code number next (get_or steps (entry_of code number + next) d)
+pub step_told : (code : CodeProgram) (number next : ℕ) (steps : List Step) (d : Step) → steps ≡ all_steps code 0 code.bodies → Fits code →
+    length (places_of code) ≤ no_place → HasStep code number next → IsStepAt code number next (get_or steps (entry_of code number + next) d)
 step_told code number next steps d are fits few step =
     let at : HasInstr code number next = instr_there code number next step in
     subst (λ xs. IsStepAt code number next (get_or xs (entry_of code number + next) d)) (sym are) (step_read code number next at.body at.instr d fits few at.is at.has)

@@ -25,7 +25,8 @@ pub record IsSoFar (code : CodeProgram) (draft : Draft) (left : List BodyCode) :
   pub count : length draft.bodies.items + length left ≡ length code.bodies
   pub greatest : max draft.greatest (greatest_of left) ≡ greatest_of code.bodies
 
-pub so_far_starts : (code : CodeProgram) (draft : Draft) → draft.steps ≡ [] → draft.bodies.items ≡ [] → draft.places.items ≡ [] → draft.greatest ≡ 0 → IsSoFar code draft code.bodies
+pub so_far_starts : (code : CodeProgram) (draft : Draft) → draft.steps ≡ [] → draft.bodies.items ≡ [] → draft.places.items ≡ [] →
+    draft.greatest ≡ 0 → IsSoFar code draft code.bodies
 so_far_starts code draft steps bodies places greatest =
     record {
       steps = cc (steps, places);
@@ -36,11 +37,13 @@ so_far_starts code draft steps bodies places greatest =
       greatest = omega (arith, greatest);
     }
 
-pub prepared_length : (code : CodeProgram) (body : BodyCode) (first : ℕ) (places : List (ℕ × Place)) (at : ℕ) (instrs : List Instr) → length (prepared code body first places at instrs) ≡ length instrs
+pub prepared_length : (code : CodeProgram) (body : BodyCode) (first : ℕ) (places : List (ℕ × Place)) (at : ℕ) (instrs : List Instr) →
+    length (prepared code body first places at instrs) ≡ length instrs
 prepared_length code body first places at [] = refl
 prepared_length code body first places at (instr ∷ instrs) = let rest : length (prepared code body first places (at + 1) instrs) ≡ length instrs = prepared_length code body first places (at + 1) instrs in omega (arith, rest)
 
-pub so_far_goes_on : (code : CodeProgram) (old new : Draft) (body : BodyCode) (left : List BodyCode) → IsSoFar code old (body ∷ left) → IsAdded code body old new → IsSoFar code new left
+pub so_far_goes_on : (code : CodeProgram) (old new : Draft) (body : BodyCode) (left : List BodyCode) → IsSoFar code old (body ∷ left) →
+    IsAdded code body old new → IsSoFar code new left
 so_far_goes_on code old new body left was added =
     let n : length new.places.items ≡ length old.places.items + length body.places = ap length added.places ∙ (length-append old.places.items (places_in body) ∙ ap (λ k. length old.places.items + k) (length-map body.places _)) in
     let k : length new.bodies.items ≡ length old.bodies.items + 1 = ap length added.bodies ∙ length-append old.bodies.items (row_of (length old.bodies.items) (length old.steps) body ∷ []) in
@@ -70,7 +73,9 @@ so_far_goes_on code old new body left was added =
     greater a b c = omega arith
 
 -- nothing is left, and the plan has what was added
-pub so_far_ends : (code : CodeProgram) (draft : Draft) (plan : Plan) → plan.steps ≡ draft.steps → plan.bodies ≡ draft.bodies.items → plan.places ≡ draft.places.items → plan.greatest ≡ draft.greatest → IsTableOf code plan.selectors → Fits code → IsSoFar code draft [] → IsPlanOf code plan
+pub so_far_ends : (code : CodeProgram) (draft : Draft) (plan : Plan) → plan.steps ≡ draft.steps → plan.bodies ≡ draft.bodies.items →
+    plan.places ≡ draft.places.items → plan.greatest ≡ draft.greatest → IsTableOf code plan.selectors → Fits code → IsSoFar code draft [] →
+    IsPlanOf code plan
 so_far_ends code draft plan steps bodies places greatest selectors fits was =
     let all : draft.places.items ≡ all_places code.bodies = sym (append-nil draft.places.items) ∙ was.places in
     record {
@@ -84,7 +89,9 @@ so_far_ends code draft plan steps bodies places greatest selectors fits was =
     }
 
 -- one round of the loop over bodies
-pub round : (code : CodeProgram) (old new : Draft) (body : BodyCode) (k : ℕ) (slice : List BodyCode) (d : BodyCode) → slice ≡ code.bodies → k < length slice → body ≡ get_or slice k d → IsSoFar code old (drop k code.bodies) → IsAdded code body old new → IsSoFar code new (drop (k + 1) code.bodies)
+pub round : (code : CodeProgram) (old new : Draft) (body : BodyCode) (k : ℕ) (slice : List BodyCode) (d : BodyCode) → slice ≡ code.bodies →
+    k < length slice → body ≡ get_or slice k d → IsSoFar code old (drop k code.bodies) → IsAdded code body old new →
+    IsSoFar code new (drop (k + 1) code.bodies)
 round code old new body k slice d slice_is under is was added =
     let lt : k < length code.bodies = subst (λ bs. k < length bs) slice_is under in
     let here : get_or code.bodies k d ≡ body = sym (is ∙ ap (λ bs. get_or bs k d) slice_is) in
@@ -92,6 +99,7 @@ round code old new body k slice d slice_is under is was added =
     so_far_goes_on code old new body (drop (k + 1) code.bodies) (subst (λ bs. IsSoFar code old bs) left was) added
 
 -- its body fits
-pub body_fits : (code : CodeProgram) (body : BodyCode) (k : ℕ) (slice : List BodyCode) (d : BodyCode) → slice ≡ code.bodies → k < length slice → body ≡ get_or slice k d → Fits code → BodyFits code body
+pub body_fits : (code : CodeProgram) (body : BodyCode) (k : ℕ) (slice : List BodyCode) (d : BodyCode) → slice ≡ code.bodies →
+    k < length slice → body ≡ get_or slice k d → Fits code → BodyFits code body
 body_fits code body k slice d slice_is under is fits =
     subst (λ b. BodyFits code b) (sym (is ∙ ap (λ bs. get_or bs k d) slice_is)) (fits.bodies k d (subst (λ bs. k < length bs) slice_is under))

@@ -32,7 +32,8 @@ use Rattle.ns_machine_plan.specs.Members.{first_under, under, slot_entries, all_
 use Rattle.ns_machine_plan.specs.Privates.{slot_member, slots_member, nested_member, method_member, side_member}
 
 -- the first of two lists
-first_of_both : (number : ℕ) (xs ys : List Entry) → first_under number (xs ++ ys) ≡ option_or (first_under number xs) (first_under number ys)
+first_of_both : (number : ℕ) (xs ys : List Entry) →
+    first_under number (xs ++ ys) ≡ option_or (first_under number xs) (first_under number ys)
 first_of_both number [] ys = refl
 first_of_both number (x ∷ xs) ys = by (nat_eq number x.number) (first_of_both number xs ys)
   where
@@ -44,7 +45,8 @@ first_of_both number (x ∷ xs) ys = by (nat_eq number x.number) (first_of_both 
 -- ---- setters
 
 -- a name's own text with a colon is that of one name at most
-name_alone : (names : List (List ℕ)) (a b : ℕ) → NoRepeats names → a < length names → b < length names → get_or names a [] ≡ get_or names b [] → a ≡ b
+name_alone : (names : List (List ℕ)) (a b : ℕ) → NoRepeats names → a < length names → b < length names →
+    get_or names a [] ≡ get_or names b [] → a ≡ b
 name_alone names a b apart la lb e = by (cases_lt a b) (cases_lt b a)
   where
     unlike : (i j : ℕ) → i < j → j < length names → get_or names i [] ≡ get_or names j [] → ⊥
@@ -59,7 +61,8 @@ name_alone names a b apart la lb e = by (cases_lt a b) (cases_lt b a)
     by (inr le) (inr ge) = omega (arith, le, ge)
 
 -- the first that passes is no further on than any that passes
-first_before : (test : List ℕ → Bool) (names : List (List ℕ)) (k : ℕ) → k < length names → test (get_or names k []) ≡ true → position_or_len test names ≤ k
+first_before : (test : List ℕ → Bool) (names : List (List ℕ)) (k : ℕ) → k < length names → test (get_or names k []) ≡ true →
+    position_or_len test names ≤ k
 first_before test [] k lt is = absurd (omega (arith, lt))
 first_before test (name ∷ names) zero lt is = rw is (omega arith)
 first_before test (name ∷ names) (suc k) lt is = by (test name) (first_before test names k (omega (arith, lt)) is)
@@ -68,7 +71,8 @@ first_before test (name ∷ names) (suc k) lt is = by (test name) (first_before 
     by true le = omega arith
     by false le = omega (arith, le)
 
-no_place : (test : List ℕ → Bool) (names : List (List ℕ)) (k : ℕ) → position test names ≡ None → k < length names → test (get_or names k []) ≡ true → ⊥
+no_place : (test : List ℕ → Bool) (names : List (List ℕ)) (k : ℕ) → position test names ≡ None → k < length names →
+    test (get_or names k []) ≡ true → ⊥
 no_place test names k none lt is =
     let le = first_before test names k lt is in
     let near = lt-ltb (position_or_len test names) (length names) (omega (arith, lt, le)) in
@@ -95,10 +99,13 @@ setter_is names sel text behind (Some place) apart lt is =
 -- ---- slots
 
 name_is : (code : CodeProgram) (number : ℕ) → number < length code.names → selector_text code number ≡ get_or code.names number []
-name_is code number lt = ap (λ b. cond b (get_or code.names number []) (own_text_at (number - length code.names))) (lt-ltb number (length code.names) lt)
+name_is code number lt =
+    ap (λ b. cond b (get_or code.names number []) (own_text_at (number - length code.names))) (lt-ltb number (length code.names) lt)
 
-own_is : (code : CodeProgram) (number : ℕ) → length code.names ≤ number → selector_text code number ≡ own_text_at (number - length code.names)
-own_is code number le = ap (λ b. cond b (get_or code.names number []) (own_text_at (number - length code.names))) (le-ltb number (length code.names) le)
+own_is : (code : CodeProgram) (number : ℕ) → length code.names ≤ number →
+    selector_text code number ≡ own_text_at (number - length code.names)
+own_is code number le =
+    ap (λ b. cond b (get_or code.names number []) (own_text_at (number - length code.names))) (le-ltb number (length code.names) le)
 
 -- an own selector with one more colon is no selector
 no_setter : (place : ℕ) → is_selector (own_text_at place ++ 58 ∷ []) ≡ false
@@ -107,7 +114,8 @@ no_setter (suc zero) = refl
 no_setter (suc (suc zero)) = refl
 no_setter (suc (suc (suc place))) = refl
 
-no_own_setter : (code : CodeProgram) (sel name : ℕ) → Fits code → sel < length code.names → length code.names ≤ name → is_named code sel (SetterOf name) ≡ false
+no_own_setter : (code : CodeProgram) (sel name : ℕ) → Fits code → sel < length code.names → length code.names ≤ name →
+    is_named code sel (SetterOf name) ≡ false
 no_own_setter code sel name fits lt le = by (bytes_eq (selector_text code sel) (selector_text code name ++ 58 ∷ [])) refl
   where
     by : (b : Bool) → bytes_eq (selector_text code sel) (selector_text code name ++ 58 ∷ []) ≡ b → b ≡ false
@@ -179,7 +187,8 @@ and_false : (b : Bool) → false ≡ (b && false)
 and_false true = refl
 and_false false = refl
 
-one_first : (sel number : ℕ) (member : Member) (private : Bool) → first_under sel (cond private (under number member ∷ []) []) ≡ cond (nat_eq sel number && private) (Some member) None
+one_first : (sel number : ℕ) (member : Member) (private : Bool) →
+    first_under sel (cond private (under number member ∷ []) []) ≡ cond (nat_eq sel number && private) (Some member) None
 one_first sel number member true = ap (λ b. cond b (Some member) None) (and_true (nat_eq sel number))
 one_first sel number member false = ap (λ b. cond b (Some member) None) (and_false (nat_eq sel number))
 
@@ -194,7 +203,8 @@ nested_one sel class None true = refl
 nested_one sel class None false = refl
 nested_one sel class (Some c) private = one_first sel c.name.0 (Nested class) private
 
-nested_first : (code : CodeProgram) (sel : ℕ) (nested : List NestedCode) → first_under sel (nested_entries code nested) ≡ nested_member code sel nested
+nested_first : (code : CodeProgram) (sel : ℕ) (nested : List NestedCode) →
+    first_under sel (nested_entries code nested) ≡ nested_member code sel nested
 nested_first code sel [] = refl
 nested_first code sel (one ∷ nested) =
     let test = is_named code sel (NamedAs one.class) && one.access == private_access in
@@ -225,10 +235,12 @@ instance_first code class sel fits apart lt =
     ∙ (ap (λ o. option_or o (first_under sel (method_entries class.methods))) (nested_first code sel class.nested)
     ∙ ap (option_or (nested_member code sel class.nested)) (methods_first sel class.methods))))
 
-side_first : (code : CodeProgram) (class : ClassCode) (sel : ℕ) → first_under sel (method_entries class.side_methods) ≡ side_member code ClassSide sel class
+side_first : (code : CodeProgram) (class : ClassCode) (sel : ℕ) →
+    first_under sel (method_entries class.side_methods) ≡ side_member code ClassSide sel class
 side_first code class sel = methods_first sel class.side_methods
 
-pub are_members : (code : CodeProgram) (class : ClassCode) (members : Members) (instance side : List Entry) → Fits code → NoRepeats code.names →
+pub are_members : (code : CodeProgram) (class : ClassCode) (members : Members) (instance side : List Entry) → Fits code →
+    NoRepeats code.names →
     instance ≡ instance_entries code class → side ≡ method_entries class.side_methods →
     ((number : ℕ) → first_under number members.instance ≡ first_under number instance) →
     ((number : ℕ) → first_under number members.side ≡ first_under number side) → AreMembersOf code class members
@@ -240,7 +252,8 @@ are_members code class members instance side fits apart instance_is side_is same
 -- ---- all declarations
 
 -- what is found by the number of a declaration
-pub found_by_number : (code : CodeProgram) (side : Side) (sel decl : ℕ) (classes : List ClassCode) (all : List Members) → AllZip (AreMembersOf code) classes all →
+pub found_by_number : (code : CodeProgram) (side : Side) (sel decl : ℕ) (classes : List ClassCode) (all : List Members) →
+    AllZip (AreMembersOf code) classes all →
     sel < length code.names → option_map_or (λ (members : Members). found_on members side sel) (slice_get all decl) None ≡ option_map_or (side_member code side sel) (slice_get classes decl) None
 found_by_number code side sel decl [] [] zip lt = refl
 found_by_number code side sel decl [] (members ∷ all) zip lt = absurd zip
@@ -249,19 +262,22 @@ found_by_number code side sel zero (class ∷ classes) (members ∷ all) zip lt 
 found_by_number code side sel (suc decl) (class ∷ classes) (members ∷ all) zip lt = found_by_number code side sel decl classes all zip.1 lt
 
 -- one more of each of two lists
-zip_more : {A B : Type 0} (R : A → B → Type 0) (xs : List A) (ys : List B) (x : A) (y : B) → AllZip R xs ys → R x y → AllZip R (xs ++ x ∷ []) (ys ++ y ∷ [])
+zip_more : {A B : Type 0} (R : A → B → Type 0) (xs : List A) (ys : List B) (x : A) (y : B) → AllZip R xs ys → R x y →
+    AllZip R (xs ++ x ∷ []) (ys ++ y ∷ [])
 zip_more R [] [] x y all one = (one, tt)
 zip_more R [] (z ∷ ys) x y all one = absurd all
 zip_more R (z ∷ xs) [] x y all one = absurd all
 zip_more R (z ∷ xs) (w ∷ ys) x y all one = (all.0, zip_more R xs ys x y all.1 one)
 
-pub zip_step : {A B : Type 0} (R : A → B → Type 0) (xs : List A) (ys new : List B) (i : ℕ) (x : A) (y : B) → i < length xs → x ≡ get_or xs i x →
+pub zip_step : {A B : Type 0} (R : A → B → Type 0) (xs : List A) (ys new : List B) (i : ℕ) (x : A) (y : B) → i < length xs →
+    x ≡ get_or xs i x →
     AllZip R (take i xs) ys → R x y → new ≡ ys ++ y ∷ [] → AllZip R (take (i + 1) xs) new
 zip_step R xs ys new i x y within is all one is_new =
     rw (is_new, take_more xs i x within, ← is) (zip_more R (take i xs) ys x y all one)
 
 -- a nested class that isn't there is under no number
-pub none_nested : (code : CodeProgram) (nested : NestedCode) (items : List Entry) → slice_get code.classes nested.class ≡ None → items ≡ items ++ nested_entry code nested
+pub none_nested : (code : CodeProgram) (nested : NestedCode) (items : List Entry) → slice_get code.classes nested.class ≡ None →
+    items ≡ items ++ nested_entry code nested
 none_nested code nested items is = sym (ap (items ++◌) (nothing (nested.access == private_access)) ∙ append-nil items)
   where
     entries : Option ClassCode → List Entry

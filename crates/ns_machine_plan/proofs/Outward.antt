@@ -13,7 +13,8 @@ none_out code zero = refl
 none_out code (suc levels) = ap (outer_of code) (none_out code levels)
 
 -- some levels out, and then some more
-pub more_out : (code : CodeProgram) (from : Option ℕ) (some more : ℕ) → out_from code (out_from code from some) more ≡ out_from code from (more + some)
+pub more_out : (code : CodeProgram) (from : Option ℕ) (some more : ℕ) →
+    out_from code (out_from code from some) more ≡ out_from code from (more + some)
 more_out code from some zero = let none : 0 + some ≡ some = omega arith in ap (out_from code from) (sym none)
 more_out code from some (suc more) =
     let next : suc (more + some) ≡ suc more + some = omega arith in
@@ -24,7 +25,8 @@ one_by_one code decl zero = refl
 one_by_one code decl (suc levels) = ap (outer_of code) (one_by_one code decl levels)
 
 -- one far step more
-pub far_more : (code : CodeProgram) (decl steps : ℕ) → out_from code (out_from code (Some decl) (steps * 16)) 16 ≡ out_from code (Some decl) ((steps + 1) * 16)
+pub far_more : (code : CodeProgram) (decl steps : ℕ) →
+    out_from code (out_from code (Some decl) (steps * 16)) 16 ≡ out_from code (Some decl) ((steps + 1) * 16)
 far_more code decl steps =
     let all : 16 + steps * 16 ≡ (steps + 1) * 16 = omega arith in
     more_out code (Some decl) (steps * 16) 16 ∙ ap (out_from code (Some decl)) all

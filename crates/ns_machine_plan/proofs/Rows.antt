@@ -25,7 +25,8 @@ rows_length number entry (body ∷ bodies) =
     let rest : length (all_rows (number + 1) (entry + length body.instrs) bodies) ≡ length bodies = rows_length (number + 1) (entry + length body.instrs) bodies in
     omega (arith, rest)
 
-row_there : (number entry : ℕ) (bodies : List BodyCode) (k : ℕ) (body : BodyCode) (n e : ℕ) (d : Row) → slice_get bodies k ≡ Some body → n ≡ number + k → e ≡ entry + entry_in bodies k → get_or (all_rows number entry bodies) k d ≡ row_of n e body
+row_there : (number entry : ℕ) (bodies : List BodyCode) (k : ℕ) (body : BodyCode) (n e : ℕ) (d : Row) → slice_get bodies k ≡ Some body →
+    n ≡ number + k → e ≡ entry + entry_in bodies k → get_or (all_rows number entry bodies) k d ≡ row_of n e body
 row_there number entry [] k body n e d is at begins = absurd (none-some body is)
 row_there number entry (first ∷ bodies) zero body n e d is at begins =
     let same : first ≡ body = same_Some first body is in
@@ -35,7 +36,8 @@ row_there number entry (first ∷ bodies) zero body n e d is at begins =
 row_there number entry (first ∷ bodies) (suc k) body n e d is at begins =
     row_there (number + 1) (entry + length first.instrs) bodies k body n e d is (omega (arith, at)) (omega (arith, begins))
 
-told : (code : CodeProgram) (number : ℕ) (body : BodyCode) → slice_get code.bodies number ≡ Some body → IsRowOf code number (row_of number (entry_in code.bodies number) body)
+told : (code : CodeProgram) (number : ℕ) (body : BodyCode) → slice_get code.bodies number ≡ Some body →
+    IsRowOf code number (row_of number (entry_in code.bodies number) body)
 told code number body is = record {
   entry = refl;
   class = cc (is);
@@ -50,7 +52,8 @@ told code number body is = record {
   around = cc (is);
 }
 
-pub row_told : (code : CodeProgram) (rows : List Row) (number : ℕ) (d : Row) → rows ≡ all_rows 0 0 code.bodies → number < length code.bodies → IsRowOf code number (get_or rows number d)
+pub row_told : (code : CodeProgram) (rows : List Row) (number : ℕ) (d : Row) → rows ≡ all_rows 0 0 code.bodies →
+    number < length code.bodies → IsRowOf code number (get_or rows number d)
 row_told code rows number d are lt =
     let there : HasBody code.bodies number = body_there code.bodies number lt in
     let row : get_or rows number d ≡ row_of number (entry_in code.bodies number) there.body =
@@ -58,7 +61,8 @@ row_told code rows number d are lt =
     subst (λ r. IsRowOf code number r) (sym row) (told code number there.body there.is)
 
 -- no body has a greater frame than the greatest
-pub within_greatest : (bodies : List BodyCode) (number : ℕ) → option_map_or (λ (b : BodyCode). b.locals) (slice_get bodies number) 0 + option_map_or (λ (b : BodyCode). b.height) (slice_get bodies number) 0 ≤ greatest_of bodies
+pub within_greatest : (bodies : List BodyCode) (number : ℕ) →
+    option_map_or (λ (b : BodyCode). b.locals) (slice_get bodies number) 0 + option_map_or (λ (b : BodyCode). b.height) (slice_get bodies number) 0 ≤ greatest_of bodies
 within_greatest [] number = omega arith
 within_greatest (body ∷ bodies) zero = omega arith
 within_greatest (body ∷ bodies) (suc number) = let rest : option_map_or (λ (b : BodyCode). b.locals) (slice_get bodies number) 0 + option_map_or (λ (b : BodyCode). b.height) (slice_get bodies number) 0 ≤ greatest_of bodies = within_greatest bodies number in omega (arith, rest)

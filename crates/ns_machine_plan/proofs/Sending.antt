@@ -43,12 +43,14 @@ Usable =
     (code : CodeProgram) (number at : ℕ) (body : BodyCode) (instr : Instr) → IsSound code → slice_get code.bodies number ≡ Some body
     → slice_get body.instrs at ≡ Some instr → IsUsable code number body at instr
 
-are_named : Usable → (code : CodeProgram) (number : ℕ) (body : BodyCode) → IsSound code → slice_get code.bodies number ≡ Some body → All (SendsAName code) body.instrs
+are_named : Usable → (code : CodeProgram) (number : ℕ) (body : BodyCode) → IsSound code → slice_get code.bodies number ≡ Some body →
+    All (SendsAName code) body.instrs
 are_named usable code number body sound is at d lt =
     named code number at body (get_or body.instrs at d) (usable code number at body (get_or body.instrs at d) sound is (slice_get-get_or body.instrs at d lt))
 
 -- those of a body of the code
-pub sends_are_named : Usable → (code : CodeProgram) (number : ℕ) (body : BodyCode) (slice : List BodyCode) → IsSound code → slice ≡ code.bodies →
+pub sends_are_named : Usable → (code : CodeProgram) (number : ℕ) (body : BodyCode) (slice : List BodyCode) → IsSound code →
+    slice ≡ code.bodies →
     number < length slice → body ≡ get_or slice number body → All (SendsAName code) body.instrs
 sends_are_named usable code number body slice sound slice_is lt is =
     are_named usable code number body sound (ap (λ bodies. slice_get bodies number) (sym slice_is) ∙ slice_get_read slice (length slice) number body refl lt is)

@@ -68,7 +68,8 @@ stable_by : {F : Type 0} {g : Mut F (Bor Entry × Unit {0}) ℕ} {f : F} (entrie
 stable_by {g = g} {f = f} entries sorted stable told = stable number_of (always_returns_same g (λ a r. r ≡ number_of a.0.now) f told)
 
 -- the first under each number stays the first
-stays : (entries sorted : List Entry) → IsStableByKey number_of nat_cmp entries sorted → (number : ℕ) → first_under number sorted ≡ first_under number entries
+stays : (entries sorted : List Entry) → IsStableByKey number_of nat_cmp entries sorted → (number : ℕ) →
+    first_under number sorted ≡ first_under number entries
 stays entries sorted stable number =
     first_is number (ties by_number (under number Absent)) (ties_are number) sorted
     ∙ (ap head_member (stable (under number Absent)) ∙ sym (first_is number (ties by_number (under number Absent)) (ties_are number) entries))
@@ -86,7 +87,8 @@ abbrev found_there : ℕ → Option Entry → Option Member
 found_there number None = None
 found_there number (Some entry) = cond (nat_eq number entry.number) (Some entry.member) None
 
-none_above : (number : ℕ) (entries : List Entry) → ((k : ℕ) (d : Entry) → k < length entries → number < (get_or entries k d).number) → first_under number entries ≡ None
+none_above : (number : ℕ) (entries : List Entry) → ((k : ℕ) (d : Entry) → k < length entries → number < (get_or entries k d).number) →
+    first_under number entries ≡ None
 none_above number [] above = refl
 none_above number (entry ∷ entries) above =
     let more : number < entry.number = above 0 entry (omega arith) in
@@ -135,12 +137,14 @@ found_at number place entries parted up =
     up
 
 -- what stands there is the first under the number, or nothing is
-pub found_here : (number place : ℕ) (entries : List Entry) (entry : Entry) → IsPlaceOf number entries place → IsNonDecreasingBy number_of entries →
+pub found_here : (number place : ℕ) (entries : List Entry) (entry : Entry) → IsPlaceOf number entries place →
+    IsNonDecreasingBy number_of entries →
     slice_get entries place ≡ Some entry → entry.number ≡ number → Some entry.member ≡ first_under number entries
 found_here number place entries entry parted up is same =
     sym (found_at number place entries parted up ∙ (ap (found_there number) is ∙ ap (λ b. cond b (Some entry.member) None) (eq-eqb number entry.number (sym same))))
 
-pub other_here : (number place : ℕ) (entries : List Entry) (entry : Entry) → IsPlaceOf number entries place → IsNonDecreasingBy number_of entries →
+pub other_here : (number place : ℕ) (entries : List Entry) (entry : Entry) → IsPlaceOf number entries place →
+    IsNonDecreasingBy number_of entries →
     slice_get entries place ≡ Some entry → entry.number ≢ number → None ≡ first_under number entries
 other_here number place entries entry parted up is other =
     sym (found_at number place entries parted up ∙ (ap (found_there number) is ∙ ap (λ b. cond b (Some entry.member) None) (differ number entry.number (λ same. other (sym same)))))

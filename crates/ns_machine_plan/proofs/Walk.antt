@@ -34,7 +34,9 @@ above n m e le = tested (nat_le n m) refl
     tested false f = let over : m < n = leb-false n m f in omega (arith, over)
 
 -- a place that was passed is not met again
-passed : (code : CodeProgram) (body : BodyCode) (first : ℕ) (entry : ℕ × Place) (entries : List (ℕ × Place)) (at : ℕ) (instrs : List Instr) → entry.0 < at → prepared code body first (entry ∷ entries) at instrs ≡ prepared code body (first + 1) entries at instrs
+passed :
+    (code : CodeProgram) (body : BodyCode) (first : ℕ) (entry : ℕ × Place) (entries : List (ℕ × Place)) (at : ℕ) (instrs : List Instr) →
+    entry.0 < at → prepared code body first (entry ∷ entries) at instrs ≡ prepared code body (first + 1) entries at instrs
 passed code body first entry entries at [] lt = refl
 passed code body first entry entries at (instr ∷ instrs) lt =
     let here : place_number first (entry ∷ entries) at ≡ place_number (first + 1) entries at = ap (λ b. cond b first (place_number (first + 1) entries at)) (apart entry.0 at lt) in
@@ -49,7 +51,8 @@ ahead first from (entry ∷ entries) at order lt =
     ∙ ahead (first + 1) (entry.0 + 1) entries at order.1 (omega (arith, order.0, lt))
 
 -- one instruction with what is left
-one_on : (code : CodeProgram) (body : BodyCode) (left : List (ℕ × Place)) (end at : ℕ) (instr : Instr) (instrs : List Instr) → AreFrom at left → length left ≤ end →
+one_on : (code : CodeProgram) (body : BodyCode) (left : List (ℕ × Place)) (end at : ℕ) (instr : Instr) (instrs : List Instr) →
+    AreFrom at left → length left ≤ end →
     step_of code body (number_at left end at) instr ∷ prepared code body (end - length (behind left at)) (behind left at) (at + 1) instrs
     ≡ prepared code body (end - length left) left at (instr ∷ instrs)
 one_on code body [] end at instr instrs order within = refl
@@ -90,7 +93,8 @@ behind_count (entry ∷ entries) at end le = tested (nat_eq entry.0 at)
     tested false = le
 
 -- places that are in order belong to instructions from the first on
-in_order_from : (at : ℕ) (places : List (ℕ × Place)) → ((d : ℕ × Place) → 0 < length places → at ≤ (get_or places 0 d).0) → AllPairs (λ (a b : ℕ × Place). a.0 < b.0) places → AreFrom at places
+in_order_from : (at : ℕ) (places : List (ℕ × Place)) → ((d : ℕ × Place) → 0 < length places → at ≤ (get_or places 0 d).0) →
+    AllPairs (λ (a b : ℕ × Place). a.0 < b.0) places → AreFrom at places
 in_order_from at [] first pairs = tt
 in_order_from at (entry ∷ entries) first pairs =
     (first entry (omega arith), in_order_from (entry.0 + 1) entries (λ d lt. let under : entry.0 < (get_or entries 0 d).0 = pairs 0 1 d (omega arith) (omega (arith, lt)) in omega (arith, under)) (λ i j d lt within. pairs (suc i) (suc j) d (omega (arith, lt)) (omega (arith, within))))
@@ -98,14 +102,20 @@ in_order_from at (entry ∷ entries) first pairs =
 pub in_order : (places : List (ℕ × Place)) → AllPairs (λ (a b : ℕ × Place). a.0 < b.0) places → AreFrom 0 places
 in_order places pairs = in_order_from 0 places (λ d lt. omega arith) pairs
 
-walk : (code : CodeProgram) (body : BodyCode) (steps whole : List Step) (left : List (ℕ × Place)) (end at k : ℕ) (instrs : List Instr) (d : Instr) → k < length instrs → AreFrom at left → length left ≤ end → steps ++ prepared code body (end - length left) left at (drop k instrs) ≡ whole → (steps ++ step_of code body (number_at left end at) (get_or instrs k d) ∷ []) ++ prepared code body (end - length (behind left at)) (behind left at) (at + 1) (drop (k + 1) instrs) ≡ whole
+walk :
+    (code : CodeProgram) (body : BodyCode) (steps whole : List Step) (left : List (ℕ × Place)) (end at k : ℕ) (instrs : List Instr) (d : Instr) →
+    k < length instrs → AreFrom at left → length left ≤ end →
+    steps ++ prepared code body (end - length left) left at (drop k instrs) ≡ whole →
+    (steps ++ step_of code body (number_at left end at) (get_or instrs k d) ∷ []) ++ prepared code body (end - length (behind left at)) (behind left at) (at + 1) (drop (k + 1) instrs) ≡ whole
 walk code body steps whole left end at k instrs d lt order within was =
     append_assoc steps (step_of code body (number_at left end at) (get_or instrs k d) ∷ []) (prepared code body (end - length (behind left at)) (behind left at) (at + 1) (drop (k + 1) instrs))
     ∙ (ap (λ rest. steps ++ rest) (one_on code body left end at (get_or instrs k d) (drop (k + 1) instrs) order within)
     ∙ (ap (λ rest. steps ++ prepared code body (end - length left) left at rest) (sym (drop_more instrs k d lt)) ∙ was))
 
 -- one round of the loop over the instructions of a body
-pub round : (code : CodeProgram) (body : BodyCode) (steps whole : List Step) (left : List (ℕ × Place)) (end at k : ℕ) (slice instrs : List Instr) (d : Instr) (items : List Step) (rest : List (ℕ × Place)) (step : Step) (number : ℕ) → slice ≡ instrs → k < length slice → AreFrom at left → length left ≤ end →
+pub round :
+    (code : CodeProgram) (body : BodyCode) (steps whole : List Step) (left : List (ℕ × Place)) (end at k : ℕ) (slice instrs : List Instr) (d : Instr) (items : List Step) (rest : List (ℕ × Place)) (step : Step) (number : ℕ) →
+    slice ≡ instrs → k < length slice → AreFrom at left → length left ≤ end →
     steps ++ prepared code body (end - length left) left at (drop k instrs) ≡ whole →
     items ≡ steps ++ step ∷ [] → number ≡ number_at left end at → step ≡ step_of code body number (get_or slice k d) → rest ≡ behind left at → at ≡ k →
     (at + 1 ≡ k + 1) × (length rest ≤ end) × AreFrom (at + 1) rest × (items ++ prepared code body (end - length rest) rest (at + 1) (drop (k + 1) instrs) ≡ whole)

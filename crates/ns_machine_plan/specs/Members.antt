@@ -36,7 +36,8 @@ named_entries names entry slot =
 
 -- those of a slot that is private and has a name
 abbrev pub slot_entries : List (List ℕ) → ℕ → SlotCode → List Entry
-slot_entries names entry slot = if slot.access == private_access && nat_lt slot.name.0 (length names) then named_entries names entry slot else []
+slot_entries names entry slot =
+    if slot.access == private_access && nat_lt slot.name.0 (length names) then named_entries names entry slot else []
 
 -- those of slots, which are numbered from that number on
 abbrev pub all_slot_entries : List (List ℕ) → ℕ → List SlotCode → List Entry
@@ -64,7 +65,8 @@ method_entries (method ∷ methods) = method_entry method ++ method_entries meth
 
 -- the private members of the instance side
 abbrev pub instance_entries : CodeProgram → ClassCode → List Entry
-instance_entries code class = all_slot_entries code.names 0 class.slots ++ (nested_entries code class.nested ++ method_entries class.methods)
+instance_entries code class =
+    all_slot_entries code.names 0 class.slots ++ (nested_entries code class.nested ++ method_entries class.methods)
 
 -- the first under a number on a side
 abbrev pub found_on : Members → Side → ℕ → Option Member
@@ -73,7 +75,8 @@ found_on members ClassSide number = first_under number members.side
 
 -- On each side the first under the number of a name is the private member of that name.
 abbrev pub AreMembersOf : CodeProgram → ClassCode → Members → Type 0
-AreMembersOf code class members = (side : Side) (number : ℕ) → number < length code.names → found_on members side number ≡ side_member code side number class
+AreMembersOf code class members =
+    (side : Side) (number : ℕ) → number < length code.names → found_on members side number ≡ side_member code side number class
 
 -- The same of all declarations, and those around them.
 pub record ArePrivatesOf (code : CodeProgram) (privates : Privates) : Type 0 where

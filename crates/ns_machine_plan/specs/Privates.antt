@@ -48,7 +48,8 @@ writes code sel slot = is_named code sel (SetterOf slot.name.0) && (slot.access 
 
 -- the getter or the setter of a slot of that number
 abbrev pub slot_member : CodeProgram → ℕ → ℕ → SlotCode → Option Member
-slot_member code sel entry slot = if reads sel slot then Some (Getter entry) else (if writes code sel slot then Some (Setter entry) else None)
+slot_member code sel entry slot =
+    if reads sel slot then Some (Getter entry) else (if writes code sel slot then Some (Setter entry) else None)
 
 -- the first of slots, which are numbered from that number on
 abbrev pub slots_member : CodeProgram → ℕ → ℕ → List SlotCode → Option Member

@@ -93,7 +93,8 @@ PrivateSendsFind code =
 
 -- An Integer finds the row of Integer that a selector spells, however it is sent.
 abbrev pub IntegersFindRows : Heap → CodeProgram → Type 0
-IntegersFindRows heap code = (sel : Sel) (kind : Sending) (row : IntRow) → row_of_send code sel ≡ Some row → FindsInteger heap code sel kind row
+IntegersFindRows heap code =
+    (sel : Sel) (kind : Sending) (row : IntRow) → row_of_send code sel ≡ Some row → FindsInteger heap code sel kind row
 
 -- A Boolean finds the method of Boolean that a selector spells, however it is sent.
 abbrev pub BooleansFindRows : Heap → CodeProgram → Type 0

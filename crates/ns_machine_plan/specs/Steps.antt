@@ -63,7 +63,8 @@ prepared code body first places at (instr ∷ instrs) =
 -- the steps of bodies, whose places are numbered from that number on
 abbrev pub all_steps : CodeProgram → ℕ → List BodyCode → List Step
 all_steps code first [] = []
-all_steps code first (body ∷ bodies) = prepared code body first body.places 0 body.instrs ++ all_steps code (first + length body.places) bodies
+all_steps code first (body ∷ bodies) =
+    prepared code body first body.places 0 body.instrs ++ all_steps code (first + length body.places) bodies
 
 -- the places of a body
 abbrev pub places_in : BodyCode → List SourcePlace

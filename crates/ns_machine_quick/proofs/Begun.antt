@@ -7,8 +7,10 @@ use Rattle.ns_world.specs.Lawful.{IsLiveValue}
 use Rattle.ns_kdata.specs.Arguments.{CellIsThere, argument}
 
 -- each of live ones is there, and so is nil, where there is none
-pub argument_there : (heap : Heap) (code : CodeProgram) → ((value : Value) → IsLiveValue heap code value → CellIsThere heap value) → (values : List Value) (place : ℕ)
+pub argument_there : (heap : Heap) (code : CodeProgram) → ((value : Value) → IsLiveValue heap code value → CellIsThere heap value) →
+    (values : List Value) (place : ℕ)
     → All (IsLiveValue heap code) values → CellIsThere heap (argument values place)
 argument_there heap code law [] place live = tt
 argument_there heap code law (value ∷ values) zero live = law value (live 0 value (omega arith))
-argument_there heap code law (value ∷ values) (suc place) live = argument_there heap code law values place (λ k d h. live (suc k) d (omega (arith, h)))
+argument_there heap code law (value ∷ values) (suc place) live =
+    argument_there heap code law values place (λ k d h. live (suc k) d (omega (arith, h)))

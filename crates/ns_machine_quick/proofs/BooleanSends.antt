@@ -68,7 +68,8 @@ pub boolean_named : (heap : Heap) (receiver : Value) → is_boolean receiver ≡
 boolean_named heap receiver is = ap (class_name_at heap) (sym (boolean_starts heap receiver is))
 
 -- so it finds the method that its selector spells
-pub boolean_finds : (code : CodeProgram) (core : Core) (sent : Sent) (receiver : Value) (kind : Sending) (named : KMethod) → is_boolean receiver ≡ true
+pub boolean_finds : (code : CodeProgram) (core : Core) (sent : Sent) (receiver : Value) (kind : Sending) (named : KMethod) →
+    is_boolean receiver ≡ true
     → FindsBoolean core.run.world.world.cells code sent.site.sel kind named → FindsRow code core sent receiver kind (Method named)
 boolean_finds code core sent receiver kind named is finds =
     class_finds code core sent receiver kind class.Boolean (Method named) (boolean_starts core.run.world.world.cells receiver is) finds

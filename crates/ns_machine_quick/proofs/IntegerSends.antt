@@ -45,7 +45,8 @@ class_finds code core sent receiver kind rows row starts finds = record {
   row_is = finds.row_is;
 }
 
-pub integer_finds : (code : CodeProgram) (core : Core) (sent : Sent) (receiver : Value) (kind : Sending) (row : IntRow) → is_integer receiver ≡ true
+pub integer_finds : (code : CodeProgram) (core : Core) (sent : Sent) (receiver : Value) (kind : Sending) (row : IntRow) →
+    is_integer receiver ≡ true
     → FindsInteger core.run.world.world.cells code sent.site.sel kind row → FindsRow code core sent receiver kind (Integer row)
 integer_finds code core sent receiver kind row is finds =
     class_finds code core sent receiver kind class.Integer (Integer row) (integer_starts core.run.world.world.cells receiver is) finds

@@ -90,13 +90,15 @@ pub depth_fits : (world : World) → world.depth < world.limits.depth → entere
 depth_fits world low =
     ap (λ (b : Bool). if b then Some (let w : World = record world { depth = world.depth + 1 } in w) else None) (lt-ltb world.depth world.limits.depth low)
 
-cell_fits : (world : World) (cell : Cell) → heap_size world.cells + cell_size cell ≤ world.limits.cells → made world cell ≡ Some (record world { cells = cell ∷ world.cells })
+cell_fits : (world : World) (cell : Cell) → heap_size world.cells + cell_size cell ≤ world.limits.cells →
+    made world cell ≡ Some (record world { cells = cell ∷ world.cells })
 cell_fits world cell low =
     ap (λ (b : Bool). if b then Some (let w : World = record world { cells = cell ∷ world.cells } in w) else None)
     (le-leb (heap_size world.cells + cell_size cell) world.limits.cells low)
 
 -- as many locals as the arguments and the nils behind them
-locals_many : (code : CodeProgram) (body : ℕ) (values : List Value) → length (first_locals code body values) ≡ length values + (locals_of code body - parameters_of code body)
+locals_many : (code : CodeProgram) (body : ℕ) (values : List Value) →
+    length (first_locals code body values) ≡ length values + (locals_of code body - parameters_of code body)
 locals_many code body values =
     length-append values (replicate (locals_of code body - parameters_of code body) Nil)
     ∙ ap (λ n. length values + n) (length-replicate (locals_of code body - parameters_of code body) Nil)

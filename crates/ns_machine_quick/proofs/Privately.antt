@@ -34,7 +34,8 @@ around_charges code old new at sent running level (Some to) is = is
 around_charges code old new at sent running level None is = is
 
 -- Where a private send leads, the instruction leads.
-pub private_leads : ((missing : State) → ComeOffAgain missing) → (code : CodeProgram) (old new : Core) (at : Registers) (level : ℕ) (sel : Sel) (argc place : ℕ)
+pub private_leads : ((missing : State) → ComeOffAgain missing) →
+    (code : CodeProgram) (old new : Core) (at : Registers) (level : ℕ) (sel : Sel) (argc place : ℕ)
     (class : ClassName) (here : RunningCode) (running : RunningFrame) (led : Led) → CanDo code old at (instr.SendPrivate level sel argc)
     → old.stack.frames.items ≡ Running running ∷ below old.stack.frames.items → here ≡ running_of running.activation
     → AroundLeads code old at (own_sent at argc place class sel) here level new led

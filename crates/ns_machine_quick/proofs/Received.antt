@@ -56,7 +56,8 @@ module _ (code : CodeProgram) (core : Core) (at : Registers) (sel : Sel) (argc :
 
 -- ---- the instructions
 
-pub kind_operands : (code : CodeProgram) (core : Core) (at : Registers) (sel : Sel) (argc : ℕ) (kind : Sending) → CanDo code core at (send_instr kind sel argc)
+pub kind_operands : (code : CodeProgram) (core : Core) (at : Registers) (sel : Sel) (argc : ℕ) (kind : Sending) →
+    CanDo code core at (send_instr kind sel argc)
     → SendsOperands code core at sel argc (argc + 1)
 kind_operands code core at sel argc Plain can = send_operands code core at sel argc can
 kind_operands code core at sel argc Inner can = inner_operands code core at sel argc can

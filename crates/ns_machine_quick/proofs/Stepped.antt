@@ -15,7 +15,8 @@ use Rattle.ns_machine_sends.specs.laws.Stepped.{StepAndAnswer, sent_stepped, ste
 use Rattle.ns_machine_quick.specs.Booleans.{AnswersAt}
 
 -- With its step an answered send is the send.
-pub step_answers : StepAndAnswer → (code : CodeProgram) (core new : Core) (at : Registers) (sent : Sent) (receiver : Value) (activation : Activation) (target : Target)
+pub step_answers : StepAndAnswer →
+    (code : CodeProgram) (core new : Core) (at : Registers) (sent : Sent) (receiver : Value) (activation : Activation) (target : Target)
     (world : WorldView) (next : Next) → stepped core.run.world.world ≡ Some world.world → SameRoom core.run.world world
     → receiver_of core.run.world.world.cells activation target ≡ receiver → CanSend code core at sent receiver
     → AnswersAt code (in_other core world) at sent.floor (looked_up code (in_other core world) at sent activation target) new next

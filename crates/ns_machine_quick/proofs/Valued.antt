@@ -50,13 +50,15 @@ live_there heap code (value.Sym sel) live = tt
 live_there heap code (value.Kernel class) live = tt
 
 -- the first of live arguments is there, and so is nil
-pub first_there : (heap : Heap) (code : CodeProgram) (values : List Value) (v : Value) → All (IsLiveValue heap code) values → v ≡ argument values 0 → CellIsThere heap v
+pub first_there : (heap : Heap) (code : CodeProgram) (values : List Value) (v : Value) → All (IsLiveValue heap code) values →
+    v ≡ argument values 0 → CellIsThere heap v
 first_there heap code [] v live is = subst (CellIsThere heap) (sym is) tt
 first_there heap code (one ∷ values) v live is = subst (CellIsThere heap) (sym is) (live_there heap code one (live 0 one (omega arith)).0)
 
 -- ---- the value
 
-pub integer_gives : (code : CodeProgram) (heap : Heap) (row : IntRow) (receiver right value : Value) → integer row (number_of receiver) right ≡ Ok value
+pub integer_gives : (code : CodeProgram) (heap : Heap) (row : IntRow) (receiver right value : Value) →
+    integer row (number_of receiver) right ≡ Ok value
     → RowGives code heap (Integer row) receiver right value
 integer_gives code heap row receiver right value is arguments site progress first same =
     ap (λ (a : Value). answer_reached (integer row (number_of receiver) a) site progress) first
@@ -68,7 +70,8 @@ data_answers : (code : CodeProgram) (row : DataRow) (receiver value : Value) (ar
 data_answers code DoesNotUnderstand receiver value arguments site progress is = absurd (cc)
 data_answers code row receiver value arguments site progress is = ap (λ (o : RowOutcome). outcome_reached o site progress) is
 
-pub data_gives : (code : CodeProgram) (heap : Heap) (row : DataRow) (receiver first value : Value) → GivesAtOnce heap code row receiver first value
+pub data_gives : (code : CodeProgram) (heap : Heap) (row : DataRow) (receiver first value : Value) →
+    GivesAtOnce heap code row receiver first value
     → RowGives code heap (Data row) receiver first value
 data_gives code heap row receiver first value is arguments site progress same cells =
     data_answers code row receiver value arguments site progress

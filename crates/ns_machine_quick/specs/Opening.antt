@@ -73,11 +73,13 @@ FindsKernel code core sent receiver kind number =
 
 -- The private send finds that member.
 abbrev pub FindsAround : CodeProgram → Core → RunningCode → ℕ → Sent → Found → Type 0
-FindsAround code core running level sent found = found ≡ found_at core.run.world.world.cells code (code_of running) (ToPrivate level) sent.site.sel.0
+FindsAround code core running level sent found =
+    found ≡ found_at core.run.world.world.cells code (code_of running) (ToPrivate level) sent.site.sel.0
 
 -- A private send has led on with the topmost frame at those registers; or nothing is done.
 abbrev pub AroundOrNot : CodeProgram → Core → Registers → Sent → RunningCode → ℕ → Core → Option Registers → Type 0
-AroundOrNot code old at sent running level new (Some to) = Sends code old at sent.floor (sent_at code old at sent (code_of running) (ToPrivate level)) new (On to)
+AroundOrNot code old at sent running level new (Some to) =
+    Sends code old at sent.floor (sent_at code old at sent (code_of running) (ToPrivate level)) new (On to)
 AroundOrNot code old at sent running level new None = OnlyLookupsChanged code old new
 
 -- It has led straight on to those registers, with one step charged; or nothing is done.

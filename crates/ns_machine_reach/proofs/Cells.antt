@@ -103,7 +103,8 @@ module _ (Has : ℕ → Type 0) where
   word_in_cell heap (MessageCell sel args) word value i h = h
 
 -- a facet stays one, and no other cell becomes one
-pub facet_word : (cell : Cell) (word : ℕ) (value : Value) (kind : FacetKind) → with_word cell word value ≡ FacetCell kind → cell ≡ FacetCell kind
+pub facet_word : (cell : Cell) (word : ℕ) (value : Value) (kind : FacetKind) → with_word cell word value ≡ FacetCell kind →
+    cell ≡ FacetCell kind
 facet_word (ObjectCell class entries) word value kind e = absurd (cc (e))
 facet_word (ClassCell decl base encl holder over) word value kind e = e
 facet_word (BlockCell body env home receiver holder) word value kind e = e
@@ -119,7 +120,8 @@ pub data Written (heap : Heap) (at word : ℕ) (value : Value) (n : ℕ) (cell :
   Here : (old : Cell) → n ≡ at → find_cell heap at ≡ Some old → cell ≡ with_word old word value → Written heap at word value n cell
   There : find_cell heap n ≡ Some cell → Written heap at word value n cell
 
-pub written_at : (heap : Heap) (at word : ℕ) (value : Value) (n : ℕ) (cell : Cell) → find_cell (write_word heap at word value) n ≡ Some cell → Written heap at word value n cell
+pub written_at : (heap : Heap) (at word : ℕ) (value : Value) (n : ℕ) (cell : Cell) →
+    find_cell (write_word heap at word value) n ≡ Some cell → Written heap at word value n cell
 written_at heap at word value n cell e = by (eqb n at) refl (find_cell heap at) refl
   where
     after : Heap

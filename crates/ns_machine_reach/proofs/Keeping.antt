@@ -23,7 +23,9 @@ use Rattle.ns_machine_reach.specs.Within.{HasLater, In, CellIn, Kept, EndingIn}
 use Rattle.ns_machine_reach.proofs.Cells.{cell_in_more, cell_in_other, word_in_cell, facet_word, Written, Here, There, written_at}
 
 -- A charge comes to what it stops with, or to what it goes on to.
-pub charged_so : {A : Type 0} (P : A → Type 0) (stop : Ending → Progress → A) (limit : LimitKind) (o : Option World) (progress : Progress) (go : Progress → A) → P (stop (Limit limit) progress) → ((world : World) → o ≡ Some world → P (go (in_world progress world)))
+pub charged_so :
+    {A : Type 0} (P : A → Type 0) (stop : Ending → Progress → A) (limit : LimitKind) (o : Option World) (progress : Progress) (go : Progress → A) →
+    P (stop (Limit limit) progress) → ((world : World) → o ≡ Some world → P (go (in_world progress world)))
     → P (charged stop limit o progress go)
 charged_so P stop limit None progress go stopped goes = stopped
 charged_so P stop limit (Some world) progress go stopped goes = goes world refl
@@ -35,7 +37,8 @@ one_world true x y e = cc
 one_world false x y e = absurd (cc (e))
 
 pub made_is : (world : World) (cell : Cell) (new : World) → made world cell ≡ Some new → new ≡ record world { cells = cell ∷ world.cells }
-made_is world cell new e = one_world (nat_le (heap_size world.cells + cell_size cell) world.limits.cells) (record world { cells = cell ∷ world.cells }) new e
+made_is world cell new e =
+    one_world (nat_le (heap_size world.cells + cell_size cell) world.limits.cells) (record world { cells = cell ∷ world.cells }) new e
 
 pub stepped_is : (world new : World) → stepped world ≡ Some new → new ≡ record world { steps = world.steps + 1 }
 stepped_is world new e = one_world (nat_lt world.steps world.limits.steps) (record world { steps = world.steps + 1 }) new e
@@ -52,13 +55,15 @@ set_itself (newest ∷ earlier) at cell e = by (eqb at (heap_size earlier)) e (s
     by true f below = ap (λ c. c ∷ earlier) (let is : cell ≡ newest = cc in is)
     by false f below = ap (λ cs. newest ∷ cs) (below f)
 
-pub manifest_unwritten : (heap : Heap) (at word : ℕ) (value : Value) → at ≡ 0 → find_cell heap 0 ≡ Some (FacetCell Manifest) → write_word heap at word value ≡ heap
+pub manifest_unwritten : (heap : Heap) (at word : ℕ) (value : Value) → at ≡ 0 → find_cell heap 0 ≡ Some (FacetCell Manifest) →
+    write_word heap at word value ≡ heap
 manifest_unwritten heap at word value is e =
     let here : find_cell heap at ≡ Some (FacetCell Manifest) = ap (find_cell heap) is ∙ e in
     let after : write_word heap at word value ≡ set_cell heap at (FacetCell Manifest) = rw here refl in
     after ∙ set_itself heap at (FacetCell Manifest) here
 
-manifest_stays : (heap : Heap) (at word : ℕ) (value : Value) → 0 ≡ at → find_cell heap 0 ≡ Some (FacetCell Manifest) → find_cell (write_word heap at word value) 0 ≡ Some (FacetCell Manifest)
+manifest_stays : (heap : Heap) (at word : ℕ) (value : Value) → 0 ≡ at → find_cell heap 0 ≡ Some (FacetCell Manifest) →
+    find_cell (write_word heap at word value) 0 ≡ Some (FacetCell Manifest)
 manifest_stays heap at word value is e = ap (λ h. find_cell h 0) (manifest_unwritten heap at word value (sym is) e) ∙ e
 
 -- a cell is found when more are made

@@ -45,7 +45,8 @@ use Rattle.ns_machine_reach.proofs.Sends.{Known, sent_in, sent_from_in}
 
 -- a private member is sent in the declaration of a class
 abbrev pub InstrFinds : Progress → Activation → Instr → Type 0
-InstrFinds now activation (instr.SendPrivate level sel argc) = is_class (find_cell now.world.cells (enclosing now.world.cells activation level).holder) ≡ true
+InstrFinds now activation (instr.SendPrivate level sel argc) =
+    is_class (find_cell now.world.cells (enclosing now.world.cells activation level).holder) ≡ true
 InstrFinds now activation other = Unit {0}
 
 -- Where the next step sends to a private member, the declaration in which it is sent is a class.

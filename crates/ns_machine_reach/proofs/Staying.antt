@@ -66,13 +66,15 @@ first_found heap cell rest e =
     ap (λ h. find_cell h 0) whole ∙ last_found (reverse rest) cell
 
 -- the first cell of a run is Manifest
-manifest_is : (code : CodeProgram) (grants : Grants) (heap : Heap) → BeginsWith (standing_cells code grants) heap → find_cell heap 0 ≡ Some (FacetCell Manifest)
+manifest_is : (code : CodeProgram) (grants : Grants) (heap : Heap) → BeginsWith (standing_cells code grants) heap →
+    find_cell heap 0 ≡ Some (FacetCell Manifest)
 manifest_is code grants heap begins =
     let n : ℕ = length (standing_cells code grants) in
     let whole : reverse heap ≡ standing_cells code grants ++ drop n (reverse heap) = sym (take-append-drop n (reverse heap)) ∙ ap (λ cells. cells ++ drop n (reverse heap)) begins.start in
     first_found heap (FacetCell Manifest) _ whole
 
-valid_world : (code : CodeProgram) (grants : Grants) (state : State) → Valid code grants state → is_still state ≡ false → WorldIsValid code (standing_cells code grants) (progress_of state)
+valid_world : (code : CodeProgram) (grants : Grants) (state : State) → Valid code grants state → is_still state ≡ false →
+    WorldIsValid code (standing_cells code grants) (progress_of state)
 valid_world code grants (Going phase frames now) valid goes = valid.0.world
 valid_world code grants (Pends phase pending frames now) valid goes = valid.0.world
 valid_world code grants (Unbegun arguments now) valid goes = absurd (cc (goes))
@@ -170,13 +172,17 @@ module _ (code : CodeProgram) (grants : Grants) (laws : Laws code grants) where
   moves_stay count state valid goes = moved state valid goes count
 
 pub turns_stay : (code : CodeProgram) (grants : Grants) → MovesStayInReach code grants → TurnsStayInReach code grants
-turns_stay code grants stay steps before after valid goes (inl turned) = subst (StaysInReach before) turned.is (stay turned.count before valid goes)
-turns_stay code grants stay steps before after valid goes (inr turned) = subst (StaysInReach before) turned.is (stay turned.count before valid goes)
+turns_stay code grants stay steps before after valid goes (inl turned) =
+    subst (StaysInReach before) turned.is (stay turned.count before valid goes)
+turns_stay code grants stay steps before after valid goes (inr turned) =
+    subst (StaysInReach before) turned.is (stay turned.count before valid goes)
 
 -- a send that is begun goes on
-goes_on : (code : CodeProgram) (receiver : Value) (sel : Sel) (arguments : List Value) (idle : State) → MayBegin code receiver sel arguments idle → is_still (begun receiver sel arguments idle) ≡ false
+goes_on : (code : CodeProgram) (receiver : Value) (sel : Sel) (arguments : List Value) (idle : State) →
+    MayBegin code receiver sel arguments idle → is_still (begun receiver sel arguments idle) ≡ false
 goes_on code receiver sel arguments idle may = rw may.idle refl
 
-pub sends_stay : (code : CodeProgram) (grants : Grants) → HostKeepsValid code grants → MovesStayInReach code grants → SendsStayInReach code grants
+pub sends_stay : (code : CodeProgram) (grants : Grants) → HostKeepsValid code grants → MovesStayInReach code grants →
+    SendsStayInReach code grants
 sends_stay code grants host stay receiver sel arguments count idle valid may =
     stay count (begun receiver sel arguments idle) (host receiver sel arguments idle valid may) (goes_on code receiver sel arguments idle may)

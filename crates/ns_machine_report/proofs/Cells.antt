@@ -14,7 +14,8 @@ use Rattle.ns_base.specs.Quoted.{quoted}
 use Rattle.ns_mirror.specs.Naming.{declared_text}
 use Rattle.ns_actions.specs.Report.{cell_text}
 
-text_cell : (code : CodeProgram) (class : List ℕ) (o : Option Cell) → is_text_shape (option_map_or shape_of o (new.Mirror Nil)) ≡ true → cell_text code o class ≡ quoted (option_map_or cell_bytes o [])
+text_cell : (code : CodeProgram) (class : List ℕ) (o : Option Cell) → is_text_shape (option_map_or shape_of o (new.Mirror Nil)) ≡ true →
+    cell_text code o class ≡ quoted (option_map_or cell_bytes o [])
 text_cell code class (Some (TextCell bytes)) t = refl
 text_cell code class (Some (ObjectCell c entries)) t = absurd (cc)
 text_cell code class (Some (ClassCell decl base encl holder over)) t = absurd (cc)
@@ -27,7 +28,8 @@ text_cell code class (Some (MessageCell sel args)) t = absurd (cc)
 text_cell code class None t = absurd (cc)
 
 -- a text is shown in quotes
-pub text_shown : (heap : Heap) (code : CodeProgram) (at : ℕ) (class : List ℕ) → is_text heap (Ref at) ≡ true → cell_text code (find_cell heap at) class ≡ quoted (bytes_at heap at)
+pub text_shown : (heap : Heap) (code : CodeProgram) (at : ℕ) (class : List ℕ) → is_text heap (Ref at) ≡ true →
+    cell_text code (find_cell heap at) class ≡ quoted (bytes_at heap at)
 text_shown heap code at class t = text_cell code class (find_cell heap at) t
 
 class_cell : (code : CodeProgram) (class : List ℕ) (o : Option Cell) → is_class o ≡ true → cell_text code o class ≡ codes "class " ++ declared_text code (declaration_in (option_map_or shape_of o (new.Mirror Nil)))

@@ -49,7 +49,8 @@ use Rattle.ns_machine_returns.proofs.Clauses.{after_lawful}
 use Rattle.ns_machine_returns.proofs.Topmost.{sure, argument_fits}
 use Rattle.ns_machine_returns.proofs.Awaited.{IsArgued, awaits}
 
-moves_to : (code : CodeProgram) (core : Core) (at : Registers) (looping : LoopingFrame) (w : Waited) (world : WorldView) → CanAct code core at
+moves_to : (code : CodeProgram) (core : Core) (at : Registers) (looping : LoopingFrame) (w : Waited) (world : WorldView) →
+    CanAct code core at
     → core.stack.frames.items ≡ Looping looping ∷ below core.stack.frames.items
     → ((site : Site) (rest : Progress) → waiting_shown site w (in_world rest world.world) ≡ method_next looping.method looping.state site (in_world rest core.run.world.world))
     → acted_on code (phase_shown core.phase) looping.method (site_shown core.places looping.site)
@@ -88,7 +89,8 @@ end_lawful law code core at looping answer world can top is =
     (subst (LawfulWaiting code) (sym (is site (progress_in core)))
     (law looping.method looping.state site code (progress_in core) can.lawful (sure code core at looping can top).live))
 
-pub end_takes : (code : CodeProgram) (core : Core) (at here : Registers) (looping : LoopingFrame) (world : WorldView) (stack : Stack) → CanAct code core at
+pub end_takes : (code : CodeProgram) (core : Core) (at here : Registers) (looping : LoopingFrame) (world : WorldView) (stack : Stack) →
+    CanAct code core at
     → core.stack.frames.items ≡ Looping looping ∷ below core.stack.frames.items → IsLawful world.world code → IsLeft core at world stack here
     → CanTake code (over core world stack) here
 end_takes code core at here looping world stack can top lawful left =
@@ -115,7 +117,8 @@ abbrev WaitsOn : KState → Waiting → Type 0
 WaitsOn state (Waits block arguments after progress) = after ≡ waiting state after.count
 WaitsOn state (Finishes after) = Unit {0}
 
-waits_charged : (state : KState) (o : Option World) (progress : Progress) (go : Progress → Waiting) → ((p : Progress) → WaitsOn state (go p))
+waits_charged : (state : KState) (o : Option World) (progress : Progress) (go : Progress → Waiting) →
+    ((p : Progress) → WaitsOn state (go p))
     → WaitsOn state (charged (λ ending progress. Finishes (Halts ending progress)) Steps o progress go)
 waits_charged state (Some world) progress go waits = waits (in_world progress world)
 waits_charged state None progress go waits = tt

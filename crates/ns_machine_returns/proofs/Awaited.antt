@@ -28,7 +28,8 @@ use Rattle.ns_actions.specs.Bodies.{height_in, greatest_of}
 use Rattle.ns_machine_returns.specs.Acting.{Awaits}
 
 -- a method on top needs no values above its floor
-pub laid_at_floor : (stack : Stack) (at : Registers) (looping : LoopingFrame) (others : List Frame) → stack.frames.items ≡ Looping looping ∷ others
+pub laid_at_floor : (stack : Stack) (at : Registers) (looping : LoopingFrame) (others : List Frame) →
+    stack.frames.items ≡ Looping looping ∷ others
     → IsLaid stack at → IsLaid stack (with_top looping.floor at)
 laid_at_floor stack at looping others top laid =
     let frames = subst (λ (all : List Frame). AreLaid all at.top) top laid.frames in
@@ -42,7 +43,8 @@ laid_at_floor stack at looping others top laid =
       small = laid.small;
     }
 
-floor_low : (core : Core) (at : Registers) (looping : LoopingFrame) → core.stack.frames.items ≡ Looping looping ∷ below core.stack.frames.items
+floor_low : (core : Core) (at : Registers) (looping : LoopingFrame) →
+    core.stack.frames.items ≡ Looping looping ∷ below core.stack.frames.items
     → IsLaid core.stack at → looping.floor ≤ at.top
 floor_low core at looping top laid = (subst (λ (all : List Frame). AreLaid all at.top) top laid.frames).0
 

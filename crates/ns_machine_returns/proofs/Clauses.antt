@@ -33,18 +33,21 @@ use Rattle.ns_machine_returns.specs.Ending.{CanEnd, IsEnded}
 use Rattle.ns_machine_returns.proofs.Left.{over, IsLeft, left_stays}
 use Rattle.ns_machine_returns.proofs.Ended.{room_below}
 
-pub clause_exit : (code : CodeProgram) (core : Core) (at : Registers) (frame : RunningFrame) (value : Value) (class : ℕ) → CanEnd code core at frame value
+pub clause_exit : (code : CodeProgram) (core : Core) (at : Registers) (frame : RunningFrame) (value : Value) (class : ℕ) →
+    CanEnd code core at frame value
     → frame.leaving ≡ leaving.Clause class
     → FitsExit core.run.world.world.cells code (FromClause (cell_number frame.activation.me) frame.activation.holder class)
 clause_exit code core at frame value class can is =
     subst (λ (l : Leaving). CanLeave core.run.world.world.cells code (leaving_shown l frame.activation)) is can.leaves
 
-pub clause_room : (code : CodeProgram) (core : Core) (at : Registers) (frame : RunningFrame) (value : Value) (class : ℕ) → CanEnd code core at frame value
+pub clause_room : (code : CodeProgram) (core : Core) (at : Registers) (frame : RunningFrame) (value : Value) (class : ℕ) →
+    CanEnd code core at frame value
     → frame.leaving ≡ leaving.Clause class → HasRoomOnTop code (below (stood core.stack at))
 clause_room code core at frame value class can is = room_below code core at frame value can (ap answers is)
 
 -- a lawful answer leaves a lawful world, and what it gives is live
-pub after_lawful : (code : CodeProgram) (site : Site) (p : Progress) (answer : Result Value Fault) → LawfulAfter code (answer_shown site answer p)
+pub after_lawful : (code : CodeProgram) (site : Site) (p : Progress) (answer : Result Value Fault) →
+    LawfulAfter code (answer_shown site answer p)
     → IsLawful p.world code × GivesLive p.world.cells code answer
 after_lawful code site p (Ok value) lawful = lawful
 after_lawful code site p (Err fault) lawful = (lawful, tt)

@@ -53,15 +53,18 @@ run_ends code core at value p is none ends = record {
   stays = ended_stays core (Done value);
 }
 
-pub start_ends : (code : CodeProgram) (core : Core) (at : Registers) (value : Value) → core.phase ≡ phase.Start → core.stack.frames.items ≡ []
+pub start_ends : (code : CodeProgram) (core : Core) (at : Registers) (value : Value) → core.phase ≡ phase.Start →
+    core.stack.frames.items ≡ []
     → IsHanded code core at value (record core { ending = Done value }) next.Ended
 start_ends code core at value is none = run_ends code core at value phase.Start is none refl
 
-pub second_ends : (code : CodeProgram) (core : Core) (at : Registers) (value : Value) → core.phase ≡ phase.Second → core.stack.frames.items ≡ []
+pub second_ends : (code : CodeProgram) (core : Core) (at : Registers) (value : Value) → core.phase ≡ phase.Second →
+    core.stack.frames.items ≡ []
     → IsHanded code core at value (record core { ending = Done value }) next.Ended
 second_ends code core at value is none = run_ends code core at value phase.Second is none refl
 
-pub hosted_ends : (code : CodeProgram) (core : Core) (at : Registers) (value : Value) → core.phase ≡ phase.Hosted → core.stack.frames.items ≡ []
+pub hosted_ends : (code : CodeProgram) (core : Core) (at : Registers) (value : Value) → core.phase ≡ phase.Hosted →
+    core.stack.frames.items ≡ []
     → IsHanded code core at value (record core { ending = Done value }) next.Ended
 hosted_ends code core at value is none = run_ends code core at value phase.Hosted is none refl
 

@@ -29,7 +29,8 @@ use Rattle.ns_machine_returns.proofs.Left.{over, IsLeft, left_standing, left_sta
 
 -- ---- what the topmost frame is sure of
 
-pub room_below : (code : CodeProgram) (core : Core) (at : Registers) (frame : RunningFrame) (value : Value) → CanEnd code core at frame value
+pub room_below : (code : CodeProgram) (core : Core) (at : Registers) (frame : RunningFrame) (value : Value) →
+    CanEnd code core at frame value
     → answers frame.leaving ≡ true → HasRoomOnTop code (below (stood core.stack at))
 room_below code core at frame value can gives = by_frames core.stack.frames.items can.top can.framed.rooms
   where
@@ -42,7 +43,8 @@ room_below code core at frame value can gives = by_frames core.stack.frames.item
         let same : one ≡ frame = cc in
         rooms.0 (ap (λ (f : RunningFrame). answers f.leaving) same ∙ gives)
 
-pub method_room : (code : CodeProgram) (core : Core) (at : Registers) (frame : RunningFrame) (value : Value) → CanEnd code core at frame value
+pub method_room : (code : CodeProgram) (core : Core) (at : Registers) (frame : RunningFrame) (value : Value) →
+    CanEnd code core at frame value
     → frame.leaving ≡ leaving.Method → HasRoomOnTop code (below (stood core.stack at))
 method_room code core at frame value can is = room_below code core at frame value can (ap answers is)
 
@@ -53,7 +55,8 @@ body_room code core at frame value can is = room_below code core at frame value 
 -- ---- a frame that was given back
 
 -- the world without it
-pub given_back : (core : Core) (world : WorldView) → ((rest : Progress) → in_world rest world.world ≡ frame_left (in_world rest core.run.world.world))
+pub given_back : (core : Core) (world : WorldView) →
+    ((rest : Progress) → in_world rest world.world ≡ frame_left (in_world rest core.run.world.world))
     → world.world ≡ left core.run.world.world
 given_back core world ended = ap (λ (p : Progress). p.world) (ended (progress_in core))
 
@@ -81,7 +84,8 @@ answered code core new at here world stack frame value n can is ended handed = r
   kept = rw handed.run can.kept;
 }
 
-pub method_ended : (code : CodeProgram) (old new : Core) (at : Registers) (frame : RunningFrame) (value : Value) (n : Next) → frame.leaving ≡ leaving.Method
+pub method_ended : (code : CodeProgram) (old new : Core) (at : Registers) (frame : RunningFrame) (value : Value) (n : Next) →
+    frame.leaving ≡ leaving.Method
     → FrameIsAnswered code old at value new n → IsEnded code old at frame value new n
 method_ended code old new at frame value n is answered = record {
   state = answered.state
@@ -92,7 +96,8 @@ method_ended code old new at frame value n is answered = record {
   kept = answered.kept;
 }
 
-pub body_ended_so : (code : CodeProgram) (old new : Core) (at : Registers) (frame : RunningFrame) (value : Value) (n : Next) → frame.leaving ≡ leaving.Body
+pub body_ended_so : (code : CodeProgram) (old new : Core) (at : Registers) (frame : RunningFrame) (value : Value) (n : Next) →
+    frame.leaving ≡ leaving.Body
     → FrameIsAnswered code old at value new n → IsEnded code old at frame value new n
 body_ended_so code old new at frame value n is answered = record {
   state = answered.state

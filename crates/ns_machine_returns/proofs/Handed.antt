@@ -34,9 +34,11 @@ use Rattle.ns_machine_returns.specs.Handing.{CanTake, IsHanded}
 
 pub ended : (code : CodeProgram) (core : Core) (at : Registers) (site : KeptSite) (fault : Fault)
     → IsSettled code core at site (Err fault) (record core { ending = fault_ending fault (site_shown core.places site) }) next.Ended
-ended code core at site fault = record { state = refl; stand = tt; run = refl; stays = ended_stays core (fault_ending fault (site_shown core.places site)) }
+ended code core at site fault =
+    record { state = refl; stand = tt; run = refl; stays = ended_stays core (fault_ending fault (site_shown core.places site)) }
 
-pub given : (code : CodeProgram) (old new : Core) (at : Registers) (site : KeptSite) (value : Value) (n : Next) → IsHanded code old at value new n
+pub given : (code : CodeProgram) (old new : Core) (at : Registers) (site : KeptSite) (value : Value) (n : Next) →
+    IsHanded code old at value new n
     → IsSettled code old at site (Ok value) new n
 given code old new at site value n is = record { state = is.state; stand = is.stand; run = is.run; stays = is.stays }
 
@@ -52,7 +54,8 @@ some_left frames n e low = omega (arith, e, low)
 -- ---- what stands within what is filled
 
 -- a body on top with room for a value has a place for it
-pub has_place : (code : CodeProgram) (core : Core) (at : Registers) → CanTake code core at → HasPlace core.stack.frames.items at.top (length core.stack.values.items)
+pub has_place : (code : CodeProgram) (core : Core) (at : Registers) → CanTake code core at →
+    HasPlace core.stack.frames.items at.top (length core.stack.values.items)
 has_place code core at can = by_frames core.stack.frames.items can.stands.frames.laid.frames can.stands.frames.within can.room
   where
     by_frames : (frames : List Frame) → AreLaid frames at.top → FramesFitWithin (height_in code) (greatest_of code.bodies) (length core.stack.values.items) frames

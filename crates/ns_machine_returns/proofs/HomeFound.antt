@@ -35,11 +35,13 @@ few : (home : ℕ) (frames : List Frame) (count : ℕ) → frames_to home frames
 few home [] count e = absurd (cc)
 few home (frame ∷ frames) count e = few_step home frame frames count (λ k there. few home frames k there) (step home frame frames count e)
 
-pub few_frames : (code : CodeProgram) (core : Core) (at : Registers) (home count : ℕ) (value : Value) → CanUnwind code core at home count value
+pub few_frames : (code : CodeProgram) (core : Core) (at : Registers) (home count : ℕ) (value : Value) →
+    CanUnwind code core at home count value
     → count ≤ length core.stack.frames.items
 few_frames code core at home count value can = few home core.stack.frames.items count can.home_is
 
-pub few_depth : (code : CodeProgram) (core : Core) (at : Registers) (home count : ℕ) (value : Value) → CanUnwind code core at home count value
+pub few_depth : (code : CodeProgram) (core : Core) (at : Registers) (home count : ℕ) (value : Value) →
+    CanUnwind code core at home count value
     → count ≤ core.run.world.world.depth
 few_depth code core at home count value can =
     let low = few_frames code core at home count value can in
@@ -65,7 +67,8 @@ room_step code home frame frames one others count here more (inl found) =
 room_step code home frame frames one others count here more (inr found) =
     subst (λ (n : ℕ). HasRoomOnTop code (drop n (one ∷ others))) (sym found.2) (more found.0 found.1)
 
-pub room_there : (code : CodeProgram) (home : ℕ) (frames : List Frame) (values : List Value) (count : ℕ) → frames_to home frames ≡ Some count
+pub room_there : (code : CodeProgram) (home : ℕ) (frames : List Frame) (values : List Value) (count : ℕ) →
+    frames_to home frames ≡ Some count
     → AnswersHaveRoom code (standing frames values) → HasRoomOnTop code (drop count (standing frames values))
 room_there code home [] values count e rooms = absurd (cc)
 room_there code home (Running frame ∷ frames) values count e rooms =

@@ -44,7 +44,8 @@ home_found code core at to value can e =
     by_stood (Loops one ∷ s) finds = absurd finds
     by_stood (Runs one locals stack ∷ s) finds = record { live = finds.live 0 value (omega arith); lawful = finds.lawful }
 
-pub can_unwind : (code : CodeProgram) (core : Core) (at to : Registers) (home count : ℕ) (value : Value) → CanDo code core at instr.ReturnHome
+pub can_unwind : (code : CodeProgram) (core : Core) (at to : Registers) (home count : ℕ) (value : Value) →
+    CanDo code core at instr.ReturnHome
     → stood core.stack at ≡ pushed value (stood core.stack to) → IsLaid core.stack to → frames_to home core.stack.frames.items ≡ Some count
     → CanUnwind code core to home count value
 can_unwind code core at to home count value can e laid there =
@@ -59,7 +60,8 @@ can_unwind code core at to home count value can e laid there =
     }
 
 -- what the instruction leads to
-leads : (code : CodeProgram) (core : Core) (at to : Registers) (frame : RunningFrame) (value : Value) (place : Option SourcePlace) → CanDo code core at instr.ReturnHome
+leads : (code : CodeProgram) (core : Core) (at to : Registers) (frame : RunningFrame) (value : Value) (place : Option SourcePlace) →
+    CanDo code core at instr.ReturnHome
     → core.stack.frames.items ≡ Running frame ∷ below core.stack.frames.items → stood core.stack at ≡ pushed value (stood core.stack to)
     → returns.returned_home code (phase_shown core.phase) (activation_shown core.places frame.activation) value (frames_shown code core.places (stood core.stack to)) (progress_in core)
     ≡ done code core.places (phase_shown core.phase) instr.ReturnHome place (stood core.stack at) (progress_in core)

@@ -29,7 +29,8 @@ pub record IsLeft (core : Core) (at : Registers) (world : WorldView) (stack : St
   pub values : stack.values ≡ core.stack.values
   pub frames : stack.frames ≡ record core.stack.frames { items = below core.stack.frames.items }
 
-pub left_standing : (code : CodeProgram) (core : Core) (at here : Registers) (world : WorldView) (stack : Stack) → AreStanding code core.stack at
+pub left_standing : (code : CodeProgram) (core : Core) (at here : Registers) (world : WorldView) (stack : Stack) →
+    AreStanding code core.stack at
     → IsLeft core at world stack here → AreStanding code stack here
 left_standing code core at here world stack stands is = record {
   laid = is.laid;
@@ -38,7 +39,8 @@ left_standing code core at here world stack stands is = record {
       (within_below (height_in code) (greatest_of code.bodies) (length core.stack.values.items) core.stack.frames.items stands.within));
 }
 
-pub left_stays : (core : Core) (at here : Registers) (world : WorldView) (stack : Stack) → IsLeft core at world stack here → KeepsRooms core (over core world stack)
+pub left_stays : (core : Core) (at here : Registers) (world : WorldView) (stack : Stack) → IsLeft core at world stack here →
+    KeepsRooms core (over core world stack)
 left_stays core at here world stack is = record {
   world = is.rest;
   values = ap (λ (row : ValueRow). row.room) is.values;
@@ -60,7 +62,8 @@ left_rooms code core at here world stack rooms is =
       sends = rw stays.arguments rooms.sends;
     }
 
-pub left_takes : (code : CodeProgram) (core : Core) (at here : Registers) (world : WorldView) (stack : Stack) → HasStandingFrames code core at
+pub left_takes : (code : CodeProgram) (core : Core) (at here : Registers) (world : WorldView) (stack : Stack) →
+    HasStandingFrames code core at
     → HasRoomOnTop code (below (stood core.stack at)) → IsLawful world.world code → IsLeft core at world stack here → CanTake code (over core world stack) here
 left_takes code core at here world stack stands room lawful is = record {
   stands = record {

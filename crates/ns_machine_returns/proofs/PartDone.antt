@@ -49,7 +49,8 @@ pub record IsReached (code : CodeProgram) (core : Core) (world : WorldView) (act
 
 -- ---- what the instruction leads to
 
-pub leads : ((missing : State) → ComeOffAgain missing) → (code : CodeProgram) (core : Core) (world : WorldView) (at : Registers) (argc : ℕ) (place : Option SourcePlace)
+pub leads : ((missing : State) → ComeOffAgain missing) →
+    (code : CodeProgram) (core : Core) (world : WorldView) (at : Registers) (argc : ℕ) (place : Option SourcePlace)
     (frame : RunningFrame) (items : List Value) (reached : PartReached) → CanDo code core at (instr.InitSuper argc)
     → core.stack.frames.items ≡ Running frame ∷ below core.stack.frames.items
     → stood core.stack at ≡ pushed_all items (stood core.stack (with_top (at.top - argc) at)) → length items ≡ argc
@@ -78,7 +79,8 @@ leads taken code core world at argc place frame items reached can top e many is 
         ≡ done code core.places (phase_shown core.phase) (instr.InitSuper n) place (pushed_all items (Runs one locals stack ∷ s)) (progress_in core)) many
         (sym (taken (Stuck (progress_in core)) items stack _))
 
-pub part_skipped : ((missing : State) → ComeOffAgain missing) → (code : CodeProgram) (core : Core) (world : WorldView) (at : Registers) (argc : ℕ) (place : Option SourcePlace)
+pub part_skipped : ((missing : State) → ComeOffAgain missing) →
+    (code : CodeProgram) (core : Core) (world : WorldView) (at : Registers) (argc : ℕ) (place : Option SourcePlace)
     (frame : RunningFrame) (items : List Value) → CanDo code core at (instr.InitSuper argc)
     → core.stack.frames.items ≡ Running frame ∷ below core.stack.frames.items
     → stood core.stack at ≡ pushed_all items (stood core.stack (with_top (at.top - argc) at)) → length items ≡ argc
@@ -91,7 +93,8 @@ part_skipped taken code core world at argc place frame items can top e many laid
   kept = can.kept;
 }
 
-pub part_failed : ((missing : State) → ComeOffAgain missing) → (code : CodeProgram) (core : Core) (world : WorldView) (at : Registers) (argc : ℕ) (place : Option SourcePlace)
+pub part_failed : ((missing : State) → ComeOffAgain missing) →
+    (code : CodeProgram) (core : Core) (world : WorldView) (at : Registers) (argc : ℕ) (place : Option SourcePlace)
     (frame : RunningFrame) (items : List Value) (fault : Fault) → CanDo code core at (instr.InitSuper argc)
     → core.stack.frames.items ≡ Running frame ∷ below core.stack.frames.items
     → stood core.stack at ≡ pushed_all items (stood core.stack (with_top (at.top - argc) at)) → length items ≡ argc
@@ -112,7 +115,8 @@ pub locals_are : (code : CodeProgram) (core : Core) (world : WorldView) (activat
 locals_are code core world activation items entered is =
     subst (HasAll code items) (sym is.is) (part_all code items (activation_shown core.places activation) (progress_in core))
 
-pub part_entered : ((missing : State) → ComeOffAgain missing) → (code : CodeProgram) (core new : Core) (world : WorldView) (at : Registers) (argc : ℕ) (place : Option SourcePlace)
+pub part_entered : ((missing : State) → ComeOffAgain missing) →
+    (code : CodeProgram) (core new : Core) (world : WorldView) (at : Registers) (argc : ℕ) (place : Option SourcePlace)
     (frame : RunningFrame) (items : List Value) (entered : Entered) (n : Next) → CanDo code core at (instr.InitSuper argc)
     → core.stack.frames.items ≡ Running frame ∷ below core.stack.frames.items
     → stood core.stack at ≡ pushed_all items (stood core.stack (with_top (at.top - argc) at)) → length items ≡ argc

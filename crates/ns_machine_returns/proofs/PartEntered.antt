@@ -44,7 +44,8 @@ use Rattle.ns_machine_returns.proofs.PartFound.{PartFinds}
 use Rattle.ns_machine_returns.proofs.PartDone.{IsReached, world_stays, locals_are}
 
 -- where the arguments begin, the frames reach no further than they may
-reach_is : (code : CodeProgram) (core : Core) (at : Registers) (first : ℕ) (frame : RunningFrame) → core.stack.frames.items ≡ Running frame ∷ below core.stack.frames.items
+reach_is : (code : CodeProgram) (core : Core) (at : Registers) (first : ℕ) (frame : RunningFrame) →
+    core.stack.frames.items ≡ Running frame ∷ below core.stack.frames.items
     → IsLaid core.stack (with_top first at) → FramesFitWithin (height_in code) (greatest_of code.bodies) (length core.stack.values.items) core.stack.frames.items
     → length (operands_in (stood core.stack (with_top first at))) ≤ height_in code frame.activation.body
     → first ≤ bound (greatest_of code.bodies) core.stack.frames.items
@@ -133,4 +134,5 @@ pub holder_is_class : ((world : World) (code : CodeProgram) (activation : ShownA
     → IsTrue (is_class (find_cell world.cells activation.holder)))
     → (code : CodeProgram) (core : Core) (activation : Activation) (under : List Stood) (items : List Value) → PartFinds code core activation under items
     → IsTrue (is_class (find_cell core.run.world.world.cells activation.holder))
-holder_is_class law code core activation under items finds = law core.run.world.world code (activation_shown core.places activation) finds.lawful finds.fits
+holder_is_class law code core activation under items finds =
+    law core.run.world.world code (activation_shown core.places activation) finds.lawful finds.fits

@@ -53,7 +53,8 @@ there_is {A = A} None some = absurd (cc)
 there_is {A = A} (Some a) some = (a, refl)
 
 -- the declaration of the holder is that of the body
-holder_declares : (heap : Heap) (code : CodeProgram) (b : BodyCode) (me : Value) (holder : ℕ) → FitsBody heap code b me holder → declaration_of heap holder ≡ b.class
+holder_declares : (heap : Heap) (code : CodeProgram) (b : BodyCode) (me : Value) (holder : ℕ) → FitsBody heap code b me holder →
+    declaration_of heap holder ≡ b.class
 holder_declares heap code b (Ref at) holder fits = fits.1
 holder_declares heap code b Nil holder fits = absurd fits
 holder_declares heap code b True holder fits = absurd fits
@@ -83,7 +84,8 @@ pub record PartFinds (code : CodeProgram) (core : Core) (activation : Activation
   pub fits : FitsActivation core.run.world.world.cells code (activation_shown core.places activation)
 
 -- by what the instruction finds in its frame
-found_in : (code : CodeProgram) (core : Core) (argc : ℕ) (frame : RunningFrame) (locals stack items : List Value) (others : List Stood) → length items ≡ argc
+found_in : (code : CodeProgram) (core : Core) (argc : ℕ) (frame : RunningFrame) (locals stack items : List Value) (others : List Stood) →
+    length items ≡ argc
     → FindsWhatItTakes code core.places (instr.InitSuper argc) frame locals (reverse items ++ stack) (progress_in core)
     → PartFinds code core frame.activation (Runs frame locals stack ∷ others) items
 found_in code core argc frame locals stack items others many finds =
@@ -105,7 +107,8 @@ found_in code core argc frame locals stack items others many finds =
       fits = finds.fits;
     }
 
-pub part_finds : (code : CodeProgram) (core : Core) (at : Registers) (argc : ℕ) (frame : RunningFrame) (items : List Value) → CanDo code core at (instr.InitSuper argc)
+pub part_finds : (code : CodeProgram) (core : Core) (at : Registers) (argc : ℕ) (frame : RunningFrame) (items : List Value) →
+    CanDo code core at (instr.InitSuper argc)
     → core.stack.frames.items ≡ Running frame ∷ below core.stack.frames.items
     → stood core.stack at ≡ pushed_all items (stood core.stack (with_top (at.top - argc) at)) → length items ≡ argc
     → PartFinds code core frame.activation (stood core.stack (with_top (at.top - argc) at)) items

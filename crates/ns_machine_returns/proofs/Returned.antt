@@ -36,7 +36,8 @@ record Found (code : CodeProgram) (core : Core) (frame : RunningFrame) (value : 
   pub live : IsLiveValue core.run.world.world.cells code value
   pub lawful : IsLawful core.run.world.world code
 
-value_found : (code : CodeProgram) (core : Core) (at to : Registers) (frame : RunningFrame) (value : Value) → CanDo code core at instr.Return
+value_found : (code : CodeProgram) (core : Core) (at to : Registers) (frame : RunningFrame) (value : Value) →
+    CanDo code core at instr.Return
     → core.stack.frames.items ≡ Running frame ∷ below core.stack.frames.items → stood core.stack at ≡ pushed value (stood core.stack to)
     → Found code core frame value
 value_found code core at to frame value can top e =
@@ -54,7 +55,8 @@ value_found code core at to frame value can top e =
           lawful = finds.lawful;
         }
 
-pub value_ends : (code : CodeProgram) (core : Core) (at to : Registers) (frame : RunningFrame) (value : Value) → CanDo code core at instr.Return
+pub value_ends : (code : CodeProgram) (core : Core) (at to : Registers) (frame : RunningFrame) (value : Value) →
+    CanDo code core at instr.Return
     → core.stack.frames.items ≡ Running frame ∷ below core.stack.frames.items → stood core.stack at ≡ pushed value (stood core.stack to)
     → IsLaid core.stack to → CanEnd code core to frame value
 value_ends code core at to frame value can top e laid =

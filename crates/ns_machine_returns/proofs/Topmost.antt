@@ -56,7 +56,8 @@ sure code core at looping can top =
     }
 
 -- there is room for an argument
-pub argument_fits : ((greatest : ℕ) → DepthGivesRoom greatest) → (code : CodeProgram) (core : Core) (at : Registers) (looping : LoopingFrame) → CanAct code core at
+pub argument_fits : ((greatest : ℕ) → DepthGivesRoom greatest) →
+    (code : CodeProgram) (core : Core) (at : Registers) (looping : LoopingFrame) → CanAct code core at
     → core.stack.frames.items ≡ Looping looping ∷ below core.stack.frames.items → looping.floor + 1 ≤ core.stack.values.room
 argument_fits law code core at looping can top =
     let known = sure code core at looping can top in

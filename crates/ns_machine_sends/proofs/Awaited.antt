@@ -58,7 +58,8 @@ waiting code grants core at sent block values valid = record {
 }
 
 -- there is room for an answer behind the caller's values
-pub place_fits : (code : CodeProgram) (core : Core) (at : Registers) (sent : Sent) (block : Value) (values : List Value) → IsWaiting code core values block
+pub place_fits : (code : CodeProgram) (core : Core) (at : Registers) (sent : Sent) (block : Value) (values : List Value) →
+    IsWaiting code core values block
     → HasRooms code core → ArgumentsWait code core.stack at sent.floor sent.first → sent.floor + 1 ≤ core.stack.values.room
 place_fits code core at sent block values is rooms waits =
     let reach = waits.reach in
@@ -70,25 +71,29 @@ place_fits code core at sent block values is rooms waits =
     omega (arith, reach, low, all, room)
 
 -- where arguments stand
-pub valid_there : (code : CodeProgram) (grants : Grants) (core : Core) (at : Registers) (sent : Sent) (block : Value) → BlockWaits code grants core at sent block
+pub valid_there : (code : CodeProgram) (grants : Grants) (core : Core) (at : Registers) (sent : Sent) (block : Value) →
+    BlockWaits code grants core at sent block
     → ShowsWaiting code grants core at sent block (arguments_in core at sent)
 valid_there code grants core at sent block waits =
     subst (λ (p : Pending). Valid code grants (state_shown code core.places (phase_shown core.phase) p core.arguments.items core.stack at (progress_in core)))
     waits.is waits.ready.valid
 
-pub stand_there : (code : CodeProgram) (grants : Grants) (core : Core) (at : Registers) (sent : Sent) (block : Value) → BlockWaits code grants core at sent block
+pub stand_there : (code : CodeProgram) (grants : Grants) (core : Core) (at : Registers) (sent : Sent) (block : Value) →
+    BlockWaits code grants core at sent block
     → AreStanding code core.stack at × ArgumentsWait code core.stack at sent.floor sent.first
 stand_there code grants core at sent block waits =
     subst (λ (p : Pending). AreStanding code core.stack at × Wait code p core.stack at) waits.is waits.ready.stand
 
 -- where they are kept
-pub valid_kept : (code : CodeProgram) (grants : Grants) (core : Core) (at : Registers) (sent : Sent) (block : Value) → BlockWaitsKept code grants core at sent block
+pub valid_kept : (code : CodeProgram) (grants : Grants) (core : Core) (at : Registers) (sent : Sent) (block : Value) →
+    BlockWaitsKept code grants core at sent block
     → ShowsWaiting code grants core at sent block core.arguments.items
 valid_kept code grants core at sent block waits =
     subst (λ (p : Pending). Valid code grants (state_shown code core.places (phase_shown core.phase) p core.arguments.items core.stack at (progress_in core)))
     waits.is waits.ready.valid
 
-pub stand_kept : (code : CodeProgram) (grants : Grants) (core : Core) (at : Registers) (sent : Sent) (block : Value) → BlockWaitsKept code grants core at sent block
+pub stand_kept : (code : CodeProgram) (grants : Grants) (core : Core) (at : Registers) (sent : Sent) (block : Value) →
+    BlockWaitsKept code grants core at sent block
     → AreStanding code core.stack at × ArgumentsWait code core.stack at sent.floor sent.first
 stand_kept code grants core at sent block waits =
     let stand = subst (λ (p : Pending). AreStanding code core.stack at × Wait code p core.stack at) waits.is waits.ready.stand in
@@ -113,7 +118,8 @@ place_there code core at sent stands waits some = record {
 }
 
 -- and where none do, it is the first behind the caller's values
-pub top_fits : (code : CodeProgram) (core : Core) (at : Registers) (sent : Sent) → ArgumentsWait code core.stack at sent.floor sent.first → at.top ≤ sent.floor
+pub top_fits : (code : CodeProgram) (core : Core) (at : Registers) (sent : Sent) → ArgumentsWait code core.stack at sent.floor sent.first →
+    at.top ≤ sent.floor
     → sent.floor + 1 ≤ core.stack.values.room → at.top + 1 ≤ core.stack.values.room
 top_fits code core at sent waits none room = omega (arith, none, room)
 
@@ -215,15 +221,18 @@ module _ (code : CodeProgram) (grants : Grants) (core mid : Core) (at : Register
 -- where arguments stand, they stand there still
 pub waits_there : (code : CodeProgram) (core mid : Core) (at : Registers) (sent : Sent) (block : Value) → HasMadePlace code core at sent mid
     → IsWaiting code mid (arguments_in core at sent) block → IsWaiting code mid (arguments_in mid at sent) block
-waits_there code core mid at sent block made is = subst (λ (vs : List Value). IsWaiting code mid vs block) (sym (ap (drop sent.first) made.used)) is
+waits_there code core mid at sent block made is =
+    subst (λ (vs : List Value). IsWaiting code mid vs block) (sym (ap (drop sent.first) made.used)) is
 
-pub leads_there : (code : CodeProgram) (core mid new : Core) (at : Registers) (sent : Sent) (block : Value) (n : Next) → HasMadePlace code core at sent mid
+pub leads_there : (code : CodeProgram) (core mid new : Core) (at : Registers) (sent : Sent) (block : Value) (n : Next) →
+    HasMadePlace code core at sent mid
     → Leads code mid at sent.floor (evaluated_with code mid sent (arguments_in mid at sent) block) new n
     → Leads code mid at sent.floor (evaluated_with code mid sent (arguments_in core at sent) block) new n
 leads_there code core mid new at sent block n made is =
     subst (λ (vs : List Value). Leads code mid at sent.floor (evaluated_with code mid sent vs block) new n) (ap (drop sent.first) made.used) is
 
-pub move_there : (code : CodeProgram) (grants : Grants) (core : Core) (at : Registers) (sent : Sent) (block : Value) → BlockWaits code grants core at sent block
+pub move_there : (code : CodeProgram) (grants : Grants) (core : Core) (at : Registers) (sent : Sent) (block : Value) →
+    BlockWaits code grants core at sent block
     → arrived code (phase_shown core.phase) (evaluated_with code core sent (arguments_in core at sent) block)
     (frames_shown code core.places (stood core.stack (with_top sent.floor at)))
     ≡ move code (shown code core (next.Waits at))
@@ -235,13 +244,15 @@ pub waits_kept : (code : CodeProgram) (core mid : Core) (at : Registers) (sent :
     → IsWaiting code mid core.arguments.items block → IsWaiting code mid mid.arguments.items block
 waits_kept code core mid at sent block made is = subst (λ (row : ValueRow). IsWaiting code mid row.items block) (sym made.arguments) is
 
-pub leads_kept : (code : CodeProgram) (core mid new : Core) (at : Registers) (sent : Sent) (block : Value) (n : Next) → HasMadePlace code core at sent mid
+pub leads_kept : (code : CodeProgram) (core mid new : Core) (at : Registers) (sent : Sent) (block : Value) (n : Next) →
+    HasMadePlace code core at sent mid
     → Leads code mid at sent.floor (evaluated_with code mid sent mid.arguments.items block) new n
     → Leads code mid at sent.floor (evaluated_with code mid sent core.arguments.items block) new n
 leads_kept code core mid new at sent block n made is =
     subst (λ (row : ValueRow). Leads code mid at sent.floor (evaluated_with code mid sent row.items block) new n) made.arguments is
 
-pub move_kept : (code : CodeProgram) (grants : Grants) (core : Core) (at : Registers) (sent : Sent) (block : Value) → BlockWaitsKept code grants core at sent block
+pub move_kept : (code : CodeProgram) (grants : Grants) (core : Core) (at : Registers) (sent : Sent) (block : Value) →
+    BlockWaitsKept code grants core at sent block
     → arrived code (phase_shown core.phase) (evaluated_with code core sent core.arguments.items block)
     (frames_shown code core.places (stood core.stack (with_top sent.floor at)))
     ≡ move code (shown code core (next.Waits at))

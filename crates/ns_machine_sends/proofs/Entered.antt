@@ -35,7 +35,8 @@ has_place (given.Items at) floor filled low = tt
 abbrev pub call_of : Leaving → Sent → Call
 call_of leaving sent = record { leaving = leaving; site = sent.site; floor = sent.floor; first = sent.first }
 
-pub may_enter : ((code : CodeProgram) → WhatIsReachedIsEntered code) → (code : CodeProgram) (core : Core) (at : Registers) (sent : Sent) (leaving : Leaving) (exit : Exit)
+pub may_enter : ((code : CodeProgram) → WhatIsReachedIsEntered code) →
+    (code : CodeProgram) (core : Core) (at : Registers) (sent : Sent) (leaving : Leaving) (exit : Exit)
     (entered : Entered) → IsLeft code core at sent
     → ControlGoesOn code (length core.stack.frames.items) (control_at code core at sent (reached.Enters exit entered))
     → ArgumentsStand core exit entered.given (arguments_in core at sent) → CanEnter code core at (call_of leaving sent) exit entered
@@ -75,7 +76,8 @@ left_bare code core at sent left = record {
 }
 
 -- the control is the same, whatever arguments stand there
-without_same : (code : CodeProgram) (core : Core) (sent : Sent) (exit : Exit) (entered : Entered) (g : Given) (some none : List Value) → entered.given ≡ g → TakesNone g exit
+without_same : (code : CodeProgram) (core : Core) (sent : Sent) (exit : Exit) (entered : Entered) (g : Given) (some none : List Value) →
+    entered.given ≡ g → TakesNone g exit
     → reached_at code core sent.site some (reached.Enters exit entered) ≡ reached_at code core sent.site none (reached.Enters exit entered)
 without_same code core sent exit entered (given.Message at) some none e takes = rw e refl
 without_same code core sent exit entered (given.Items at) some none e takes = absurd takes
@@ -83,7 +85,8 @@ without_same code core sent exit.Method entered given.Listed some none e takes =
 without_same code core sent exit.Body entered given.Listed some none e takes = absurd takes
 without_same code core sent (exit.Clause class) entered given.Listed some none e takes = refl
 
-pub bare_goes : (code : CodeProgram) (core : Core) (at : Registers) (sent : Sent) (exit : Exit) (entered : Entered) → TakesNone entered.given exit
+pub bare_goes : (code : CodeProgram) (core : Core) (at : Registers) (sent : Sent) (exit : Exit) (entered : Entered) →
+    TakesNone entered.given exit
     → ControlGoesOn code (length core.stack.frames.items) (control_at code core at sent (reached.Enters exit entered))
     → ControlGoesOn code (length core.stack.frames.items)
     (control_at code core (with_top sent.floor at) (record sent { first = sent.floor }) (reached.Enters exit entered))
@@ -103,7 +106,8 @@ pub bare_taken : (core : Core) (at : Registers) (sent : Sent) (exit : Exit) (ent
 bare_taken core at sent exit entered takes =
     subst (λ (vs : List Value). ArgumentsStand core exit entered.given vs) (sym (none_left sent.floor core.stack.values.items)) (taken_none core exit entered.given takes)
 
-pub bare_arrives : (code : CodeProgram) (core new : Core) (at : Registers) (sent : Sent) (exit : Exit) (entered : Entered) (next : Next) → TakesNone entered.given exit
+pub bare_arrives : (code : CodeProgram) (core new : Core) (at : Registers) (sent : Sent) (exit : Exit) (entered : Entered) (next : Next) →
+    TakesNone entered.given exit
     → Arrives code core (with_top sent.floor at) sent.floor
     (control_at code core (with_top sent.floor at) (record sent { first = sent.floor }) (reached.Enters exit entered)) new next
     → Arrives code core at sent.floor (control_at code core at sent (reached.Enters exit entered)) new next

@@ -36,11 +36,13 @@ from_floor sent = record sent { first = sent.floor }
 -- ---- in an environment
 
 -- the control is the same, whatever arguments there are
-inside_same : (code : CodeProgram) (core : Core) (sent : Sent) (exit : Exit) (entered : Entered) (some none : List Value) → has_environment code entered.body ≡ true
+inside_same : (code : CodeProgram) (core : Core) (sent : Sent) (exit : Exit) (entered : Entered) (some none : List Value) →
+    has_environment code entered.body ≡ true
     → reached_at code core sent.site some (reached.Enters exit entered) ≡ reached_at code core sent.site none (reached.Enters exit entered)
 inside_same code core sent exit entered some none e = rw e refl
 
-pub bare_goes : (code : CodeProgram) (core : Core) (at : Registers) (sent : Sent) (exit : Exit) (entered : Entered) → has_environment code entered.body ≡ true
+pub bare_goes : (code : CodeProgram) (core : Core) (at : Registers) (sent : Sent) (exit : Exit) (entered : Entered) →
+    has_environment code entered.body ≡ true
     → ControlGoesOn code (length core.stack.frames.items) (kept_control code core sent (reached.Enters exit entered))
     → ControlGoesOn code (length core.stack.frames.items) (control_at code core (with_top sent.floor at) (from_floor sent) (reached.Enters exit entered))
 bare_goes code core at sent exit entered inside goes =
@@ -74,7 +76,8 @@ bare_arrives code core new at sent exit entered next inside is = record {
 -- ---- beside the body
 
 -- they have their places among its locals
-pub kept_fit : (code : CodeProgram) → ArgumentsAreLocals code → DepthGivesRoom (greatest_of code.bodies) → (core : Core) (at : Registers) (sent : Sent) (exit : Exit)
+pub kept_fit : (code : CodeProgram) → ArgumentsAreLocals code → DepthGivesRoom (greatest_of code.bodies) →
+    (core : Core) (at : Registers) (sent : Sent) (exit : Exit)
     (entered : Entered) → IsLeft code core at sent → ControlGoesOn code (length core.stack.frames.items) (kept_control code core sent (reached.Enters exit entered))
     → entered.given ≡ given.Listed → passed exit core.arguments.items ≡ core.arguments.items → has_environment code entered.body ≡ false
     → sent.floor + length core.arguments.items ≤ core.stack.values.room

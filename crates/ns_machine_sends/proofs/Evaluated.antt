@@ -55,7 +55,8 @@ EntersOrHalts (Evaluate block arguments site progress) = ⊥
 EntersOrHalts (Begin method state site progress) = ⊥
 EntersOrHalts (Perform receiver sel array site progress) = ⊥
 
-charged_enters : (limit : LimitKind) (o : Option World) (progress : Progress) (go : Progress → Control) → ((p : Progress) → EntersOrHalts (go p))
+charged_enters : (limit : LimitKind) (o : Option World) (progress : Progress) (go : Progress → Control) →
+    ((p : Progress) → EntersOrHalts (go p))
     → EntersOrHalts (charged halts limit o progress go)
 charged_enters limit (Some world) progress go goes = goes (in_world progress world)
 charged_enters limit None progress go goes = tt
@@ -72,7 +73,8 @@ opened_enters code activation arguments progress = tested (has_environment code 
         (Enter FromBody (record activation { env = Ref (heap_size progress.world.cells) }) []) (λ p. tt)
     tested false = tt
 
-entered_enters : (code : CodeProgram) (cell : NewCell) (arguments : List Value) (site : Site) (progress : Progress) → EntersOrHalts (block_entered code cell arguments site progress)
+entered_enters : (code : CodeProgram) (cell : NewCell) (arguments : List Value) (site : Site) (progress : Progress) →
+    EntersOrHalts (block_entered code cell arguments site progress)
 entered_enters code (new.Block body env home receiver holder) arguments site progress = tested (length arguments == parameters_of code body)
   where
     inner : Activation
@@ -88,8 +90,10 @@ entered_enters code (new.Block body env home receiver holder) arguments site pro
     tested false = tt
 entered_enters code _ arguments site progress = tt
 
-pub evaluated_enters : (code : CodeProgram) (block : Value) (arguments : List Value) (site : Site) (progress : Progress) → EntersOrHalts (evaluated code block arguments site progress)
-evaluated_enters code block arguments site progress = entered_enters code (shape_of_value progress.world.cells block) arguments site progress
+pub evaluated_enters : (code : CodeProgram) (block : Value) (arguments : List Value) (site : Site) (progress : Progress) →
+    EntersOrHalts (evaluated code block arguments site progress)
+evaluated_enters code block arguments site progress =
+    entered_enters code (shape_of_value progress.world.cells block) arguments site progress
 
 -- so that is what it has reached
 pub enters_or_ends : (code : CodeProgram) (site : Site) (values : List Value) (r : Reached) (progress : Progress)
@@ -173,7 +177,9 @@ module _ (code : CodeProgram) (core : Core) (sent : Sent) (block : Value) (value
     }
 
 -- what it came to, on the values that were handed over
-pub evaluated_control : (code : CodeProgram) (core : Core) (sent : Sent) (block : Value) (world : WorldView) (r : Reached) (values there : List Value) → values ≡ there
+pub evaluated_control :
+    (code : CodeProgram) (core : Core) (sent : Sent) (block : Value) (world : WorldView) (r : Reached) (values there : List Value) →
+    values ≡ there
     → ((site : Site) (rest : Progress) → reached_shown code site values r (in_world rest world.world) ≡ evaluated code block values site (in_world rest core.run.world.world))
     → reached_at code (in_other core world) sent.site there r ≡ evaluated_with code core sent there block
 evaluated_control code core sent block world r values there same is =

@@ -74,7 +74,8 @@ row_asked code core at sent receiver number left can = record {
   all_live = can.all_live;
 }
 
-pub rooms_same : (code : CodeProgram) (core : Core) (world : WorldView) (board : Board) → world.world.limits ≡ core.run.world.world.limits → SameRoom core.run.world world
+pub rooms_same : (code : CodeProgram) (core : Core) (world : WorldView) (board : Board) → world.world.limits ≡ core.run.world.world.limits →
+    SameRoom core.run.world world
     → HasRooms code core → HasRooms code (with_world core world board)
 rooms_same code core world board limits room rooms = record {
   cells = rw (limits, room.0) rooms.cells;
@@ -85,7 +86,8 @@ rooms_same code core world board limits room rooms = record {
   sends = rooms.sends;
 }
 
-pub row_left : (code : CodeProgram) (core : Core) (at : Registers) (sent : Sent) (world : WorldView) (board : Board) → world.world.limits ≡ core.run.world.world.limits
+pub row_left : (code : CodeProgram) (core : Core) (at : Registers) (sent : Sent) (world : WorldView) (board : Board) →
+    world.world.limits ≡ core.run.world.world.limits
     → SameRoom core.run.world world → IsLeft code core at sent → IsLeft code (with_world core world board) at sent
 row_left code core at sent world board limits room left = record {
   sound = left.sound;

@@ -54,19 +54,24 @@ looked_can code core at sent receiver run rest kept can = record {
     begun = ap (λ (r : Run). r.begun) rest
 
 -- and answers the same
-pub looked_same : (code : CodeProgram) (core : Core) (at : Registers) (sent : Sent) (run : Run) (activation : Activation) (target : Target) → looked core run
+pub looked_same :
+    (code : CodeProgram) (core : Core) (at : Registers) (sent : Sent) (run : Run) (activation : Activation) (target : Target) →
+    looked core run
     → looked_up code (record core { run = run }) at sent activation target ≡ looked_up code core at sent activation target
 looked_same code core at sent run activation target rest =
     ap (λ (p : Progress). answered code activation target sent.site.sel (arguments_in core at sent) (site_shown core.places sent.site) p) (ap progress_of rest)
 
-pub looked_goes : (code : CodeProgram) (core : Core) (at : Registers) (sent : Sent) (run : Run) (activation : Activation) (target : Target) → looked core run
+pub looked_goes :
+    (code : CodeProgram) (core : Core) (at : Registers) (sent : Sent) (run : Run) (activation : Activation) (target : Target) →
+    looked core run
     → ControlGoesOn code (length core.stack.frames.items) (looked_up code core at sent activation target)
     → ControlGoesOn code (length core.stack.frames.items) (looked_up code (record core { run = run }) at sent activation target)
 looked_goes code core at sent run activation target rest goes =
     rw (looked_same code core at sent run activation target rest) goes
 
 -- what was found is what is found there
-pub looked_found : (code : CodeProgram) (core : Core) (run : Run) (receiver : Value) (sel : ℕ) (kind : Sending) (member : Found) → looked core run
+pub looked_found : (code : CodeProgram) (core : Core) (run : Run) (receiver : Value) (sel : ℕ) (kind : Sending) (member : Found) →
+    looked core run
     → member ≡ found_from core.run.world.world.cells code (start_of core.run.world.world.cells receiver) sel kind
     → member ≡ found_from run.world.world.cells code (start_of run.world.world.cells receiver) sel kind
 looked_found code core run receiver sel kind member rest e = rw (world_same core run rest) e

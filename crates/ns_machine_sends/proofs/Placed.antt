@@ -24,7 +24,8 @@ use Rattle.ns_machine_sends.specs.Going.{control_at, ControlGoesOn, IsLeft, AreP
 use Rattle.ns_machine_sends.specs.Kept.{keeping, kept_control}
 use Rattle.ns_machine_frames.specs.laws.Room.{within_more}
 
-pub floor_laid : (code : CodeProgram) (core : Core) (at : Registers) (sent : Sent) → IsLeft code core at sent → IsLaid core.stack (with_top sent.floor at)
+pub floor_laid : (code : CodeProgram) (core : Core) (at : Registers) (sent : Sent) → IsLeft code core at sent →
+    IsLaid core.stack (with_top sent.floor at)
 floor_laid code core at sent left = left.waits.stands.laid
 
 -- there is room for the elements with which a block is evaluated
@@ -43,7 +44,8 @@ keeps_room first second third one two = record {
   filled = let a = one.filled in let b = two.filled in omega (arith, a, b);
 }
 
-pub values_placed : (code : CodeProgram) (core : Core) (at to : Registers) (sent : Sent) (stack : Stack) (values : List Value) → IsLeft code core at sent
+pub values_placed : (code : CodeProgram) (core : Core) (at to : Registers) (sent : Sent) (stack : Stack) (values : List Value) →
+    IsLeft code core at sent
     → in_use stack to ≡ in_use core.stack (with_top sent.floor at) ++ values → IsLaid stack to → stack.frames ≡ core.stack.frames → KeepsRoom core.stack stack
     → to ≡ with_top (sent.floor + length values) (with_top sent.floor at) → ArePlaced code core at sent.floor values (record core { stack = stack }) to
 values_placed code core at to sent stack values left used laid frames room here = record {
@@ -93,7 +95,8 @@ values_placed code core at to sent stack values left used laid frames room here 
         (within_more (height_in code) (greatest_of code.bodies) (length core.stack.values.items) (length stack.values.items) core.stack.frames.items room.filled left.stands.within)
 
 -- what stands below them, where a call's arguments stand or none do
-pub floor_waits : (code : CodeProgram) (core : Core) (at : Registers) (sent : Sent) → IsLeft code core at sent → ArgumentsWait code core.stack at sent.floor sent.floor
+pub floor_waits : (code : CodeProgram) (core : Core) (at : Registers) (sent : Sent) → IsLeft code core at sent →
+    ArgumentsWait code core.stack at sent.floor sent.floor
 floor_waits code core at sent left = record {
   order = let order = left.waits.order in let low = left.waits.low in omega (arith, order, low);
   low = omega arith;

@@ -163,7 +163,8 @@ answer_is code core sent receiver run answer values same e =
 pub answer_goes : (code : CodeProgram) (core : Core) (sent : Sent) (receiver : Value) (run : Run) (answer : Answered) (control : Control)
     → kept_answer code (record core { run = run }) sent receiver answer ≡ control → ControlGoesOn code (length core.stack.frames.items) control
     → ControlGoesOn code (length core.stack.frames.items) (kept_answer code (record core { run = run }) sent receiver answer)
-answer_goes code core sent receiver run answer control e goes = subst (λ (c : Control). ControlGoesOn code (length core.stack.frames.items) c) (sym e) goes
+answer_goes code core sent receiver run answer control e goes =
+    subst (λ (c : Control). ControlGoesOn code (length core.stack.frames.items) c) (sym e) goes
 
 pub answer_led : (code : CodeProgram) (core new : Core) (at : Registers) (sent : Sent) (receiver : Value) (run : Run) (answer : Answered) (control : Control) (to : Led)
     → kept_answer code (record core { run = run }) sent receiver answer ≡ control → SameRest core.run.world run.world
@@ -222,7 +223,8 @@ step_can_on charging code core at sent receiver world e room can = record {
     is = step_is core.run.world.world world.world e
 
 -- such a send is its step, and what its lookup answers then
-pub on_stepped : (code : CodeProgram) (core : Core) (sent : Sent) (receiver : Value) (world : WorldView) → stepped core.run.world.world ≡ Some world.world
+pub on_stepped : (code : CodeProgram) (core : Core) (sent : Sent) (receiver : Value) (world : WorldView) →
+    stepped core.run.world.world ≡ Some world.world
     → sent_on_at code core sent receiver ≡ looked_on code (in_other core world) sent receiver
 on_stepped code core sent receiver world e =
     ap (λ (o : Option World). charged halts Steps o (progress_in core)
@@ -232,7 +234,8 @@ on_stepped code core sent receiver world e =
     (site_shown core.places sent.site) (in_world (progress_in core) world.world))
     (sym (ap (λ (w : World). w.cells) (step_is core.run.world.world world.world e)))
 
-pub on_goes : (code : CodeProgram) → WaitedIsLawful code → WaitedFits code → WaitedStays code → WaitedSpends code → (core : Core) (at : Registers) (sent : Sent) (receiver : Value)
+pub on_goes : (code : CodeProgram) → WaitedIsLawful code → WaitedFits code → WaitedStays code → WaitedSpends code →
+    (core : Core) (at : Registers) (sent : Sent) (receiver : Value)
     (world : WorldView) → stepped core.run.world.world ≡ Some world.world → CanSendOn code core at sent receiver
     → ControlGoesOn code (length core.stack.frames.items) (looked_on code (in_other core world) sent receiver)
 on_goes code lawful fits stays spends core at sent receiver world e can =
@@ -287,7 +290,8 @@ on_leads code core new at sent receiver world (led.Gives value) e room is = reco
   kept = subst (λ (h : Heap). All (PlaceIsRight h code) new.run.memo) (ap (λ (w : World). w.cells) (step_is core.run.world.world world.world e)) is.kept;
 }
 
-pub no_step_leads : (code : CodeProgram) (core : Core) (at : Registers) (sent : Sent) (receiver : Value) → stepped core.run.world.world ≡ None
+pub no_step_leads : (code : CodeProgram) (core : Core) (at : Registers) (sent : Sent) (receiver : Value) →
+    stepped core.run.world.world ≡ None
     → CanSendOn code core at sent receiver
     → SendLeadsTo code core at sent.floor (sent_on_at code core sent receiver) (record core { ending = ending.Limit Steps }) (led.Goes next.Ended)
 no_step_leads code core at sent receiver e can = record {

@@ -30,12 +30,14 @@ use Rattle.ns_machine_sends.specs.Operands.{topmost, SendsOperands}
 use Rattle.ns_machine_core.specs.laws.Charged.{step_is}
 use Rattle.ns_machine_sends.specs.laws.Selves.{own_sent, own_apart, own_many, own_does}
 
-pub step_fits : (code : CodeProgram) (old new : World) (activation : Activation) → stepped old ≡ Some new → FitsActivation old.cells code activation
+pub step_fits : (code : CodeProgram) (old new : World) (activation : Activation) → stepped old ≡ Some new →
+    FitsActivation old.cells code activation
     → FitsActivation new.cells code activation
 step_fits code old new activation e fits =
     subst (λ (h : Heap). FitsActivation h code activation) (sym (ap (λ (w : World). w.cells) (step_is old new e))) fits
 
-pub super_operands : (code : CodeProgram) (core : Core) (at : Registers) (sel : Sel) (argc : ℕ) → CanDo code core at (instr.SendSuper sel argc)
+pub super_operands : (code : CodeProgram) (core : Core) (at : Registers) (sel : Sel) (argc : ℕ) →
+    CanDo code core at (instr.SendSuper sel argc)
     → SendsOperands code core at sel argc argc
 super_operands code core at sel argc can = record {
   instr = instr.SendSuper sel argc;
@@ -51,7 +53,8 @@ super_operands code core at sel argc can = record {
     by_stood (Loops frame ∷ s) finds = absurd finds
     by_stood (Runs frame locals stack ∷ s) finds = finds.asks.0
 
-pub super_does : ((missing : State) → ComeOffAgain missing) → (code : CodeProgram) (old new : Core) (at : Registers) (sel : Sel) (argc place : ℕ) (class : ClassName)
+pub super_does : ((missing : State) → ComeOffAgain missing) →
+    (code : CodeProgram) (old new : Core) (at : Registers) (sel : Sel) (argc place : ℕ) (class : ClassName)
     (here : RunningCode) (running : RunningFrame) (next : Next) → CanDo code old at (instr.SendSuper sel argc)
     → old.stack.frames.items ≡ Running running ∷ below old.stack.frames.items → here ≡ running_of running.activation
     → Sends code old at (at.top - argc) (sent_at code old at (own_sent at argc place class sel) (code_of here) ToSuper) new next

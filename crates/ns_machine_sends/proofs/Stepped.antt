@@ -23,7 +23,8 @@ use Rattle.ns_machine_sends.specs.Sending.{CanSend, looked_up}
 
 -- ---- the world after a step
 
-pub rooms_in : (code : CodeProgram) (core : Core) (run : Run) → SameRest core.run.world run.world → HasRooms code core → HasRooms code (record core { run = run })
+pub rooms_in : (code : CodeProgram) (core : Core) (run : Run) → SameRest core.run.world run.world → HasRooms code core →
+    HasRooms code (record core { run = run })
 rooms_in code core run rest rooms = record {
   cells = rw (rest.limits, rest.room.0) rooms.cells;
   out = rw (rest.limits, rest.room.1) rooms.out;
@@ -33,7 +34,8 @@ rooms_in code core run rest rooms = record {
   sends = rooms.sends;
 }
 
-pub left_in : (code : CodeProgram) (core : Core) (at : Registers) (sent : Sent) (run : Run) → SameRest core.run.world run.world → IsLeft code core at sent
+pub left_in : (code : CodeProgram) (core : Core) (at : Registers) (sent : Sent) (run : Run) → SameRest core.run.world run.world →
+    IsLeft code core at sent
     → IsLeft code (record core { run = run }) at sent
 left_in code core at sent run rest left = record {
   sound = left.sound;
@@ -46,7 +48,8 @@ left_in code core at sent run rest left = record {
 
 -- ---- the lookup
 
-pub ready : (code : CodeProgram) (core : Core) (at : Registers) (sent : Sent) (receiver : Value) → CanSend code core at sent receiver → IsReady code core.run
+pub ready : (code : CodeProgram) (core : Core) (at : Registers) (sent : Sent) (receiver : Value) → CanSend code core at sent receiver →
+    IsReady code core.run
 ready code core at sent receiver can = record { lawful = can.lawful; room = can.left.rooms.cells; begun = can.begun }
 
 pub answer_can : (code : CodeProgram) (core : Core) (at : Registers) (sent : Sent) (receiver : Value) (run : Run) (member : Found) (answer : Answered)

@@ -114,7 +114,8 @@ pub record ArePlaced (code : CodeProgram) (old : Core) (at : Registers) (floor :
 
 -- what a send came to, at its site
 abbrev pub answered_at : CodeProgram → Core → Registers → Sent → Value → Answered → Control
-answered_at code core at sent receiver answer = answered_shown code sent.site.sel receiver (site_shown core.places sent.site) (arguments_in core at sent) answer (progress_in core)
+answered_at code core at sent receiver answer =
+    answered_shown code sent.site.sel receiver (site_shown core.places sent.site) (arguments_in core at sent) answer (progress_in core)
 
 -- A row of the kernel is asked with a receiver that it suits, and with live arguments.
 pub record CanAsk (code : CodeProgram) (core : Core) (at : Registers) (sent : Sent) (receiver : Value) (number : ℕ) : Type 0 where

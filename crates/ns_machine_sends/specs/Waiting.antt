@@ -92,7 +92,8 @@ pub record CanSendOn (code : CodeProgram) (core : Core) (at : Registers) (sent :
 
 -- where it leads, with its step and after it
 abbrev pub sent_on_at : CodeProgram → Core → Sent → Value → Control
-sent_on_at code core sent receiver = sent_from code receiver sent.site.sel core.arguments.items (site_shown core.places sent.site) (progress_in core)
+sent_on_at code core sent receiver =
+    sent_from code receiver sent.site.sel core.arguments.items (site_shown core.places sent.site) (progress_in core)
 
 abbrev pub looked_on : CodeProgram → Core → Sent → Value → Control
 looked_on code core sent receiver =

@@ -13,7 +13,8 @@ use Rattle.ns_machine_start.proofs.Made.{both_made, both_stopped}
 
 -- ---- classes
 
-pub tops_of_both : (decl : ℕ) (first second : List ClassCode) → tops_of decl (first ++ second) ≡ tops_of decl first ++ tops_of (decl + length first) second
+pub tops_of_both : (decl : ℕ) (first second : List ClassCode) →
+    tops_of decl (first ++ second) ≡ tops_of decl first ++ tops_of (decl + length first) second
 tops_of_both decl [] second = ap (λ number. tops_of number second) (omega arith)
 tops_of_both decl (class ∷ first) second =
     let number : decl + 1 + length first ≡ decl + length (class ∷ first) = omega arith in
@@ -32,7 +33,8 @@ one_top_more classes decl class d inside is =
     ∙ ap (λ cells. tops_of 0 (take decl classes) ++ cells) (append-nil (top_if class.outer decl)))))
 
 -- one more of them was made
-pub top_made : (classes : List ClassCode) (decl : ℕ) (class d : ClassCode) (old middle new : WorldView) → decl < length classes → class ≡ get_or classes decl d
+pub top_made : (classes : List ClassCode) (decl : ℕ) (class d : ClassCode) (old middle new : WorldView) → decl < length classes →
+    class ≡ get_or classes decl d
     → CellsAreMade (tops_of 0 (take decl classes)) old (Ok tt) middle → CellsAreMade (top_if class.outer decl) middle (Ok tt) new
     → CellsAreMade (tops_of 0 (take (decl + 1) classes)) old (Ok tt) new
 top_made classes decl class d old middle new inside is before this =
@@ -40,7 +42,8 @@ top_made classes decl class d old middle new inside is before this =
     (both_made (tops_of 0 (take decl classes)) (top_if class.outer decl) old middle new (Ok tt) before this)
 
 -- one of them doesn't fit
-pub top_stopped : (classes : List ClassCode) (decl : ℕ) (class d : ClassCode) (old middle new : WorldView) (limit other : CellLimit) → decl < length classes
+pub top_stopped : (classes : List ClassCode) (decl : ℕ) (class d : ClassCode) (old middle new : WorldView) (limit other : CellLimit) →
+    decl < length classes
     → class ≡ get_or classes decl d → CellsAreMade (tops_of 0 (take decl classes)) old (Ok tt) middle → CellsAreMade (top_if class.outer decl) middle (Err limit) new
     → CellsAreMade (tops_of 0 classes) old (Err other) new
 top_stopped classes decl class d old middle new limit other inside is before this =
@@ -75,7 +78,8 @@ one_text_more texts count text inside is =
     ap (map TextCell) (take_more texts count text inside)
     ∙ (texts_of_both (take count texts) (get_or texts count text ∷ []) ∙ ap (λ t. map TextCell (take count texts) ++ TextCell t ∷ []) (sym is))
 
-pub text_made : (texts : List (List ℕ)) (count : ℕ) (text : List ℕ) (old middle new : WorldView) (result : Result (Unit {0}) CellLimit) → count < length texts
+pub text_made : (texts : List (List ℕ)) (count : ℕ) (text : List ℕ) (old middle new : WorldView) (result : Result (Unit {0}) CellLimit) →
+    count < length texts
     → text ≡ get_or texts count text → CellsAreMade (map TextCell (take count texts)) old (Ok tt) middle → CellsAreMade (TextCell text ∷ []) middle result new
     → CellsAreMade (map TextCell (take (count + 1) texts)) old result new
 text_made texts count text old middle new result inside is before this =
@@ -83,7 +87,8 @@ text_made texts count text old middle new result inside is before this =
     (both_made (map TextCell (take count texts)) (TextCell text ∷ []) old middle new result before this)
 
 -- one of them doesn't fit
-pub text_stopped : (texts : List (List ℕ)) (count : ℕ) (text : List ℕ) (old middle new : WorldView) (limit other : CellLimit) → count < length texts
+pub text_stopped : (texts : List (List ℕ)) (count : ℕ) (text : List ℕ) (old middle new : WorldView) (limit other : CellLimit) →
+    count < length texts
     → text ≡ get_or texts count text → CellsAreMade (map TextCell (take count texts)) old (Ok tt) middle → CellsAreMade (TextCell text ∷ []) middle (Err limit) new
     → CellsAreMade (map TextCell texts) old (Err other) new
 text_stopped texts count text old middle new limit other inside is before this =
@@ -94,7 +99,8 @@ text_stopped texts count text old middle new limit other inside is before this =
     (text_made texts count text old middle new (Err limit) inside is before this))
 
 -- what refers to it stands behind the others
-pub one_more_refers : (number : ℕ) (texts : List (List ℕ)) (count : ℕ) (text : List ℕ) (size : ℕ) → count < length texts → text ≡ get_or texts count text
+pub one_more_refers : (number : ℕ) (texts : List (List ℕ)) (count : ℕ) (text : List ℕ) (size : ℕ) → count < length texts →
+    text ≡ get_or texts count text
     → size ≡ number + size_of_cells (map TextCell (take count texts)) → referring number (take (count + 1) texts) ≡ referring number (take count texts) ++ Ref size ∷ []
 one_more_refers number texts count text size inside is at =
     ap (referring number) (take_more texts count text inside)

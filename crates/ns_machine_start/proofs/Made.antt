@@ -48,7 +48,8 @@ size_made old new cell is = by_test (nat_le (heap_size old.cells + cell_size cel
     by_test false e = absurd (cc)
 
 -- a cell that was made
-pub one_made : (cell : Cell) (old new : WorldView) (result : Result ℕ CellLimit) → MakesCell old cell result new → new.world.limits ≡ old.world.limits
+pub one_made : (cell : Cell) (old new : WorldView) (result : Result ℕ CellLimit) → MakesCell old cell result new →
+    new.world.limits ≡ old.world.limits
     → CellsAreMade (cell ∷ []) old (unnumbered result) new
 one_made cell old new (Ok number) makes limits = record {
   goes_on = λ last next more progress.
@@ -65,7 +66,8 @@ one_made cell old new (Err limit) makes limits = record {
 }
 
 -- one part and then another
-pub both_made : (first second : List Cell) (old middle new : WorldView) (result : Result (Unit {0}) CellLimit) → CellsAreMade first old (Ok tt) middle
+pub both_made : (first second : List Cell) (old middle new : WorldView) (result : Result (Unit {0}) CellLimit) →
+    CellsAreMade first old (Ok tt) middle
     → CellsAreMade second middle result new → CellsAreMade (first ++ second) old result new
 both_made first second old middle new result here there = record {
   goes_on = λ last next more progress. on second last next more progress there;
@@ -88,7 +90,8 @@ both_made first second old middle new result here there = record {
     size (Err limit) is = tt
 
 -- where a part of it doesn't fit, the whole doesn't
-pub both_stopped : (first second : List Cell) (old new : WorldView) (limit other : CellLimit) → CellsAreMade first old (Err limit) new → CellsAreMade (first ++ second) old (Err other) new
+pub both_stopped : (first second : List Cell) (old new : WorldView) (limit other : CellLimit) → CellsAreMade first old (Err limit) new →
+    CellsAreMade (first ++ second) old (Err other) new
 both_stopped first second old new limit other here = record {
   goes_on = λ last next more progress. on second last next more progress;
   size = tt;

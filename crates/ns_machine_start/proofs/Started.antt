@@ -15,7 +15,8 @@ use Rattle.ns_actions.specs.Start.{all_made, size_of_cells, numbers_from, standi
 use Rattle.ns_machine_start.specs.Making.{going_on, start_shown, CellsAreMade, referring}
 
 -- what follows some cells that were made
-through : (cells texts : List Cell) (last : Cell) (old new : WorldView) (result : Result (Unit {0}) CellLimit) → CellsAreMade cells old result new → (progress : Progress)
+through : (cells texts : List Cell) (last : Cell) (old new : WorldView) (result : Result (Unit {0}) CellLimit) →
+    CellsAreMade cells old result new → (progress : Progress)
     → all_made (cells ++ (texts ++ last ∷ [])) Nil (in_world progress old.world) ≡ going_on result (texts ++ last ∷ []) (in_world progress new.world)
 through cells [] last old new result makes progress = makes.goes_on Nil last [] progress
 through cells (text ∷ texts) last old new result makes progress = makes.goes_on Nil text (texts ++ last ∷ []) progress

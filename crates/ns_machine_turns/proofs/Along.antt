@@ -35,9 +35,11 @@ since_on code known old new from next moved =
     let b = counted code new next in
     omega (arith, on, is, a, b)
 
-pub none_gone : (code : CodeProgram) (plan : Plan) (sends : OwnSends) (left : ℕ) (old : Core) (from : Next) → RunsBy code plan sends old from
+pub none_gone : (code : CodeProgram) (plan : Plan) (sends : OwnSends) (left : ℕ) (old : Core) (from : Next) →
+    RunsBy code plan sends old from
     → GoesAlong code plan sends left old from old from
-none_gone code plan sends left old from runs = record { runs = runs; turning = λ steps first began e turning. turning; onward = omega arith; lower = omega arith }
+none_gone code plan sends left old from runs =
+    record { runs = runs; turning = λ steps first began e turning. turning; onward = omega arith; lower = omega arith }
 
 module _ (code : CodeProgram) (all : KnownMoves code) (plan : Plan) (sends : OwnSends) (left : ℕ) (old : Core) (from : Next) where
   module _ (goes : is_still (shown code old from) ≡ false) (now new : Core) (here next : Next) (on : is_still (shown code now here) ≡ false)
@@ -105,14 +107,16 @@ gone_since code plan sends left some old now new from here next along goes e gon
     gone_far code plan sends left old now new from here next along goes (subst (λ n. HasGone code plan sends n now here new next) e gone)
 
 -- With so many steps left, a move of a body that runs leads on,
-pub body_gone : (code : CodeProgram) → MovesGoAlong code → (plan : Plan) (sends : OwnSends) (left some : ℕ) (old now new : Core) (at here : Registers) (next : Next)
+pub body_gone : (code : CodeProgram) → MovesGoAlong code →
+    (plan : Plan) (sends : OwnSends) (left some : ℕ) (old now new : Core) (at here : Registers) (next : Next)
     → 1 ≤ some → some ≡ left - (now.run.world.world.steps - old.run.world.world.steps) → GoesAlong code plan sends left old (On at) now (On here)
     → MakesMove code now (On here) new next → HasGone code plan sends left old (On at) new next
 body_gone code law plan sends left some old now new at here next one e along moved =
     law plan sends left old now new (On at) (On here) next along refl refl (omega (arith, one, e)) moved
 
 -- and leaves less to be done.
-pub body_falls : (code : CodeProgram) → MovesGoAlong code → (plan : Plan) (sends : OwnSends) (now new : Core) (here : Registers) (next : Next)
+pub body_falls : (code : CodeProgram) → MovesGoAlong code →
+    (plan : Plan) (sends : OwnSends) (now new : Core) (here : Registers) (next : Next)
     → RunsBy code plan sends now (On here) → MakesMove code now (On here) new next → run_left code (shown code new next) < run_left code (shown code now (On here))
 body_falls code law plan sends now new here next runs moved =
     (body_gone code law plan sends 1 1 now now new here here next (omega arith) (omega arith) (none_gone code plan sends 1 now (On here) runs) moved).falls

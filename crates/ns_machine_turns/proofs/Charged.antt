@@ -78,7 +78,8 @@ module _ (code : CodeProgram) (body next : ℕ) (inside : next < length (steps_o
 
 -- ---- the run
 
-pub frame_told : ((steps : List moves.PlacedInstr) → GoesBackTo steps) → (code : CodeProgram) → JumpsLand code → (core : Core) (at : Registers) (running : RunningFrame)
+pub frame_told : ((steps : List moves.PlacedInstr) → GoesBackTo steps) → (code : CodeProgram) → JumpsLand code →
+    (core : Core) (at : Registers) (running : RunningFrame)
     (s : Step) → IsPreparedToRun code core (On at) → core.stack.frames.items ≡ Running running ∷ below core.stack.frames.items
     → IsAhead code core at running.activation.body s
     → step_charges at.next (operands_in (stood core.stack at)) s ≡ will_charge code (shown code core (On at))

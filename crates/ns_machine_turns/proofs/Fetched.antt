@@ -65,7 +65,8 @@ operands_at core at running = reverse (drop running.operands (in_use core.stack 
 abbrev pub others_at : Core → Registers → RunningFrame → List Stood
 others_at core at running = standing (below core.stack.frames.items) (take running.floor (in_use core.stack at))
 
-pub stands : (core : Core) (at : Registers) (running : RunningFrame) → core.stack.frames.items ≡ Running running ∷ below core.stack.frames.items
+pub stands : (core : Core) (at : Registers) (running : RunningFrame) →
+    core.stack.frames.items ≡ Running running ∷ below core.stack.frames.items
     → stood core.stack at ≡ Runs (record running { next = at.next }) (locals_at core at running) (operands_at core at running) ∷ others_at core at running
 stands core at running top = ap (λ (frames : List Frame). standing (at_next at.next frames) (in_use core.stack at)) top
 

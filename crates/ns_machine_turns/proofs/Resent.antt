@@ -52,7 +52,8 @@ use Rattle.ns_machine_turns.specs.Resending.{WaitsToSend, IsSet}
 
 -- ---- a value that is given
 
-pub given_takes : (code : CodeProgram) → WaitedIsLawful code → (old mid : Core) (at : Registers) (sent : Sent) (receiver value : Value) → CanSendOn code old at sent receiver
+pub given_takes : (code : CodeProgram) → WaitedIsLawful code → (old mid : Core) (at : Registers) (sent : Sent) (receiver value : Value) →
+    CanSendOn code old at sent receiver
     → HasRoomOnTop code (stood old.stack (with_top sent.floor at)) → IsGivenOn code old (sent_on_at code old sent receiver) mid value
     → CanTake code mid (with_top sent.floor at) × IsLiveValue mid.run.world.world.cells code value
 given_takes code law old mid at sent receiver value can room given =
@@ -66,7 +67,8 @@ given_takes code law old mid at sent receiver value can room given =
       whole.1,
     )
 
-pub own_stay : (code : CodeProgram) (old mid : Core) (at : Registers) (sent : Sent) (receiver value : Value) (own : OwnSends) → AreOwn code old.places own
+pub own_stay : (code : CodeProgram) (old mid : Core) (at : Registers) (sent : Sent) (receiver value : Value) (own : OwnSends) →
+    AreOwn code old.places own
     → IsGivenOn code old (sent_on_at code old sent receiver) mid value → AreOwn code mid.places own
 own_stay code old mid at sent receiver value own are given = rw given.stays.places are
 
@@ -103,7 +105,8 @@ frames_many code core at floor =
     ∙ (many_stand (at_next at.next core.stack.frames.items) (take floor core.stack.values.items) ∙ many_next at.next core.stack.frames.items)
 
 -- what a machine shows in which this waits
-pub valid_there : (code : CodeProgram) (grants : Grants) (core : Core) (at : Registers) (p : Pending) → core.waiting ≡ p → MachineIsReady code grants core (next.Waits at)
+pub valid_there : (code : CodeProgram) (grants : Grants) (core : Core) (at : Registers) (p : Pending) → core.waiting ≡ p →
+    MachineIsReady code grants core (next.Waits at)
     → Valid code grants (state_shown code core.places (phase_shown core.phase) p core.arguments.items core.stack at (progress_in core))
 valid_there code grants core at p is ready =
     subst (λ (q : Pending). Valid code grants (state_shown code core.places (phase_shown core.phase) q core.arguments.items core.stack at (progress_in core))) is ready.valid
@@ -120,7 +123,8 @@ pub record StandsBelow (code : CodeProgram) (core : Core) (at : Registers) (sent
   pub waits : ArgumentsWait code core.stack at sent.floor sent.first
   pub named : sent.site.sel ≡ sel
 
-stands_below : (code : CodeProgram) (core : Core) (at : Registers) (sent : Sent) (sel : Sel) → sent.first ≡ sent.floor → AreStanding code core.stack at
+stands_below : (code : CodeProgram) (core : Core) (at : Registers) (sent : Sent) (sel : Sel) → sent.first ≡ sent.floor →
+    AreStanding code core.stack at
     → SendWaits code core.stack at sent.site sel sent.floor → StandsBelow code core at sent sel
 stands_below code core at sent sel first stands waits = record {
   stands = stands;
@@ -140,7 +144,8 @@ pub performing_stands : (code : CodeProgram) (grants : Grants) (core : Core) (at
 performing_stands code grants core at sent receiver sel array is first ready =
     stands_below code core at sent sel first ready.stand.0 (subst (λ (p : Pending). Wait code p core.stack at) is ready.stand.1)
 
-pub sending_known : (code : CodeProgram) (grants : Grants) → WaitingHasRoom code grants → (core : Core) (at : Registers) (sent : Sent) (receiver : Value) (sel : Sel)
+pub sending_known : (code : CodeProgram) (grants : Grants) → WaitingHasRoom code grants →
+    (core : Core) (at : Registers) (sent : Sent) (receiver : Value) (sel : Sel)
     → core.waiting ≡ pending.Sending receiver sel sent.site sent.floor → sent.first ≡ sent.floor → MachineIsReady code grants core (next.Waits at)
     → WaitsToSend code core at sent receiver core.arguments.items
 sending_known code grants law core at sent receiver sel is first ready =
@@ -159,7 +164,8 @@ sending_known code grants law core at sent receiver sel is first ready =
           (stood core.stack (with_top sent.floor at)) (progress_in core) refl valid;
     }
 
-pub performing_known : (code : CodeProgram) (grants : Grants) → WaitingHasRoom code grants → (core : Core) (at : Registers) (sent : Sent) (receiver : Value)
+pub performing_known : (code : CodeProgram) (grants : Grants) → WaitingHasRoom code grants →
+    (core : Core) (at : Registers) (sent : Sent) (receiver : Value)
     (sel : Sel) (array : ℕ) → core.waiting ≡ pending.Performing receiver sel array sent.site sent.floor → sent.first ≡ sent.floor
     → MachineIsReady code grants core (next.Waits at) → WaitsToSend code core at sent receiver (items_of core.run.world.world.cells (Ref array))
 performing_known code grants law core at sent receiver sel array is first ready =
@@ -186,7 +192,8 @@ pub array_there : (heap : Heap) (at : ℕ) → IsTrue (is_array heap (Ref at)) �
 array_there heap at is = cell_there (find_cell heap at) is
 
 -- there is room for as many arguments as a selector takes, and for an answer behind the caller's values
-pub items_fit : (code : CodeProgram) → ArgumentsAreFew code → (core : Core) (at : Registers) (sent : Sent) (receiver : Value) (arguments : List Value)
+pub items_fit : (code : CodeProgram) → ArgumentsAreFew code →
+    (core : Core) (at : Registers) (sent : Sent) (receiver : Value) (arguments : List Value)
     → WaitsToSend code core at sent receiver arguments → length arguments ≤ core.arguments.room
 items_fit code few core at sent receiver arguments known =
     let arity = known.selector.arity in
@@ -300,7 +307,8 @@ module _ (code : CodeProgram) (core mid : Core) (at : Registers) (sent : Sent) (
 -- ---- the moves
 
 -- the move of a send that waits is that of its site's selector
-sending_move : (code : CodeProgram) (core : Core) (at : Registers) (sent : Sent) (receiver : Value) (sel : Sel) (arguments : List Value) → sent.site.sel ≡ sel
+sending_move : (code : CodeProgram) (core : Core) (at : Registers) (sent : Sent) (receiver : Value) (sel : Sel) (arguments : List Value) →
+    sent.site.sel ≡ sel
     → arrived code (phase_shown core.phase) (sent_from code receiver sent.site.sel arguments (site_shown core.places sent.site) (progress_in core))
     (frames_shown code core.places (stood core.stack (with_top sent.floor at)))
     ≡ arrived code (phase_shown core.phase) (sent_from code receiver sel arguments (site_shown core.places sent.site) (progress_in core))
@@ -309,7 +317,8 @@ sending_move code core at sent receiver sel arguments named =
     ap (λ (s : Sel). arrived code (phase_shown core.phase) (sent_from code receiver s arguments (site_shown core.places sent.site) (progress_in core))
     (frames_shown code core.places (stood core.stack (with_top sent.floor at)))) named
 
-pub sending_moves : (code : CodeProgram) (grants : Grants) → WaitingHasRoom code grants → (core mid new : Core) (at : Registers) (sent : Sent) (receiver : Value) (sel : Sel)
+pub sending_moves : (code : CodeProgram) (grants : Grants) → WaitingHasRoom code grants →
+    (core mid new : Core) (at : Registers) (sent : Sent) (receiver : Value) (sel : Sel)
     (n : Next) → core.waiting ≡ pending.Sending receiver sel sent.site sent.floor → sent.first ≡ sent.floor → MachineIsReady code grants core (next.Waits at)
     → HasMadePlace code core at sent mid → Sends code mid at sent.floor (sent_on_at code mid sent receiver) new n
     → MakesMove code core (next.Waits at) new n
@@ -319,7 +328,8 @@ sending_moves code grants law core mid new at sent receiver sel n is first ready
     (sending_move code core at sent receiver sel core.arguments.items (sending_stands code grants core at sent receiver sel is first ready).named
     ∙ move_there code core at (pending.Sending receiver sel sent.site sent.floor) is)
 
-pub performing_moves : (code : CodeProgram) (grants : Grants) → WaitingHasRoom code grants → (core mid new : Core) (at : Registers) (sent : Sent)
+pub performing_moves : (code : CodeProgram) (grants : Grants) → WaitingHasRoom code grants →
+    (core mid new : Core) (at : Registers) (sent : Sent)
     (receiver : Value) (sel : Sel) (array : ℕ) (n : Next) → core.waiting ≡ pending.Performing receiver sel array sent.site sent.floor → sent.first ≡ sent.floor
     → MachineIsReady code grants core (next.Waits at) → HasMadePlace code (keeping (items_of core.run.world.world.cells (Ref array)) core) at sent mid
     → Sends code mid at sent.floor (sent_on_at code mid sent receiver) new n

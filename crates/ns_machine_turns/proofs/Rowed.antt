@@ -27,7 +27,8 @@ pub record HasBody (code : CodeProgram) (step : Step) : Type 0 where
 
 pub body_above : (code : CodeProgram) (core : Core) (at : Registers) (instr : Instr) (step : Step) → CanDo code core at instr
     → HasMemberAbove code core.stack.frames.items step → HasBody code step
-body_above code core at instr step can above = by_frames core.stack.frames.items can.finds (λ frame others b e there. above frame others b e there)
+body_above code core at instr step can above =
+    by_frames core.stack.frames.items can.finds (λ frame others b e there. above frame others b e there)
   where
     by_body : (frame : RunningFrame) (o : Option BodyCode) → slice_get code.bodies frame.activation.body ≡ o → IsSome o
         → ((b : BodyCode) → slice_get code.bodies frame.activation.body ≡ Some b → HasItsMember code b step) → HasBody code step

@@ -98,7 +98,8 @@ module _ (code : CodeProgram) (known : Known code) (steps : ℕ) where
 
 -- ---- the machine
 
-pub runs_on : (code : CodeProgram) (plan : Plan) (sends : OwnSends) (old new : Core) (from next : Next) → ((grants : Grants) → MovesKeepReady code grants)
+pub runs_on : (code : CodeProgram) (plan : Plan) (sends : OwnSends) (old new : Core) (from next : Next) →
+    ((grants : Grants) → MovesKeepReady code grants)
     → RunsBy code plan sends old from → MakesMove code old from new next → RunsBy code plan sends new next
 runs_on code plan sends old new from next keeps runs moved = record {
   prepared = subst (IsPrepared code plan) (sym moved.stays.places) runs.prepared;
@@ -154,7 +155,8 @@ module _ (code : CodeProgram) (steps : ℕ) (first now : Core) (from next : Next
   none_left all = let e = left_is in omega (arith, e, all)
 
 -- what is spent stays so
-pub spent_on : (code : CodeProgram) → Known code → (steps : ℕ) (first : State) (old new : Core) (from next : Next) → MakesMove code old from new next
+pub spent_on : (code : CodeProgram) → Known code → (steps : ℕ) (first : State) (old new : Core) (from next : Next) →
+    MakesMove code old from new next
     → is_still (shown code old from) ≡ false
     → (is_still (shown code old from) ≡ true) ⊎ (steps_left steps first (shown code old from) ≡ 0)
     → (is_still (shown code new next) ≡ true) ⊎ (steps_left steps first (shown code new next) ≡ 0)
@@ -164,6 +166,7 @@ spent_on code known steps first old new from next moved goes (inr none) =
     let is = ap (λ s. (world_of s).steps) moved.state in
     inr (omega (arith, none, on, is))
 
-pub spent_goes : (steps : ℕ) (first now : State) → is_still now ≡ false → (is_still now ≡ true) ⊎ (steps_left steps first now ≡ 0) → steps_left steps first now ≡ 0
+pub spent_goes : (steps : ℕ) (first now : State) → is_still now ≡ false → (is_still now ≡ true) ⊎ (steps_left steps first now ≡ 0) →
+    steps_left steps first now ≡ 0
 spent_goes steps first now goes (inl still) = not_both (is_still now) still goes
 spent_goes steps first now goes (inr none) = none

@@ -67,10 +67,12 @@ untouched_along code plan sends left old from now new at along is =
     subst (λ (core : Core). GoesAlong code plan sends left old from core (On at)) (sym is.same)
     (memo_along code now at new.run.memo is.kept plan sends left old from along)
 
-pub untouched_steps : (code : CodeProgram) (now new : Core) → OnlyLookupsChanged code now new → new.run.world.world.steps ≡ now.run.world.world.steps
+pub untouched_steps : (code : CodeProgram) (now new : Core) → OnlyLookupsChanged code now new →
+    new.run.world.world.steps ≡ now.run.world.world.steps
 untouched_steps code now new is = ap (λ (core : Core). core.run.world.world.steps) is.same
 
-pub untouched_few : (code : CodeProgram) (now new old : Core) (left : ℕ) → OnlyLookupsChanged code now new → now.run.world.world.steps - old.run.world.world.steps < left
+pub untouched_few : (code : CodeProgram) (now new old : Core) (left : ℕ) → OnlyLookupsChanged code now new →
+    now.run.world.world.steps - old.run.world.world.steps < left
     → new.run.world.world.steps - old.run.world.world.steps < left
 untouched_few code now new old left is few = let same = untouched_steps code now new is in omega (arith, same, few)
 

@@ -28,7 +28,8 @@ nils_made : (world : World) (count : ℕ) → made world (ArrayCell (nils count)
 nils_made world count = ap (λ n. cond (fit world n) (whole world (nils count)) None) (length-replicate {A = Value} count Nil)
 
 -- filled with as many values as it has, the new array is the one that was to be made
-pub array_finished : (old mid last : WorldView) (values : List Value) (count to : ℕ) → count ≡ length values → last ≡ listed mid to 0 values → MakesArray old count (Ok to) mid → Gives (making old.world (ArrayCell values)) old (Ok (Ref to)) last
+pub array_finished : (old mid last : WorldView) (values : List Value) (count to : ℕ) → count ≡ length values →
+    last ≡ listed mid to 0 values → MakesArray old count (Ok to) mid → Gives (making old.world (ArrayCell values)) old (Ok (Ref to)) last
 array_finished old mid last values count to e f (m, number, room) = tested (fit old.world count) refl (sym (nils_made old.world count) ∙ m)
   where
     tested : (b : Bool) → fit old.world count ≡ b → cond (fit old.world count) (whole old.world (nils count)) None ≡ Some mid.world → Gives (making old.world (ArrayCell values)) old (Ok (Ref to)) last

@@ -16,7 +16,8 @@ use Rattle.ns_mirror.specs.Looking.{mirrored, mirrored_in}
 use Rattle.ns_mirror.specs.Mirror.{GivesMirrored, reflected}
 use Rattle.ns_mirror.specs.declared.row.Mirrored.TheVariants.{Answer}
 
-mirrored_cell : (world : World) (code : CodeProgram) (mirror : ℕ) → IsLawful world code → (o : Option Cell) → find_cell world.cells mirror ≡ o → IsLiveValue world.cells code (mirrored_in (option_map_or shape_of o (new.Mirror Nil)))
+mirrored_cell : (world : World) (code : CodeProgram) (mirror : ℕ) → IsLawful world code → (o : Option Cell) →
+    find_cell world.cells mirror ≡ o → IsLiveValue world.cells code (mirrored_in (option_map_or shape_of o (new.Mirror Nil)))
 mirrored_cell world code mirror lawful None e = (tt, refl)
 mirrored_cell world code mirror lawful (Some (MirrorCell value)) e = lawful.cells mirror (MirrorCell value) e
 mirrored_cell world code mirror lawful (Some (ObjectCell class entries)) e = (tt, refl)
@@ -29,15 +30,18 @@ mirrored_cell world code mirror lawful (Some (FacetCell kind)) e = (tt, refl)
 mirrored_cell world code mirror lawful (Some (MessageCell sel args)) e = (tt, refl)
 
 -- what a mirror mirrors is a live value
-pub mirrored_live : (world : World) (code : CodeProgram) (mirror : ℕ) → IsLawful world code → IsLiveValue world.cells code (mirrored world.cells mirror)
+pub mirrored_live : (world : World) (code : CodeProgram) (mirror : ℕ) → IsLawful world code →
+    IsLiveValue world.cells code (mirrored world.cells mirror)
 mirrored_live world code mirror lawful = mirrored_cell world code mirror lawful (find_cell world.cells mirror) refl
 
 -- an outcome that is given is given as a mirror's answer
-pub answers : (outcome : RowOutcome) (old new : WorldView) (value : Value) → Gives outcome old (Ok value) new → GivesMirrored (reflected outcome) old (Ok (Answer value)) new
+pub answers : (outcome : RowOutcome) (old new : WorldView) (value : Value) → Gives outcome old (Ok value) new →
+    GivesMirrored (reflected outcome) old (Ok (Answer value)) new
 answers (Answers answer world) old new value g = (ap Answer (g.0), g.1, g.2)
 answers (Fails fault) old new value g = absurd g
 
-pub refuses : (outcome : RowOutcome) (old new : WorldView) (fault : Fault) → Gives outcome old (Err fault) new → GivesMirrored (reflected outcome) old (Err fault) new
+pub refuses : (outcome : RowOutcome) (old new : WorldView) (fault : Fault) → Gives outcome old (Err fault) new →
+    GivesMirrored (reflected outcome) old (Err fault) new
 refuses (Answers answer world) old new fault g = absurd g
 refuses (Fails found) old new fault g = g
 

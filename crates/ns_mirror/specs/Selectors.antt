@@ -39,4 +39,5 @@ methods_of_shape heap code cell = []
 
 -- `selectors` of a value
 abbrev pub selectors : World → CodeProgram → Value → RowOutcome
-selectors world code value = making world (ArrayCell (public_selectors (methods_of_shape world.cells code (shape_of_value world.cells value))))
+selectors world code value =
+    making world (ArrayCell (public_selectors (methods_of_shape world.cells code (shape_of_value world.cells value))))

@@ -31,11 +31,13 @@ slot_symbols (slot ∷ slots) = Sym slot.name ∷ slot_symbols slots
 -- the names of the slots along a chain, those of the topmost class first
 abbrev pub slot_names_along : Heap → CodeProgram → List ℕ → List Value
 slot_names_along heap code [] = []
-slot_names_along heap code (class ∷ classes) = slot_names_along heap code classes ++ slot_symbols (declared_slots code (declaration_of heap class))
+slot_names_along heap code (class ∷ classes) =
+    slot_names_along heap code classes ++ slot_symbols (declared_slots code (declaration_of heap class))
 
 -- `slotNames` of a value
 abbrev pub slot_names : World → CodeProgram → Value → RowOutcome
-slot_names world code value = making world (ArrayCell (slot_names_along world.cells code (chain_of world.cells (object_class world.cells value))))
+slot_names world code value =
+    making world (ArrayCell (slot_names_along world.cells code (chain_of world.cells (object_class world.cells value))))
 
 -- the first slot of a name, with its number, counted from a number on
 abbrev pub entry_of : List SlotCode → Sel → ℕ → Option Entry

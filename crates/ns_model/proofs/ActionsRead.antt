@@ -84,7 +84,8 @@ told f default (body ∷ bodies) zero same = same body
 told f default (body ∷ bodies) (suc number) same = told f default bodies number same
 
 -- and the same of bodies with the same heads
-of_heads : {A : Type 0} (f : BodyCode → A) (default : A) (some others : List BodyCode) (number : ℕ) → ((body : BodyCode) → f (head_of body) ≡ f body)
+of_heads : {A : Type 0} (f : BodyCode → A) (default : A) (some others : List BodyCode) (number : ℕ) →
+    ((body : BodyCode) → f (head_of body) ≡ f body)
     → map head_of others ≡ map head_of some → option_map_or f (slice_get some number) default ≡ option_map_or f (slice_get others number) default
 of_heads f default some others number same heads =
     sym (told f default some number same)

@@ -53,7 +53,8 @@ plain_fine meant code fuel receiver sel values place p live r =
 pub plain_enough : (meant : Meant) (code : CodeProgram) (fuel : ℕ) (receiver : Value) (sel : Sel) (values : List Value) (place : Option SourcePlace)
     (p : Progress) (live : List ℕ)
     → Ready fuel p → IsEnough (run meant code fuel (sent_plain code receiver sel values place p) live)
-plain_enough meant code fuel receiver sel values place p live r = enough_of p _ (plain_fine meant code fuel receiver sel values place p live r)
+plain_enough meant code fuel receiver sel values place p live r =
+    enough_of p _ (plain_fine meant code fuel receiver sel values place p live r)
 
 ready_to_open : (p : Progress) → IsOrdered p → Ready (fuel_of p) p
 ready_to_open p o = record { above = above p.world.limits.steps p.world.steps; ordered = o }
@@ -103,7 +104,8 @@ top_free (Some outer) decl = tt
 
 tops_free : (decl : ℕ) (classes : List ClassCode) → AreFree (tops_of decl classes)
 tops_free decl [] = tt
-tops_free decl (class ∷ classes) = both_free (top_if class.outer decl) (tops_of (decl + 1) classes) (top_free class.outer decl) (tops_free (decl + 1) classes)
+tops_free decl (class ∷ classes) =
+    both_free (top_if class.outer decl) (tops_of (decl + 1) classes) (top_free class.outer decl) (tops_free (decl + 1) classes)
 
 texts_free : (texts : List (List ℕ)) → AreFree (map TextCell texts)
 texts_free [] = tt
@@ -130,7 +132,8 @@ abbrev OrderedAfter : After → Type 0
 OrderedAfter (Gives value p) = IsOrdered p
 OrderedAfter (Halts ending p) = Unit {0}
 
-made_ordered : (world after : World) (cell : Cell) → has_superclass world.cells cell ≡ true → is_ordered world.cells ≡ true → made world cell ≡ Some after
+made_ordered : (world after : World) (cell : Cell) → has_superclass world.cells cell ≡ true → is_ordered world.cells ≡ true →
+    made world cell ≡ Some after
     → is_ordered after.cells ≡ true
 made_ordered world after cell under o e = tested (nat_le (heap_size world.cells + cell_size cell) world.limits.cells) e
   where

@@ -97,7 +97,8 @@ moves_of old (Begin method state site p) o s r = past_of old p o s.steps r
 moves_of old (Perform receiver sel array site p) o s r = past_of old p o s.steps r
 
 -- the evaluation of a block
-block_room : (code : CodeProgram) (cell : NewCell) (arguments : List Value) (site : Site) (p : Progress) → HasRoom p (block_entered code cell arguments site p)
+block_room : (code : CodeProgram) (cell : NewCell) (arguments : List Value) (site : Site) (p : Progress) →
+    HasRoom p (block_entered code cell arguments site p)
 block_room code (new.Block body env home receiver holder) arguments site p = tested (eqb (length arguments) (parameters_of code body))
   where
     inner : Activation
@@ -197,7 +198,8 @@ part_below n code a (value.Int number) sel arguments p h = object_below n code a
 part_below n code a (value.Sym name) sel arguments p h = object_below n code a sel p
 part_below n code a (value.Kernel class) sel arguments p h = object_below n code a sel p
 
-part_fact : (above : ℕ) (old : Progress) (part : PartControl) → IsLater old.world (part_reached part).world → Below above part → PartLater above old part
+part_fact : (above : ℕ) (old : Progress) (part : PartControl) → IsLater old.world (part_reached part).world → Below above part →
+    PartLater above old part
 part_fact above old (Skip p) o b = later_of old p o
 part_fact above old (Stop e p) o b = later_of old p o
 part_fact above old (EnterPart a ls p) o b = (later_of old p o, b)

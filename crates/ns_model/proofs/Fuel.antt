@@ -46,7 +46,8 @@ pub stay : (p : Progress) → Later p p
 stay p = record { steps = omega arith; limits = refl; ordered = λ o. o }
 
 also : (one two three : Progress) → Later one two → Later two three → Later one three
-also one two three a b = record { steps = omega (arith, a.steps, b.steps); limits = b.limits ∙ a.limits; ordered = λ o. b.ordered (a.ordered o) }
+also one two three a b =
+    record { steps = omega (arith, a.steps, b.steps); limits = b.limits ∙ a.limits; ordered = λ o. b.ordered (a.ordered o) }
 
 past_later : (old new : Progress) → Past old new → Later old new
 past_later old new a = record { steps = omega (arith, a.steps); limits = a.limits; ordered = a.ordered }
@@ -151,7 +152,8 @@ fine_caught false h v p = stay p
 
 fine_finish : (code : CodeProgram) → Facts code → (exit : Exit) (a : Activation) (old : Progress) (o : Completion Value) → Fine old o
     → Fine old (finish code exit a o)
-fine_finish code facts exit a old (Yields v ls p) f = fine_from old p _ f (fine_settled p [] (body_ended code exit a v p) (facts.ended exit a v p))
+fine_finish code facts exit a old (Yields v ls p) f =
+    fine_from old p _ f (fine_settled p [] (body_ended code exit a v p) (facts.ended exit a v p))
 fine_finish code facts exit a old (Returns h v p) f =
     fine_from old (frame_left p) _ (also old p (frame_left p) f (left_later p)) (fine_caught (is_home exit a.home h) h v (frame_left p))
 fine_finish code facts exit a old (Ends e p) f = tt

@@ -36,7 +36,8 @@ home_passed live (Returns home v p) h = h
 home_passed live (Ends e p) h = tt
 home_passed live Spent h = tt
 
-home_going : (live : List ℕ) (a : Activation) (v : Value) (p : Progress) (b : Bool) → is_live live a.home ≡ b → GoesHome live (going_home b a v p)
+home_going : (live : List ℕ) (a : Activation) (v : Value) (p : Progress) (b : Bool) → is_live live a.home ≡ b →
+    GoesHome live (going_home b a v p)
 home_going live a v p true e = e
 home_going live a v p false e = tt
 
@@ -44,14 +45,16 @@ or_second : (b c : Bool) → (b || c) ≡ true → b ≡ false → c ≡ true
 or_second true c e f = absurd (cc)
 or_second false c e f = e
 
-home_caught : (live : List ℕ) (own home : ℕ) (v : Value) (p : Progress) → is_live (own ∷ live) home ≡ true → GoesHome live (caught (own == home) home v p)
+home_caught : (live : List ℕ) (own home : ℕ) (v : Value) (p : Progress) → is_live (own ∷ live) home ≡ true →
+    GoesHome live (caught (own == home) home v p)
 home_caught live own home v p e = tested (own == home) refl
   where
     tested : (b : Bool) → (own == home) ≡ b → GoesHome live (caught b home v p)
     tested true f = tt
     tested false f = or_second (own == home) (is_live live home) e f
 
-home_finish : (code : CodeProgram) (exit : Exit) (a : Activation) (live : List ℕ) (o : Completion Value) → GoesHome (homes_in exit a.home live) o
+home_finish : (code : CodeProgram) (exit : Exit) (a : Activation) (live : List ℕ) (o : Completion Value) →
+    GoesHome (homes_in exit a.home live) o
     → GoesHome live (finish code exit a o)
 home_finish code exit a live (Yields v ls p) h = home_settled live [] (body_ended code exit a v p)
 home_finish code FromMethod a live (Returns home v p) h = home_caught live a.home home v (frame_left p) h

@@ -209,7 +209,8 @@ module _ (meant : m.Meant) where
       (class_placed class (in_file places) number next tt tt (omega (few, arith)))
       (units_placed units marks (number + class_count class) rest_next (omega (few, arith)))
 
-pub bodies_placed : (files : List (List ℕ)) (units : List p.SourceUnit) (marks : List (List Place)) → length units ≡ length marks → (number : ℕ) (body : m.Body) →
+pub bodies_placed : (files : List (List ℕ)) (units : List p.SourceUnit) (marks : List (List Place)) → length units ≡ length marks →
+    (number : ℕ) (body : m.Body) →
     slice_get (meant_of files units marks).bodies number ≡ Some body → IsPlaced (meant_of files units marks) number body
 bodies_placed files units marks e number body here =
     let meant = meant_of files units marks in

@@ -19,7 +19,8 @@ abbrev AreNested : m.Meant → ℕ → List m.Declaration → Type 0
 AreNested meant n [] = Unit {0}
 AreNested meant n (class ∷ classes) = IsNested meant n class × AreNested meant (n + 1) classes
 
-nested_both : (meant : m.Meant) (n count : ℕ) (a b : List m.Declaration) → length a ≡ count → AreNested meant n a → AreNested meant (n + count) b →
+nested_both : (meant : m.Meant) (n count : ℕ) (a b : List m.Declaration) → length a ≡ count → AreNested meant n a →
+    AreNested meant (n + count) b →
     AreNested meant n (a ++ b)
 nested_both meant n count [] b h left right = let z : n + count ≡ n = let f : 0 ≡ count = h in omega (f, arith) in subst (λ j. AreNested meant j b) z right
 nested_both meant n zero (class ∷ a) b h left right = absurd (let f : suc (length a) ≡ 0 = h in omega (f, arith))
@@ -28,7 +29,8 @@ nested_both meant n (suc count) (class ∷ a) b h left right =
     let z : n + suc count ≡ n + 1 + count = omega arith in
     (left.0, nested_both meant (n + 1) count a b same left.1 (subst (λ j. AreNested meant j b) z right))
 
-nested_at : (meant : m.Meant) (n k : ℕ) (classes : List m.Declaration) (class : m.Declaration) → AreNested meant n classes → slice_get classes k ≡ Some class →
+nested_at : (meant : m.Meant) (n k : ℕ) (classes : List m.Declaration) (class : m.Declaration) → AreNested meant n classes →
+    slice_get classes k ≡ Some class →
     IsNested meant (k + n) class
 nested_at meant n k [] class nested e = absurd (let f : None ≡ Some class = e in cc)
 nested_at meant n zero (first ∷ classes) class nested e =

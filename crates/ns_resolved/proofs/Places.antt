@@ -9,13 +9,15 @@ use Rattle.ns_resolved.specs.Program as m
 use Rattle.ns_resolved.specs.Tables.{put_all, used_names, names_of}
 use Rattle.ns_resolved.specs.laws.Places.{name_at_place, has_put, has_stands_all}
 
-pub has_all : (before : List (List ℕ)) (name : List ℕ) (after table : List (List ℕ)) → has (put_all table (before ++ name ∷ after)) name ≡ true
+pub has_all : (before : List (List ℕ)) (name : List ℕ) (after table : List (List ℕ)) →
+    has (put_all table (before ++ name ∷ after)) name ≡ true
 has_all [] name after table = has_stands_all after (put_in table name) name (has_put table name)
 has_all (other ∷ before) name after table = has_all before name after (put_in table other)
 
 -- ---- no name stands in it twice
 
-distinct_step : (b : Bool) (table : List (List ℕ)) (name : List ℕ) → has table name ≡ b → NoRepeats table → NoRepeats (if b then table else table ++ name ∷ [])
+distinct_step : (b : Bool) (table : List (List ℕ)) (name : List ℕ) → has table name ≡ b → NoRepeats table →
+    NoRepeats (if b then table else table ++ name ∷ [])
 distinct_step true table name e d = d
 distinct_step false table name e d = IsDistinct-push nat_list_eq_equiv table name d e
 
@@ -26,7 +28,8 @@ no_repeats (name ∷ names) table d = no_repeats names (put_in table name) (dist
 -- ---- the names of a program
 
 -- each name that the code uses stands at its number
-pub names_placed : (meant : m.Meant) (before : List (List ℕ)) (name : List ℕ) (after : List (List ℕ)) → used_names meant ≡ before ++ name ∷ after →
+pub names_placed : (meant : m.Meant) (before : List (List ℕ)) (name : List ℕ) (after : List (List ℕ)) →
+    used_names meant ≡ before ++ name ∷ after →
     slice_get (names_of meant) (place_of (names_of meant) name) ≡ Some name
 names_placed meant before name after e =
     name_at_place (names_of meant) name (subst (λ names. has (put_all [] names) name ≡ true) (sym e) (has_all before name after []))

@@ -21,7 +21,8 @@ abbrev pub ArePlaced : m.Meant → ℕ → List m.Body → Type 0
 ArePlaced meant n [] = Unit {0}
 ArePlaced meant n (body ∷ bodies) = IsPlaced meant n body × ArePlaced meant (n + 1) bodies
 
-pub placed_both : (meant : m.Meant) (n count : ℕ) (a b : List m.Body) → length a ≡ count → ArePlaced meant n a → ArePlaced meant (n + count) b →
+pub placed_both : (meant : m.Meant) (n count : ℕ) (a b : List m.Body) → length a ≡ count → ArePlaced meant n a →
+    ArePlaced meant (n + count) b →
     ArePlaced meant n (a ++ b)
 placed_both meant n count [] b h left right = let z : n + count ≡ n = let f : 0 ≡ count = h in omega (f, arith) in subst (λ j. ArePlaced meant j b) z right
 placed_both meant n zero (body ∷ a) b h left right = absurd (let f : suc (length a) ≡ 0 = h in omega (f, arith))
@@ -30,7 +31,8 @@ placed_both meant n (suc count) (body ∷ a) b h left right =
     let z : n + suc count ≡ n + 1 + count = omega arith in
     (left.0, placed_both meant (n + 1) count a b same left.1 (subst (λ j. ArePlaced meant j b) z right))
 
-pub placed_at : (meant : m.Meant) (n k : ℕ) (bodies : List m.Body) (body : m.Body) → ArePlaced meant n bodies → slice_get bodies k ≡ Some body →
+pub placed_at : (meant : m.Meant) (n k : ℕ) (bodies : List m.Body) (body : m.Body) → ArePlaced meant n bodies →
+    slice_get bodies k ≡ Some body →
     IsPlaced meant (k + n) body
 placed_at meant n k [] body placed e = absurd (let f : None ≡ Some body = e in cc)
 placed_at meant n zero (first ∷ bodies) body placed e =

@@ -164,7 +164,8 @@ class_side_methods around class next (p.class_side_with others) = side_methods a
 
 -- a method, with the number of its body
 abbrev pub method_of : ℕ → Access → p.Method → m.Method
-method_of number access (p.method_with (p.pattern_with parts params) bars body) = record { selector = selector_of parts; access = access; body = number }
+method_of number access (p.method_with (p.pattern_with parts params) bars body) =
+    record { selector = selector_of parts; access = access; body = number }
 
 abbrev pub what_listed : ℕ → Access → p.What → List m.Method
 what_listed number access (p.class_member inner) = []

@@ -76,7 +76,8 @@ routine here parent kind params bars body =
 
 -- the body of a block in an expression that stands so
 abbrev pub block_body : Standing → ℕ → p.Block → m.Body
-block_body here number (p.block_with params bars body) = routine (inside here number params bars) (Some here.body) m.as_block params bars body
+block_body here number (p.block_with params bars body) =
+    routine (inside here number params bars) (Some here.body) m.as_block params bars body
 
 -- ---- the bodies of the blocks in an expression, in the order of the text
 
@@ -170,4 +171,5 @@ abbrev mutual
 
 -- the blocks of a body, whose expressions stand so, with slots and statements
 abbrev pub routine_bodies : Standing → p.Bars → p.Statements → List m.Body
-routine_bodies here bars body = bars_bodies here (here.body + 1) bars ++ statements_bodies here (here.body + 1 + length (b.bars_blocks here.scope bars)) body
+routine_bodies here bars body =
+    bars_bodies here (here.body + 1) bars ++ statements_bodies here (here.body + 1 + length (b.bars_blocks here.scope bars)) body

@@ -90,8 +90,10 @@ step_node (m.return node) = node
 
 -- what a body's expressions give, in the order of the text
 abbrev pub gathered : (m.Node → List (List ℕ)) → (m.Nodes → List (List ℕ)) → m.Does → List (List ℕ)
-gathered of_node of_nodes (m.as_method values steps) = flat_map (λ first. of_node (value_of first)) values ++ flat_map (λ step. of_node (step_node step)) steps
-gathered of_node of_nodes (m.as_block values steps) = flat_map (λ first. of_node (value_of first)) values ++ flat_map (λ step. of_node (step_node step)) steps
+gathered of_node of_nodes (m.as_method values steps) =
+    flat_map (λ first. of_node (value_of first)) values ++ flat_map (λ step. of_node (step_node step)) steps
+gathered of_node of_nodes (m.as_block values steps) =
+    flat_map (λ first. of_node (value_of first)) values ++ flat_map (λ step. of_node (step_node step)) steps
 gathered of_node of_nodes (m.as_initialiser start) =
     of_nodes start.arguments ++ (flat_map (λ first. of_node (value_of first)) start.slots ++ flat_map of_node start.expressions)
 gathered of_node of_nodes (m.as_clause head) = of_node head

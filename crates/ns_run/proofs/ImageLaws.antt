@@ -35,7 +35,8 @@ use Rattle.ns_session_files.specs.Answer.{OfSomeTexts}
 -- ---- the bytes that were loaded
 
 -- In one byte more than fits, a test of the length and a function see the same.
-pub cut_same : {X : Type 0} (n : ℕ) (xs : List ℕ) (x : X) (f : List ℕ → X) → cond (nat_lt n (length (take (n + 1) xs))) x (f (take (n + 1) xs)) ≡ cond (nat_lt n (length xs)) x (f xs)
+pub cut_same : {X : Type 0} (n : ℕ) (xs : List ℕ) (x : X) (f : List ℕ → X) →
+    cond (nat_lt n (length (take (n + 1) xs))) x (f (take (n + 1) xs)) ≡ cond (nat_lt n (length xs)) x (f xs)
 cut_same n xs x f =
     elim (cases_lt n (length xs)) [
       | inl h ↦
@@ -47,7 +48,8 @@ cut_same n xs x f =
     ]
 
 -- What is done with the bytes that were loaded is done with the file.
-pub image_cut : (work : ImageWork) (name : List ℕ) (text : Option (List ℕ)) (bytes : List ℕ) → option_map (take 134217729) text ≡ Some bytes → of_short work name bytes ≡ of_image_file work name text
+pub image_cut : (work : ImageWork) (name : List ℕ) (text : Option (List ℕ)) (bytes : List ℕ) →
+    option_map (take 134217729) text ≡ Some bytes → of_short work name bytes ≡ of_image_file work name text
 image_cut work name None bytes h = cc
 image_cut work name (Some whole) bytes h =
     let e : take 134217729 whole ≡ bytes = cc in
@@ -98,18 +100,22 @@ verify_begins cause.BadLiteral rest = refl
 verify_begins cause.NoReturn rest = refl
 
 pub unsound_plain : (file : List ℕ) (why : VerifyCause) (at : Where) → IsPlainFor file (unsound file why at)
-unsound_plain file why at = refused_plain file (verify_name why ++ place_text at) (ap begins_so (append_assoc (verify_name why) (place_text at) (10 ∷ [])) ∙ verify_begins why (place_text at ++ 10 ∷ []))
+unsound_plain file why at =
+    refused_plain file (verify_name why ++ place_text at) (ap begins_so (append_assoc (verify_name why) (place_text at) (10 ∷ [])) ∙ verify_begins why (place_text at ++ 10 ∷ []))
 
-pub run_plain_for : (file : List ℕ) (code : CodeProgram) (limits : Limits) (arguments : List (List ℕ)) → IsPlainFor file (run_report None (machine_run code limits arguments))
+pub run_plain_for : (file : List ℕ) (code : CodeProgram) (limits : Limits) (arguments : List (List ℕ)) →
+    IsPlainFor file (run_report None (machine_run code limits arguments))
 run_plain_for file code limits arguments =
     let plain = ending_plain (run_report None (machine_run code limits arguments)) (end_of (ending_of (rested code (begins_with code limits arguments)))) refl in
     record { ends = plain.ends; says = plain.says file }
 
-code_plain : (file : List ℕ) (limits : Limits) (arguments : List (List ℕ)) (code : CodeProgram) (why : Option Fault) → IsPlainFor file (of_executed file (of_code limits arguments code why))
+code_plain : (file : List ℕ) (limits : Limits) (arguments : List (List ℕ)) (code : CodeProgram) (why : Option Fault) →
+    IsPlainFor file (of_executed file (of_code limits arguments code why))
 code_plain file limits arguments code (Some why) = unsound_plain file why.cause why.at
 code_plain file limits arguments code None = run_plain_for file code limits arguments
 
-pub exec_plain : (file bytes : List ℕ) (limits : Limits) (arguments : List (List ℕ)) → IsPlainFor file (of_executed file (executed bytes limits arguments))
+pub exec_plain : (file bytes : List ℕ) (limits : Limits) (arguments : List (List ℕ)) →
+    IsPlainFor file (of_executed file (executed bytes limits arguments))
 exec_plain file bytes limits arguments =
     elim (read_image bytes) as (λ r. IsPlainFor file (of_executed file (of_read limits arguments r))) [
       | Ok code ↦ code_plain file limits arguments code (fault_of code)
@@ -137,7 +143,8 @@ short_plain work file bytes =
 -- ---- what is answered
 
 -- What holds of a report holds of the one that was made so.
-pub made_so : (made : Result Report NoMemory) (result : Result Report Stop) (P : Report → Type 0) (report : Report) → MatchResult made (λ r. result ≡ Ok r) (λ _. result ≡ Err stop.Memory) → IfOk made (λ r. r ≡ report) → P report
+pub made_so : (made : Result Report NoMemory) (result : Result Report Stop) (P : Report → Type 0) (report : Report) →
+    MatchResult made (λ r. result ≡ Ok r) (λ _. result ≡ Err stop.Memory) → IfOk made (λ r. r ≡ report) → P report
     → IfOk result P
 made_so made result P report kept is holds = stop_keeps made result P kept (each made is)
   where
@@ -153,15 +160,20 @@ pub whole_image : (bytes : List ℕ) → length bytes ≤ 134217729 → option_m
 whole_image bytes l = ap Some (take_all 134217729 bytes l)
 
 -- The text of the one name.
-pub one_text : {A : Type 0} (shown : A → List ℕ) (names : List A) (name : A) (work : ImageWork) (result : Result Report Stop) → length names ≡ 1 → name ≡ get_or names 0 name
+pub one_text : {A : Type 0} (shown : A → List ℕ) (names : List A) (name : A) (work : ImageWork) (result : Result Report Stop) →
+    length names ≡ 1 → name ≡ get_or names 0 name
     → OfSomeText (λ text. IfOk result (λ r. r ≡ of_image_file work (shown name) text)) → OfSomeTexts (map shown names) (λ texts. IfOk result (λ r. r ≡ of_image work (map shown names) texts))
 one_text shown [] name work result one e (text, h) = absurd (omega (arith, one))
-one_text shown (x ∷ []) name work result one e (text, h) = (text ∷ [], refl, subst (λ n. IfOk result (λ r. r ≡ of_image_file work (shown n) text)) e h)
+one_text shown (x ∷ []) name work result one e (text, h) =
+    (text ∷ [], refl, subst (λ n. IfOk result (λ r. r ≡ of_image_file work (shown n) text)) e h)
 one_text shown (x ∷ y ∷ ys) name work result one e (text, h) = absurd (omega (arith, one))
 
 -- What the files tell of the one name.
-pub one_told : {A : Type 0} (shown : A → List ℕ) (names : List A) (name : A) (files : List ℕ → Option (List ℕ)) (work : ImageWork) (result : Result Report Stop) → length names ≡ 1 → name ≡ get_or names 0 name
+pub one_told :
+    {A : Type 0} (shown : A → List ℕ) (names : List A) (name : A) (files : List ℕ → Option (List ℕ)) (work : ImageWork) (result : Result Report Stop) →
+    length names ≡ 1 → name ≡ get_or names 0 name
     → IfOk result (λ r. r ≡ of_image_file work (shown name) (files (shown name))) → IfOk result (λ r. r ≡ of_image work (map shown names) (map files (map shown names)))
 one_told shown [] name files work result one e h = absurd (omega (arith, one))
-one_told shown (x ∷ []) name files work result one e h = subst (λ n. IfOk result (λ r. r ≡ of_image_file work (shown n) (files (shown n)))) e h
+one_told shown (x ∷ []) name files work result one e h =
+    subst (λ n. IfOk result (λ r. r ≡ of_image_file work (shown n) (files (shown n)))) e h
 one_told shown (x ∷ y ∷ ys) name files work result one e h = absurd (omega (arith, one))

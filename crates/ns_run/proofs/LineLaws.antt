@@ -67,38 +67,44 @@ few_applications line e (words, f) = subst (λ verb. length line.names ≤ (form
 
 -- ---- what the reports of a line mean
 
-pub session_told : (line : CommandLine) (limits : Limits) (quantum : ℕ) (files : Files) (result : Result Report Stop) → line.verb ≡ Session → limits ≡ limits_of line.given → quantum ≡ quantum_of line.given
+pub session_told : (line : CommandLine) (limits : Limits) (quantum : ℕ) (files : Files) (result : Result Report Stop) →
+    line.verb ≡ Session → limits ≡ limits_of line.given → quantum ≡ quantum_of line.given
     → IfOk result (λ r. r ≡ of_session line.given.lib limits quantum line.names (map files (files_of Session line.names))) → IfOk result (λ r. r ≡ of_line line.verb line (map files (files_of line.verb line.names)))
 session_told line limits quantum files result e l q h =
     subst (λ v. IfOk result (λ r. r ≡ of_line v line (map files (files_of v line.names)))) (sym e)
     (subst (λ n. IfOk result (λ r. r ≡ of_session line.given.lib (limits_of line.given) n line.names (map files (files_of Session line.names)))) q
     (subst (λ l. IfOk result (λ r. r ≡ of_session line.given.lib l quantum line.names (map files (files_of Session line.names)))) l h))
 
-pub session_texts : (line : CommandLine) (limits : Limits) (quantum : ℕ) (result : Result Report Stop) → line.verb ≡ Session → limits ≡ limits_of line.given → quantum ≡ quantum_of line.given
+pub session_texts : (line : CommandLine) (limits : Limits) (quantum : ℕ) (result : Result Report Stop) → line.verb ≡ Session →
+    limits ≡ limits_of line.given → quantum ≡ quantum_of line.given
     → OfSomeTexts (files_of Session line.names) (λ texts. IfOk result (λ r. r ≡ of_session line.given.lib limits quantum line.names texts)) → OfSomeTexts (files_of line.verb line.names) (λ texts. IfOk result (λ r. r ≡ of_line line.verb line texts))
 session_texts line limits quantum result e l q h =
     subst (λ v. OfSomeTexts (files_of v line.names) (λ texts. IfOk result (λ r. r ≡ of_line v line texts))) (sym e)
     (subst (λ n. OfSomeTexts (files_of Session line.names) (λ texts. IfOk result (λ r. r ≡ of_session line.given.lib (limits_of line.given) n line.names texts))) q
     (subst (λ l. OfSomeTexts (files_of Session line.names) (λ texts. IfOk result (λ r. r ≡ of_session line.given.lib l quantum line.names texts))) l h))
 
-pub run_told : (line : CommandLine) (limits : Limits) (files : Files) (result : Result Report Stop) → line.verb ≡ Run → limits ≡ limits_of line.given
+pub run_told : (line : CommandLine) (limits : Limits) (files : Files) (result : Result Report Stop) → line.verb ≡ Run →
+    limits ≡ limits_of line.given
     → IfOk result (λ r. r ≡ of_files (Runs limits line.arguments None) line.names line.given.lib files) → IfOk result (λ r. r ≡ of_line line.verb line (map files (files_of line.verb line.names)))
 run_told line limits files result e l h =
     subst (λ v. IfOk result (λ r. r ≡ of_line v line (map files (files_of v line.names)))) (sym e)
     (subst (λ l. IfOk result (λ r. r ≡ of_files (Runs l line.arguments None) line.names line.given.lib files)) l h)
 
-pub exec_told : (line : CommandLine) (limits : Limits) (files : Files) (result : Result Report Stop) → line.verb ≡ Exec → limits ≡ limits_of line.given
+pub exec_told : (line : CommandLine) (limits : Limits) (files : Files) (result : Result Report Stop) → line.verb ≡ Exec →
+    limits ≡ limits_of line.given
     → IfOk result (λ r. r ≡ of_image (Executes limits line.arguments) line.names (map files line.names)) → IfOk result (λ r. r ≡ of_line line.verb line (map files (files_of line.verb line.names)))
 exec_told line limits files result e l h =
     subst (λ v. IfOk result (λ r. r ≡ of_line v line (map files (files_of v line.names)))) (sym e)
     (subst (λ l. IfOk result (λ r. r ≡ of_image (Executes l line.arguments) line.names (map files line.names))) l h)
 
-pub help_texts : (line : CommandLine) (result : Result Report Stop) → line.verb ≡ Help → IfOk result (λ r. r ≡ told HELP.now) → OfSomeTexts (files_of line.verb line.names) (λ texts. IfOk result (λ r. r ≡ of_line line.verb line texts))
+pub help_texts : (line : CommandLine) (result : Result Report Stop) → line.verb ≡ Help → IfOk result (λ r. r ≡ told HELP.now) →
+    OfSomeTexts (files_of line.verb line.names) (λ texts. IfOk result (λ r. r ≡ of_line line.verb line texts))
 help_texts line result e h =
     subst (λ v. OfSomeTexts (files_of v line.names) (λ texts. IfOk result (λ r. r ≡ of_line v line texts))) (sym e)
     (whatever_texts [] (IfOk result (λ r. r ≡ told HELP.now)) h)
 
-pub version_texts : (line : CommandLine) (result : Result Report Stop) → line.verb ≡ Version → IfOk result (λ r. r ≡ told VERSION.now) → OfSomeTexts (files_of line.verb line.names) (λ texts. IfOk result (λ r. r ≡ of_line line.verb line texts))
+pub version_texts : (line : CommandLine) (result : Result Report Stop) → line.verb ≡ Version → IfOk result (λ r. r ≡ told VERSION.now) →
+    OfSomeTexts (files_of line.verb line.names) (λ texts. IfOk result (λ r. r ≡ of_line line.verb line texts))
 version_texts line result e h =
     subst (λ v. OfSomeTexts (files_of v line.names) (λ texts. IfOk result (λ r. r ≡ of_line v line texts))) (sym e)
     (whatever_texts [] (IfOk result (λ r. r ≡ told VERSION.now)) h)

@@ -44,7 +44,8 @@ use Rattle.ns_world.specs.declared.ending.Ending.TheVariants as ending
 use Rattle.ns_session_files.specs.Answer.{OfSomeName}
 
 -- What holds of a report holds of it behind `or_stop`.
-pub stop_keeps : (made : Result Report NoMemory) (res : Result Report Stop) (P : Report → Type 0) → MatchResult made (λ r. res ≡ Ok r) (λ _. res ≡ Err stop.Memory) → IfOk made P → IfOk res P
+pub stop_keeps : (made : Result Report NoMemory) (res : Result Report Stop) (P : Report → Type 0) →
+    MatchResult made (λ r. res ≡ Ok r) (λ _. res ≡ Err stop.Memory) → IfOk made P → IfOk res P
 stop_keeps (Ok r) res P h p = subst (λ q. IfOk q P) (sym h) p
 stop_keeps (Err e) res P h p = subst (λ q. IfOk q P) (sym h) tt
 
@@ -55,7 +56,8 @@ abbrev pub missing_end : List ℕ
 missing_end = 10 ∷ 103 ∷ 110 ∷ 105 ∷ 115 ∷ []
 
 -- A line with another end is another line.
-pub other_end : (front end_of line : List ℕ) → bytes_eq (take 5 (reverse end_of ++ reverse front)) missing_end ≡ false → line ≡ front ++ end_of → bytes_eq (take 5 (reverse line)) missing_end ≡ true → ⊥
+pub other_end : (front end_of line : List ℕ) → bytes_eq (take 5 (reverse end_of ++ reverse front)) missing_end ≡ false →
+    line ≡ front ++ end_of → bytes_eq (take 5 (reverse line)) missing_end ≡ true → ⊥
 other_end front end_of line d e t =
     let f : true ≡ false = sym t ∙ ap (λ x. bytes_eq (take 5 x) missing_end) (ap reverse e ∙ reverse-append front end_of) ∙ d in cc
 
@@ -65,7 +67,8 @@ missing_ends file =
     ∙ ap (λ x. bytes_eq (take 5 x) missing_end) (reverse-append (file ++ codes ": ") (codes "Missing" ++ 10 ∷ []))
 
 -- A refusal whose line ends otherwise doesn't say that the file isn't there.
-pub not_this : (file front name : List ℕ) → bytes_eq (take 5 (reverse (name ++ 10 ∷ []) ++ reverse front)) missing_end ≡ false → (front ++ name) ++ 10 ∷ [] ≡ missing_line file → ⊥
+pub not_this : (file front name : List ℕ) → bytes_eq (take 5 (reverse (name ++ 10 ∷ []) ++ reverse front)) missing_end ≡ false →
+    (front ++ name) ++ 10 ∷ [] ≡ missing_line file → ⊥
 not_this file front name d h =
     other_end front (name ++ 10 ∷ []) ((front ++ name) ++ 10 ∷ []) d (append_assoc front name (10 ∷ []))
     (ap (λ x. bytes_eq (take 5 (reverse x)) missing_end) h ∙ missing_ends file)
@@ -131,8 +134,10 @@ ending_plain report (ending.Done value) h = record { ends = subst IsEnding (sym 
 ending_plain report (ending.Error error) h = record { ends = subst IsEnding (sym h) tt; says = λ name m. cc (sym h ∙ m.0) }
 ending_plain report (ending.Limit limit) h = record { ends = subst IsEnding (sym h) tt; says = λ name m. cc (sym h ∙ m.0) }
 
-pub sized_plain : (limits : Limits) (arguments : List (List ℕ)) (classes : Option ℕ) (meant : Meant) (kind : Option SizeKind) → IsPlain (of_sized limits arguments classes meant kind)
-sized_plain limits arguments classes meant None = ending_plain (run_report classes (meant_run meant limits arguments)) (ran meant (tables meant) granted arguments limits).ending refl
+pub sized_plain : (limits : Limits) (arguments : List (List ℕ)) (classes : Option ℕ) (meant : Meant) (kind : Option SizeKind) →
+    IsPlain (of_sized limits arguments classes meant kind)
+sized_plain limits arguments classes meant None =
+    ending_plain (run_report classes (meant_run meant limits arguments)) (ran meant (tables meant) granted arguments limits).ending refl
 sized_plain limits arguments classes meant (Some kind) = file_plain (codes "nspk") (size_name kind) (size_ends kind)
 
 pub show_plain : (units : List p.SourceUnit) → IsPlain (of_show units)
@@ -143,8 +148,11 @@ pub check_plain : (names : List (List ℕ)) (least : Option Placed) → IsPlain 
 check_plain names None = told_plain _
 check_plain names (Some fault) = text_plain (name_of names fault.place.file) fault.place (static_name fault.cause) (static_ends fault.cause)
 
-pub run_plain : (names : List (List ℕ)) (limits : Limits) (arguments : List (List ℕ)) (classes : Option ℕ) (files : List (List ℕ)) (trees : List p.SourceUnit) (places : List (List Place)) (least : Option Placed) → IsPlain (of_run names limits arguments classes files trees places least)
-run_plain names limits arguments classes files trees places None = sized_plain limits arguments classes (meant_of files trees places) (size_fault (code_of (meant_of files trees places)))
+pub run_plain :
+    (names : List (List ℕ)) (limits : Limits) (arguments : List (List ℕ)) (classes : Option ℕ) (files : List (List ℕ)) (trees : List p.SourceUnit) (places : List (List Place)) (least : Option Placed) →
+    IsPlain (of_run names limits arguments classes files trees places least)
+run_plain names limits arguments classes files trees places None =
+    sized_plain limits arguments classes (meant_of files trees places) (size_fault (code_of (meant_of files trees places)))
 run_plain names limits arguments classes files trees places (Some fault) = check_plain names (Some fault)
 
 pub built_plain : (name : List ℕ) (made : Built) → IsPlain (of_built name made)
@@ -152,12 +160,15 @@ built_plain name (image bytes) = record { ends = tt; says = λ file m. cc (m.0) 
 built_plain name (too_large kind) = file_plain (codes "nspk") (size_name kind) (size_ends kind)
 built_plain name image_too_large = file_plain (codes "nspk") (codes "TooLarge(Image)") (λ front. refl)
 
-pub build_plain : (names : List (List ℕ)) (name : List ℕ) (files : List (List ℕ)) (trees : List p.SourceUnit) (places : List (List Place)) (least : Option Placed) → IsPlain (of_build names name files trees places least)
+pub build_plain :
+    (names : List (List ℕ)) (name : List ℕ) (files : List (List ℕ)) (trees : List p.SourceUnit) (places : List (List Place)) (least : Option Placed) →
+    IsPlain (of_build names name files trees places least)
 build_plain names name files trees places None = built_plain name (built_of (meant_of files trees places))
 build_plain names name files trees places (Some fault) = check_plain names (Some fault)
 
 -- The report of units is plain.
-pub units_plain : (t : Task) (names files : List (List ℕ)) (trees : List p.SourceUnit) (places : List (List Place)) → IsPlain (of_units t names files trees places)
+pub units_plain : (t : Task) (names files : List (List ℕ)) (trees : List p.SourceUnit) (places : List (List Place)) →
+    IsPlain (of_units t names files trees places)
 units_plain Checks names files trees places = check_plain names _
 units_plain Shows names files trees places = show_plain trees
 units_plain (Builds name) names files trees places = build_plain names name files trees places _
@@ -166,7 +177,8 @@ units_plain (Runs limits arguments classes) names files trees places = run_plain
 -- ---- how a command ends
 
 -- With a status that a report may have, all is written.
-pub leaves_delivered : (r : Report) (s : Status) (o o' e e' : Option (List ℕ)) → IsEnding s → IsReported r s o o' e e' → LeavesStreams r s o o' e e'
+pub leaves_delivered : (r : Report) (s : Status) (o o' e e' : Option (List ℕ)) → IsEnding s → IsReported r s o o' e e' →
+    LeavesStreams r s o o' e e'
 leaves_delivered r Done o o' e e' i d = d
 leaves_delivered r ProgramError o o' e e' i d = d
 leaves_delivered r Refused o o' e e' i d = d
@@ -198,7 +210,8 @@ on_true true P e h = h
 on_true false P e h = absurd (cc)
 
 -- Behind one front, equal texts have equal ends.
-pub names_file : (file : List ℕ) (r : Report) (old new : Option (List ℕ)) → r.status ≡ Refused → new ≡ with_bytes r.err old → Wrote (missing_line file) old new → IsMissing file r
+pub names_file : (file : List ℕ) (r : Report) (old new : Option (List ℕ)) → r.status ≡ Refused → new ≡ with_bytes r.err old →
+    Wrote (missing_line file) old new → IsMissing file r
 names_file file r old new s d (before, o, n) =
     let line = missing_line file in
     let e : with_bytes r.err (Some before) ≡ Some (before ++ line) = ap (with_bytes r.err) (sym o) ∙ sym d ∙ n in
@@ -213,7 +226,8 @@ some_of {X = X} names P (k, s) f = some_at (slice_get names k) s
     some_at None s = absurd s
     some_at (Some name) s = f name s
 
-pub some_other : (names : List (List ℕ)) (P Q : List ℕ → Type 0) → ((name : List ℕ) → P name → Q name) → OfSomeName names P → OfSomeName names Q
+pub some_other : (names : List (List ℕ)) (P Q : List ℕ → Type 0) → ((name : List ℕ) → P name → Q name) → OfSomeName names P →
+    OfSomeName names Q
 some_other names P Q f (k, s) = (k, some_at (slice_get names k) s)
   where
     some_at : (o : Option (List ℕ)) → IsSomeAnd o P → IsSomeAnd o Q
@@ -221,6 +235,7 @@ some_other names P Q f (k, s) = (k, some_at (slice_get names k) s)
     some_at (Some name) s = f name s
 
 -- Where a refusal was written, and what was written says that a file isn't there, the refusal says so.
-pub names_missing : (reading : LineReading) (r : Report) (old new : Option (List ℕ)) → r.status ≡ Refused → new ≡ with_bytes r.err old → TellsMissing reading old new → NamesMissing reading r
+pub names_missing : (reading : LineReading) (r : Report) (old new : Option (List ℕ)) → r.status ≡ Refused → new ≡ with_bytes r.err old →
+    TellsMissing reading old new → NamesMissing reading r
 names_missing reading r old new s d t =
     some_other (files_read reading) (λ file. Wrote (missing_line file) old new) (λ file. IsMissing file r) (λ file w. names_file file r old new s d w) t

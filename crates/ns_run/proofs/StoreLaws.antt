@@ -52,13 +52,15 @@ show_keeps : (trees : List p.SourceUnit) → KeepsNone (of_show trees)
 show_keeps [] = refl
 show_keeps (unit ∷ more) = refl
 
-sized_keeps : (limits : Limits) (arguments : List (List ℕ)) (classes : Option ℕ) (meant : Meant) (kind : Option SizeKind) → KeepsNone (of_sized limits arguments classes meant kind)
+sized_keeps : (limits : Limits) (arguments : List (List ℕ)) (classes : Option ℕ) (meant : Meant) (kind : Option SizeKind) →
+    KeepsNone (of_sized limits arguments classes meant kind)
 sized_keeps limits arguments classes meant None = refl
 sized_keeps limits arguments classes meant (Some kind) = refl
 
 run_keeps : (names : List (List ℕ)) (limits : Limits) (arguments : List (List ℕ)) (classes : Option ℕ) (files : List (List ℕ)) (trees : List p.SourceUnit) (places : List (List Place)) (why : Option Placed)
     → KeepsNone (of_run names limits arguments classes files trees places why)
-run_keeps names limits arguments classes files trees places None = sized_keeps limits arguments classes (meant_of files trees places) (size_fault (code_of (meant_of files trees places)))
+run_keeps names limits arguments classes files trees places None =
+    sized_keeps limits arguments classes (meant_of files trees places) (size_fault (code_of (meant_of files trees places)))
 run_keeps names limits arguments classes files trees places (Some why) = refl
 
 -- The task isn't the one that stores an image.
@@ -68,11 +70,13 @@ IsNoBuilding Shows = Unit {0}
 IsNoBuilding (Builds name) = ⊥
 IsNoBuilding (Runs limits arguments classes) = Unit {0}
 
-units_keep : (t : Task) (names files : List (List ℕ)) (trees : List p.SourceUnit) (places : List (List Place)) → IsNoBuilding t → KeepsNone (of_units t names files trees places)
+units_keep : (t : Task) (names files : List (List ℕ)) (trees : List p.SourceUnit) (places : List (List Place)) → IsNoBuilding t →
+    KeepsNone (of_units t names files trees places)
 units_keep Checks names files trees places i = check_keeps names (least (faults trees places))
 units_keep Shows names files trees places i = show_keeps trees
 units_keep (Builds name) names files trees places i = absurd i
-units_keep (Runs limits arguments classes) names files trees places i = run_keeps names limits arguments classes files trees places (least (faults trees places))
+units_keep (Runs limits arguments classes) names files trees places i =
+    run_keeps names limits arguments classes files trees places (least (faults trees places))
 
 cause_keeps : (file : List ℕ) (why : LoadCause) → KeepsNone (of_cause file why)
 cause_keeps file cause.Missing = refl
@@ -84,11 +88,13 @@ fault_keeps : (names : List (List ℕ)) (why : LoadFault) → KeepsNone (of_faul
 fault_keeps names (fault.At why file) = cause_keeps (name_of names file) why
 fault_keeps names fault.Memory = refl
 
-loading_keeps : (t : Task) (names : List (List ℕ)) (lib : Bool) (loading : Loading) → IsNoBuilding t → KeepsNone (of_loading t names lib loading)
+loading_keeps : (t : Task) (names : List (List ℕ)) (lib : Bool) (loading : Loading) → IsNoBuilding t →
+    KeepsNone (of_loading t names lib loading)
 loading_keeps t names lib (units trees places) i = units_keep t names _ trees places i
 loading_keeps t names lib (stopped why) i = fault_keeps names why
 
-texts_keep : (t : Task) (names : List (List ℕ)) (lib : Bool) (texts : List (Option (List ℕ))) → IsNoBuilding t → KeepsNone (of_texts t names lib texts)
+texts_keep : (t : Task) (names : List (List ℕ)) (lib : Bool) (texts : List (Option (List ℕ))) → IsNoBuilding t →
+    KeepsNone (of_texts t names lib texts)
 texts_keep t names lib texts i = loading_keeps t names lib (loaded_texts texts lib) i
 
 sample_keeps : (number : Option ℕ) → KeepsNone (of_sample number)
@@ -155,7 +161,8 @@ line_keeps verb.Run line texts i = texts_keep (Runs (limits_of line.given) line.
 line_keeps verb.Build line texts i = absurd i
 line_keeps verb.Exec line texts i = image_keeps (Executes (limits_of line.given) line.arguments) line.names texts
 line_keeps verb.Listing line texts i = image_keeps Lists line.names texts
-line_keeps verb.Session line texts i = session_keeps (joint line.given.lib (limits_of line.given) (quantum_of line.given) (map asked_of line.names) texts)
+line_keeps verb.Session line texts i =
+    session_keeps (joint line.given.lib (limits_of line.given) (quantum_of line.given) (map asked_of line.names) texts)
 line_keeps verb.Sample line texts i = sample_keeps (sample_number line.names)
 line_keeps verb.Help line texts i = refl
 line_keeps verb.Version line texts i = refl
@@ -165,5 +172,6 @@ reading_keeps (says line) texts i = line_keeps line.verb line texts i
 reading_keeps (bad word) texts i = refl
 
 -- A report that some texts mean stores nothing, where its command doesn't.
-pub stores_nothing : (words : List (List ℕ)) (report : Report) → OverTexts words (λ each. report ≡ each) → StoresNothing (reading_of words) → report.stored ≡ None
+pub stores_nothing : (words : List (List ℕ)) (report : Report) → OverTexts words (λ each. report ≡ each) →
+    StoresNothing (reading_of words) → report.stored ≡ None
 stores_nothing words report (texts, count, is) i = ap (λ (r : Report). r.stored) is ∙ reading_keeps (reading_of words) texts i

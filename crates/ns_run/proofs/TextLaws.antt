@@ -37,7 +37,8 @@ names_are_files (name ∷ names) u a =
     All-cons NamesFile name names (name_is_file name (All-head IsUtf8 name names u) a.0) (names_are_files names (All-tail IsUtf8 name names u) a.1)
 
 -- A refusal of texts is what they are loaded as.
-texts_refused : (texts : List (Option (List ℕ))) (lib : Bool) (fault : LoadFault) → IsRefusal fault → IsFaultOfTexts texts lib fault → loaded_texts texts lib ≡ stopped fault
+texts_refused : (texts : List (Option (List ℕ))) (lib : Bool) (fault : LoadFault) → IsRefusal fault → IsFaultOfTexts texts lib fault →
+    loaded_texts texts lib ≡ stopped fault
 texts_refused texts lib (At Missing k) i t = t
 texts_refused texts lib (At TooLong k) i t = t
 texts_refused texts lib (At ReadFault k) i t = absurd i
@@ -45,7 +46,9 @@ texts_refused texts lib (At (Spelling wrong place) k) i t = t
 texts_refused texts lib Memory i t = absurd i
 
 -- The report of a refusal is what the texts mean.
-pub refusal_of_texts : (t : Task) (names : List (List ℕ)) (lib : Bool) (texts : List (Option (List ℕ))) (fault : LoadFault) (result : Result Report Stop) → IsFaultOfTexts texts lib fault
+pub refusal_of_texts :
+    (t : Task) (names : List (List ℕ)) (lib : Bool) (texts : List (Option (List ℕ))) (fault : LoadFault) (result : Result Report Stop) →
+    IsFaultOfTexts texts lib fault
     → IfOk result (λ r. IsRefusal fault) → IfOk result (λ r. r ≡ of_fault names fault) → IfOk result (λ r. r ≡ of_texts t names lib texts)
 refusal_of_texts t names lib texts fault (Ok r) tells i h = h ∙ ap (of_loading t names lib) (sym (texts_refused texts lib fault i tells))
 refusal_of_texts t names lib texts fault (Err e) tells i h = tt
@@ -67,12 +70,14 @@ pub whatever_texts : (names : List (List ℕ)) (P : Type 0) → P → OfSomeText
 whatever_texts names P h = let t : OfSomeTexts names (λ texts. Unit {0}) = empty_texts names in (t.0, t.1, h)
 
 -- The report of a command that was read is what its words mean.
-pub told_reading : (reading : LineReading) (words : List (List ℕ)) (files : Files) (result : Result Report Stop) → reading ≡ reading_of words → IfOk result (λ r. r ≡ of_reading reading (map files (files_read reading)))
+pub told_reading : (reading : LineReading) (words : List (List ℕ)) (files : Files) (result : Result Report Stop) →
+    reading ≡ reading_of words → IfOk result (λ r. r ≡ of_reading reading (map files (files_read reading)))
     → IfOk result (λ r. r ≡ meaning words files)
 told_reading reading words files result e h = subst (λ k. IfOk result (λ r. r ≡ of_reading k (map files (files_read k)))) e h
 
 -- What follows where a report says that a file isn't there that the command reads.
-pub missing_of_reading : (reading : LineReading) (words : List (List ℕ)) (P : Type 0) (result : Result Report Stop) → reading ≡ reading_of words → IfOk result (λ r. NamesMissing reading r → P)
+pub missing_of_reading : (reading : LineReading) (words : List (List ℕ)) (P : Type 0) (result : Result Report Stop) →
+    reading ≡ reading_of words → IfOk result (λ r. NamesMissing reading r → P)
     → IfOk result (λ r. NamesMissing (reading_of words) r → P)
 missing_of_reading reading words P result e h = subst (λ k. IfOk result (λ r. NamesMissing k r → P)) e h
 
@@ -91,5 +96,6 @@ units_of_texts t own names lib texts files trees places made result kept same na
     each (Err e) k = tt
 
 -- What follows of the meaning over any texts.
-pub over_other : (words : List (List ℕ)) (P Q : Report → Type 0) → ((report : Report) → P report → Q report) → OverTexts words P → OverTexts words Q
+pub over_other : (words : List (List ℕ)) (P Q : Report → Type 0) → ((report : Report) → P report → Q report) → OverTexts words P →
+    OverTexts words Q
 over_other words P Q f (texts, count, h) = (texts, count, f _ h)

@@ -63,7 +63,8 @@ abbrev pub of_meant : Limits → List (List ℕ) → Option ℕ → Meant → Re
 of_meant limits arguments classes meant = of_sized limits arguments classes meant (size_fault (code_of meant))
 
 -- the run of units of files of these names, of which this is the least static fault
-abbrev pub of_run : List (List ℕ) → Limits → List (List ℕ) → Option ℕ → List (List ℕ) → List p.SourceUnit → List (List Place) → Option Placed → Report
+abbrev pub of_run : List (List ℕ) → Limits → List (List ℕ) → Option ℕ → List (List ℕ) → List p.SourceUnit → List (List Place) →
+    Option Placed → Report
 of_run names limits arguments classes files trees places None = of_meant limits arguments classes (meant_of files trees places)
 of_run names limits arguments classes files trees places (Some fault) = of_check names (Some fault)
 
@@ -83,7 +84,8 @@ abbrev pub of_units : Task → List (List ℕ) → List (List ℕ) → List p.So
 of_units Checks names files trees places = of_check names (least (faults trees places))
 of_units Shows names files trees places = of_show trees
 of_units (Builds name) names files trees places = of_build names name files trees places (least (faults trees places))
-of_units (Runs limits arguments classes) names files trees places = of_run names limits arguments classes files trees places (least (faults trees places))
+of_units (Runs limits arguments classes) names files trees places =
+    of_run names limits arguments classes files trees places (least (faults trees places))
 
 -- the refusal of a file (none that is told fails to be read)
 abbrev pub of_cause : List ℕ → LoadCause → Report

@@ -16,7 +16,8 @@ with_summary (Some classes) steps output = output ++ summary classes steps
 
 -- A run writes what its program printed, and then its report line.
 abbrev pub run_report : Option ℕ → Ran → Report
-run_report classes ran = record { out = with_summary classes ran.counters.steps ran.output; err = ran.line; status = ran.status; stored = None }
+run_report classes ran =
+    record { out = with_summary classes ran.counters.steps ran.output; err = ran.line; status = ran.status; stored = None }
 
 -- A session tells of all its applications in its output, and ends with their status.
 abbrev pub told_jointly : Told → Report

@@ -71,7 +71,8 @@ concluded_begun code (First arguments) v p = refl
 concluded_begun code Second v p = refl
 concluded_begun code Hosted v p = refl
 
-delivered_begun : (code : CodeProgram) (phase : Phase) (v : Value) (frames : List Frame) (p : Progress) → Begun (delivered code phase v frames p)
+delivered_begun : (code : CodeProgram) (phase : Phase) (v : Value) (frames : List Frame) (p : Progress) →
+    Begun (delivered code phase v frames p)
 delivered_begun code phase v [] p = concluded_begun code phase v p
 delivered_begun code phase v (Running leaving a ls rest stack ∷ frames) p = refl
 delivered_begun code phase v (Looping method state site ∷ frames) p = refl
@@ -102,7 +103,8 @@ returned_begun : (code : CodeProgram) (phase : Phase) (leaving : Leaving) (a : A
 returned_begun code phase (Loud exit) a v frames p = settled_begun code phase (body_ended code exit a v p) frames
 returned_begun code phase Silent a v frames p = refl
 
-unwound_begun : (code : CodeProgram) (phase : Phase) (home : ℕ) (v : Value) (frames : List Frame) (p : Progress) → Begun (unwound code phase home v frames p)
+unwound_begun : (code : CodeProgram) (phase : Phase) (home : ℕ) (v : Value) (frames : List Frame) (p : Progress) →
+    Begun (unwound code phase home v frames p)
 unwound_begun code phase home v [] p = refl
 unwound_begun code phase home v (frame ∷ frames) p =
     either_begun (is_home home frame) _ _ (delivered_begun code phase v frames (frame_left p)) (unwound_begun code phase home v frames (frame_left p))

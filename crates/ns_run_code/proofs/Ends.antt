@@ -26,7 +26,8 @@ ended : (code : CodeProgram) (state rest : State) → moves code (run_left code 
 ended code state (Unbegun arguments p) moved e valid still begun = absurd (cc)
 ended code state (Going phase frames p) moved e valid still begun = absurd (cc)
 ended code state (Pends phase pending frames p) moved e valid still begun = absurd (cc)
-ended code state (Ended ending phase p) moved e valid still begun = record { ending = ending; phase = phase; progress = p; is = e; moved = moved }
+ended code state (Ended ending phase p) moved e valid still begun =
+    record { ending = ending; phase = phase; progress = p; is = e; moved = moved }
 ended code state (Stuck p) moved e valid still begun = absurd valid
 
 pub code_ends : (code : CodeProgram) → Known code granted → NewIsValid code granted → StartKeepsValid code granted → CodeEnds code
@@ -46,7 +47,8 @@ ended_still (Ended other phase p) ending e = refl
 ended_still (Stuck p) ending e = absurd (cc)
 
 -- What is told of a state with an end, to which moves have led, is told of where the run comes to rest.
-pub told_is : (code : CodeProgram) → ((s : State) → MovesAdd code s) → ((s : State) → StaysStill code s) → (state new : State) (count : ℕ) (ending : Ending)
+pub told_is : (code : CodeProgram) → ((s : State) → MovesAdd code s) → ((s : State) → StaysStill code s) →
+    (state new : State) (count : ℕ) (ending : Ending)
     → ComesToItsEnd code state → moves code count state ≡ new → ending_of new ≡ Some ending → told_of code new ending ≡ told_at code (rested code state)
 told_is code add stay state new count ending ends is e =
     let rest : is_still (rested code state) ≡ true = ap is_still ends.is in
@@ -55,7 +57,8 @@ told_is code add stay state new count ending ends is e =
     ap (λ o. told_of code new (end_of o)) (sym e) ∙ ap (told_at code) same
 
 -- What is told of a new machine that has run is told of the run of its code.
-pub run_is : (code : CodeProgram) → ((s : State) → MovesAdd code s) → ((s : State) → StaysStill code s) → (limits : Limits) (arguments : List (List ℕ))
+pub run_is : (code : CodeProgram) → ((s : State) → MovesAdd code s) → ((s : State) → StaysStill code s) →
+    (limits : Limits) (arguments : List (List ℕ))
     → (old new : MachineView) (ending : Ending) → ComesToItsEnd code (begins_with code limits arguments)
     → old ≡ record { code = code; grants = granted; state = new_machine code limits granted arguments } → new ≡ record old { state = new.state }
     → HasRunTo old.code (started old.code old.state) ending new.state → told_of new.code new.state ending ≡ machine_run code limits arguments

@@ -29,7 +29,8 @@ may_run program told limits begins is whole sound fits range =
       range = range;
     }
 
-pub runs_as_meant : (meant : Meant) → ((s : State) → MovesAdd (code_of meant) s) → ((s : State) → StaysStill (code_of meant) s) → CodeEnds (code_of meant)
+pub runs_as_meant : (meant : Meant) → ((s : State) → MovesAdd (code_of meant) s) → ((s : State) → StaysStill (code_of meant) s) →
+    CodeEnds (code_of meant)
     → RunsAsMeant meant → ReportedAsMeant meant → CodeRunsAsMeant meant
 runs_as_meant meant add stay ends runs reported limits arguments may =
     let code = code_of meant in

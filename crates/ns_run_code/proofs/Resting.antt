@@ -45,7 +45,8 @@ came_to_rest code power s =
         inr (omega (arith, many, same))
 
 -- moves to two states that are still lead to one
-pub one_rest : (code : CodeProgram) → ((s : State) → MovesAdd code s) → ((s : State) → StaysStill code s) → (first second : ℕ) (s one other : State)
+pub one_rest : (code : CodeProgram) → ((s : State) → MovesAdd code s) → ((s : State) → StaysStill code s) →
+    (first second : ℕ) (s one other : State)
     → moves code first s ≡ one → moves code second s ≡ other → is_still one ≡ true → is_still other ≡ true → one ≡ other
 one_rest code add stay first second s one other e f still quiet =
     let swap : first + second ≡ second + first = omega arith in

@@ -24,13 +24,15 @@ bytes_are code None bytes e = measured (nat_lt most_bytes (length (bytes_of code
     measured true e = absurd (cc)
     measured false e = cc
 
-pub holds_code : (program : Meant) (bytes : List ℕ) → read_image (bytes_of (code_of program)) ≡ Ok (code_of program) → WasBuilt program bytes
+pub holds_code : (program : Meant) (bytes : List ℕ) → read_image (bytes_of (code_of program)) ≡ Ok (code_of program) →
+    WasBuilt program bytes
     → HoldsCode program bytes
 holds_code program bytes read built =
     let is = bytes_are (code_of program) (size_fault (code_of program)) bytes built.image in
     record { is = is; read = ap read_image is ∙ read }
 
-pub runs_so : (program : Meant) (bytes : List ℕ) (limits : Limits) (arguments : List (List ℕ)) → WasBuilt program bytes → HoldsCode program bytes
+pub runs_so : (program : Meant) (bytes : List ℕ) (limits : Limits) (arguments : List (List ℕ)) → WasBuilt program bytes →
+    HoldsCode program bytes
     → machine_run (code_of program) limits arguments ≡ meant_run program limits arguments
     → executed bytes limits arguments ≡ has_run (meant_run program limits arguments)
 runs_so program bytes limits arguments built holds same =

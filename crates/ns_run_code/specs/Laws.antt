@@ -34,7 +34,8 @@ pub record ComesToItsEnd (code : CodeProgram) (state : State) : Type 0 where
 
 -- So every run of such code ends.
 abbrev pub CodeEnds : CodeProgram → Type 0
-CodeEnds code = (limits : Limits) (arguments : List (List ℕ)) → IsRunnable code limits → ComesToItsEnd code (begins_with code limits arguments)
+CodeEnds code =
+    (limits : Limits) (arguments : List (List ℕ)) → IsRunnable code limits → ComesToItsEnd code (begins_with code limits arguments)
 
 -- ---- the run of a program's code is the run that its source means
 

@@ -34,7 +34,8 @@ abbrev count_of : (code : CodeProgram) (steps : ℕ) (old new : State) → Turns
 count_of code steps old new (inl turn) = turn.count
 count_of code steps old new (inr turn) = turn.count
 
-moved : (code : CodeProgram) (steps : ℕ) (old new : State) (turns : Turns code steps old new) → moves code (count_of code steps old new turns) old ≡ new
+moved : (code : CodeProgram) (steps : ℕ) (old new : State) (turns : Turns code steps old new) →
+    moves code (count_of code steps old new turns) old ≡ new
 moved code steps old new (inl turn) = turn.is
 moved code steps old new (inr turn) = turn.is
 
@@ -43,13 +44,15 @@ swapped : (a b : ℕ) → a + b ≡ b + a
 swapped a b = omega arith
 
 -- from any state of a run so many moves lead to the last one
-comes : (code : CodeProgram) → ((s : State) → MovesAdd code s) → ((s : State) → StaysStill code s) → (start state last : State) (one all : ℕ)
+comes : (code : CodeProgram) → ((s : State) → MovesAdd code s) → ((s : State) → StaysStill code s) →
+    (start state last : State) (one all : ℕ)
     → moves code one start ≡ state → moves code all start ≡ last → is_still last ≡ true → moves code all state ≡ last
 comes code add stay start state last one all is end still =
     ap (moves code all) (sym is) ∙ (sym (add start one all) ∙ (ap (λ n. moves code n start) (swapped one all)
     ∙ (add start all one ∙ (ap (moves code one) end ∙ stay last one still))))
 
-pub leads : (application : Application) → ((s : State) → MovesAdd application.code s) → ((s : State) → StaysStill application.code s) → MovesGoOnward application.code
+pub leads : (application : Application) → ((s : State) → MovesAdd application.code s) → ((s : State) → StaysStill application.code s) →
+    MovesGoOnward application.code
     → (state last : State) → IsAlone application state → ComesToRest application last → ComesToLast state last
 leads application add stay onward state last alone rests =
     let count = count_of application.code (taken state) (start_of application) state alone in
@@ -64,7 +67,8 @@ leads application add stay onward state last alone rests =
 
 -- ---- long turns
 
-within_steps : (code : CodeProgram) (grants : Grants) (s : State) → Valid code grants s → is_still s ≡ false → used s ≤ (world_of s).limits.steps
+within_steps : (code : CodeProgram) (grants : Grants) (s : State) → Valid code grants s → is_still s ≡ false →
+    used s ≤ (world_of s).limits.steps
 within_steps code grants (Unbegun arguments p) valid e = absurd (cc)
 within_steps code grants (Ended ending phase p) valid e = absurd (cc)
 within_steps code grants (Stuck p) valid e = absurd (cc)

@@ -158,7 +158,8 @@ move_begun code (Ended ending phase p) h = tt
 move_begun code (Stuck p) h = tt
 move_begun code (Going phase [] p) h = tt
 move_begun code (Going phase (Running leaving a ls [] stack ∷ frames) p) h = tt
-move_begun code (Going phase (Running leaving a ls (step ∷ rest) stack ∷ frames) p) h = executed_begun code phase leaving a ls rest frames p step.0 step.1 stack
+move_begun code (Going phase (Running leaving a ls (step ∷ rest) stack ∷ frames) p) h =
+    executed_begun code phase leaving a ls rest frames p step.0 step.1 stack
 move_begun code (Going phase (Looping method state site ∷ frames) p) h = acted_begun code phase method site _ frames
 move_begun code (Pends phase (Sending receiver sel arguments site) frames p) h = arrived_begun code phase _ frames
 move_begun code (Pends phase (Performing receiver sel array site) frames p) h = arrived_begun code phase _ frames

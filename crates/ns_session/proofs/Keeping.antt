@@ -20,7 +20,8 @@ keeps false application state alone = alone
 abbrev started_machine : Application → MachineView
 started_machine application = record { code = application.code; grants = application.grants; state = start_of application }
 
-pub kept_start : (application : Application) (machine : MachineView) (ending : Option Ending) → MayStart application → StartsAlone application
+pub kept_start : (application : Application) (machine : MachineView) (ending : Option Ending) → MayStart application →
+    StartsAlone application
     → StartsReached application → machine ≡ started_machine application → ending ≡ ending_of machine.state
     → IsMember machine application.grants application.limits ending
 kept_start application machine ending may alone reached is ends =
@@ -35,7 +36,8 @@ kept_start application machine ending may alone reached is ends =
 
 -- ---- turns
 
-turned : (granted : Bool) (application : Application) (steps : ℕ) (old : State) (shared : Board) (new : State) (left : Board) → MayStart application
+turned : (granted : Bool) (application : Application) (steps : ℕ) (old : State) (shared : Board) (new : State) (left : Board) →
+    MayStart application
     → TurnsStayAlone application → TurnOf granted application.code steps old shared new left → KeepsAlone granted application old
     → KeepsAlone granted application new
 turned true application steps old shared new left may stay turn alone = tt

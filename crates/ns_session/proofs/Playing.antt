@@ -19,7 +19,8 @@ use Rattle.ns_session.proofs.Lists.{set_here, set_there, get_before, set_before}
 -- ---- an application that comes later
 
 -- as many applications are there after a pair
-played_length : (o : Option MemberView) (pair : Pair) (old new : SessionView) → PlaysAt o pair old new → length new.members ≡ length old.members
+played_length : (o : Option MemberView) (pair : Pair) (old new : SessionView) → PlaysAt o pair old new →
+    length new.members ≡ length old.members
 played_length None pair old new is = ap (λ (s : SessionView). length s.members) is
 played_length (Some member) pair old new turn =
     ap (λ (xs : List MemberView). length xs) turn.members ∙ length-set old.members pair.number (record member { state = turn.state })
@@ -42,7 +43,8 @@ added_plays application pair old new within plays =
     (sym (get_before old.members (starting application ∷ []) pair.number within))
     (added_at application (slice_get old.members pair.number) pair old new within plays)
 
-added_played : (application : Application) (pairs : List Pair) (old new : SessionView) → NameApplications (length old.members) pairs → Played pairs old new
+added_played : (application : Application) (pairs : List Pair) (old new : SessionView) → NameApplications (length old.members) pairs →
+    Played pairs old new
     → Played pairs (added application old) (added application new)
 added_played application [] old new within is = ap (added application) is
 added_played application (pair ∷ pairs) old new within played =
@@ -64,11 +66,13 @@ more_within count more (pair ∷ pairs) less within =
 opened_length : (applications : List Application) → length (opened applications).members ≡ length applications
 opened_length applications = length-map applications starting
 
-opened_added : (applications : List Application) (application : Application) → opened (applications ++ application ∷ []) ≡ added application (opened applications)
+opened_added : (applications : List Application) (application : Application) →
+    opened (applications ++ application ∷ []) ≡ added application (opened applications)
 opened_added applications application =
     ap (λ (xs : List MemberView). record (opened applications) { members = xs }) (map-append starting applications (application ∷ []))
 
-pub adding_plays : (application : Application) (applications : List Application) (pairs : List Pair) (session : SessionView) → IsPlayed applications pairs session
+pub adding_plays : (application : Application) (applications : List Application) (pairs : List Pair) (session : SessionView) →
+    IsPlayed applications pairs session
     → IsPlayed (applications ++ application ∷ []) pairs (added application session)
 adding_plays application applications pairs session is =
     let longer = length-append applications (application ∷ []) in
@@ -83,16 +87,19 @@ adding_plays application applications pairs session is =
 
 -- ---- one more pair
 
-then_plays : (pair : Pair) (pairs : List Pair) (first old new : SessionView) → Played pairs first old → Plays pair old new → Played (pairs ++ pair ∷ []) first new
+then_plays : (pair : Pair) (pairs : List Pair) (first old new : SessionView) → Played pairs first old → Plays pair old new →
+    Played (pairs ++ pair ∷ []) first new
 then_plays pair [] first old new is plays = (new, (subst (λ (s : SessionView). Plays pair s new) is plays, refl))
 then_plays pair (each ∷ pairs) first old new played plays =
     (played.0, (played.1.0, then_plays pair pairs played.0 old new played.1.1 plays))
 
-then_within : (count : ℕ) (pair : Pair) (pairs : List Pair) → NameApplications count pairs → pair.number < count → NameApplications count (pairs ++ pair ∷ [])
+then_within : (count : ℕ) (pair : Pair) (pairs : List Pair) → NameApplications count pairs → pair.number < count →
+    NameApplications count (pairs ++ pair ∷ [])
 then_within count pair [] within is = (is, tt)
 then_within count pair (each ∷ pairs) within is = (within.0, then_within count pair pairs within.1 is)
 
-pub turns_play : (pair : Pair) (applications : List Application) (pairs : List Pair) (old new : SessionView) → IsPlayed applications pairs old
+pub turns_play : (pair : Pair) (applications : List Application) (pairs : List Pair) (old new : SessionView) →
+    IsPlayed applications pairs old
     → pair.number < length applications → Plays pair old new → IsPlayed applications (pairs ++ pair ∷ []) new
 turns_play pair applications pairs old new is within plays = record {
   within = then_within (length applications) pair pairs is.within within;
@@ -120,7 +127,8 @@ own true code steps old board new left e turn = absurd (cc)
 own false code steps old board new left e turn = turn.turns
 
 -- a pair gives it its steps, or changes nothing of it
-one_pair : (o : Option MemberView) (pair : Pair) (number : ℕ) (old new : SessionView) (member : MemberView) → slice_get old.members pair.number ≡ o
+one_pair : (o : Option MemberView) (pair : Pair) (number : ℕ) (old new : SessionView) (member : MemberView) →
+    slice_get old.members pair.number ≡ o
     → slice_get old.members number ≡ Some member → member.application.grants.board ≡ false → Turns member.application.code 0 member.state member.state
     → PlaysAt o pair old new → HasCome member number (steps_for number pair) new
 one_pair o pair number old new member at here alone rests plays = by_number (pair.number == number) refl o at plays
@@ -173,7 +181,8 @@ all_pairs (pair ∷ pairs) number old new member add here alone rests played =
       turns = add (steps_for number pair) (given number pairs) member.state first.state others.state first.turns others.turns;
     }
 
-from_opened : (application : Application) → TurnsAdd application.code → IsAlone application (start_of application) → application.grants.board ≡ false → (steps number : ℕ)
+from_opened : (application : Application) → TurnsAdd application.code → IsAlone application (start_of application) →
+    application.grants.board ≡ false → (steps number : ℕ)
     (session : SessionView) → WasGiven application steps number session → HasCome (starting application) number steps session
 from_opened application add alone granted steps number session was =
     subst (λ n. HasCome (starting application) number n session) was.steps_are
@@ -181,7 +190,8 @@ from_opened application add alone granted steps number session was =
     (slice_get-map starting was.applications number ∙ ap (option_map starting) was.there) granted
     (stands application.code (taken (start_of application)) (start_of application) (start_of application) alone) was.played)
 
-pub agree : (application : Application) → TurnsAdd application.code → TurnsLeaveOne application.code → IsAlone application (start_of application)
+pub agree : (application : Application) → TurnsAdd application.code → TurnsLeaveOne application.code →
+    IsAlone application (start_of application)
     → application.grants.board ≡ false → (steps here there : ℕ) (one other : SessionView) → WasGiven application steps here one → WasGiven application steps there other
     → slice_get one.members here ≡ slice_get other.members there
 agree application add leaves alone granted steps here there one other was were =

@@ -53,14 +53,16 @@ pub record KnownMoves (application : Application) : Type 0 where
   pub onward : MovesGoOnward application.code
   pub swaps : SwapsKeepValid application.code application.grants
 
-swap_reaches : (application : Application) → KnownMoves application → (board : Board) (s : State) → StateIsReached application s → StateIsReached application (swapped board s)
+swap_reaches : (application : Application) → KnownMoves application → (board : Board) (s : State) → StateIsReached application s →
+    StateIsReached application (swapped board s)
 swap_reaches application k board s is = record {
   valid = k.swaps board s is.valid;
   limits_are = ap (λ w. w.limits) (world_swapped board s) ∙ is.limits_are;
   begun = begun_swapped board s is.begun;
 }
 
-moves_reach : (application : Application) → KnownMoves application → (count : ℕ) (old new : State) → moves application.code count old ≡ new → StateIsReached application old
+moves_reach : (application : Application) → KnownMoves application → (count : ℕ) (old new : State) →
+    moves application.code count old ≡ new → StateIsReached application old
     → StateIsReached application new
 moves_reach application k count old new e is = subst (StateIsReached application) e (record {
   valid = k.keeps count old is.valid;
@@ -68,12 +70,14 @@ moves_reach application k count old new e is = subst (StateIsReached application
   begun = moves_begun application.code count old is.begun;
 })
 
-turns_reach : (application : Application) → KnownMoves application → (steps : ℕ) (old new : State) → Turns application.code steps old new → StateIsReached application old
+turns_reach : (application : Application) → KnownMoves application → (steps : ℕ) (old new : State) → Turns application.code steps old new →
+    StateIsReached application old
     → StateIsReached application new
 turns_reach application k steps old new (inl turn) is = moves_reach application k turn.count old new turn.is is
 turns_reach application k steps old new (inr turn) is = moves_reach application k turn.count old new turn.is is
 
-turn_reached : (granted : Bool) (application : Application) → KnownMoves application → (steps : ℕ) (old : State) (board : Board) (new : State) (left : Board)
+turn_reached : (granted : Bool) (application : Application) → KnownMoves application →
+    (steps : ℕ) (old : State) (board : Board) (new : State) (left : Board)
     → TurnOf granted application.code steps old board new left → StateIsReached application old → StateIsReached application new
 turn_reached true application k steps old board new left turn is =
     subst (StateIsReached application) (sym turn.state)
@@ -84,7 +88,8 @@ turn_reached false application k steps old board new left turn is = turns_reach 
 pub turn_reaches : (application : Application) → KnownMoves application → TurnsReach application
 turn_reaches application k granted = turn_reached granted application k
 
-pub start_reached : (application : Application) → Valid application.code application.grants (start_of application) → StateIsReached application (start_of application)
+pub start_reached : (application : Application) → Valid application.code application.grants (start_of application) →
+    StateIsReached application (start_of application)
 start_reached application valid = record {
   valid = valid;
   limits_are = (start_unused application).limits_are;
@@ -117,7 +122,8 @@ record UsesAll (limit steps before after : ℕ) : Type 0 where
   all : steps + before ≤ after
   few : after ≤ limit
 
-uses : (application : Application) → Known application.code application.grants → KnownMoves application → (steps : ℕ) (old new : State) → Turns application.code steps old new → StateIsReached application old
+uses : (application : Application) → Known application.code application.grants → KnownMoves application → (steps : ℕ) (old new : State) →
+    Turns application.code steps old new → StateIsReached application old
     → StateIsReached application new → ending_of new ≡ None → UsesAll application.limits.steps steps (used old) (used new)
 uses application known k steps old new (inr turn) is are e =
     absurd (still_or (is_still new) turn.still (on application.code application.grants new are.valid are.begun e))
@@ -131,7 +137,8 @@ uses application known k steps old new (inl turn) is are e =
     let at = ap (λ (l : Limits). l.steps) are.limits_are in
     record { all = omega (arith, most, same, charged); few = omega (arith, few, at) }
 
-turn_uses : (granted : Bool) (application : Application) → Known application.code application.grants → KnownMoves application → (steps : ℕ) (old : State) (board : Board) (new : State) (left : Board)
+turn_uses : (granted : Bool) (application : Application) → Known application.code application.grants → KnownMoves application →
+    (steps : ℕ) (old : State) (board : Board) (new : State) (left : Board)
     → TurnOf granted application.code steps old board new left → StateIsReached application old → ending_of new ≡ None
     → UsesAll application.limits.steps steps (used old) (used new)
 turn_uses true application known k steps old board new left turn is e =
@@ -146,7 +153,8 @@ turn_uses true application known k steps old board new left turn is e =
 turn_uses false application known k steps old board new left turn is e =
     uses application known k steps old new turn.turns is (turns_reach application k steps old new turn.turns is) e
 
-lowered : (granted : Bool) (application : Application) → Known application.code application.grants → KnownMoves application → (steps : ℕ) (old : State) (board : Board) (new : State) (left : Board)
+lowered : (granted : Bool) (application : Application) → Known application.code application.grants → KnownMoves application →
+    (steps : ℕ) (old : State) (board : Board) (new : State) (left : Board)
     → TurnOf granted application.code steps old board new left → StateIsReached application old → 1 ≤ steps → (ending : Option Ending) → ending_of new ≡ ending
     → left_by ending (record { application = application; state = new }) < left_by None (record { application = application; state = old })
 lowered granted application known k steps old board new left turn is some (Some ending) e = omega arith
@@ -163,7 +171,8 @@ turn_lowers application known k granted steps old board new left turn is some go
     (sym goes) (lowered granted application known k steps old board new left turn is some (ending_of new) refl)
 
 -- and for all
-pub one_lowers : (members : List MemberView) (number : ℕ) (old new : MemberView) → slice_get members number ≡ Some old → left_for new < left_for old
+pub one_lowers : (members : List MemberView) (number : ℕ) (old new : MemberView) → slice_get members number ≡ Some old →
+    left_for new < left_for old
     → left_of (slice_set members number new) < left_of members
 one_lowers [] number old new e less = absurd (cc)
 one_lowers (member ∷ members) zero old new e less =

@@ -97,7 +97,8 @@ record Turn (quantum k : ℕ) (o : Option MemberView) (old next : SessionView) :
   same : (j : ℕ) → k < j → slice_get next.members j ≡ slice_get old.members j
   count : length next.members ≡ length old.members
 
-stays : (quantum k : ℕ) (o : Option MemberView) (old next : SessionView) → next ≡ old → turn_for o quantum k old ≡ old → AreReached old.members
+stays : (quantum k : ℕ) (o : Option MemberView) (old next : SessionView) → next ≡ old → turn_for o quantum k old ≡ old →
+    AreReached old.members
     → ((member : MemberView) → o ≡ Some member → is_some (ending_of member.state) ≡ true) → Turn quantum k o old next
 stays quantum k o old next e same reached over =
     subst (λ (s : SessionView). Turn quantum k o old s) (sym e)
@@ -112,7 +113,8 @@ session_is session members board e f =
     ap (λ (xs : List MemberView). session_of xs session.board) e ∙ ap (session_of members) f
 
 -- the application that has its turn is reached again, and the others are as they were
-reached_with : (members : List MemberView) (k : ℕ) (member : MemberView) (state : State) → AreReached members → StateIsReached member.application state
+reached_with : (members : List MemberView) (k : ℕ) (member : MemberView) (state : State) → AreReached members →
+    StateIsReached member.application state
     → AreReached (slice_set members k (record member { state = state }))
 reached_with members k member state reached is j other e = by (set_or members k j (record member { state = state }) other e)
   where
@@ -271,9 +273,11 @@ module _ (known : Known) (quantum : ℕ) (some : 1 ≤ quantum) where
 
 -- ---- applications that have started
 
-pub opened_reached : ((application : Application) → StartsReached application) → (applications : List Application) → MayAllStart applications
+pub opened_reached : ((application : Application) → StartsReached application) → (applications : List Application) →
+    MayAllStart applications
     → AreReached (opened applications).members
 opened_reached starts [] may k member e = absurd (cc)
 opened_reached starts (first ∷ more) may zero member e =
     subst (λ (m : MemberView). StateIsReached m.application m.state) (same_Some (starting first) member e) (starts first (may 0 first refl))
-opened_reached starts (first ∷ more) may (suc k) member e = opened_reached starts more (λ j application there. may (suc j) application there) k member e
+opened_reached starts (first ∷ more) may (suc k) member e =
+    opened_reached starts more (λ j application there. may (suc j) application there) k member e

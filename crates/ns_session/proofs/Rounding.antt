@@ -70,7 +70,8 @@ or_false true had e = absurd (cc)
 or_false false had e = (refl, e)
 
 -- and with that one more is found
-pub found_next : (some had : Bool) (k : ℕ) (first now next : SessionView) → Found some k first now → Gave had k now next → Found (some || had) (k + 1) first next
+pub found_next : (some had : Bool) (k : ℕ) (first now next : SessionView) → Found some k first now → Gave had k now next →
+    Found (some || had) (k + 1) first next
 found_next some had k first now next found gave = record {
   less = λ e. lower (or_true some had e) had refl;
   same = λ e. gave.same (or_false some had e).1 ∙ found.same (or_false some had e).0;

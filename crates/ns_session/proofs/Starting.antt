@@ -43,7 +43,8 @@ made_unused limits p cell go e goes = tested (nat_le (heap_size p.world.cells + 
     tested true = goes (in_world p next) (record { none = e.none; limits_are = e.limits_are })
     tested false = e
 
-all_unused : (limits : Limits) (cells : List Cell) (last : Value) (p : Progress) → IsUnused limits p → LeavesUnused limits (all_made cells last p)
+all_unused : (limits : Limits) (cells : List Cell) (last : Value) (p : Progress) → IsUnused limits p →
+    LeavesUnused limits (all_made cells last p)
 all_unused limits [] last p e = e
 all_unused limits (cell ∷ cells) last p e =
     made_unused limits p cell (all_made cells (Ref (heap_size p.world.cells))) e (λ q f. all_unused limits cells (Ref (heap_size p.world.cells)) q f)
@@ -53,7 +54,8 @@ pub record StartsUnused (limits : Limits) (s : State) : Type 0 where
   pub none : used s ≡ 0
   pub limits_are : (world_of s).limits ≡ limits
 
-started_unused : (limits : Limits) (code : CodeProgram) (after : After) → LeavesUnused limits after → StartsUnused limits (started code (unbegun after))
+started_unused : (limits : Limits) (code : CodeProgram) (after : After) → LeavesUnused limits after →
+    StartsUnused limits (started code (unbegun after))
 started_unused limits code (Gives array p) e = record { none = e.none; limits_are = e.limits_are }
 started_unused limits code (Halts ending p) e = record { none = e.none; limits_are = e.limits_are }
 
@@ -65,16 +67,19 @@ start_unused application =
 
 -- ---- it is valid, and it waits for a step or has ended
 
-pub start_valid : (application : Application) → NewIsValid application.code application.grants → StartKeepsValid application.code application.grants → MayStart application
+pub start_valid : (application : Application) → NewIsValid application.code application.grants →
+    StartKeepsValid application.code application.grants → MayStart application
     → Valid application.code application.grants (start_of application)
 start_valid application new start may =
     start (new_machine application.code application.limits application.grants []) (new application.limits [] may.sound may.fits may.range)
 
-waits : (code : CodeProgram) (after : After) → is_still (started code (unbegun after)) ≡ false → will_charge code (started code (unbegun after)) ≡ true
+waits : (code : CodeProgram) (after : After) → is_still (started code (unbegun after)) ≡ false →
+    will_charge code (started code (unbegun after)) ≡ true
 waits code (Gives array p) e = refl
 waits code (Halts ending p) e = absurd (cc)
 
-pub starts_alone : (application : Application) → Known application.code application.grants → Valid application.code application.grants (start_of application)
+pub starts_alone : (application : Application) → Known application.code application.grants →
+    Valid application.code application.grants (start_of application)
     → IsAlone application (start_of application)
 starts_alone application known valid = by_still (is_still (start_of application)) refl
   where

@@ -27,7 +27,8 @@ one_if_add true m x left steps e f = omega (arith, e, f)
 one_if_add false m x left steps e f = omega (arith, e, f)
 
 -- a move, and a turn of the steps that it leaves
-first_move : (code : CodeProgram) (steps left : ℕ) (state new : State) → one_if (charges code state) left ≡ steps → Turns code left (move code state) new
+first_move : (code : CodeProgram) (steps left : ℕ) (state new : State) → one_if (charges code state) left ≡ steps →
+    Turns code left (move code state) new
     → Turns code steps state new
 first_move code steps left state new e (inl p) =
     inl (record { count = suc p.count; is = p.is; charged = ap (one_if (charges code state)) p.charged ∙ e; next = p.next })
@@ -98,7 +99,8 @@ not_out true other e = absurd (cc)
 not_out false other e = e
 
 -- so many moves after which it is over are the turn
-turn_made : (code : CodeProgram) (count steps : ℕ) (state : State) (last : TurnUnderway) → times (moved_on code) count (at_turn steps state) ≡ last
+turn_made : (code : CodeProgram) (count steps : ℕ) (state : State) (last : TurnUnderway) →
+    times (moved_on code) count (at_turn steps state) ≡ last
     → is_over code last ≡ true → Turns code steps state last.state
 turn_made code zero steps state last is over =
     subst (λ (t : TurnUnderway). Turns code steps state t.state) is (over_turns code steps state (ap (is_over code) is ∙ over))

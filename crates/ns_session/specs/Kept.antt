@@ -10,7 +10,8 @@ use Rattle.ns_session.specs.Reached.{StateIsReached}
 
 -- what a machine and what is kept beside it show
 abbrev pub member_shown : MachineView → Grants → Limits → MemberView
-member_shown machine grants limits = record { application = record { code = machine.code; grants = grants; limits = limits }; state = machine.state }
+member_shown machine grants limits =
+    record { application = record { code = machine.code; grants = grants; limits = limits }; state = machine.state }
 
 -- The machine has these grants, it stands where turns lead, its ending is kept beside it, and without the board it stands
 -- where its run on its own does.

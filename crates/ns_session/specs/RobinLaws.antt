@@ -28,7 +28,8 @@ TurnsAreTurnedBeside application =
 
 -- Each of these applications stands where turns lead.
 abbrev pub AreReached : List MemberView → Type 0
-AreReached members = (number : ℕ) (member : MemberView) → slice_get members number ≡ Some member → StateIsReached member.application member.state
+AreReached members =
+    (number : ℕ) (member : MemberView) → slice_get members number ≡ Some member → StateIsReached member.application member.state
 
 -- The round robin of such applications leaves what the function gives.
 abbrev pub RoundRobinIsRobin : ℕ → Type 0
@@ -37,7 +38,8 @@ RoundRobinIsRobin quantum =
 
 -- Each of these applications may start.
 abbrev pub MayAllStart : List Application → Type 0
-MayAllStart applications = (number : ℕ) (application : Application) → slice_get applications number ≡ Some application → MayStart application
+MayAllStart applications =
+    (number : ℕ) (application : Application) → slice_get applications number ≡ Some application → MayStart application
 
 -- Hence so does that of applications which were admitted and have started.
 abbrev pub SessionsRun : ℕ → Type 0

@@ -22,7 +22,8 @@ RoundFrom quantum (suc more) number old new =
 -- so many rounds, one after another
 abbrev pub Rounds : ℕ → ℕ → SessionView → SessionView → Type 0
 Rounds quantum zero old new = new ≡ old
-Rounds quantum (suc count) old new = (next : SessionView) × (RoundFrom quantum (length old.members) 0 old next × Rounds quantum count next new)
+Rounds quantum (suc count) old new =
+    (next : SessionView) × (RoundFrom quantum (length old.members) 0 old next × Rounds quantum count next new)
 
 -- Every run has ended.
 abbrev pub HaveEnded : SessionView → Type 0

@@ -23,14 +23,17 @@ set_keeps [] number member state e = absurd (cc)
 set_keeps (first ∷ members) zero member state e =
     let same : first ≡ member = same_Some first member e in
     ap (λ (each : MemberView). each.application ∷ map application_in members) (sym same)
-set_keeps (first ∷ members) (suc number) member state e = ap (λ (rest : List Application). first.application ∷ rest) (set_keeps members number member state e)
+set_keeps (first ∷ members) (suc number) member state e =
+    ap (λ (rest : List Application). first.application ∷ rest) (set_keeps members number member state e)
 
-unless_keeps : (quantum number : ℕ) (member : MemberView) (session : SessionView) (ending : Option Ending) → slice_get session.members number ≡ Some member → those (turn_unless ending quantum number member session) ≡ those session
+unless_keeps : (quantum number : ℕ) (member : MemberView) (session : SessionView) (ending : Option Ending) →
+    slice_get session.members number ≡ Some member → those (turn_unless ending quantum number member session) ≡ those session
 unless_keeps quantum number member session (Some ending) e = refl
 unless_keeps quantum number member session None e =
     set_keeps session.members number member (turned_beside member.application.grants.board member.application.code quantum member.state session.board).state e
 
-for_keeps : (quantum number : ℕ) (session : SessionView) (member : Option MemberView) → slice_get session.members number ≡ member → those (turn_for member quantum number session) ≡ those session
+for_keeps : (quantum number : ℕ) (session : SessionView) (member : Option MemberView) → slice_get session.members number ≡ member →
+    those (turn_for member quantum number session) ≡ those session
 for_keeps quantum number session None e = refl
 for_keeps quantum number session (Some member) e = unless_keeps quantum number member session (ending_of member.state) e
 

@@ -31,7 +31,8 @@ admitted_both : (one other : List Source) → AreAdmitted one → AreAdmitted ot
 admitted_both [] other a b = b
 admitted_both (source ∷ one) other a b = (a.0, admitted_both one other a.1 b)
 
-all_both : (limits : Limits) (one other : List Source) (old : SessionView) → with_all limits other (with_all limits one old) ≡ with_all limits (one ++ other) old
+all_both : (limits : Limits) (one other : List Source) (old : SessionView) →
+    with_all limits other (with_all limits one old) ≡ with_all limits (one ++ other) old
 all_both limits one other old =
     let f : Source → Application = application_of limits in
     let members : (old.members ++ map starting (map f one)) ++ map starting (map f other) ≡ old.members ++ map starting (map f (one ++ other)) =
@@ -49,19 +50,23 @@ fault_first one other (fault.Unchecked names place cause) h = ap (λ m. then_mad
 fault_first one other (fault.TooLarge kind) h = ap (λ m. then_made m other) h
 fault_first one other fault.Memory h = tt
 
-fault_next : (sources : List Source) (other : Making) (why : JointFault) → IsFaultOfMaking other why → IsFaultOfMaking (behind sources other) why
+fault_next : (sources : List Source) (other : Making) (why : JointFault) → IsFaultOfMaking other why →
+    IsFaultOfMaking (behind sources other) why
 fault_next sources other fault.Unread h = tt
 fault_next sources other (fault.Unloaded names cause file) h = ap (behind sources) h
 fault_next sources other (fault.Unchecked names place cause) h = ap (behind sources) h
 fault_next sources other (fault.TooLarge kind) h = ap (behind sources) h
 fault_next sources other fault.Memory h = tt
 
-all_next : (limits : Limits) (sources : List Source) (other : Making) (old mid new : SessionView) → (mid ≡ with_all limits sources old) × AreAdmitted sources → IsWithAll limits other mid new → IsWithAll limits (behind sources other) old new
+all_next : (limits : Limits) (sources : List Source) (other : Making) (old mid new : SessionView) →
+    (mid ≡ with_all limits sources old) × AreAdmitted sources → IsWithAll limits other mid new →
+    IsWithAll limits (behind sources other) old new
 all_next limits sources (made more) old mid new (is, a) (next, b) =
     (next ∙ ap (with_all limits more) is ∙ all_both limits sources more old, admitted_both sources more a b)
 all_next limits sources (refused why) old mid new h k = absurd k
 
-then_makes : (limits : Limits) (one other : Making) (old mid new : SessionView) (result : Result (Unit {0}) JointFault) → IsWithAll limits one old mid → AddsAll limits other mid new result → AddsAll limits (then_made one other) old new result
+then_makes : (limits : Limits) (one other : Making) (old mid new : SessionView) (result : Result (Unit {0}) JointFault) →
+    IsWithAll limits one old mid → AddsAll limits other mid new result → AddsAll limits (then_made one other) old new result
 then_makes limits (made sources) other old mid new (Ok _) h k = all_next limits sources other old mid new h k
 then_makes limits (made sources) other old mid new (Err why) h k = fault_next sources other why k
 then_makes limits (refused why) other old mid new result h k = absurd h
@@ -133,7 +138,9 @@ some_back (name ∷ names) more P s = let r : OfSomeName (names ++ more) P = som
 
 -- ---- one application
 
-pub memory_texts : (grants : Grants) (names : List (List ℕ)) (making : List (Option (List ℕ)) → Making) (result : Result CodeProgram JointFault) → IsErrAnd result (λ e. e ≡ fault.Memory) → OfSomeTexts names (λ texts. IsMadeAs grants (making texts) result)
+pub memory_texts :
+    (grants : Grants) (names : List (List ℕ)) (making : List (Option (List ℕ)) → Making) (result : Result CodeProgram JointFault) →
+    IsErrAnd result (λ e. e ≡ fault.Memory) → OfSomeTexts names (λ texts. IsMadeAs grants (making texts) result)
 memory_texts grants names making (Ok code) h = absurd h
 memory_texts grants names making (Err why) h =
     let t : OfSomeTexts names (λ texts. Unit {0}) = empty names in (t.0, t.1, subst (λ e. IsFaultOfMaking (making t.0) e) (sym h) tt)
@@ -143,14 +150,17 @@ memory_texts grants names making (Err why) h =
     empty (name ∷ names) = let t : OfSomeTexts names (λ texts. Unit {0}) = empty names in (None ∷ t.0, omega (arith, t.1), tt)
 
 -- a program without static faults
-pub program_made : (names : List (List ℕ)) (grants : Grants) (program checked : Program) (result : Result CodeProgram JointFault) → checked ≡ program → fault_of program ≡ None
+pub program_made : (names : List (List ℕ)) (grants : Grants) (program checked : Program) (result : Result CodeProgram JointFault) →
+    checked ≡ program → fault_of program ≡ None
     → IsMadeAs grants (of_source (record { meant = meant checked; grants = grants })) result → IsMadeAs grants (of_least names grants program.files (map unit_of program.units) program.marks (fault_of program)) result
 program_made names grants program checked result is none h =
     subst (λ (least : Option Placed). IsMadeAs grants (of_least names grants program.files (map unit_of program.units) program.marks least) result) (sym none)
     (subst (λ (each : Program). IsMadeAs grants (of_source (record { meant = meant each; grants = grants })) result) is h)
 
 -- a program that was loaded
-pub loading_made : (own names : List (List ℕ)) (grants : Grants) (lib : Bool) (loading : Loading) (program : Program) (result : Result CodeProgram JointFault) → names ≡ own → program.files ≡ file_names names lib → loading ≡ units (map unit_of program.units) program.marks
+pub loading_made :
+    (own names : List (List ℕ)) (grants : Grants) (lib : Bool) (loading : Loading) (program : Program) (result : Result CodeProgram JointFault) →
+    names ≡ own → program.files ≡ file_names names lib → loading ≡ units (map unit_of program.units) program.marks
     → IsMadeAs grants (of_least own grants program.files (map unit_of program.units) program.marks (fault_of program)) result → IsMadeAs grants (of_loading names grants lib loading) result
 loading_made own names grants lib loading program result same files is h =
     subst (λ (l : Loading). IsMadeAs grants (of_loading names grants lib l) result) (sym is)
@@ -183,7 +193,9 @@ few_named most names e = second (nat_le (length names) most) e
     second false e = absurd (cc (e))
 
 -- An application that was made is added.
-pub one_makes : (limits : Limits) (grants given : Grants) (making : Making) (code : CodeProgram) (old new : SessionView) (result : Result (Unit {0}) JointFault) → IsCodeOf grants making code → given ≡ grants
+pub one_makes :
+    (limits : Limits) (grants given : Grants) (making : Making) (code : CodeProgram) (old new : SessionView) (result : Result (Unit {0}) JointFault) →
+    IsCodeOf grants making code → given ≡ grants
     → IfOk result (λ done. new ≡ added (record { code = code; grants = given; limits = limits }) old) → IfErr result (λ why. why ≡ fault.Memory) → AddsAll limits making old new result
 one_makes limits grants given (made []) code old new result h g a m = absurd h
 one_makes limits grants given (made (source ∷ [])) code old new (Ok done) h g a m =
@@ -191,6 +203,7 @@ one_makes limits grants given (made (source ∷ [])) code old new (Ok done) h g 
     ap (λ (c : CodeProgram). record { code = c; grants = given; limits = limits }) h.0
     ∙ ap (λ (k : Grants). record { code = code_of source.meant; grants = k; limits = limits }) (g ∙ sym h.1)
     in (a ∙ ap (λ (application : Application). added application old) is, (h.2, tt))
-one_makes limits grants given (made (source ∷ [])) code old new (Err why) h g a m = subst (λ e. IsFaultOfMaking (made (source ∷ [])) e) (sym m) tt
+one_makes limits grants given (made (source ∷ [])) code old new (Err why) h g a m =
+    subst (λ e. IsFaultOfMaking (made (source ∷ [])) e) (sym m) tt
 one_makes limits grants given (made (source ∷ next ∷ more)) code old new result h g a m = absurd h
 one_makes limits grants given (refused why) code old new result h g a m = absurd h

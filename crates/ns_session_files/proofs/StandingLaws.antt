@@ -24,7 +24,8 @@ ended_still (Pends phase pending frames progress) e = absurd (cc (e))
 ended_still (Ended ending phase progress) e = refl
 ended_still (Stuck progress) e = absurd (cc (e))
 
-pub as_meant : (limits : Limits) (source : Source) (member : MemberView) → SourceLeads source.meant → ReportedAsMeant source.meant → HasStood limits source member → run_at member ≡ run_of limits source member
+pub as_meant : (limits : Limits) (source : Source) (member : MemberView) → SourceLeads source.meant → ReportedAsMeant source.meant →
+    HasStood limits source member → run_at member ≡ run_of limits source member
 as_meant limits source member leads reported stood =
     ap (λ (application : _). told_at application.code member.state) stood.application ∙ by source.grants.board refl
   where

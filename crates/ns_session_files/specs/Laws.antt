@@ -26,4 +26,5 @@ pub record HasStood (limits : Limits) (source : Source) (member : MemberView) : 
 
 -- Its run is the one that is told of its source.
 abbrev pub AppliesAsMeant : Limits → Type 0
-AppliesAsMeant limits = (source : Source) (member : MemberView) → HasStood limits source member → run_at member ≡ run_of limits source member
+AppliesAsMeant limits =
+    (source : Source) (member : MemberView) → HasStood limits source member → run_at member ≡ run_of limits source member

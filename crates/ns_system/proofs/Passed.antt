@@ -19,6 +19,7 @@ more_passed (Some v) (Some w) None xs ys a b = absurd b
 more_passed (Some v) (Some w) (Some z) xs ys a b = b ∙ ap (λ u. u ++ ys) a ∙ append_assoc v xs ys
 
 -- a write took some bytes of the rest
-pub passed : (old mid new : Option (List ℕ)) (bytes rest : List ℕ) (i n j : ℕ) → rest ≡ drop i bytes → j ≡ i + n → Appends old mid (take i bytes) → Appends mid new (take n rest) → Appends old new (take j bytes)
+pub passed : (old mid new : Option (List ℕ)) (bytes rest : List ℕ) (i n j : ℕ) → rest ≡ drop i bytes → j ≡ i + n →
+    Appends old mid (take i bytes) → Appends mid new (take n rest) → Appends old new (take j bytes)
 passed old mid new bytes rest i n j r e a b =
     subst (Appends old new) (ap (λ ys. take i bytes ++ take n ys) r ∙ sym (take_two i n bytes) ∙ ap (λ k. take k bytes) (sym e)) (more_passed old mid new (take i bytes) (take n rest) a b)

@@ -13,7 +13,8 @@ more_taken (Some v) (Some w) None xs ys a b = absurd b
 more_taken (Some v) (Some w) (Some z) xs ys a b = a ∙ ap (λ u. xs ++ u) b ∙ sym (append_assoc xs ys z)
 
 -- what was taken is the first bytes of what there was, where as many were taken as are wanted
-pub taken_most : (old new : Option (List ℕ)) (xs : List ℕ) (most : ℕ) → Consumes old new xs → length xs ≡ most → IfSome old (λ all. xs ≡ take most all)
+pub taken_most : (old new : Option (List ℕ)) (xs : List ℕ) (most : ℕ) → Consumes old new xs → length xs ≡ most →
+    IfSome old (λ all. xs ≡ take most all)
 taken_most None new xs most a e = tt
 taken_most (Some v) None xs most a e = absurd a
 taken_most (Some v) (Some w) xs most a e = sym (ap (take most) a ∙ ap (λ k. take k (xs ++ w)) (sym e) ∙ front xs w)
@@ -23,7 +24,8 @@ taken_most (Some v) (Some w) xs most a e = sym (ap (take most) a ∙ ap (λ k. t
     front (x ∷ xs) w = ap (λ ys. x ∷ ys) (front xs w)
 
 -- or where nothing is left
-pub taken_all : (old new : Option (List ℕ)) (xs : List ℕ) (most : ℕ) → Consumes old new xs → IsAtEnd new → length xs ≤ most → IfSome old (λ all. xs ≡ take most all)
+pub taken_all : (old new : Option (List ℕ)) (xs : List ℕ) (most : ℕ) → Consumes old new xs → IsAtEnd new → length xs ≤ most →
+    IfSome old (λ all. xs ≡ take most all)
 taken_all None new xs most a e h = tt
 taken_all (Some v) None xs most a e h = absurd a
 taken_all (Some v) (Some w) xs most a e h = sym (ap (take most) (a ∙ ap (λ u. xs ++ u) e ∙ append-nil xs) ∙ whole most xs h)

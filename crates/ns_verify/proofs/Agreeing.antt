@@ -38,34 +38,40 @@ same_or_not : (P : Type 0) (a b : ℕ) → (a ≡ b → P) → (a ≢ b → P) �
 same_or_not P a b same other = elim (cases_eq a b) [ inl e ↦ same e | inr d ↦ other d ]
 
 -- what is set stays where it is the same
-set_stays : (known : List (Option ℕ)) (number at height new : ℕ) → number < length known → known_at known at ≡ Some height → (at ≡ number → new ≡ height) → known_at (slice_set known number (Some new)) at ≡ Some height
+set_stays : (known : List (Option ℕ)) (number at height new : ℕ) → number < length known → known_at known at ≡ Some height →
+    (at ≡ number → new ≡ height) → known_at (slice_set known number (Some new)) at ≡ Some height
 set_stays known number at height new within h same =
     same_or_not (known_at (slice_set known number (Some new)) at ≡ Some height) at number
     (λ e. rw e (get_or-set_same known number (Some new) None within ∙ ap Some (same e)))
     (λ d. get_or-set_other known number at (Some new) None d ∙ h)
 
 -- a height that is known stays so through an instruction
-own_stays : (pass : Pass) (number at height : ℕ) → number < length pass.known → known_at pass.known at ≡ Some height → known_at (with_own pass number) at ≡ Some height
+own_stays : (pass : Pass) (number at height : ℕ) → number < length pass.known → known_at pass.known at ≡ Some height →
+    known_at (with_own pass number) at ≡ Some height
 own_stays pass number at height within h =
     set_stays pass.known number at height (height_at pass number) within h (λ e. known_is pass number height (subst (λ n. known_at pass.known n ≡ Some height) e h))
 
-give_stays : (known : List (Option ℕ)) (to given at height : ℕ) (before : Option ℕ) → known_at known to ≡ before → known_at known at ≡ Some height → known_at (if is_none before then slice_set known to (Some given) else known) at ≡ Some height
+give_stays : (known : List (Option ℕ)) (to given at height : ℕ) (before : Option ℕ) → known_at known to ≡ before →
+    known_at known at ≡ Some height → known_at (if is_none before then slice_set known to (Some given) else known) at ≡ Some height
 give_stays known to given at height (Some have) e h = h
 give_stays known to given at height None e h =
     same_or_not (known_at (slice_set known to (Some given)) at ≡ Some height) at to
     (λ same. absurd (let none : known_at known at ≡ None = rw same e in cc))
     (λ d. get_or-set_other known to at (Some given) None d ∙ h)
 
-target_stays : (known : List (Option ℕ)) (to : Option ℕ) (given at height : ℕ) → known_at known at ≡ Some height → known_at (give_target known to given) at ≡ Some height
+target_stays : (known : List (Option ℕ)) (to : Option ℕ) (given at height : ℕ) → known_at known at ≡ Some height →
+    known_at (give_target known to given) at ≡ Some height
 target_stays known None given at height h = h
 target_stays known (Some to) given at height h = give_stays known to given at height (known_at known to) refl h
 
-pub next_stays : (pass : Pass) (number at height : ℕ) (instr : Instr) → number < length pass.known → known_at pass.known at ≡ Some height → known_at (next pass number instr).known at ≡ Some height
+pub next_stays : (pass : Pass) (number at height : ℕ) (instr : Instr) → number < length pass.known → known_at pass.known at ≡ Some height →
+    known_at (next pass number instr).known at ≡ Some height
 next_stays pass number at height instr within h =
     target_stays (with_own pass number) (target instr) (height_after instr (height_at pass number)) at height (own_stays pass number at height within h)
 
 -- after an instruction its own height is known
-pub own_known : (pass : Pass) (number : ℕ) (instr : Instr) → number < length pass.known → known_at (next pass number instr).known number ≡ Some (height_at pass number)
+pub own_known : (pass : Pass) (number : ℕ) (instr : Instr) → number < length pass.known →
+    known_at (next pass number instr).known number ≡ Some (height_at pass number)
 own_known pass number instr within =
     target_stays (with_own pass number) (target instr) (height_after instr (height_at pass number)) number (height_at pass number)
     (get_or-set_same pass.known number (Some (height_at pass number)) None within)
@@ -96,7 +102,8 @@ some_at [] i h = absurd (omega arith)
 some_at (instr ∷ instrs) zero h = (instr, refl)
 some_at (instr ∷ instrs) (suc i) h = some_at instrs i (omega arith)
 
-stays_on : (body : BodyCode) (from steps at height : ℕ) → from + steps ≤ length body.instrs → known_at (pass_before body from).known at ≡ Some height → known_at (pass_before body (from + steps)).known at ≡ Some height
+stays_on : (body : BodyCode) (from steps at height : ℕ) → from + steps ≤ length body.instrs →
+    known_at (pass_before body from).known at ≡ Some height → known_at (pass_before body (from + steps)).known at ≡ Some height
 stays_on body from zero at height within h = let here : from + 0 ≡ from = omega arith in rw here h
 stays_on body from (suc steps) at height within h =
     let on : from + suc steps ≡ suc (from + steps) = omega arith in
@@ -106,7 +113,8 @@ stays_on body from (suc steps) at height within h =
     (next_stays (pass_before body (from + steps)) (from + steps) at height there.0 inside (stays_on body from steps at height (omega arith) h))
 
 -- what is known before an instruction is known before each later one
-stays : (body : BodyCode) (from to at height : ℕ) → from ≤ to → to ≤ length body.instrs → known_at (pass_before body from).known at ≡ Some height → known_at (pass_before body to).known at ≡ Some height
+stays : (body : BodyCode) (from to at height : ℕ) → from ≤ to → to ≤ length body.instrs →
+    known_at (pass_before body from).known at ≡ Some height → known_at (pass_before body to).known at ≡ Some height
 stays body from to at height later within h =
     let on : from + (to - from) ≡ to = omega arith in
     subst (λ n. known_at (pass_before body n).known at ≡ Some height) on (stays_on body from (to - from) at height (omega arith) h)
@@ -115,20 +123,24 @@ stays body from to at height later within h =
 same_height : (known : Option ℕ) (have height : ℕ) → known ≡ Some have → differs known height ≡ false → have ≡ height
 same_height known have height e h = let told : not (have == height) ≡ false = subst (λ o. differs o height ≡ false) e h in grind (arith, nat_tests)
 
-fallen : (known falls : Option ℕ) (after : ℕ) → falls ≡ Some after → option_map_or (differs known) falls false ≡ false → unwrap_or known (unwrap_or falls 0) ≡ after
+fallen : (known falls : Option ℕ) (after : ℕ) → falls ≡ Some after → option_map_or (differs known) falls false ≡ false →
+    unwrap_or known (unwrap_or falls 0) ≡ after
 fallen None falls after e h = rw e refl
 fallen (Some have) falls after e h = let told : option_map_or (differs (Some have)) (Some after) false ≡ false = subst (λ o. option_map_or (differs (Some have)) o false ≡ false) e h in same_height (Some have) have after refl told
 
 -- what a jump gives is known after it, where it doesn't differ from what was known
-given_there : (known : List (Option ℕ)) (to height : ℕ) (before : Option ℕ) → known_at known to ≡ before → to < length known → differs before height ≡ false →
+given_there : (known : List (Option ℕ)) (to height : ℕ) (before : Option ℕ) → known_at known to ≡ before → to < length known →
+    differs before height ≡ false →
     known_at (if is_none before then slice_set known to (Some height) else known) to ≡ Some height
 given_there known to height None e within h = get_or-set_same known to (Some height) None within
 given_there known to height (Some have) e within h = e ∙ ap Some (same_height (Some have) have height refl h)
 
 -- the target of a jump has the height after it
-pub target_height : (body : BodyCode) (at : ℕ) (instr : Instr) (to : ℕ) → slice_get body.instrs at ≡ Some instr → target instr ≡ Some to → to < length body.instrs →
+pub target_height : (body : BodyCode) (at : ℕ) (instr : Instr) (to : ℕ) → slice_get body.instrs at ≡ Some instr → target instr ≡ Some to →
+    to < length body.instrs →
     jumps_apart (pass_before body at) at instr ≡ false → height_before body to ≡ height_after instr (height_before body at)
-target_height body at instr to there is_target within apart = elim (cases_order to at) [ inl same ↦ own same | inr other ↦ elim other [ inl earlier ↦ back earlier | inr later ↦ forth later ] ]
+target_height body at instr to there is_target within apart =
+    elim (cases_order to at) [ inl same ↦ own same | inr other ↦ elim other [ inl earlier ↦ back earlier | inr later ↦ forth later ] ]
   where
     told : differs (known_beside (pass_before body at) at to) (height_after instr (height_before body at)) ≡ false
     told = subst (λ o. option_map_or (λ t. differs (known_beside (pass_before body at) at t) (height_after instr (height_before body at))) o false ≡ false) is_target apart
@@ -179,7 +191,8 @@ heights_on pass number (first ∷ instrs) (suc i) instr there =
     rw on (heights_on (next pass number first) (number + 1) instrs i instr there)
 
 -- The list of a body's heights has the height before each instruction.
-pub heights_list : (body : BodyCode) (at : ℕ) (instr : Instr) → slice_get body.instrs at ≡ Some instr → slice_get (heights body) at ≡ Some (height_before body at)
+pub heights_list : (body : BodyCode) (at : ℕ) (instr : Instr) → slice_get body.instrs at ≡ Some instr →
+    slice_get (heights body) at ≡ Some (height_before body at)
 heights_list body at instr there =
     let here : 0 + at ≡ at = omega arith in
     heights_on (begin (length body.instrs)) 0 body.instrs at instr there ∙ rw here refl

@@ -12,7 +12,8 @@ use Rattle.ns_verify.specs.Places.{home_of}
 use Rattle.ns_verify.proofs.Used.{around_below}
 
 -- the kinds that are there stay
-kinds_stay : (before : List ℕ) (bodies : List BodyCode) (j d : ℕ) → j < length before → slice_index_or (home_kinds_from before bodies) j d ≡ slice_index_or before j d
+kinds_stay : (before : List ℕ) (bodies : List BodyCode) (j d : ℕ) → j < length before →
+    slice_index_or (home_kinds_from before bodies) j d ≡ slice_index_or before j d
 kinds_stay before [] j d h = refl
 kinds_stay before (body ∷ bodies) j d h =
     kinds_stay (before ++ home_kind before body ∷ []) bodies j d (omega (arith, length-append before (home_kind before body ∷ [])))
@@ -21,12 +22,14 @@ kinds_stay before (body ∷ bodies) j d h =
 -- how many kinds there are in the end
 kinds_length : (before : List ℕ) (bodies : List BodyCode) → length (home_kinds_from before bodies) ≡ length before + length bodies
 kinds_length before [] = omega arith
-kinds_length before (body ∷ bodies) = omega (arith, kinds_length (before ++ home_kind before body ∷ []) bodies, length-append before (home_kind before body ∷ []))
+kinds_length before (body ∷ bodies) =
+    omega (arith, kinds_length (before ++ home_kind before body ∷ []) bodies, length-append before (home_kind before body ∷ []))
 
 around_earlier : (number parent : ℕ) (body : BodyCode) → around number body ≡ Some parent → parent < number
 around_earlier number parent body h = (around_below (body.kind == block_kind) body.parent number parent h).2
 
-home_from : (all before : List ℕ) (body : BodyCode) (o : Option ℕ) → around (length before) body ≡ o → ((j : ℕ) → j < length before → slice_index_or all j body.kind ≡ slice_index_or before j body.kind) →
+home_from : (all before : List ℕ) (body : BodyCode) (o : Option ℕ) → around (length before) body ≡ o →
+    ((j : ℕ) → j < length before → slice_index_or all j body.kind ≡ slice_index_or before j body.kind) →
     option_map_or (λ parent. slice_index_or before parent body.kind) o body.kind ≡ option_map_or (λ parent. slice_index_or all parent body.kind) o body.kind
 home_from all before body None e same = refl
 home_from all before body (Some parent) e same = sym (same parent (around_earlier (length before) parent body e))
@@ -58,7 +61,8 @@ home_told code number body there =
     subst (λ n. slice_index_or (home_kinds code) n body.kind ≡ option_map_or (λ parent. slice_index_or (home_kinds code) parent body.kind) (around n body) body.kind) at
     (home_at [] code.bodies number body body.kind there)
 
-pub outermost_home : (code : CodeProgram) (number : ℕ) (body : BodyCode) → slice_get code.bodies number ≡ Some body → around number body ≡ None → home_of code number body ≡ body.kind
+pub outermost_home : (code : CodeProgram) (number : ℕ) (body : BodyCode) → slice_get code.bodies number ≡ Some body →
+    around number body ≡ None → home_of code number body ≡ body.kind
 outermost_home code number body there alone = home_told code number body there ∙ rw alone refl
 
 same_default : (xs : List ℕ) (i a b : ℕ) → i < length xs → slice_index_or xs i a ≡ slice_index_or xs i b
@@ -66,7 +70,8 @@ same_default [] i a b h = absurd (omega arith)
 same_default (x ∷ xs) zero a b h = refl
 same_default (x ∷ xs) (suc i) a b h = same_default xs i a b (omega arith)
 
-pub inner_home : (code : CodeProgram) (number parent : ℕ) (body holder : BodyCode) → slice_get code.bodies number ≡ Some body → around number body ≡ Some parent → slice_get code.bodies parent ≡ Some holder →
+pub inner_home : (code : CodeProgram) (number parent : ℕ) (body holder : BodyCode) → slice_get code.bodies number ≡ Some body →
+    around number body ≡ Some parent → slice_get code.bodies parent ≡ Some holder →
     home_of code number body ≡ home_of code parent holder
 inner_home code number parent body holder there inside parent_there =
     let low : parent < length (home_kinds code) = omega (arith, kinds_length [] code.bodies, slice_get_within code.bodies parent holder parent_there) in

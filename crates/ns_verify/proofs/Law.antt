@@ -60,5 +60,6 @@ module _ (code : CodeProgram) (number at : ℕ) (body : BodyCode) (instr : Instr
         ends = or_left (ends_wrongly instr (height_before body at)) _ (or_right (nat_lt body.height (height_before body at)) _ (or_right (nat_lt (height_before body at) (takes instr)) _ h));
       }
 
-pub heights_agree : (code : CodeProgram) (number at : ℕ) (body : BodyCode) (instr : Instr) → IsSound code → slice_get code.bodies number ≡ Some body → slice_get body.instrs at ≡ Some instr → HeightsAgree body at instr
+pub heights_agree : (code : CodeProgram) (number at : ℕ) (body : BodyCode) (instr : Instr) → IsSound code →
+    slice_get code.bodies number ≡ Some body → slice_get body.instrs at ≡ Some instr → HeightsAgree body at instr
 heights_agree code number at body instr sound there here = agree code number at body instr (no_cause code sound) there here

@@ -82,7 +82,8 @@ first_instr : (instrs : List Instr) → 1 ≤ length instrs → (instr : Instr) 
 first_instr [] h = absurd (omega arith)
 first_instr (instr ∷ instrs) h = (instr, refl)
 
-pub sound_head : (code : CodeProgram) (number : ℕ) (body : BodyCode) → HasNoCause code → slice_get code.bodies number ≡ Some body → has_bad_head code number body ≡ false
+pub sound_head : (code : CodeProgram) (number : ℕ) (body : BodyCode) → HasNoCause code → slice_get code.bodies number ≡ Some body →
+    has_bad_head code number body ≡ false
 sound_head code number body none there =
     let first = first_instr body.instrs (none.some_instr number body there) in
     let holds = none_holds code number body (home_of code number body) (pass_before body 0) 0 first.0 (none.instrs number 0 body first.0 there first.1) in
@@ -101,10 +102,12 @@ earlier_of true (Some parent) number holds h = earlier_told parent number holds 
 earlier_of false (Some parent) number holds h = absurd cc
 
 -- a body that isn't misplaced has an earlier parent, if it has one
-parent_earlier : (code : CodeProgram) (number : ℕ) (body : BodyCode) → is_misplaced code number body ≡ false → option_map_or (λ parent. nat_lt parent number) body.parent true ≡ true
+parent_earlier : (code : CodeProgram) (number : ℕ) (body : BodyCode) → is_misplaced code number body ≡ false →
+    option_map_or (λ parent. nat_lt parent number) body.parent true ≡ true
 parent_earlier code number body h = earlier_of (body.kind == block_kind) body.parent number (holds_block code body) h
 
-head_parent : (code : CodeProgram) (number : ℕ) (body : BodyCode) → has_bad_head code number body ≡ false → is_misplaced code number body ≡ false
+head_parent : (code : CodeProgram) (number : ℕ) (body : BodyCode) → has_bad_head code number body ≡ false →
+    is_misplaced code number body ≡ false
 head_parent code number body h =
     or_left (is_misplaced code number body) _ (or_right (not (nat_lt body.class (length code.classes))) _ h)
 

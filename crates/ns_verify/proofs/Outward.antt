@@ -47,7 +47,8 @@ unfolding walk
 walk_none table zero = refl
 walk_none table (suc steps) = walk_none table steps
 
-met : (table : List (Option ℕ)) (most steps : ℕ) (next : Option ℕ) → steps < most → slice_get (outwards table most next) steps ≡ walk table steps next
+met : (table : List (Option ℕ)) (most steps : ℕ) (next : Option ℕ) → steps < most →
+    slice_get (outwards table most next) steps ≡ walk table steps next
 unfolding walk outwards
 met table zero steps next below = absurd (omega (arith, below))
 met table (suc most) zero None below = refl
@@ -55,7 +56,8 @@ met table (suc most) zero (Some number) below = refl
 met table (suc most) (suc steps) None below = walk_none table steps
 met table (suc most) (suc steps) (Some number) below = met table most steps (around_in table number) (omega (arith, below))
 
-walk_last : (table : List (Option ℕ)) (steps : ℕ) (next : Option ℕ) → walk table (suc steps) next ≡ option_and_then (around_in table) (walk table steps next)
+walk_last : (table : List (Option ℕ)) (steps : ℕ) (next : Option ℕ) →
+    walk table (suc steps) next ≡ option_and_then (around_in table) (walk table steps next)
 unfolding walk
 walk_last table zero next = refl
 walk_last table (suc steps) next = walk_last table steps (option_and_then (around_in table) next)
@@ -83,34 +85,40 @@ walk_bodies code table is (suc steps) number =
     ∙ then_alike (around_in table) (body_around code) is (body_at code steps number)
 
 -- what is met from a class stands at its level, and from a body at its hops
-pub declarations_met : (code : CodeProgram) (table : List (Option ℕ)) (class : ℕ) (found : List ℕ) → ((n : ℕ) → around_in table n ≡ outer_of code n) →
+pub declarations_met : (code : CodeProgram) (table : List (Option ℕ)) (class : ℕ) (found : List ℕ) →
+    ((n : ℕ) → around_in table n ≡ outer_of code n) →
     found ≡ outwards table 256 (Some class) → (level : ℕ) → level < 256 → slice_get found level ≡ declaration_at code level class
 declarations_met code table class found is are level below =
     ap (λ x. slice_get x level) are ∙ met table 256 level (Some class) below ∙ walk_declarations code table is level class
 
-pub bodies_met : (code : CodeProgram) (table : List (Option ℕ)) (number : ℕ) (found : List ℕ) → ((n : ℕ) → around_in table n ≡ body_around code n) →
+pub bodies_met : (code : CodeProgram) (table : List (Option ℕ)) (number : ℕ) (found : List ℕ) →
+    ((n : ℕ) → around_in table n ≡ body_around code n) →
     found ≡ outwards table 256 (Some number) → (hops : ℕ) → hops < 256 → slice_get found hops ≡ body_at code hops number
 bodies_met code table number found is are hops below =
     ap (λ x. slice_get x hops) are ∙ met table 256 hops (Some number) below ∙ walk_bodies code table is hops number
 
 -- ---- the tables
 
-outer_mapped : (class : Option ClassCode) → option_and_then (λ (o : Option ℕ). o) (option_map (λ (class : ClassCode). class.outer) class) ≡ option_and_then (λ (class : ClassCode). class.outer) class
+outer_mapped : (class : Option ClassCode) →
+    option_and_then (λ (o : Option ℕ). o) (option_map (λ (class : ClassCode). class.outer) class) ≡ option_and_then (λ (class : ClassCode). class.outer) class
 outer_mapped None = refl
 outer_mapped (Some class) = refl
 
-pub outers_are : (code : CodeProgram) (table : List (Option ℕ)) → table ≡ map (λ (class : ClassCode). class.outer) code.classes → (number : ℕ) → around_in table number ≡ outer_of code number
+pub outers_are : (code : CodeProgram) (table : List (Option ℕ)) → table ≡ map (λ (class : ClassCode). class.outer) code.classes →
+    (number : ℕ) → around_in table number ≡ outer_of code number
 outers_are code table is number =
     ap (λ t. around_in t number) is
     ∙ ap (option_and_then (λ (o : Option ℕ). o)) (slice_get-map (λ (class : ClassCode). class.outer) code.classes number)
     ∙ outer_mapped (slice_get code.classes number)
 
-around_from : (bodies : List BodyCode) (first number : ℕ) → around_in (arounds_from first bodies) number ≡ option_and_then (around (first + number)) (slice_get bodies number)
+around_from : (bodies : List BodyCode) (first number : ℕ) →
+    around_in (arounds_from first bodies) number ≡ option_and_then (around (first + number)) (slice_get bodies number)
 around_from [] first number = refl
 around_from (body ∷ bodies) first zero = let e : first + 0 ≡ first = omega arith in rw e refl
 around_from (body ∷ bodies) first (suc number) = let e : first + suc number ≡ first + 1 + number = omega arith in rw e (around_from bodies (first + 1) number)
 
-pub arounds_are : (code : CodeProgram) (table : List (Option ℕ)) → table ≡ arounds_from 0 code.bodies → (number : ℕ) → around_in table number ≡ body_around code number
+pub arounds_are : (code : CodeProgram) (table : List (Option ℕ)) → table ≡ arounds_from 0 code.bodies → (number : ℕ) →
+    around_in table number ≡ body_around code number
 arounds_are code table is number =
     let same : 0 + number ≡ number = omega arith in
     ap (λ t. around_in t number) is ∙ around_from code.bodies 0 number ∙ ap (λ n. option_and_then (around n) (slice_get code.bodies number)) same
@@ -118,7 +126,8 @@ arounds_are code table is number =
 -- ---- places in two lists
 
 -- what stands at a place of the second list belongs to what stands there in the first
-pub zip_at : {A B : Type 0} (R : A → B → Type 0) (xs : List A) (ys : List B) (place : ℕ) (y : B) → AllZip R xs ys → slice_get ys place ≡ Some y →
+pub zip_at : {A B : Type 0} (R : A → B → Type 0) (xs : List A) (ys : List B) (place : ℕ) (y : B) → AllZip R xs ys →
+    slice_get ys place ≡ Some y →
     (x : A) × (slice_get xs place ≡ Some x) × R x y
 zip_at R [] [] place y all is = absurd (cc)
 zip_at R [] (z ∷ ys) place y all is = absurd all
@@ -126,7 +135,8 @@ zip_at R (z ∷ xs) [] place y all is = absurd all
 zip_at R (z ∷ xs) (w ∷ ys) zero y all is = (z, refl, subst (R z) (cc) all.0)
 zip_at R (z ∷ xs) (w ∷ ys) (suc place) y all is = zip_at R xs ys place y all.1 is
 
-pub zip_past : {A B : Type 0} (R : A → B → Type 0) (xs : List A) (ys : List B) (place : ℕ) → AllZip R xs ys → slice_get ys place ≡ None → slice_get xs place ≡ None
+pub zip_past : {A B : Type 0} (R : A → B → Type 0) (xs : List A) (ys : List B) (place : ℕ) → AllZip R xs ys → slice_get ys place ≡ None →
+    slice_get xs place ≡ None
 zip_past R [] [] place all is = refl
 zip_past R [] (z ∷ ys) place all is = absurd all
 zip_past R (z ∷ xs) [] place all is = absurd all

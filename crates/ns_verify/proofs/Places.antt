@@ -96,7 +96,8 @@ none_bodies code number (first ∷ bodies) h =
     (λ i body there. let on : number + suc i ≡ (number + 1) + i = omega arith in subst (λ n. body_fault code n body ≡ None) on (h (suc i) body there)))
 
 -- a body without a fault has an instruction
-some_instr : (code : CodeProgram) (number : ℕ) (body : BodyCode) (home : ℕ) (instrs : List Instr) → body_fault_in code number body home instrs ≡ None → 1 ≤ length instrs
+some_instr : (code : CodeProgram) (number : ℕ) (body : BodyCode) (home : ℕ) (instrs : List Instr) →
+    body_fault_in code number body home instrs ≡ None → 1 ≤ length instrs
 some_instr code number body home [] h = absurd cc
 some_instr code number body home (instr ∷ instrs) h = omega arith
 
@@ -125,7 +126,8 @@ all_classes : (code : CodeProgram) (classes : List ClassCode) → first_class_fa
 all_classes code [] h = absurd cc
 all_classes code (class ∷ classes) h = h
 
-first_classes : (code : CodeProgram) (classes : List ClassCode) → 1 ≤ length classes → classes_fault code 0 classes ≡ None → first_class_fault code classes ≡ None
+first_classes : (code : CodeProgram) (classes : List ClassCode) → 1 ≤ length classes → classes_fault code 0 classes ≡ None →
+    first_class_fault code classes ≡ None
 first_classes code [] some h = absurd (omega arith)
 first_classes code (class ∷ classes) some h = h
 

@@ -18,7 +18,8 @@ use Rattle.ns_verify.proofs.Order.{none_holds, not_this, nor_others, or_left, or
 use Rattle.ns_verify.proofs.Places.{no_cause}
 use Rattle.ns_verify.proofs.Used.{below, equal, equal_told, unequal, not_false, and_left, and_right, and_second, there, level_used, local_used, block_used, send_used, private_used, slot_used, head_right}
 
-start_used : (code : CodeProgram) (none : HasNoCause code) (body : BodyCode) (argc : ℕ) → body.class < length code.classes → is_bad_start code body.class argc ≡ false → IsStartOf code body argc
+start_used : (code : CodeProgram) (none : HasNoCause code) (body : BodyCode) (argc : ℕ) → body.class < length code.classes →
+    is_bad_start code body.class argc ≡ false → IsStartOf code body argc
 start_used code none body argc class h =
     let declared = there ClassCode code.classes body.class class in
     let literal = not_this (has_bad_literal code declared.0) BadLiteral _ (nor_others (has_bad_scope code body.class declared.0) BadScope _ (none.classes body.class declared.0 declared.1)) in
@@ -31,7 +32,8 @@ start_used code none body argc class h =
       equal argc (selector_arity code declared.0.super_sel.0) (and_second (is_name code declared.0.super_sel) _ told (not_false (is_name code declared.0.super_sel) named)),
     )
 
-uses : (code : CodeProgram) (none : HasNoCause code) (number at : ℕ) (body : BodyCode) → StandsRight code number body → number < length code.bodies →
+uses : (code : CodeProgram) (none : HasNoCause code) (number at : ℕ) (body : BodyCode) → StandsRight code number body →
+    number < length code.bodies →
     (instr : Instr) → has_bad_slot code number body instr ≡ false → has_bad_use code number body (home_of code number body) (pass_before body at).started instr ≡ false → has_bad_name code body instr ≡ false →
     IsUsable code number body at instr
 uses code none number at body right low (PushSym sel) slot scope name = below sel.0 (length code.names) name
@@ -48,7 +50,8 @@ uses code none number at body right low (SendPrivate level sel argc) slot scope 
 uses code none number at body right low (SendSuper sel argc) slot scope name = send_used code sel argc name
 uses code none number at body right low (InitSuper argc) slot scope name =
     (start_used code none body argc right.class name, equal body.kind initialiser_kind (or_left (not (body.kind == initialiser_kind)) _ scope), or_right (not (body.kind == initialiser_kind)) _ scope)
-uses code none number at body right low (StoreSlot k) slot scope name = (slot_used code body k right.class slot, equal body.kind initialiser_kind scope)
+uses code none number at body right low (StoreSlot k) slot scope name =
+    (slot_used code body k right.class slot, equal body.kind initialiser_kind scope)
 uses code none number at body right low Return slot scope name = unequal body.kind initialiser_kind scope
 uses code none number at body right low ReturnSelf slot scope name =
     (unequal body.kind clause_kind (or_left (body.kind == clause_kind) _ scope), unequal body.kind block_kind (or_right (body.kind == clause_kind) _ scope))
@@ -67,10 +70,12 @@ uses code none number at body right low (Jump to) slot scope name = tt
 uses code none number at body right low (JumpFalse to) slot scope name = tt
 uses code none number at body right low (JumpTrue to) slot scope name = tt
 
-pub stands_right : (code : CodeProgram) (number : ℕ) (body : BodyCode) → IsSound code → slice_get code.bodies number ≡ Some body → StandsRight code number body
+pub stands_right : (code : CodeProgram) (number : ℕ) (body : BodyCode) → IsSound code → slice_get code.bodies number ≡ Some body →
+    StandsRight code number body
 stands_right code number body sound found = head_right code number body (sound_head code number body (no_cause code sound) found)
 
-pub usable : (code : CodeProgram) (number at : ℕ) (body : BodyCode) (instr : Instr) → IsSound code → slice_get code.bodies number ≡ Some body → slice_get body.instrs at ≡ Some instr → IsUsable code number body at instr
+pub usable : (code : CodeProgram) (number at : ℕ) (body : BodyCode) (instr : Instr) → IsSound code →
+    slice_get code.bodies number ≡ Some body → slice_get body.instrs at ≡ Some instr → IsUsable code number body at instr
 usable code number at body instr sound found here =
     let none = no_cause code sound in
     let holds = none_holds code number body (home_of code number body) (pass_before body at) at instr (none.instrs number at body instr found here) in

@@ -77,7 +77,8 @@ around_below true (Some parent) number out h = told (nat_lt parent number) refl 
     told false e h = absurd cc
 
 -- the body so many bodies out is one of the code's
-body_there : (code : CodeProgram) (hops number out : ℕ) → number < length code.bodies → body_at code hops number ≡ Some out → out < length code.bodies
+body_there : (code : CodeProgram) (hops number out : ℕ) → number < length code.bodies → body_at code hops number ≡ Some out →
+    out < length code.bodies
 body_there code zero number out h e = let same : number ≡ out = cc in subst (λ n. n < length code.bodies) same h
 body_there code (suc hops) number out h e = step (body_at code hops number) e (λ mid is_mid. body_there code hops number mid h is_mid) refl
   where
@@ -101,9 +102,11 @@ outer_earlier number out class h e =
     let low : nat_lt out number ≡ true = subst (λ o. (if is_none o then is_none class.clause else option_map_or (λ outer. nat_lt outer number) o false) ≡ true) e told in
     grind (arith, nat_tests)
 
-declaration_there : (code : CodeProgram) (none : HasNoCause code) (level number out : ℕ) → number < length code.classes → declaration_at code level number ≡ Some out → out < length code.classes
+declaration_there : (code : CodeProgram) (none : HasNoCause code) (level number out : ℕ) → number < length code.classes →
+    declaration_at code level number ≡ Some out → out < length code.classes
 declaration_there code none zero number out h e = let same : number ≡ out = cc in subst (λ n. n < length code.classes) same h
-declaration_there code none (suc level) number out h e = step (declaration_at code level number) e (λ mid is_mid. declaration_there code none level number mid h is_mid) refl
+declaration_there code none (suc level) number out h e =
+    step (declaration_at code level number) e (λ mid is_mid. declaration_there code none level number mid h is_mid) refl
   where
     inner : (mid : ℕ) (found : Option ClassCode) → slice_get code.classes mid ≡ found → mid < length code.classes → option_and_then (λ (class : ClassCode). class.outer) found ≡ Some out → out < length code.classes
     inner mid None e low h = absurd cc
@@ -115,13 +118,15 @@ declaration_there code none (suc level) number out h e = step (declaration_at co
 
 -- instruction by instruction
 
-pub level_used : (code : CodeProgram) (none : HasNoCause code) (body : BodyCode) (level : ℕ) → body.class < length code.classes → is_no_level code body level ≡ false → HasLevel code body level
+pub level_used : (code : CodeProgram) (none : HasNoCause code) (body : BodyCode) (level : ℕ) → body.class < length code.classes →
+    is_no_level code body level ≡ false → HasLevel code body level
 level_used code none body level class h =
     let test : nat_lt body.class (length code.classes) ≡ true = grind (arith, nat_tests) in
     let found = some_told ℕ (declaration_at code level body.class) (and_second (nat_lt body.class (length code.classes)) (is_none (declaration_at code level body.class)) h test) in
     (found.0, found.1, declaration_there code none level body.class found.0 class found.1)
 
-pub local_used : (code : CodeProgram) (number hops index : ℕ) → number < length code.bodies → is_none (body_at code hops number) ≡ false → is_no_local code number hops index ≡ false → HasLocal code number hops index
+pub local_used : (code : CodeProgram) (number hops index : ℕ) → number < length code.bodies → is_none (body_at code hops number) ≡ false →
+    is_no_local code number hops index ≡ false → HasLocal code number hops index
 local_used code number hops index low around_there local =
     let out = some_told ℕ (body_at code hops number) around_there in
     let lacks : lacks_local code index out.0 ≡ false = subst (λ o. option_map_or (lacks_local code index) o false ≡ false) out.1 local in
@@ -138,7 +143,8 @@ pub send_used : (code : CodeProgram) (sel : Sel) (argc : ℕ) → is_bad_send co
 send_used code sel argc h =
     (below sel.0 (length code.names) (or_left (not (is_name code sel)) _ h), equal argc (selector_arity code sel.0) (or_right (not (is_name code sel)) _ h))
 
-pub private_used : (code : CodeProgram) (none : HasNoCause code) (body : BodyCode) (level : ℕ) (sel : Sel) → body.class < length code.classes → sel.0 < length code.names →
+pub private_used : (code : CodeProgram) (none : HasNoCause code) (body : BodyCode) (level : ℕ) (sel : Sel) →
+    body.class < length code.classes → sel.0 < length code.names →
     is_no_level code body level ≡ false → is_no_private code body level sel ≡ false → HasPrivate code body level sel
 private_used code none body level sel class named level_there h =
     let found = level_used code none body level class level_there in
@@ -154,7 +160,8 @@ private_used code none body level sel class named level_there h =
           (subst (λ o. option_map_or (λ (one : ClassCode). not (list_any (bytes_eq (selector_text code sel.0)) (private_selectors code (private_side body level) one))) o false ≡ false) declared.1 lacks),
     )
 
-pub slot_used : (code : CodeProgram) (body : BodyCode) (slot : ℕ) → body.class < length code.classes → is_no_slot code body.class slot ≡ false → HasSlot code body slot
+pub slot_used : (code : CodeProgram) (body : BodyCode) (slot : ℕ) → body.class < length code.classes →
+    is_no_slot code body.class slot ≡ false → HasSlot code body slot
 slot_used code body slot class h =
     let declared = there ClassCode code.classes body.class class in
     (declared.0, declared.1, below slot (length declared.0.slots) (subst (λ o. option_map_or (λ (one : ClassCode). not (nat_lt slot (length one.slots))) o false ≡ false) declared.1 h))

@@ -34,7 +34,8 @@ has_bad_height body pass number instr =
 
 -- whether a slot isn't below the slots of a class
 abbrev pub is_no_slot : CodeProgram → ℕ → ℕ → Bool
-is_no_slot code class slot = option_map_or (λ (declared : ClassCode). not (nat_lt slot (length declared.slots))) (slice_get code.classes class) false
+is_no_slot code class slot =
+    option_map_or (λ (declared : ClassCode). not (nat_lt slot (length declared.slots))) (slice_get code.classes class) false
 
 -- whether a local isn't below the locals of a body
 abbrev pub lacks_local : CodeProgram → ℕ → ℕ → Bool

@@ -27,7 +27,8 @@ HasLocal code number hops index =
 
 -- The body is a block in that one.
 abbrev pub HasBlock : CodeProgram → ℕ → ℕ → Type 0
-HasBlock code number block = (inner : BodyCode) × (slice_get code.bodies block ≡ Some inner) × (inner.kind ≡ block_kind) × (inner.parent ≡ Some number)
+HasBlock code number block =
+    (inner : BodyCode) × (slice_get code.bodies block ≡ Some inner) × (inner.kind ≡ block_kind) × (inner.parent ≡ Some number)
 
 -- The selector is a name that takes so many arguments.
 abbrev pub IsSendOf : CodeProgram → Sel → ℕ → Type 0
@@ -61,7 +62,8 @@ IsUsable code number body at (Send sel argc) = IsSendOf code sel argc
 IsUsable code number body at (SendInner sel argc) = IsSendOf code sel argc
 IsUsable code number body at (SendPrivate level sel argc) = IsSendOf code sel argc × HasPrivate code body level sel
 IsUsable code number body at (SendSuper sel argc) = IsSendOf code sel argc
-IsUsable code number body at (InitSuper argc) = IsStartOf code body argc × (body.kind ≡ initialiser_kind) × ((pass_before body at).started ≡ false)
+IsUsable code number body at (InitSuper argc) =
+    IsStartOf code body argc × (body.kind ≡ initialiser_kind) × ((pass_before body at).started ≡ false)
 IsUsable code number body at (StoreSlot slot) = HasSlot code body slot × (body.kind ≡ initialiser_kind)
 IsUsable code number body at Return = body.kind ≢ initialiser_kind
 IsUsable code number body at ReturnSelf = (body.kind ≢ clause_kind) × (body.kind ≢ block_kind)

@@ -6,6 +6,8 @@ ghost use Rattle.ns_verify.specs.Verify.{fault_of, IsSound, Told};
 
 use crate::fault::VerifyFault;
 use crate::faults::first_fault;
+use ns_base::no_memory::NoMemory;
+use ns_code::copies::TryClone;
 use ns_code::program::CodeProgram;
 use std::alloc::Global;
 use std::marker::Model;
@@ -45,6 +47,14 @@ impl Verified {
         ensures sound { IsSound result.now }
     {
         &self.code
+    }
+
+    /// The same code, in memory of its own.
+    pub fn copy(&self, alloc: Global) -> Result<Verified, NoMemory>
+        ensures { IfOk result (λ copy. copy ≡ self.now) }
+    {
+        let code = self.code.try_clone(alloc)?;
+        Ok(Verified { code })
     }
 }
 

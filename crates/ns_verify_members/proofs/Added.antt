@@ -8,13 +8,15 @@ use Rattle.ns_verify_members.specs.Numbers.{setter_number, named_numbers, slot_n
 use Rattle.ns_verify_members.proofs.Colons.{new_behind}
 
 -- one more of each of two lists
-zip_more : {A B : Type 0} (R : A → B → Type 0) (xs : List A) (ys : List B) (x : A) (y : B) → AllZip R xs ys → R x y → AllZip R (xs ++ x ∷ []) (ys ++ y ∷ [])
+zip_more : {A B : Type 0} (R : A → B → Type 0) (xs : List A) (ys : List B) (x : A) (y : B) → AllZip R xs ys → R x y →
+    AllZip R (xs ++ x ∷ []) (ys ++ y ∷ [])
 zip_more R [] [] x y all one = (one, tt)
 zip_more R [] (z ∷ ys) x y all one = absurd all
 zip_more R (z ∷ xs) [] x y all one = absurd all
 zip_more R (z ∷ xs) (w ∷ ys) x y all one = (all.0, zip_more R xs ys x y all.1 one)
 
-pub zip_step : {A B : Type 0} (R : A → B → Type 0) (xs : List A) (ys new : List B) (i : ℕ) (x : A) (y : B) → i < length xs → x ≡ get_or xs i x →
+pub zip_step : {A B : Type 0} (R : A → B → Type 0) (xs : List A) (ys new : List B) (i : ℕ) (x : A) (y : B) → i < length xs →
+    x ≡ get_or xs i x →
     AllZip R (take i xs) ys → R x y → new ≡ ys ++ y ∷ [] → AllZip R (take (i + 1) xs) new
 zip_step R xs ys new i x y within is all one is_new =
     rw (is_new, take_more xs i x within, ← is) (zip_more R (take i xs) ys x y all one)
@@ -29,7 +31,8 @@ name_next table names text i within is all =
 -- the name isn't in the table of those before it, where all differ
 pub name_new : (table names : List (List ℕ)) (text : List ℕ) (i : ℕ) → i < length names → text ≡ get_or names i text →
     table ++ drop i names ≡ names → AllPairs (λ a b. a ≢ b) names → has table text ≡ false
-name_new table names text i within is all differ = new_behind table text (drop (i + 1) names) names (name_next table names text i within is all) differ
+name_new table names text i within is all differ =
+    new_behind table text (drop (i + 1) names) names (name_next table names text i within is all) differ
 
 -- with it the table is that of the names before the next one
 pub table_step : (table new names : List (List ℕ)) (text : List ℕ) (i : ℕ) → i < length names → text ≡ get_or names i text →
@@ -38,7 +41,8 @@ table_step table new names text i within is all put =
     ap (λ x. x ++ drop (i + 1) names) put ∙ append_assoc table (text ∷ []) (drop (i + 1) names) ∙ name_next table names text i within is all
 
 -- the numbers of one more slot
-pub slots_step : (names : List (List ℕ)) (slots : List SlotCode) (items new whole : List ℕ) (i : ℕ) (slot : SlotCode) → i < length slots → (other : SlotCode) → slot ≡ get_or slots i other →
+pub slots_step : (names : List (List ℕ)) (slots : List SlotCode) (items new whole : List ℕ) (i : ℕ) (slot : SlotCode) → i < length slots →
+    (other : SlotCode) → slot ≡ get_or slots i other →
     items ++ all_slot_numbers names (drop i slots) ≡ whole → new ≡ items ++ slot_numbers names slot → new ++ all_slot_numbers names (drop (i + 1) slots) ≡ whole
 slots_step names slots items new whole i slot within other is all is_new =
     let cut : drop i slots ≡ slot ∷ drop (i + 1) slots = rw add-one (drop-cons slots i other within ∙ ap (λ x. x ∷ drop (suc i) slots) (sym is)) in

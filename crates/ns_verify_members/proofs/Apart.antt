@@ -37,7 +37,8 @@ apart_from [] d = refl
 apart_from (n ∷ ns) d = rw (none_like n ns d.0) (apart_from ns d.1)
 
 flips : (x y : ℕ) → nat_eq x y ≡ nat_eq y x
-flips x y = same_from_decides (nat_eq x y) (nat_eq y x) (Decides-eqb x y) (λ e. sym ((Decides-eqb y x).0 e), λ e. (Decides-eqb y x).1 (sym e))
+flips x y =
+    same_from_decides (nat_eq x y) (nat_eq y x) (Decides-eqb x y) (λ e. sym ((Decides-eqb y x).0 e), λ e. (Decides-eqb y x).1 (sym e))
 
 -- the order of numbers doesn't matter
 pub apart_permuted : (xs ys : List ℕ) → IsPermutation xs ys → are_apart ys ≡ are_apart xs

@@ -27,7 +27,8 @@ setter_is names setters number o is at =
     setter_from names number o (slice_get names number) refl
     (sym (slice_get-map (with_colon names) names number) ∙ (ap (λ all. slice_get all number) (sym is) ∙ at))
 
-within_step : {X : Type 0} (p : X → Bool) (xs : List X) (b rest : Bool) → rest ≡ list_any p xs → (list_any p xs ≡ true → position_or_len p xs < length xs) →
+within_step : {X : Type 0} (p : X → Bool) (xs : List X) (b rest : Bool) → rest ≡ list_any p xs →
+    (list_any p xs ≡ true → position_or_len p xs < length xs) →
     (b || list_any p xs) ≡ true → cond (not b) (1 + position_or_len p xs) 0 < suc (length xs)
 within_step p xs true rest is far e = omega arith
 within_step p xs false rest is far e = let near = far e in omega (arith, near)
@@ -48,7 +49,8 @@ none_by p xs true is e =
 pub none_at_no_place : {X : Type 0} (p : X → Bool) (xs : List X) → position p xs ≡ None → list_any p xs ≡ false
 none_at_no_place p xs e = none_by p xs (list_any p xs) refl e
 
-unlike_one : (one text : List ℕ) (seen rest : List (List ℕ)) → AllByRecursion (λ y. bytes_eq one y ≡ false) (seen ++ text ∷ rest) → bytes_eq one text ≡ false
+unlike_one : (one text : List ℕ) (seen rest : List (List ℕ)) → AllByRecursion (λ y. bytes_eq one y ≡ false) (seen ++ text ∷ rest) →
+    bytes_eq one text ≡ false
 unlike_one one text [] rest all = all.0
 unlike_one one text (other ∷ seen) rest all = unlike_one one text seen rest all.1
 

@@ -16,7 +16,8 @@ are_new seen (text ∷ texts) = not (has seen text) && are_new (put_in seen text
 abbrev none_seen : List (List ℕ) → List (List ℕ) → Bool
 none_seen seen texts = list_all (λ text. not (has seen text)) texts
 
-one_apart : (seen alike rest after : Bool) → (not (seen || (alike || false)) && (rest && not after)) ≡ ((not seen && rest) && not (alike || after))
+one_apart : (seen alike rest after : Bool) →
+    (not (seen || (alike || false)) && (rest && not after)) ≡ ((not seen && rest) && not (alike || after))
 one_apart true alike rest after = refl
 one_apart false true true after = refl
 one_apart false true false after = refl

@@ -45,7 +45,8 @@ not_below a b true is le = absurd (let lt = ltb-true a b is in omega (arith, lt,
 -- ---- the text of a number
 
 name_text_is : (names : List (List ℕ)) (number : ℕ) → number < length names → member_text names number ≡ get_or names number []
-name_text_is names number lt = ap (λ b. if b then get_or names number [] else get_or names (number - length names) [] ++ 58 ∷ []) (lt-ltb number (length names) lt)
+name_text_is names number lt =
+    ap (λ b. if b then get_or names number [] else get_or names (number - length names) [] ++ 58 ∷ []) (lt-ltb number (length names) lt)
 
 behind_text_is : (names : List (List ℕ)) (slot : ℕ) → member_text names (length names + slot) ≡ get_or names slot [] ++ 58 ∷ []
 behind_text_is names slot =
@@ -74,7 +75,8 @@ setter_member names slot lt = place_member names slot (with_colon names (get_or 
 
 -- ---- lists of numbers
 
-members_append : (names : List (List ℕ)) (xs ys : List ℕ) → AllByRecursion (IsMember names) xs → AllByRecursion (IsMember names) ys → AllByRecursion (IsMember names) (xs ++ ys)
+members_append : (names : List (List ℕ)) (xs ys : List ℕ) → AllByRecursion (IsMember names) xs → AllByRecursion (IsMember names) ys →
+    AllByRecursion (IsMember names) (xs ++ ys)
 members_append names [] ys hx hy = hy
 members_append names (x ∷ xs) ys hx hy = (hx.0, members_append names xs ys hx.1 hy)
 
@@ -104,7 +106,8 @@ slot_members names number mutable false is = tt
 slot_members names number true true is = let lt = ltb-true number (length names) is in (inl lt, (setter_member names number lt, tt))
 slot_members names number false true is = (inl (ltb-true number (length names) is), tt)
 
-slots_are : (code : CodeProgram) (slots : List SlotCode) → all_slot_selectors code slots ≡ map (member_text code.names) (all_slot_numbers code.names slots)
+slots_are : (code : CodeProgram) (slots : List SlotCode) →
+    all_slot_selectors code slots ≡ map (member_text code.names) (all_slot_numbers code.names slots)
 slots_are code [] = refl
 slots_are code (slot ∷ slots) =
     let first = slot_is code.names slot.name.0 slot.mutable (nat_lt slot.name.0 (length code.names)) refl in
@@ -137,7 +140,8 @@ names_are code [] = refl
 names_are code (number ∷ numbers) =
     name_is code number (there code.names numbers) (texts_of code numbers) (nat_lt number (length code.names)) refl (names_are code numbers)
 
-name_member : (names : List (List ℕ)) (number : ℕ) (rest : List ℕ) (b : Bool) → nat_lt number (length names) ≡ b → AllByRecursion (IsMember names) rest →
+name_member : (names : List (List ℕ)) (number : ℕ) (rest : List ℕ) (b : Bool) → nat_lt number (length names) ≡ b →
+    AllByRecursion (IsMember names) rest →
     AllByRecursion (IsMember names) (if b then number ∷ rest else rest)
 name_member names number rest true is all = (inl (ltb-true number (length names) is), all)
 name_member names number rest false is all = all
@@ -180,7 +184,8 @@ last_cut [] (y ∷ ys) e = absurd (let n : 1 ≡ length ys + 2 = ap length e ∙
 last_cut (x ∷ xs) [] e = absurd (let n : 1 ≡ length xs + 2 = ap length (sym e) ∙ one_longer xs x in omega (arith, n))
 last_cut (x ∷ xs) (y ∷ ys) e = let head : x ≡ y = cc in let tail : xs ++ 58 ∷ [] ≡ ys ++ 58 ∷ [] = cc in let rest = last_cut xs ys tail in cc
 
-same_place : (names : List (List ℕ)) (a b : ℕ) → NoRepeats names → a < length names → b < length names → get_or names a [] ≡ get_or names b [] → a ≡ b
+same_place : (names : List (List ℕ)) (a b : ℕ) → NoRepeats names → a < length names → b < length names →
+    get_or names a [] ≡ get_or names b [] → a ≡ b
 same_place names a b apart la lb e = by (cases_lt a b) (cases_lt b a)
   where
     unlike : (i j : ℕ) → i < j → j < length names → get_or names i [] ≡ get_or names j [] → ⊥
@@ -194,12 +199,14 @@ same_place names a b apart la lb e = by (cases_lt a b) (cases_lt b a)
     by (inr le) (inl lt) = absurd (unlike b a lt la (sym e))
     by (inr le) (inr ge) = omega (arith, le, ge)
 
-named : (names : List (List ℕ)) (place : ℕ) (text : List ℕ) → place < length names → text ≡ get_or names place [] → has names text ≡ false → ⊥
+named : (names : List (List ℕ)) (place : ℕ) (text : List ℕ) → place < length names → text ≡ get_or names place [] → has names text ≡ false →
+    ⊥
 named names place text lt same absent =
     let yes = list_any_at (bytes_eq text) names place [] lt ((bytes_eq-Decides text (get_or names place [])).1 same) in
     absurd (cc)
 
-same_number : (names : List (List ℕ)) (a b : ℕ) → NoRepeats names → IsMember names a → IsMember names b → member_text names a ≡ member_text names b → a ≡ b
+same_number : (names : List (List ℕ)) (a b : ℕ) → NoRepeats names → IsMember names a → IsMember names b →
+    member_text names a ≡ member_text names b → a ≡ b
 same_number names a b apart (inl la) (inl lb) e =
     same_place names a b apart la lb (sym (name_text_is names a la) ∙ (e ∙ name_text_is names b lb))
 same_number names a b apart (inl la) (inr (slot, is, lt, absent)) e =
@@ -224,7 +231,8 @@ any_same names a [] apart ha hs = refl
 any_same names a (k ∷ ks) apart ha hs =
     rw (same_answer names a k apart ha hs.0, any_same names a ks apart ha hs.1) refl
 
-different_apart : (names : List (List ℕ)) (ks : List ℕ) → NoRepeats names → AllByRecursion (IsMember names) ks → are_different (map (member_text names) ks) ≡ are_apart ks
+different_apart : (names : List (List ℕ)) (ks : List ℕ) → NoRepeats names → AllByRecursion (IsMember names) ks →
+    are_different (map (member_text names) ks) ≡ are_apart ks
 different_apart names [] apart hs = refl
 different_apart names (k ∷ ks) apart hs = rw (any_same names k ks apart hs.0 hs.1, different_apart names ks apart hs.1) refl
 
@@ -246,7 +254,8 @@ different_sides code class apart =
 text_is : (code : CodeProgram) (number : ℕ) → number < length code.names → selector_text code number ≡ member_text code.names number
 text_is code number lt = rw (lt-ltb number (length code.names) lt) refl
 
-any_of : (code : CodeProgram) (name : ℕ) (numbers sorted : List ℕ) (texts : List (List ℕ)) → NoRepeats code.names → name < length code.names →
+any_of : (code : CodeProgram) (name : ℕ) (numbers sorted : List ℕ) (texts : List (List ℕ)) → NoRepeats code.names →
+    name < length code.names →
     IsPermutation numbers sorted → AllByRecursion (IsMember code.names) numbers → texts ≡ map (member_text code.names) numbers →
     list_any (nat_eq name) sorted ≡ list_any (bytes_eq (selector_text code name)) texts
 any_of code name numbers sorted texts apart lt p all is =
@@ -254,7 +263,8 @@ any_of code name numbers sorted texts apart lt p all is =
     ∙ (sym (any_same code.names name numbers apart (inl lt) all)
     ∙ rw (is, text_is code name lt) refl)
 
-private_on : (code : CodeProgram) (class : ClassCode) (name : ℕ) (privates : Privates) (b : Bool) → NoRepeats code.names → IsPrivatesOf code class privates → name < length code.names →
+private_on : (code : CodeProgram) (class : ClassCode) (name : ℕ) (privates : Privates) (b : Bool) → NoRepeats code.names →
+    IsPrivatesOf code class privates → name < length code.names →
     list_any (nat_eq name) (if b then privates.instance else privates.side)
     ≡ list_any (bytes_eq (selector_text code name)) (if b then private_instance_selectors code class else private_side_selectors code class)
 private_on code class name privates true apart is lt =
@@ -269,13 +279,15 @@ private_on code class name privates false apart is lt =
     (names_members code.names numbers) (names_are code numbers)
 
 -- a name is the selector of a private member where its number is among the members'
-pub private_instance : (code : CodeProgram) (class : ClassCode) (name side : ℕ) (privates : Privates) → (side == instance_side) ≡ true → NoRepeats code.names → IsPrivatesOf code class privates → name < length code.names →
+pub private_instance : (code : CodeProgram) (class : ClassCode) (name side : ℕ) (privates : Privates) → (side == instance_side) ≡ true →
+    NoRepeats code.names → IsPrivatesOf code class privates → name < length code.names →
     list_any (nat_eq name) privates.instance ≡ list_any (bytes_eq (selector_text code name)) (private_selectors code side class)
 private_instance code class name side privates on apart is lt =
     private_on code class name privates true apart is lt
     ∙ ap (λ b. list_any (bytes_eq (selector_text code name)) (if b then private_instance_selectors code class else private_side_selectors code class)) (sym on)
 
-pub private_side : (code : CodeProgram) (class : ClassCode) (name side : ℕ) (privates : Privates) → (side == instance_side) ≡ false → NoRepeats code.names → IsPrivatesOf code class privates → name < length code.names →
+pub private_side : (code : CodeProgram) (class : ClassCode) (name side : ℕ) (privates : Privates) → (side == instance_side) ≡ false →
+    NoRepeats code.names → IsPrivatesOf code class privates → name < length code.names →
     list_any (nat_eq name) privates.side ≡ list_any (bytes_eq (selector_text code name)) (private_selectors code side class)
 private_side code class name side privates on apart is lt =
     private_on code class name privates false apart is lt

@@ -17,7 +17,8 @@ unlike a b true is apart = absurd (apart ((Decides-eqb a b).0 is))
 pub differ : (a b : ℕ) → a ≢ b → nat_eq a b ≡ false
 differ a b apart = unlike a b (nat_eq a b) refl apart
 
-side_of : (xs : List ℕ) (x i k : ℕ) → ((k : ℕ) → k < i → get_or xs k 0 < x) → ((k : ℕ) → i ≤ k → k < length xs → x < get_or xs k 0) → k < length xs → x ≢ get_or xs k 0
+side_of : (xs : List ℕ) (x i k : ℕ) → ((k : ℕ) → k < i → get_or xs k 0 < x) → ((k : ℕ) → i ≤ k → k < length xs → x < get_or xs k 0) →
+    k < length xs → x ≢ get_or xs k 0
 side_of xs x i k below above within same = by (cases_lt k i)
   where
     by : (k < i) ⊎ (i ≤ k) → ⊥
@@ -37,7 +38,8 @@ answer xs x (Err i) at =
     read (y ∷ ys) (suc k) d within = read ys k d (omega (arith, within))
 
 -- a search in a list in order tells whether a number is in it
-pub searched_has : (xs : List ℕ) (x : ℕ) (r : Result ℕ ℕ) → IsBinarySearchResult (λ y. nat_cmp y x) xs r → IsNonDecreasing xs → is_ok r ≡ list_any (nat_eq x) xs
+pub searched_has : (xs : List ℕ) (x : ℕ) (r : Result ℕ ℕ) → IsBinarySearchResult (λ y. nat_cmp y x) xs r → IsNonDecreasing xs →
+    is_ok r ≡ list_any (nat_eq x) xs
 searched_has xs x r found up = answer xs x r (searched xs x r found (λ i j le within. up i j 0 le within))
 
 -- numbers that rise from one on
@@ -47,7 +49,8 @@ IsUp low (x ∷ xs) = (low ≤ x) × IsUp x xs
 
 up_from : (x : ℕ) (xs : List ℕ) → IsNonDecreasing (x ∷ xs) → IsUp x xs
 up_from x [] up = tt
-up_from x (y ∷ ys) up = (up 0 1 0 (omega arith) (omega arith), up_from y ys (λ i j d le within. up (suc i) (suc j) d (omega (arith, le)) (omega (arith, within))))
+up_from x (y ∷ ys) up =
+    (up 0 1 0 (omega arith) (omega arith), up_from y ys (λ i j d le within. up (suc i) (suc j) d (omega (arith, le)) (omega (arith, within))))
 
 none_below : (low x : ℕ) (xs : List ℕ) → low < x → IsUp x xs → list_any (nat_eq low) xs ≡ false
 none_below low x [] lt up = refl

@@ -74,7 +74,8 @@ private_instance_numbers code class =
     (filter (λ (method : MethodCode). method.access == private_access) class.methods)
 
 abbrev pub private_side_numbers : CodeProgram → ClassCode → List ℕ
-private_side_numbers code class = method_numbers code.names (filter (λ (method : MethodCode). method.access == private_access) class.side_methods)
+private_side_numbers code class =
+    method_numbers code.names (filter (λ (method : MethodCode). method.access == private_access) class.side_methods)
 
 -- whether no number comes twice
 abbrev pub are_apart : List ℕ → Bool

@@ -19,7 +19,8 @@ mapped (value ∷ values) zero d h = value_in-word_of value
 mapped (value ∷ values) (suc k) d h = mapped values k d (omega arith)
 
 -- a word behind a head holds the cell's value
-pub value_in_cell : (cell : Cell) (k : ℕ) (d : Word) → k < length (cell_words cell) → value_in (get_or (words_of cell) (suc k) d) ≡ get_or (cell_words cell) k Nil
+pub value_in_cell : (cell : Cell) (k : ℕ) (d : Word) → k < length (cell_words cell) →
+    value_in (get_or (words_of cell) (suc k) d) ≡ get_or (cell_words cell) k Nil
 value_in_cell (ObjectCell class entries) k d h = mapped entries k d h
 value_in_cell (ClassCell decl base encl holder over) zero d h = value_in-word_of encl
 value_in_cell (ClassCell decl base encl holder over) (suc zero) d h = value_in-word_of holder
@@ -53,7 +54,8 @@ pub record ReadsWord (heap : Heap) (words : List Word) (n k : ℕ) : Type 0 wher
   pub inside : n + 1 + k < length words
   pub value : (d : Word) → value_in (get_or words (n + 1 + k) d) ≡ word_at heap n k
 
-pub reads_word : (heap : Heap) (words : List Word) (n k : ℕ) → laid_out heap ≡ words → k < length (words_at heap n) → ReadsWord heap words n k
+pub reads_word : (heap : Heap) (words : List Word) (n k : ℕ) → laid_out heap ≡ words → k < length (words_at heap n) →
+    ReadsWord heap words n k
 reads_word heap words n k laid h = found (find_cell heap n) refl
   where
     found : (o : Option Cell) → find_cell heap n ≡ o → ReadsWord heap words n k
@@ -73,7 +75,8 @@ reads_word heap words n k laid h = found (find_cell heap n) refl
         }
 
 -- a written word changes one word of the cell
-pub words_of-with_word : (cell : Cell) (k : ℕ) (value : Value) → k < length (open_words cell) → words_of (with_word cell k value) ≡ set (words_of cell) (suc k) (word_of value)
+pub words_of-with_word : (cell : Cell) (k : ℕ) (value : Value) → k < length (open_words cell) →
+    words_of (with_word cell k value) ≡ set (words_of cell) (suc k) (word_of value)
 words_of-with_word (ObjectCell class entries) k value h = rw (length-set entries k value, map-set word_of entries k value) refl
 words_of-with_word (ClassCell decl base encl holder over) k value h = absurd (omega arith)
 words_of-with_word (BlockCell body env home receiver holder) k value h = absurd (omega arith)
@@ -86,11 +89,14 @@ words_of-with_word (MessageCell sel args) k value h = absurd (omega arith)
 
 -- a cell with a word written takes its place
 pub with_word-replaces : (cell : Cell) (k : ℕ) (value : Value) → k < length (open_words cell) → Replaces cell (with_word cell k value)
-with_word-replaces (ObjectCell class entries) k value h = record { size_stays = ap (λ n. 1 + n) (length-set entries k value); old_plain = refl; new_plain = refl }
+with_word-replaces (ObjectCell class entries) k value h =
+    record { size_stays = ap (λ n. 1 + n) (length-set entries k value); old_plain = refl; new_plain = refl }
 with_word-replaces (ClassCell decl base encl holder over) k value h = absurd (omega arith)
 with_word-replaces (BlockCell body env home receiver holder) k value h = absurd (omega arith)
-with_word-replaces (EnvironmentCell parent locals) k value h = record { size_stays = ap (λ n. 1 + n) (length-set locals k value); old_plain = refl; new_plain = refl }
-with_word-replaces (ArrayCell items) k value h = record { size_stays = ap (λ n. 1 + n) (length-set items k value); old_plain = refl; new_plain = refl }
+with_word-replaces (EnvironmentCell parent locals) k value h =
+    record { size_stays = ap (λ n. 1 + n) (length-set locals k value); old_plain = refl; new_plain = refl }
+with_word-replaces (ArrayCell items) k value h =
+    record { size_stays = ap (λ n. 1 + n) (length-set items k value); old_plain = refl; new_plain = refl }
 with_word-replaces (TextCell bytes) k value h = absurd (omega arith)
 with_word-replaces (FacetCell kind) k value h = absurd (omega arith)
 with_word-replaces (MirrorCell mirrored) k value h = absurd (omega arith)
@@ -113,7 +119,8 @@ pub record WritesWord (heap : Heap) (words : List Word) (n k : ℕ) (value : Val
   pub after : laid_out (write_word heap n k value) ≡ set words (n + 1 + k) (word_of value)
   pub stays : StaysReplaced heap (write_word heap n k value)
 
-pub writes_word : (heap : Heap) (words : List Word) (n k : ℕ) (value : Value) → laid_out heap ≡ words → k < length (open_words_at heap n) → WritesWord heap words n k value
+pub writes_word : (heap : Heap) (words : List Word) (n k : ℕ) (value : Value) → laid_out heap ≡ words → k < length (open_words_at heap n) →
+    WritesWord heap words n k value
 writes_word heap words n k value laid h = found (find_cell heap n) refl
   where
     found : (o : Option Cell) → find_cell heap n ≡ o → WritesWord heap words n k value

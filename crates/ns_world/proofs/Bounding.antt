@@ -14,8 +14,11 @@ use Rattle.ns_world.specs.View.{AreFirstsBelow}
 use Rattle.ns_world.specs.laws.Chains.{both_of, size_above}
 use Rattle.ns_world.specs.laws.Firsts.{first_without, first_behind, first_within}
 
-class_no_first : (heap : Heap) (decl base : ℕ) (encl holder over : Value) (s : Sought) → (is_nil encl && is_none (first_such (is_top decl) heap)) ≡ false → first_such (is_sought s) (ClassCell decl base encl holder over ∷ heap) ≡ first_such (is_sought s) heap
-class_no_first heap decl base encl holder over (sought.Facet kind) e = first_without (is_sought (sought.Facet kind)) heap (ClassCell decl base encl holder over) refl
+class_no_first : (heap : Heap) (decl base : ℕ) (encl holder over : Value) (s : Sought) →
+    (is_nil encl && is_none (first_such (is_top decl) heap)) ≡ false →
+    first_such (is_sought s) (ClassCell decl base encl holder over ∷ heap) ≡ first_such (is_sought s) heap
+class_no_first heap decl base encl holder over (sought.Facet kind) e =
+    first_without (is_sought (sought.Facet kind)) heap (ClassCell decl base encl holder over) refl
 class_no_first heap decl base encl holder over (sought.Top other) e = tested (is_top other (ClassCell decl base encl holder over)) refl
   where
     some : (o : Option ℕ) → is_none o ≡ false → IsSome o
@@ -31,16 +34,19 @@ class_no_first heap decl base encl holder over (sought.Top other) e = tested (is
         first_behind (is_top other) heap (ClassCell decl base encl holder over) (ap (λ d. is_some (first_such (is_top d) heap)) is ∙ some (first_such (is_top decl) heap) there)
 
 -- a cell that is no facet and no class is never sought
-pub no_first_cell : (heap : Heap) (cell : Cell) (s : Sought) → ((kind : FacetKind) → is_facet kind cell ≡ false) → ((decl : ℕ) → is_top decl cell ≡ false) → first_such (is_sought s) (cell ∷ heap) ≡ first_such (is_sought s) heap
+pub no_first_cell : (heap : Heap) (cell : Cell) (s : Sought) → ((kind : FacetKind) → is_facet kind cell ≡ false) →
+    ((decl : ℕ) → is_top decl cell ≡ false) → first_such (is_sought s) (cell ∷ heap) ≡ first_such (is_sought s) heap
 no_first_cell heap cell (sought.Facet kind) f t = first_without (is_facet kind) heap cell (f kind)
 no_first_cell heap cell (sought.Top decl) f t = first_without (is_top decl) heap cell (t decl)
 
 -- a cell that can't be a first one changes none
-no_first : (heap : Heap) (new : NewCell) (s : Sought) → may_be_first heap new ≡ false → first_such (is_sought s) (fresh new ∷ heap) ≡ first_such (is_sought s) heap
+no_first : (heap : Heap) (new : NewCell) (s : Sought) → may_be_first heap new ≡ false →
+    first_such (is_sought s) (fresh new ∷ heap) ≡ first_such (is_sought s) heap
 no_first heap (Class decl base encl holder over) s e = class_no_first heap decl base encl holder over s e
 no_first heap (Facet kind) s e = absurd (cc)
 no_first heap (Object class words) s e = no_first_cell heap (fresh (Object class words)) s (λ kind. refl) (λ decl. refl)
-no_first heap (Block body env home receiver holder) s e = no_first_cell heap (fresh (Block body env home receiver holder)) s (λ kind. refl) (λ decl. refl)
+no_first heap (Block body env home receiver holder) s e =
+    no_first_cell heap (fresh (Block body env home receiver holder)) s (λ kind. refl) (λ decl. refl)
 no_first heap (Environment parent locals) s e = no_first_cell heap (fresh (Environment parent locals)) s (λ kind. refl) (λ decl. refl)
 no_first heap (Array size) s e = no_first_cell heap (fresh (Array size)) s (λ kind. refl) (λ decl. refl)
 no_first heap (Text bytes) s e = no_first_cell heap (fresh (Text bytes)) s (λ kind. refl) (λ decl. refl)
@@ -48,7 +54,8 @@ no_first heap (Mirror mirrored) s e = no_first_cell heap (fresh (Mirror mirrored
 no_first heap (Message sel args) s e = no_first_cell heap (fresh (Message sel args)) s (λ kind. refl) (λ decl. refl)
 
 -- the bound with a cell more
-pub firsts_with : (heap : Heap) (new : NewCell) (bound after : ℕ) → AreFirstsBelow heap bound → after ≡ cond (may_be_first heap new) (heap_size heap + 1) bound → AreFirstsBelow (fresh new ∷ heap) after
+pub firsts_with : (heap : Heap) (new : NewCell) (bound after : ℕ) → AreFirstsBelow heap bound →
+    after ≡ cond (may_be_first heap new) (heap_size heap + 1) bound → AreFirstsBelow (fresh new ∷ heap) after
 firsts_with heap new bound after firsts e s number f = tested (may_be_first heap new) refl e
   where
     tested : (b : Bool) → may_be_first heap new ≡ b → after ≡ cond b (heap_size heap + 1) bound → number < after
@@ -60,7 +67,8 @@ firsts_with heap new bound after firsts e s number f = tested (may_be_first heap
         newest None g false h = absurd (cc)
     tested false t e = omega (arith, e, firsts s number (sym (no_first heap new s t) ∙ f))
 
-pub bound_within : (heap : Heap) (new : NewCell) (bound after : ℕ) → bound ≤ heap_size heap → after ≡ cond (may_be_first heap new) (heap_size heap + 1) bound → after ≤ heap_size (fresh new ∷ heap)
+pub bound_within : (heap : Heap) (new : NewCell) (bound after : ℕ) → bound ≤ heap_size heap →
+    after ≡ cond (may_be_first heap new) (heap_size heap + 1) bound → after ≤ heap_size (fresh new ∷ heap)
 bound_within heap new bound after h e = tested (may_be_first heap new) e
   where
     tested : (b : Bool) → after ≡ cond b (heap_size heap + 1) bound → after ≤ heap_size heap + cell_size (fresh new)

@@ -32,13 +32,16 @@ byte_of_word (suc q) r bytes h k =
     ∙ (get_or-drop 8 bytes (8 * q + r) 0 ∙ ap (λ i. get_or bytes i 0) (omega arith))
 
 eight-set : (bytes : List ℕ) (r byte : ℕ) → r < 8 → r < length bytes → eight (set bytes r byte) ≡ set (eight bytes) r byte
-eight-set bytes r byte h k = ap (take 8) (sym (set-append_left bytes (replicate 8 0) r byte k)) ∙ take-set-lt 8 (bytes ++ replicate 8 0) r byte h
+eight-set bytes r byte h k =
+    ap (take 8) (sym (set-append_left bytes (replicate 8 0) r byte k)) ∙ take-set-lt 8 (bytes ++ replicate 8 0) r byte h
 
 eight-set_past : (bytes : List ℕ) (i byte : ℕ) → 8 + i < length bytes → eight (set bytes (8 + i) byte) ≡ eight bytes
-eight-set_past bytes i byte k = ap (take 8) (sym (set-append_left bytes (replicate 8 0) (8 + i) byte k)) ∙ take-set-le 8 (bytes ++ replicate 8 0) (8 + i) byte (omega arith)
+eight-set_past bytes i byte k =
+    ap (take 8) (sym (set-append_left bytes (replicate 8 0) (8 + i) byte k)) ∙ take-set-le 8 (bytes ++ replicate 8 0) (8 + i) byte (omega arith)
 
 -- a written byte changes one word
-packed-set : (words q r byte : ℕ) (bytes : List ℕ) → q < words → r < 8 → 8 * q + r < length bytes → packed words (set bytes (8 * q + r) byte) ≡ set (packed words bytes) q (BytesWord (set (word_bytes q bytes) r byte))
+packed-set : (words q r byte : ℕ) (bytes : List ℕ) → q < words → r < 8 → 8 * q + r < length bytes →
+    packed words (set bytes (8 * q + r) byte) ≡ set (packed words bytes) q (BytesWord (set (word_bytes q bytes) r byte))
 packed-set zero q r byte bytes h k l = absurd (omega arith)
 packed-set (suc words) zero r byte bytes h k l =
     let at : 8 * 0 + r ≡ r = omega arith in
@@ -63,7 +66,8 @@ pub record ReadsByte (heap : Heap) (words : List Word) (n p : ℕ) : Type 0 wher
   pub after : (b : ℕ) → laid_out (write_byte heap n p b) ≡ set words (n + 1 + p / 8) (BytesWord (set row (p % 8) b))
   pub stays : (b : ℕ) → StaysReplaced heap (write_byte heap n p b)
 
-reads_text : (heap : Heap) (words : List Word) (n p : ℕ) (bytes : List ℕ) → laid_out heap ≡ words → find_cell heap n ≡ Some (TextCell bytes) → p < length bytes → ReadsByte heap words n p
+reads_text : (heap : Heap) (words : List Word) (n p : ℕ) (bytes : List ℕ) → laid_out heap ≡ words →
+    find_cell heap n ≡ Some (TextCell bytes) → p < length bytes → ReadsByte heap words n p
 reads_text heap words n p bytes laid e h =
     let cell : Cell = TextCell bytes in
     let whole : 8 * (p / 8) + p % 8 ≡ p = omega arith in
@@ -98,7 +102,8 @@ reads_text heap words n p bytes laid e h =
           rw written s;
     }
 
-pub reads_byte : (heap : Heap) (words : List Word) (n p : ℕ) → laid_out heap ≡ words → p < length (bytes_at heap n) → ReadsByte heap words n p
+pub reads_byte : (heap : Heap) (words : List Word) (n p : ℕ) → laid_out heap ≡ words → p < length (bytes_at heap n) →
+    ReadsByte heap words n p
 reads_byte heap words n p laid h = found (find_cell heap n) refl
   where
     found : (o : Option Cell) → find_cell heap n ≡ o → ReadsByte heap words n p
@@ -127,7 +132,8 @@ pub record ReadsRow (heap : Heap) (words : List Word) (n q : ℕ) : Type 0 where
   pub inside : n + 1 + q < length words
   pub word : (d : Word) → get_or words (n + 1 + q) d ≡ BytesWord (row_at heap n q)
 
-pub reads_row : (heap : Heap) (words : List Word) (n q : ℕ) → laid_out heap ≡ words → 8 * q + 8 ≤ length (bytes_at heap n) → ReadsRow heap words n q
+pub reads_row : (heap : Heap) (words : List Word) (n q : ℕ) → laid_out heap ≡ words → 8 * q + 8 ≤ length (bytes_at heap n) →
+    ReadsRow heap words n q
 reads_row heap words n q laid h = found (find_cell heap n) refl
   where
     in_text : (bytes : List ℕ) → find_cell heap n ≡ Some (TextCell bytes) → ReadsRow heap words n q

@@ -21,7 +21,8 @@ zero_words (suc words) bytes =
 pub new_object_words : (class words : ℕ) → words_of (fresh (new.Object class words)) ≡ Object class words ∷ replicate words NilWord
 new_object_words class words = rw (length-replicate words Nil, nil_words words) refl
 
-pub new_environment_words : (parent : Value) (locals : ℕ) → words_of (fresh (new.Environment parent locals)) ≡ word_beside locals parent ∷ replicate locals NilWord
+pub new_environment_words : (parent : Value) (locals : ℕ) →
+    words_of (fresh (new.Environment parent locals)) ≡ word_beside locals parent ∷ replicate locals NilWord
 new_environment_words parent locals = rw (length-replicate locals Nil, nil_words locals) refl
 
 pub new_array_words : (size : ℕ) → words_of (fresh (new.Array size)) ≡ Array size ∷ replicate size NilWord

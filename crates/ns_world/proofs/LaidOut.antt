@@ -43,7 +43,8 @@ values_in-map (value ∷ values) rest =
     ap (λ v. v ∷ values_in (length values) (map word_of values ++ rest)) (value_in-word_of value) ∙ ap (λ vs. value ∷ vs) (values_in-map values rest)
 
 -- an environment begins with its parent
-environment_of : (parent : Value) (locals : List Value) (rest : List Word) → cell_of (word_beside (length locals) parent) (map word_of locals ++ rest) ≡ EnvironmentCell parent locals
+environment_of : (parent : Value) (locals : List Value) (rest : List Word) →
+    cell_of (word_beside (length locals) parent) (map word_of locals ++ rest) ≡ EnvironmentCell parent locals
 environment_of Nil locals rest = ap (EnvironmentCell Nil) (values_in-map locals rest)
 environment_of True locals rest = ap (EnvironmentCell True) (values_in-map locals rest)
 environment_of False locals rest = ap (EnvironmentCell False) (values_in-map locals rest)
@@ -55,8 +56,10 @@ environment_of (Ref at) locals rest = ap (EnvironmentCell (Ref at)) (values_in-m
 -- a cell's words stand for the cell
 pub cell_of-words : (cell : Cell) (rest : List Word) → cell_of (head_of cell) (body_of cell ++ rest) ≡ cell
 cell_of-words (ObjectCell class entries) rest = ap (ObjectCell class) (values_in-map entries rest)
-cell_of-words (ClassCell decl base encl holder over) rest = grind (arith, value_in-word_of encl, value_in-word_of holder, value_in-word_of over)
-cell_of-words (BlockCell body env home receiver holder) rest = grind (arith, value_in-word_of receiver, value_in-word_beside holder env, beside_in-word_beside holder env)
+cell_of-words (ClassCell decl base encl holder over) rest =
+    grind (arith, value_in-word_of encl, value_in-word_of holder, value_in-word_of over)
+cell_of-words (BlockCell body env home receiver holder) rest =
+    grind (arith, value_in-word_of receiver, value_in-word_beside holder env, beside_in-word_beside holder env)
 cell_of-words (EnvironmentCell parent locals) rest = environment_of parent locals rest
 cell_of-words (ArrayCell items) rest = ap ArrayCell (values_in-map items rest)
 cell_of-words (TextCell bytes) rest = ap TextCell (unpacked-packed (text_words (length bytes)) bytes rest (text_words-hold (length bytes)))
@@ -99,7 +102,8 @@ length-words (MessageCell sel args) = refl
 
 pub length-laid_out : (heap : Heap) → length (laid_out heap) ≡ heap_size heap
 length-laid_out [] = refl
-length-laid_out (cell ∷ earlier) = omega (arith, length-append (laid_out earlier) (words_of cell), length-laid_out earlier, length-words cell)
+length-laid_out (cell ∷ earlier) =
+    omega (arith, length-append (laid_out earlier) (words_of cell), length-laid_out earlier, length-words cell)
 
 -- words that are passed over don't matter
 cells_from-past : (passed rest : List Word) → cells_from (length passed) (passed ++ rest) ≡ cells_from 0 rest

@@ -22,14 +22,16 @@ use Rattle.ns_world.specs.laws.Lasting.{keeps_of, shape_lasts}
 
 -- ---- cells
 
-pub there_lasts : (number : ℕ) (code : CodeProgram) (old new : World) → RunsOn code old new → IsSome (find_cell old.cells number) → IsSome (find_cell new.cells number)
+pub there_lasts : (number : ℕ) (code : CodeProgram) (old new : World) → RunsOn code old new → IsSome (find_cell old.cells number) →
+    IsSome (find_cell new.cells number)
 there_lasts number code old new run h = found (find_cell old.cells number) refl h
   where
     found : (o : Option Cell) → find_cell old.cells number ≡ o → IsSome o → IsSome (find_cell new.cells number)
     found None e h = absurd (cc)
     found (Some cell) e h = ap is_some (run.later.cells.cells number cell e).there
 
-pub bytes_last : (number : ℕ) (code : CodeProgram) (old new : World) → RunsOn code old new → IsSome (find_cell old.cells number) → bytes_at new.cells number ≡ bytes_at old.cells number
+pub bytes_last : (number : ℕ) (code : CodeProgram) (old new : World) → RunsOn code old new → IsSome (find_cell old.cells number) →
+    bytes_at new.cells number ≡ bytes_at old.cells number
 bytes_last number code old new run h = found (find_cell old.cells number) refl h
   where
     found : (o : Option Cell) → find_cell old.cells number ≡ o → IsSome o → bytes_at new.cells number ≡ bytes_at old.cells number
@@ -38,7 +40,8 @@ bytes_last number code old new run h = found (find_cell old.cells number) refl h
         let s = run.later.cells.cells number cell e in
         ap (λ o. option_map_or cell_bytes o []) s.there ∙ (s.bytes ∙ ap (λ o. option_map_or cell_bytes o []) (sym e))
 
-pub start_lasts : (value : Value) (code : CodeProgram) (old new : World) → RunsOn code old new → IsLiveValue old.cells code value → start_of new.cells value ≡ start_of old.cells value
+pub start_lasts : (value : Value) (code : CodeProgram) (old new : World) → RunsOn code old new → IsLiveValue old.cells code value →
+    start_of new.cells value ≡ start_of old.cells value
 start_lasts (Ref at) code old new run live = ap (λ shape. start_of_cell shape at) (shape_lasts at code old new run live.0)
 start_lasts Nil code old new run live = refl
 start_lasts True code old new run live = refl
@@ -48,7 +51,8 @@ start_lasts (Sym sel) code old new run live = refl
 start_lasts (Kernel class) code old new run live = refl
 
 -- a class keeps its name, and so does none
-pub name_lasts : (from : Start) (code : CodeProgram) (old new : World) → RunsOn code old new → has_class old.cells from ≡ true → class_name_at new.cells from ≡ class_name_at old.cells from
+pub name_lasts : (from : Start) (code : CodeProgram) (old new : World) → RunsOn code old new → has_class old.cells from ≡ true →
+    class_name_at new.cells from ≡ class_name_at old.cells from
 name_lasts (start.Instance class) code old new run s = tested (is_class (find_cell old.cells class)) refl s
   where
     tested : (b : Bool) → is_class (find_cell old.cells class) ≡ b → (b || eqb class no_class) ≡ true → class_name_at new.cells (start.Instance class) ≡ class_name_at old.cells (start.Instance class)
@@ -59,11 +63,14 @@ name_lasts (start.ClassSide class factory) code old new run s =
     ap (λ o. name.ClassOf (declaration_in (option_map_or shape_of o (Mirror Nil)))) (class_same old.cells new.cells class run.later.cells s)
 name_lasts (start.Kernel named) code old new run s = refl
 
-pub chain_start_lasts : (class : ℕ) (code : CodeProgram) (old new : World) → RunsOn code old new → is_chain_start old.cells class ≡ true → is_chain_start new.cells class ≡ true
+pub chain_start_lasts : (class : ℕ) (code : CodeProgram) (old new : World) → RunsOn code old new → is_chain_start old.cells class ≡ true →
+    is_chain_start new.cells class ≡ true
 chain_start_lasts class code old new run s = start_stays old.cells new.cells class (keeps_of code old new run).same s
 
-pub chain_lasts : (class : ℕ) (code : CodeProgram) (old new : World) → RunsOn code old new → is_chain_start old.cells class ≡ true → chain_of new.cells class ≡ chain_of old.cells class
+pub chain_lasts : (class : ℕ) (code : CodeProgram) (old new : World) → RunsOn code old new → is_chain_start old.cells class ≡ true →
+    chain_of new.cells class ≡ chain_of old.cells class
 chain_lasts class code old new run s = (keeps_of code old new run).same.chains class s
 
-pub layout_lasts : (class : ℕ) (code : CodeProgram) (old new : World) → RunsOn code old new → is_chain_start old.cells class ≡ true → layout_of new.cells code class ≡ layout_of old.cells code class
+pub layout_lasts : (class : ℕ) (code : CodeProgram) (old new : World) → RunsOn code old new → is_chain_start old.cells class ≡ true →
+    layout_of new.cells code class ≡ layout_of old.cells code class
 layout_lasts class code old new run s = let k = keeps_of code old new run in layout_stays old.cells new.cells code class k.order k.same s

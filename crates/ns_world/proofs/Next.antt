@@ -55,7 +55,8 @@ first_stands (cell ∷ earlier) h = tested (eqb 0 (heap_size earlier)) refl (fir
     tested true t below = refl
     tested false t below = below (strictly 0 (heap_size earlier) (omega arith) t)
 
-next_cell : (heap : Heap) (n : ℕ) (cell : Cell) → find_cell heap n ≡ Some cell → n + cell_size cell < heap_size heap → IsSome (find_cell heap (n + cell_size cell))
+next_cell : (heap : Heap) (n : ℕ) (cell : Cell) → find_cell heap n ≡ Some cell → n + cell_size cell < heap_size heap →
+    IsSome (find_cell heap (n + cell_size cell))
 next_cell [] n cell e h = absurd (cc)
 next_cell (first ∷ earlier) n cell e h = tested (eqb n (heap_size earlier)) refl e (next_cell earlier n cell)
   where
@@ -70,7 +71,8 @@ next_cell (first ∷ earlier) n cell e h = tested (eqb n (heap_size earlier)) re
         last false u = below e (strictly (n + cell_size cell) (heap_size earlier) (stands-within earlier n cell e) u)
 
 -- behind a cell stands the next, where there is one
-pub next_stands : (heap : Heap) (n : ℕ) → IsSome (find_cell heap n) → next_number heap n < heap_size heap → IsSome (find_cell heap (next_number heap n))
+pub next_stands : (heap : Heap) (n : ℕ) → IsSome (find_cell heap n) → next_number heap n < heap_size heap →
+    IsSome (find_cell heap (next_number heap n))
 next_stands heap n s h = found (find_cell heap n) refl s
   where
     found : (o : Option Cell) → find_cell heap n ≡ o → IsSome o → IsSome (find_cell heap (next_number heap n))

@@ -77,7 +77,8 @@ not_equal : (a b : ℕ) → eqb a b ≡ false → a ≢ b
 not_equal a b e is = let same : true ≡ false = sym (eq-eqb a b is) ∙ e in absurd (cc)
 
 -- past the words of the cells before, and past their head
-past_head : (before : List Word) (cell : Cell) (at : ℕ) → length before + 1 ≤ at → is_receiver_head (get_or (before ++ words_of cell) at NilWord) ≡ false
+past_head : (before : List Word) (cell : Cell) (at : ℕ) → length before + 1 ≤ at →
+    is_receiver_head (get_or (before ++ words_of cell) at NilWord) ≡ false
 past_head before cell at past =
     let k = at - length before - 1 in
     ap (λ i. is_receiver_head (get_or (before ++ words_of cell) i NilWord)) (let is : at ≡ length before + suc k = omega (arith, past) in is)
@@ -105,5 +106,6 @@ head_found (cell ∷ earlier) at = chosen (eqb at (heap_size earlier)) refl (cas
         past_head (laid_out earlier) cell at past ∙ (sym none ∙ (before ∙ rw e refl))
 
 -- the same of the words in memory
-pub receiver_told : (heap : Heap) (words : List Word) (at : ℕ) → laid_out heap ≡ words → is_receiver_head (get_or words at NilWord) ≡ is_receiver_cell (find_cell heap at)
+pub receiver_told : (heap : Heap) (words : List Word) (at : ℕ) → laid_out heap ≡ words →
+    is_receiver_head (get_or words at NilWord) ≡ is_receiver_cell (find_cell heap at)
 receiver_told heap words at laid = ap (λ (ws : List Word). is_receiver_head (get_or ws at NilWord)) (sym laid) ∙ head_found heap at

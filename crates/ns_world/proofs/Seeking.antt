@@ -23,7 +23,8 @@ sizes : List Cell → ℕ
 sizes [] = 0
 sizes (cell ∷ cells) = cell_size cell + sizes cells
 
-first_from-append : (test : Cell → Bool) (n : ℕ) (cells : List Cell) (cell : Cell) → first_from test n (cells ++ cell ∷ []) ≡ earlier_or (first_from test n cells) (cond (test cell) (Some (n + sizes cells)) None)
+first_from-append : (test : Cell → Bool) (n : ℕ) (cells : List Cell) (cell : Cell) →
+    first_from test n (cells ++ cell ∷ []) ≡ earlier_or (first_from test n cells) (cond (test cell) (Some (n + sizes cells)) None)
 unfolding first_from sizes
 first_from-append test n [] cell = ap (λ m. cond (test cell) (Some m) None) (omega arith)
 first_from-append test n (first ∷ cells) cell = tested (test first) (first_from-append test (n + cell_size first) cells cell)
@@ -40,7 +41,8 @@ sizes-append (first ∷ cells) cell = omega (arith, sizes-append cells cell)
 sizes-reverse : (heap : Heap) → sizes (reverse heap) ≡ heap_size heap
 unfolding sizes
 sizes-reverse [] = refl
-sizes-reverse (cell ∷ earlier) = ap sizes (reverse-append (cell ∷ []) earlier) ∙ (sizes-append (reverse earlier) cell ∙ ap (λ n. n + cell_size cell) (sizes-reverse earlier))
+sizes-reverse (cell ∷ earlier) =
+    ap sizes (reverse-append (cell ∷ []) earlier) ∙ (sizes-append (reverse earlier) cell ∙ ap (λ n. n + cell_size cell) (sizes-reverse earlier))
 
 -- the oldest first or the newest first
 pub first_from-reverse : (test : Cell → Bool) (heap : Heap) → first_from test 0 (reverse heap) ≡ first_such test heap
@@ -79,11 +81,13 @@ not_parent (Top decl) n (Kernel class) next = refl
 not_parent (Top decl) n (Ref at) next = refl
 
 -- the words of a cell tell whether it is sought
-sought_cell : (sought : Sought) (cell : Cell) (rest : List Word) → is_sought_at sought (head_of cell) (get_or (words_of cell ++ rest) 1 NilWord) ≡ is_sought sought cell
+sought_cell : (sought : Sought) (cell : Cell) (rest : List Word) →
+    is_sought_at sought (head_of cell) (get_or (words_of cell ++ rest) 1 NilWord) ≡ is_sought sought cell
 sought_cell (Facet kind) (ObjectCell class entries) rest = refl
 sought_cell (Facet kind) (ClassCell decl base encl holder over) rest = refl
 sought_cell (Facet kind) (BlockCell body env home receiver holder) rest = refl
-sought_cell (Facet kind) (EnvironmentCell parent locals) rest = not_parent (Facet kind) (length locals) parent (get_or (words_of (EnvironmentCell parent locals) ++ rest) 1 NilWord)
+sought_cell (Facet kind) (EnvironmentCell parent locals) rest =
+    not_parent (Facet kind) (length locals) parent (get_or (words_of (EnvironmentCell parent locals) ++ rest) 1 NilWord)
 sought_cell (Facet kind) (ArrayCell items) rest = refl
 sought_cell (Facet kind) (TextCell bytes) rest = refl
 sought_cell (Facet kind) (FacetCell other) rest = refl
@@ -92,7 +96,8 @@ sought_cell (Facet kind) (MessageCell sel args) rest = refl
 sought_cell (Top decl) (ObjectCell class entries) rest = refl
 sought_cell (Top decl) (ClassCell other base encl holder over) rest = rw (nil_at encl) refl
 sought_cell (Top decl) (BlockCell body env home receiver holder) rest = refl
-sought_cell (Top decl) (EnvironmentCell parent locals) rest = not_parent (Top decl) (length locals) parent (get_or (words_of (EnvironmentCell parent locals) ++ rest) 1 NilWord)
+sought_cell (Top decl) (EnvironmentCell parent locals) rest =
+    not_parent (Top decl) (length locals) parent (get_or (words_of (EnvironmentCell parent locals) ++ rest) 1 NilWord)
 sought_cell (Top decl) (ArrayCell items) rest = refl
 sought_cell (Top decl) (TextCell bytes) rest = refl
 sought_cell (Top decl) (FacetCell other) rest = refl
@@ -105,11 +110,14 @@ pub record Walks (sought : Sought) (words : List Word) (whole : Option ℕ) (at 
   pub is : flat left ≡ drop at words
   pub gives : first_from (is_sought sought) at left ≡ whole
 
-pub walk_starts : (sought : Sought) (heap : Heap) (words : List Word) → laid_out heap ≡ words → Walks sought words (first_such (is_sought sought) heap) 0
-walk_starts sought heap words laid = record { left = reverse heap; is = sym (laid_out-flat heap) ∙ laid; gives = first_from-reverse (is_sought sought) heap }
+pub walk_starts : (sought : Sought) (heap : Heap) (words : List Word) → laid_out heap ≡ words →
+    Walks sought words (first_such (is_sought sought) heap) 0
+walk_starts sought heap words laid =
+    record { left = reverse heap; is = sym (laid_out-flat heap) ∙ laid; gives = first_from-reverse (is_sought sought) heap }
 
 past : (cell rest words : List Word) (at next : ℕ) → next ≡ at + length cell → cell ++ rest ≡ drop at words → rest ≡ drop next words
-past cell rest words at next n e = sym (drop-append_seam cell rest) ∙ (ap (drop (length cell)) e ∙ (drop-drop (length cell) at words ∙ ap (λ i. drop i words) (omega arith)))
+past cell rest words at next n e =
+    sym (drop-append_seam cell rest) ∙ (ap (drop (length cell)) e ∙ (drop-drop (length cell) at words ∙ ap (λ i. drop i words) (omega arith)))
 
 -- one step of the walk, from a cell's head to the next
 pub record Step (sought : Sought) (words : List Word) (whole : Option ℕ) (at : ℕ) : Type 0 where
@@ -117,7 +125,8 @@ pub record Step (sought : Sought) (words : List Word) (whole : Option ℕ) (at :
   pub next : is_sought_at sought (get_or words at NilWord) (get_or words (at + 1) NilWord) ≡ false → Walks sought words whole (at + 1 + words_behind (get_or words at NilWord))
   pub inside : at + 1 + words_behind (get_or words at NilWord) ≤ length words
 
-pub walk_step : (sought : Sought) (words : List Word) (whole : Option ℕ) (at : ℕ) → at < length words → Walks sought words whole at → Step sought words whole at
+pub walk_step : (sought : Sought) (words : List Word) (whole : Option ℕ) (at : ℕ) → at < length words → Walks sought words whole at →
+    Step sought words whole at
 unfolding flat first_from
 walk_step sought words whole at h w = stepped w.left w.is w.gives
   where
@@ -148,7 +157,9 @@ pub record Told (sought : Sought) (words : List Word) (whole : Option ℕ) (at b
   pub next : found ≡ false → Walks sought words whole (at + (1 + behind))
   pub inside : at + (1 + behind) ≤ length words
 
-pub walk_told : (sought : Sought) (words : List Word) (whole : Option ℕ) (at behind : ℕ) (head next : Word) (found : Bool) → at < length words → Walks sought words whole at → head ≡ get_or words at NilWord → next ≡ get_or words (at + 1) NilWord → found ≡ is_sought_at sought head next → behind ≡ words_behind head → Told sought words whole at behind found
+pub walk_told : (sought : Sought) (words : List Word) (whole : Option ℕ) (at behind : ℕ) (head next : Word) (found : Bool) →
+    at < length words → Walks sought words whole at → head ≡ get_or words at NilWord → next ≡ get_or words (at + 1) NilWord →
+    found ≡ is_sought_at sought head next → behind ≡ words_behind head → Told sought words whole at behind found
 walk_told sought words whole at behind head next found h w eh en ef eb =
     let s = walk_step sought words whole at h w in
     let test : is_sought_at sought (get_or words at NilWord) (get_or words (at + 1) NilWord) ≡ found = cc in
@@ -169,7 +180,8 @@ first_from_above test n (cell ∷ cells) number e = tested (test cell) e (first_
     tested false e below = omega (arith, below e)
 
 -- a walk that has come to the bound has passed each cell that is sought
-pub walk_passes : (sought : Sought) (words : List Word) (whole : Option ℕ) (at bound : ℕ) → bound ≤ at → ((number : ℕ) → whole ≡ Some number → number < bound) → Walks sought words whole at → whole ≡ None
+pub walk_passes : (sought : Sought) (words : List Word) (whole : Option ℕ) (at bound : ℕ) → bound ≤ at →
+    ((number : ℕ) → whole ≡ Some number → number < bound) → Walks sought words whole at → whole ≡ None
 walk_passes sought words whole at bound h below w = found whole refl
   where
     found : (o : Option ℕ) → whole ≡ o → whole ≡ None

@@ -24,7 +24,8 @@ environment_shape (Ref at) n words = refl
 abbrev pub three : (ℕ → Word) → List Word
 three at = at 1 ∷ at 2 ∷ at 3 ∷ []
 
-shape_in-cell : (cell : Cell) (at : ℕ → Word) → ((j : ℕ) → j < cell_size cell → at j ≡ get_or (words_of cell) j NilWord) → shape_in (at 0) (three at) ≡ shape_of cell
+shape_in-cell : (cell : Cell) (at : ℕ → Word) → ((j : ℕ) → j < cell_size cell → at j ≡ get_or (words_of cell) j NilWord) →
+    shape_in (at 0) (three at) ≡ shape_of cell
 shape_in-cell (ObjectCell class entries) at e = rw (e 0 (omega arith)) refl
 shape_in-cell (ClassCell decl base encl holder over) at e =
     rw (e 0 (omega arith), e 1 (omega arith), e 2 (omega arith), e 3 (omega arith), value_in-word_of encl, value_in-word_of holder, value_in-word_of over) refl
@@ -38,7 +39,8 @@ shape_in-cell (MirrorCell mirrored) at e = rw (e 0 (omega arith), e 1 (omega ari
 shape_in-cell (MessageCell sel args) at e = rw (e 0 (omega arith), e 1 (omega arith), value_in-word_of args) refl
 
 -- the words from a live cell's number on tell its shape
-pub shape_at-words : (heap : Heap) (words : List Word) (n : ℕ) (cell : Cell) → laid_out heap ≡ words → find_cell heap n ≡ Some cell → shape_in (get_or words n NilWord) (three (λ j. get_or words (n + j) NilWord)) ≡ shape_at heap n
+pub shape_at-words : (heap : Heap) (words : List Word) (n : ℕ) (cell : Cell) → laid_out heap ≡ words → find_cell heap n ≡ Some cell →
+    shape_in (get_or words n NilWord) (three (λ j. get_or words (n + j) NilWord)) ≡ shape_at heap n
 shape_at-words heap words n cell laid e =
     let at : ℕ → Word = λ j. get_or words (n + j) NilWord in
     let same : (j : ℕ) → j < cell_size cell → at j ≡ get_or (words_of cell) j NilWord =
@@ -48,7 +50,8 @@ shape_at-words heap words n cell laid e =
     ap (λ w. shape_in w (three at)) first ∙ (shape_in-cell cell at same ∙ sym shape)
 
 -- the same where some cell has that number
-pub shape_told : (heap : Heap) (words : List Word) (n : ℕ) → laid_out heap ≡ words → IsSome (find_cell heap n) → shape_in (get_or words n NilWord) (get_or words (n + 1) NilWord ∷ get_or words (n + 2) NilWord ∷ get_or words (n + 3) NilWord ∷ []) ≡ shape_at heap n
+pub shape_told : (heap : Heap) (words : List Word) (n : ℕ) → laid_out heap ≡ words → IsSome (find_cell heap n) →
+    shape_in (get_or words n NilWord) (get_or words (n + 1) NilWord ∷ get_or words (n + 2) NilWord ∷ get_or words (n + 3) NilWord ∷ []) ≡ shape_at heap n
 shape_told heap words n laid h = found (find_cell heap n) refl h
   where
     found : (o : Option Cell) → find_cell heap n ≡ o → IsSome o → shape_in (get_or words n NilWord) (get_or words (n + 1) NilWord ∷ get_or words (n + 2) NilWord ∷ get_or words (n + 3) NilWord ∷ []) ≡ shape_at heap n

@@ -67,7 +67,8 @@ pub record ClassIsLawful (heap : Heap) (code : CodeProgram) (number decl base : 
 
 -- a class of that declaration that is enclosed by this object and holder
 abbrev pub IsKeptCell : ℕ → ℕ → ℕ → Option Cell → Type 0
-IsKeptCell object holder decl (Some (ClassCell other base encl holder' over)) = (other ≡ decl) × (encl ≡ Ref object) × (holder' ≡ Ref holder)
+IsKeptCell object holder decl (Some (ClassCell other base encl holder' over)) =
+    (other ≡ decl) × (encl ≡ Ref object) × (holder' ≡ Ref holder)
 IsKeptCell object holder decl _ = ⊥
 
 -- what a word for a nested class holds: nil, or a class of that declaration that is enclosed by this object and holder
@@ -132,7 +133,8 @@ MessageIsLawful heap code sel _ = ⊥
 
 -- what is asked of one cell
 abbrev pub CellIsLawful : Heap → CodeProgram → ℕ → Cell → Type 0
-CellIsLawful heap code number (ObjectCell class entries) = ObjectIsLawful heap code number class entries × All (IsLiveValue heap code) entries
+CellIsLawful heap code number (ObjectCell class entries) =
+    ObjectIsLawful heap code number class entries × All (IsLiveValue heap code) entries
 CellIsLawful heap code number (ClassCell decl base encl holder over) = ClassIsLawful heap code number decl base encl holder
 CellIsLawful heap code number (BlockCell body env home receiver holder) = BlockIsLawful heap code body env receiver holder
 CellIsLawful heap code number (EnvironmentCell parent locals) = IsEnvironmentOrNil heap parent × All (IsLiveValue heap code) locals

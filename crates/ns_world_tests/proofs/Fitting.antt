@@ -17,7 +17,8 @@ use Rattle.ns_code.specs.Fits.{IsFileName, IsShort, IsName, IsLocalName, InstrFi
 use Rattle.ns_world.specs.laws.Chains.{both_of}
 use Rattle.ns_world_tests.specs.Program.{body_of, program_code, program_names, program_classes, class_base, class_part, class_sub, class_other}
 
-all_by : {X : Type 0} (P : X → Type 0) (test : X → Bool) → ((x : X) → test x ≡ true → P x) → (xs : List X) → list_all test xs ≡ true → All P xs
+all_by : {X : Type 0} (P : X → Type 0) (test : X → Bool) → ((x : X) → test x ≡ true → P x) → (xs : List X) → list_all test xs ≡ true →
+    All P xs
 all_by P test told [] e = All-nil P
 all_by P test told (x ∷ xs) e = let parts = both_of (test x) (list_all test xs) e in All-cons P x xs (told x parts.0) (all_by P test told xs parts.1)
 
@@ -151,7 +152,8 @@ body_fits kind side class k s c = record {
   places_in_order = λ i j d h l. absurd (omega (arith, l));
 }
 
-bodies_fit : (bodies : List (ℕ × ℕ × ℕ)) → list_all (λ b. nat_le b.0 3 && (nat_le b.1 1 && nat_lt b.2 100)) bodies ≡ true → All (BodyFits program_code) (map (λ b. body_of b.0 b.1 b.2) bodies)
+bodies_fit : (bodies : List (ℕ × ℕ × ℕ)) → list_all (λ b. nat_le b.0 3 && (nat_le b.1 1 && nat_lt b.2 100)) bodies ≡ true →
+    All (BodyFits program_code) (map (λ b. body_of b.0 b.1 b.2) bodies)
 bodies_fit [] e = All-nil (BodyFits program_code)
 bodies_fit (b ∷ bodies) e =
     let p = both_of (nat_le b.0 3 && (nat_le b.1 1 && nat_lt b.2 100)) (list_all (λ (x : ℕ × ℕ × ℕ). nat_le x.0 3 && (nat_le x.1 1 && nat_lt x.2 100)) bodies) e in

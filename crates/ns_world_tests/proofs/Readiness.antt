@@ -25,39 +25,51 @@ use Rattle.ns_world_tests.proofs.Stages.{lawful_empty, lawful_tried}
 use Rattle.ns_world_tests.proofs.Telling.{array_is_no_object}
 
 -- the same limits and the same room
-still : (old new : WorldView) → WorldIsReady old → IsLawful new.world program_code → new.world.limits ≡ old.world.limits → SameRoom old new → WorldIsReady new
+still : (old new : WorldView) → WorldIsReady old → IsLawful new.world program_code → new.world.limits ≡ old.world.limits →
+    SameRoom old new → WorldIsReady new
 still old new ready lawful limits room = record {
   lawful = lawful;
   cells = omega (arith, ready.cells, ap (λ (l : Limits). l.cells) limits, room.0);
   out = omega (arith, ready.out, ap (λ (l : Limits). l.out) limits, room.1);
 }
 
-pub made_ready : (old new : WorldView) (cell : NewCell) (result : Result ℕ CellLimit) → WorldIsReady old → has_superclass old.world.cells (fresh cell) ≡ true → MayBeMade old.world.cells program_code cell → MakesCell old (fresh cell) result new → new.world.limits ≡ old.world.limits → WorldIsReady new
-made_ready old new cell (Ok number) ready s m g limits = still old new ready (making_keeps old.world new.world program_code cell ready.lawful s m g.0) limits g.2
+pub made_ready : (old new : WorldView) (cell : NewCell) (result : Result ℕ CellLimit) → WorldIsReady old →
+    has_superclass old.world.cells (fresh cell) ≡ true → MayBeMade old.world.cells program_code cell →
+    MakesCell old (fresh cell) result new → new.world.limits ≡ old.world.limits → WorldIsReady new
+made_ready old new cell (Ok number) ready s m g limits =
+    still old new ready (making_keeps old.world new.world program_code cell ready.lawful s m g.0) limits g.2
 made_ready old new cell (Err limit) ready s m g limits = subst WorldIsReady (sym g.1) ready
 
-pub byte_ready : (old new : WorldView) (at place byte : ℕ) → WorldIsReady old → new ≡ record old { world = byte_written old.world at place byte } → WorldIsReady new
+pub byte_ready : (old new : WorldView) (at place byte : ℕ) → WorldIsReady old →
+    new ≡ record old { world = byte_written old.world at place byte } → WorldIsReady new
 byte_ready old new at place byte ready is =
     subst WorldIsReady (sym is) (record { lawful = byte_keeps old.world program_code at place byte ready.lawful; cells = ready.cells; out = ready.out })
 
-pub item_ready : (old new : WorldView) (at place : ℕ) (value : Value) → WorldIsReady old → is_array old.world.cells (Ref at) ≡ true → IsLiveValue old.world.cells program_code value → new ≡ record old { world = written old.world at place value } → WorldIsReady new
+pub item_ready : (old new : WorldView) (at place : ℕ) (value : Value) → WorldIsReady old → is_array old.world.cells (Ref at) ≡ true →
+    IsLiveValue old.world.cells program_code value → new ≡ record old { world = written old.world at place value } → WorldIsReady new
 item_ready old new at place value ready array live is =
     let none : class_of_object (find_cell old.world.cells at) ≡ None = array_is_no_object old.world.cells at array in
     let may : MayBeWritten old.world.cells program_code at place value = (live, λ class e. let f : Some class ≡ None = sym e ∙ none in absurd (cc)) in
     subst WorldIsReady (sym is) (record { lawful = writing_keeps old.world program_code at place value ready.lawful may; cells = ready.cells; out = ready.out })
 
-pub printed_ready : (old new : WorldView) (bytes : List ℕ) (result : Result (Unit {0}) LimitKind) → WorldIsReady old → Charges (printed old.world bytes) Out old result new → new.world.limits ≡ old.world.limits → WorldIsReady new
-printed_ready old new bytes (Ok done) ready g limits = still old new ready (print_keeps old.world new.world program_code bytes ready.lawful g.0) limits g.1
+pub printed_ready : (old new : WorldView) (bytes : List ℕ) (result : Result (Unit {0}) LimitKind) → WorldIsReady old →
+    Charges (printed old.world bytes) Out old result new → new.world.limits ≡ old.world.limits → WorldIsReady new
+printed_ready old new bytes (Ok done) ready g limits =
+    still old new ready (print_keeps old.world new.world program_code bytes ready.lawful g.0) limits g.1
 printed_ready old new bytes (Err limit) ready g limits = subst WorldIsReady (sym g.2) ready
 
 -- a world of lawful cells with room for all is ready
-with_cells : (cells : Heap) (view : WorldView) → IsLawful (tried_with cells) program_code → view.world ≡ tried_with cells → view.world.limits.cells ≤ view.cell_room → view.world.limits.out ≤ view.out_room → WorldIsReady view
-with_cells cells view lawful w room out = record { lawful = subst (λ (v : World). IsLawful v program_code) (sym w) lawful; cells = room; out = out }
+with_cells : (cells : Heap) (view : WorldView) → IsLawful (tried_with cells) program_code → view.world ≡ tried_with cells →
+    view.world.limits.cells ≤ view.cell_room → view.world.limits.out ≤ view.out_room → WorldIsReady view
+with_cells cells view lawful w room out =
+    record { lawful = subst (λ (v : World). IsLawful v program_code) (sym w) lawful; cells = room; out = out }
 
-pub tried_ready : (view : WorldView) → view.world ≡ tried_with tried_cells → view.world.limits.cells ≤ view.cell_room → view.world.limits.out ≤ view.out_room → WorldIsReady view
+pub tried_ready : (view : WorldView) → view.world ≡ tried_with tried_cells → view.world.limits.cells ≤ view.cell_room →
+    view.world.limits.out ≤ view.out_room → WorldIsReady view
 tried_ready view w cells out = with_cells tried_cells view lawful_tried w cells out
 
-pub empty_ready : (view : WorldView) → view.world ≡ tried_with [] → view.world.limits.cells ≤ view.cell_room → view.world.limits.out ≤ view.out_room → WorldIsReady view
+pub empty_ready : (view : WorldView) → view.world ≡ tried_with [] → view.world.limits.cells ≤ view.cell_room →
+    view.world.limits.out ≤ view.out_room → WorldIsReady view
 empty_ready view w cells out = with_cells [] view lawful_empty w cells out
 
 -- a ready world is lawful for the program

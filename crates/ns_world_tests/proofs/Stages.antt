@@ -27,22 +27,28 @@ use Rattle.ns_world_tests.proofs.Fitting.{program_fits}
 for_some : {X : Type 0} (P : X → Type 0) (o : Option X) (x : X) → o ≡ Some x → P x → ForSome o P
 for_some P o x e p = λ y f. let both : Some x ≡ Some y = sym e ∙ f in let is : x ≡ y = cc in subst P is p
 
-with_cell : (cells : Heap) (new : NewCell) → IsLawful (tried_with cells) program_code → has_superclass cells (fresh new) ≡ true → MayBeMade cells program_code new → nat_le (heap_size cells + cell_size (fresh new)) 200 ≡ true → IsLawful (tried_with (fresh new ∷ cells)) program_code
+with_cell : (cells : Heap) (new : NewCell) → IsLawful (tried_with cells) program_code → has_superclass cells (fresh new) ≡ true →
+    MayBeMade cells program_code new → nat_le (heap_size cells + cell_size (fresh new)) 200 ≡ true →
+    IsLawful (tried_with (fresh new ∷ cells)) program_code
 with_cell cells new lawful s m fits =
     let is : made (tried_with cells) (fresh new) ≡ Some (tried_with (fresh new ∷ cells)) = ap (λ b. cond b (Some (tried_with (fresh new ∷ cells))) None) fits in
     making_keeps (tried_with cells) (tried_with (fresh new ∷ cells)) program_code new lawful s m is
 
 -- an object has a class in its chain
-holds : (heap : Heap) (object class holder : ℕ) → class_of_object (find_cell heap object) ≡ Some class → Contains (chain_of heap class) holder → HasHolder heap (Ref object) holder
-holds heap object class holder e c = (for_some (λ n. Contains (chain_of heap n) holder) (class_of_object (find_cell heap object)) class e c, ap is_some e)
+holds : (heap : Heap) (object class holder : ℕ) → class_of_object (find_cell heap object) ≡ Some class →
+    Contains (chain_of heap class) holder → HasHolder heap (Ref object) holder
+holds heap object class holder e c =
+    (for_some (λ n. Contains (chain_of heap n) holder) (class_of_object (find_cell heap object)) class e c, ap is_some e)
 
 -- a class of a top-level declaration has no enclosing two
-pub at_top : (heap : Heap) (decl : ℕ) (class : ClassCode) → slice_get program_classes decl ≡ Some class → class.outer ≡ None → IsEnclosed heap program_code decl Nil Nil
+pub at_top : (heap : Heap) (decl : ℕ) (class : ClassCode) → slice_get program_classes decl ≡ Some class → class.outer ≡ None →
+    IsEnclosed heap program_code decl Nil Nil
 at_top heap decl class e none =
     (ap is_some e, for_some (λ (other : ClassCode). HasEnclosing heap program_code other.outer Nil Nil) (slice_get program_classes decl) class e (subst (λ o. HasEnclosing heap program_code o Nil Nil) (sym none) (refl, refl)))
 
 pub lawful_empty : IsLawful (tried_with []) program_code
-lawful_empty = empty_is_lawful tried_limits program_code ((omega arith, omega arith), (omega arith, omega arith), (omega arith, omega arith), (omega arith, omega arith)) program_fits refl refl
+lawful_empty =
+    empty_is_lawful tried_limits program_code ((omega arith, omega arith), (omega arith, omega arith), (omega arith, omega arith), (omega arith, omega arith)) program_fits refl refl
 
 lawful_facets : IsLawful (tried_with facet_cells) program_code
 lawful_facets =

@@ -18,7 +18,8 @@ use Rattle.ns_world_tests.specs.Ready.{WorldIsReady}
 use Rattle.ns_world_tests.proofs.Stages.{at_top}
 
 -- the lookup of a send to a receiver can start
-pub starts_there : (view : WorldView) (value : Value) → WorldIsReady view → is_receiver view.world.cells value ≡ true → is_start view.world.cells (start_of view.world.cells value) ≡ true
+pub starts_there : (view : WorldView) (value : Value) → WorldIsReady view → is_receiver view.world.cells value ≡ true →
+    is_start view.world.cells (start_of view.world.cells value) ≡ true
 starts_there view Nil ready r = refl
 starts_there view True ready r = refl
 starts_there view False ready r = refl
@@ -40,7 +41,8 @@ starts_there view (Ref at) ready r = told (find_cell view.world.cells at) refl r
     told (Some (MessageCell sel args)) e r = refl
 
 -- a memo that keeps nothing is right
-pub empty_is_right : (heap : Heap) (code : CodeProgram) (places : List (Option Kept)) → All IsEmpty places → All (PlaceIsRight heap code) places
+pub empty_is_right : (heap : Heap) (code : CodeProgram) (places : List (Option Kept)) → All IsEmpty places →
+    All (PlaceIsRight heap code) places
 empty_is_right heap code places all = λ k d lt. subst (PlaceIsRight heap code) (sym (all k d lt)) tt
 
 -- Base is a top-level declaration

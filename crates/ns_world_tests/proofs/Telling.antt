@@ -16,7 +16,8 @@ use Rattle.ns_world_tests.specs.Program.{program_code}
 use Rattle.ns_world_tests.specs.Looking.{is_no_environment, object_words}
 
 -- a cell that is no environment can be a receiver
-pub receives : (heap : Heap) (at : ℕ) → IsSome (find_cell heap at) → is_no_environment (shape_at heap at) ≡ true → is_receiver_cell (find_cell heap at) ≡ true
+pub receives : (heap : Heap) (at : ℕ) → IsSome (find_cell heap at) → is_no_environment (shape_at heap at) ≡ true →
+    is_receiver_cell (find_cell heap at) ≡ true
 receives heap at there e = told (find_cell heap at) there e
   where
     told : (o : Option Cell) → IsSome o → is_no_environment (option_map_or shape_of o (Mirror Nil)) ≡ true → is_receiver_cell o ≡ true
@@ -67,17 +68,21 @@ words_told heap at word below = told (find_cell heap at) below
 pub one_live : (heap : Heap) (one : Value) → IsLiveValue heap program_code one → All (IsLiveValue heap program_code) (one ∷ [])
 one_live heap one live = All-cons (IsLiveValue heap program_code) one [] live (All-nil (IsLiveValue heap program_code))
 
-pub two_live : (heap : Heap) (one other : Value) → IsLiveValue heap program_code one → IsLiveValue heap program_code other → All (IsLiveValue heap program_code) (one ∷ other ∷ [])
+pub two_live : (heap : Heap) (one other : Value) → IsLiveValue heap program_code one → IsLiveValue heap program_code other →
+    All (IsLiveValue heap program_code) (one ∷ other ∷ [])
 two_live heap one other live more = All-cons (IsLiveValue heap program_code) one (other ∷ []) live (one_live heap other more)
 
 -- what is live for the program is so for a code that is equal to it
-pub live_for : (heap : Heap) (code : CodeProgram) (value : Value) → code ≡ program_code → IsLiveValue heap program_code value → IsLive heap code value
+pub live_for : (heap : Heap) (code : CodeProgram) (value : Value) → code ≡ program_code → IsLiveValue heap program_code value →
+    IsLive heap code value
 live_for heap code value is live = subst (λ (k : CodeProgram). IsLive heap k value) (sym is) live.0
 
-pub all_live_for : (heap : Heap) (code : CodeProgram) (values : List Value) → code ≡ program_code → All (IsLiveValue heap program_code) values → All (IsLive heap code) values
+pub all_live_for : (heap : Heap) (code : CodeProgram) (values : List Value) → code ≡ program_code →
+    All (IsLiveValue heap program_code) values → All (IsLive heap code) values
 all_live_for heap code values is live = λ k d h. live_for heap code (get_or values k d) is (live k d h)
 
-pub all_values_for : (heap : Heap) (code : CodeProgram) (values : List Value) → code ≡ program_code → All (IsLiveValue heap program_code) values → All (IsLiveValue heap code) values
+pub all_values_for : (heap : Heap) (code : CodeProgram) (values : List Value) → code ≡ program_code →
+    All (IsLiveValue heap program_code) values → All (IsLiveValue heap code) values
 all_values_for heap code values is live = subst (λ (k : CodeProgram). All (IsLiveValue heap k) values) (sym is) live
 
 -- the numbers of the program's names are selectors

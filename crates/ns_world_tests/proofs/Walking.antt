@@ -61,7 +61,8 @@ walk_starts (cell ∷ earlier) below = tested (walk_starts earlier) (eqb 0 (heap
         ap is_some (found_in_more cell earlier 0 some) ∙ next some
 
 -- behind a cell of a shape the next one stands
-pub walk_goes_on : (heap : Heap) (at : ℕ) (shape : NewCell) → IsSome (find_cell heap at) → shape ≡ shape_at heap at → HasCell heap (at + size_of_shape shape)
+pub walk_goes_on : (heap : Heap) (at : ℕ) (shape : NewCell) → IsSome (find_cell heap at) → shape ≡ shape_at heap at →
+    HasCell heap (at + size_of_shape shape)
 walk_goes_on heap at shape there is = found (find_cell heap at) refl there
   where
     found : (o : Option Cell) → find_cell heap at ≡ o → IsSome o → HasCell heap (at + size_of_shape shape)
@@ -72,6 +73,8 @@ walk_goes_on heap at shape there is = found (find_cell heap at) refl there
         subst (λ n. HasCell heap (at + n)) (sym size) (behind heap at cell e)
 
 -- and so does the number of it, where it is one
-pub walk_to : (heap : Heap) (at : ℕ) (shape : NewCell) (number : ℕ) (result : Option ℕ) → IsSome (find_cell heap at) → shape ≡ shape_at heap at → number ≡ at + size_of_shape shape → IfSome result (λ next. next ≡ number) → IfSome result (λ next. HasCell heap next)
+pub walk_to : (heap : Heap) (at : ℕ) (shape : NewCell) (number : ℕ) (result : Option ℕ) → IsSome (find_cell heap at) →
+    shape ≡ shape_at heap at → number ≡ at + size_of_shape shape → IfSome result (λ next. next ≡ number) →
+    IfSome result (λ next. HasCell heap next)
 walk_to heap at shape number None there is sum e = tt
 walk_to heap at shape number (Some next) there is sum e = subst (HasCell heap) (sym (e ∙ sum)) (walk_goes_on heap at shape there is)

@@ -32,7 +32,8 @@ empty_objects = ObjectCell 10 (replicate 5 Nil) ∷ ObjectCell 6 (replicate 3 Ni
 
 -- the object of Sub has 1 and 2 in the slots `x` and `y` of Base, 3 and 4 in its own `x` and `z`
 abbrev pub filled_objects : Heap
-filled_objects = ObjectCell 10 (Int (pos 1) ∷ Int (pos 2) ∷ Nil ∷ Int (pos 3) ∷ Int (pos 4) ∷ []) ∷ ObjectCell 6 (replicate 3 Nil) ∷ class_cells
+filled_objects =
+    ObjectCell 10 (Int (pos 1) ∷ Int (pos 2) ∷ Nil ∷ Int (pos 3) ∷ Int (pos 4) ∷ []) ∷ ObjectCell 6 (replicate 3 Nil) ∷ class_cells
 
 -- Part of the object of Base at 28, an object of it at 32, and an object of the kernel's Object at 33
 abbrev pub part_cells : Heap

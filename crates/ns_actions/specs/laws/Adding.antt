@@ -39,10 +39,13 @@ adds_on may first second third one two = record {
 adds_one : (may : NewCell → Bool) (heap : Heap) (cell : Cell) → may (shape_of cell) ≡ true → Adds may heap (cell ∷ heap)
 adds_one may heap cell m = record { added = shape_of cell ∷ []; shapes = refl; each = rw m refl }
 
-pub made_adds : (may : NewCell → Bool) (world after : World) (cell : Cell) → may (shape_of cell) ≡ true → made world cell ≡ Some after → Adds may world.cells after.cells
-made_adds may world after cell m e = subst (λ cells. Adds may world.cells cells) (sym (made_cells world after cell e)) (adds_one may world.cells cell m)
+pub made_adds : (may : NewCell → Bool) (world after : World) (cell : Cell) → may (shape_of cell) ≡ true → made world cell ≡ Some after →
+    Adds may world.cells after.cells
+made_adds may world after cell m e =
+    subst (λ cells. Adds may world.cells cells) (sym (made_cells world after cell e)) (adds_one may world.cells cell m)
 
-set_shapes : (heap : Heap) (number : ℕ) (cell new : Cell) → find_cell heap number ≡ Some cell → shape_of new ≡ shape_of cell → map shape_of (set_cell heap number new) ≡ map shape_of heap
+set_shapes : (heap : Heap) (number : ℕ) (cell new : Cell) → find_cell heap number ≡ Some cell → shape_of new ≡ shape_of cell →
+    map shape_of (set_cell heap number new) ≡ map shape_of heap
 set_shapes [] number cell new e s = refl
 set_shapes (newest ∷ earlier) number cell new e s = tested (eqb number (heap_size earlier)) e (set_shapes earlier number cell new)
   where
@@ -59,8 +62,10 @@ written_shapes heap at word value = found (find_cell heap at) refl
     found (Some cell) e = set_shapes heap at cell (with_word cell word value) e (word_shape word value cell)
     found None e = refl
 
-pub stored_adds : (may : NewCell → Bool) (world : World) (object : Value) (word : ℕ) (value : Value) → Adds may world.cells (stored world object word value).cells
-stored_adds may world (Ref at) word value = adds_same may world.cells (write_word world.cells at word value) (written_shapes world.cells at word value)
+pub stored_adds : (may : NewCell → Bool) (world : World) (object : Value) (word : ℕ) (value : Value) →
+    Adds may world.cells (stored world object word value).cells
+stored_adds may world (Ref at) word value =
+    adds_same may world.cells (write_word world.cells at word value) (written_shapes world.cells at word value)
 stored_adds may world Nil word value = adds_none may world.cells
 stored_adds may world True word value = adds_none may world.cells
 stored_adds may world False word value = adds_none may world.cells

@@ -22,7 +22,8 @@ use Rattle.ns_actions.specs.laws.BlocksOnward.{evaluated_onward, next_onward}
 use Rattle.ns_actions.specs.laws.LawfulValues.{local_onward}
 use Rattle.ns_actions.specs.laws.SendsOnward.{sent_onward, plain_sent_onward, performed_onward}
 
-cell_adds : (may : NewCell → Bool) (cell : Cell) (progress : Progress) → may (shape_of cell) ≡ true → Adds may progress.world.cells (after_reached (new_cell cell progress)).world.cells
+cell_adds : (may : NewCell → Bool) (cell : Cell) (progress : Progress) → may (shape_of cell) ≡ true →
+    Adds may progress.world.cells (after_reached (new_cell cell progress)).world.cells
 cell_adds may cell progress m =
     charged_all (λ a. Adds may progress.world.cells (after_reached a).world.cells) Halts Cells (made progress.world cell) progress (Gives (Ref (heap_size progress.world.cells)))
     (adds_none may progress.world.cells) (λ world e. made_adds may progress.world world cell m e)
@@ -32,7 +33,8 @@ its_own body home = rw (eq-eqb body body refl, eq-eqb home home refl) refl
 
 -- Each action adds cells alone, and none but those that it may add.
 pub action_adds : (code : CodeProgram) (action : Action) (progress : Progress) → AddsOnly code action progress
-action_adds code (Sends activation target sel values place) progress = (sent_onward code activation target sel values place progress).world.adds
+action_adds code (Sends activation target sel values place) progress =
+    (sent_onward code activation target sel values place progress).world.adds
 action_adds code (SendsPlain receiver sel values place) progress = (plain_sent_onward code receiver sel values place progress).world.adds
 action_adds code (Performs receiver sel array site) progress = (performed_onward code receiver sel array site progress).world.adds
 action_adds code (Evaluates block arguments site) progress = (evaluated_onward [] code block arguments site progress).world.adds

@@ -35,10 +35,13 @@ use Rattle.ns_actions.specs.Onward.{after_reached, reached, part_reached}
 use Rattle.ns_actions.specs.laws.Growing.{leaving_moves, frame_moves, writing_moves, storing_moves}
 use Rattle.ns_actions.specs.laws.Onward.{Going, may_come, onward_not, onward_on, onward_in, charged_all, opened_all, frame_onward, cells_onward, after_cells_onward, opened_onward}
 
-made_onward : (named : List Value) (cell : Cell) (fault : Option MakeFault) (site : Site) (progress : Progress) (go : ℕ → Progress → After) → (fault ≡ None → MayCome progress.world.cells cell) → is_common (shape_of cell) ≡ true
+made_onward :
+    (named : List Value) (cell : Cell) (fault : Option MakeFault) (site : Site) (progress : Progress) (go : ℕ → Progress → After) →
+    (fault ≡ None → MayCome progress.world.cells cell) → is_common (shape_of cell) ≡ true
     → ((number : ℕ) (next : Progress) → Going named next (after_reached (go number next))) → Going named progress (after_reached (class_made cell fault site progress go))
 made_onward named cell (Some fault) site progress go may common goes = onward_not named progress
-made_onward named cell None site progress go may common goes = after_cells_onward named cell progress (go _) (may refl) common (λ next. goes _ next)
+made_onward named cell None site progress go may common goes =
+    after_cells_onward named cell progress (go _) (may refl) common (λ next. goes _ next)
 
 -- a superclass that passes the checks is one
 passed : (heap : Heap) (over : Value) → class_fault heap over ≡ None → is_superclass heap over ≡ true
@@ -56,7 +59,8 @@ passed heap (Int number) e = absurd (cc)
 passed heap (Sym sel) e = absurd (cc)
 
 -- a cell that passes a test is the first, or there is one before it
-first_there : (test : Cell → Bool) (heap : Heap) (number : ℕ) (cell : Cell) → find_cell heap number ≡ Some cell → test cell ≡ true → is_none (first_such test heap) ≡ false
+first_there : (test : Cell → Bool) (heap : Heap) (number : ℕ) (cell : Cell) → find_cell heap number ≡ Some cell → test cell ≡ true →
+    is_none (first_such test heap) ≡ false
 first_there test [] number cell e t = absurd (cc)
 first_there test (newest ∷ earlier) number cell e t = tested (eqb number (heap_size earlier)) e (first_there test earlier number cell)
   where
@@ -126,11 +130,13 @@ mixed_onward named code receiver' (new.Facet kind) over site progress is = onwar
 mixed_onward named code receiver' (new.Mirror shown) over site progress is = onward_not named progress
 mixed_onward named code receiver' (new.Message sel args) over site progress is = onward_not named progress
 
-kept_onward : (named : List Value) (kept : Option ℕ) (progress : Progress) (new : After) → Going named progress (after_reached new) → Going named progress (after_reached (kept_or kept progress new))
+kept_onward : (named : List Value) (kept : Option ℕ) (progress : Progress) (new : After) → Going named progress (after_reached new) →
+    Going named progress (after_reached (kept_or kept progress new))
 kept_onward named (Some class) progress new goes = onward_not named progress
 kept_onward named None progress new goes = goes
 
-over_onward : (named : List Value) (code : CodeProgram) (object holder class : ℕ) (over : Value) (site : Site) (progress : Progress) → Contains named (Ref object)
+over_onward : (named : List Value) (code : CodeProgram) (object holder class : ℕ) (over : Value) (site : Site) (progress : Progress) →
+    Contains named (Ref object)
     → Going named progress (after_reached (class_over code object holder class over site progress))
 over_onward named code object holder class over site progress has =
     kept_onward named (kept_class progress.world.cells code object holder class) progress (newly_kept code object holder class over site progress)
@@ -140,9 +146,11 @@ over_onward named code object holder class over site progress has =
     (λ number next. onward_in named next (keeping code object holder class number next.world)
     (writing_moves named next.world object (entry_word next.world.cells code holder (nested_entry code (declaration_of next.world.cells holder) class)) (Ref number) has)))
 
-head_onward : (named : List Value) (code : CodeProgram) (object holder class : ℕ) (clause : Option ℕ) (site : Site) (progress : Progress) → Contains named (Ref object)
+head_onward : (named : List Value) (code : CodeProgram) (object holder class : ℕ) (clause : Option ℕ) (site : Site) (progress : Progress) →
+    Contains named (Ref object)
     → Going named progress (reached (head code object holder class clause site progress))
-head_onward named code object holder class None site progress has = over_onward named code object holder class (Kernel Object) site progress has
+head_onward named code object holder class None site progress has =
+    over_onward named code object holder class (Kernel Object) site progress has
 head_onward named code object holder class (Some clause) site progress has =
     frame_onward named progress (opened code halts (Enter (FromClause object holder class)) inner [])
     (λ next. opened_onward named code (Enter (FromClause object holder class)) inner [] next (λ running locals last. onward_not named last))
@@ -150,12 +158,16 @@ head_onward named code object holder class (Some clause) site progress has =
     inner : Activation
     inner = record { self = Ref object; holder = holder; body = clause; home = no_home; env = Nil; site = site }
 
-pub nested_onward : (named : List Value) (code : CodeProgram) (object holder class : ℕ) (kept : Option ℕ) (site : Site) (progress : Progress) → Contains named (Ref object)
+pub nested_onward :
+    (named : List Value) (code : CodeProgram) (object holder class : ℕ) (kept : Option ℕ) (site : Site) (progress : Progress) →
+    Contains named (Ref object)
     → Going named progress (reached (nested code object holder class kept site progress))
 nested_onward named code object holder class (Some kept) site progress has = onward_not named progress
-nested_onward named code object holder class None site progress has = head_onward named code object holder class (clause_of code class) site progress has
+nested_onward named code object holder class None site progress has =
+    head_onward named code object holder class (clause_of code class) site progress has
 
-pub instance_onward : (named : List Value) (code : CodeProgram) (class : ℕ) (arguments : List Value) (site : Site) (progress : Progress) → Going named progress (reached (instance code class arguments site progress))
+pub instance_onward : (named : List Value) (code : CodeProgram) (class : ℕ) (arguments : List Value) (site : Site) (progress : Progress) →
+    Going named progress (reached (instance code class arguments site progress))
 instance_onward named code class arguments site progress =
     cells_onward named (ObjectCell class (replicate (layout_of progress.world.cells code class) Nil)) progress (opened code halts (Enter FromBody) inner arguments)
     (may_come progress.world.cells (ObjectCell class (replicate (layout_of progress.world.cells code class) Nil)) refl refl) refl
@@ -173,8 +185,11 @@ entered_part named code activation arguments progress =
     opened_all (λ part. Going named progress (part_reached part)) code Stop EnterPart activation arguments (in_world progress world) framed
     (λ running locals last grows. onward_on named progress (in_world progress world) (in_world progress last) framed (onward_in named (in_world progress world) last (grows named))))
 
-declared_onward : (named : List Value) (code : CodeProgram) (activation : Activation) (over sel : ℕ) (arguments : List Value) (progress : Progress) → Going named progress (part_reached (declared_part code activation over sel arguments progress))
-declared_onward named code activation over sel arguments progress = tested (eqb sel (factory_selector code (declaration_of progress.world.cells over)))
+declared_onward :
+    (named : List Value) (code : CodeProgram) (activation : Activation) (over sel : ℕ) (arguments : List Value) (progress : Progress) →
+    Going named progress (part_reached (declared_part code activation over sel arguments progress))
+declared_onward named code activation over sel arguments progress =
+    tested (eqb sel (factory_selector code (declaration_of progress.world.cells over)))
   where
     inner : Activation
     inner = record { self = activation.self; holder = over; body = initialiser_of code (declaration_of progress.world.cells over); home = no_home; env = Nil; site = activation.site }
@@ -183,14 +198,17 @@ declared_onward named code activation over sel arguments progress = tested (eqb 
     tested true = entered_part named code inner arguments progress
     tested false = onward_not named progress
 
-object_onward : (named : List Value) (code : CodeProgram) (activation : Activation) (sel : ℕ) (progress : Progress) → Going named progress (part_reached (object_part code activation sel progress))
+object_onward : (named : List Value) (code : CodeProgram) (activation : Activation) (sel : ℕ) (progress : Progress) →
+    Going named progress (part_reached (object_part code activation sel progress))
 object_onward named code activation sel progress = tested (bytes_eq (selector_text code sel) (codes "new"))
   where
     tested : (b : Bool) → Going named progress (part_reached (cond b (Skip progress) (Stop (error InitMismatch activation.site) progress)))
     tested true = onward_not named progress
     tested false = onward_not named progress
 
-part_onward : (named : List Value) (code : CodeProgram) (activation : Activation) (over : Value) (sel : ℕ) (arguments : List Value) (progress : Progress) → Going named progress (part_reached (part_of code activation over sel arguments progress))
+part_onward :
+    (named : List Value) (code : CodeProgram) (activation : Activation) (over : Value) (sel : ℕ) (arguments : List Value) (progress : Progress) →
+    Going named progress (part_reached (part_of code activation over sel arguments progress))
 part_onward named code activation (Ref over) sel arguments progress = declared_onward named code activation over sel arguments progress
 part_onward named code activation Nil sel arguments progress = object_onward named code activation sel progress
 part_onward named code activation True sel arguments progress = object_onward named code activation sel progress
@@ -200,7 +218,8 @@ part_onward named code activation (Sym name) sel arguments progress = object_onw
 part_onward named code activation (Kernel class) sel arguments progress = object_onward named code activation sel progress
 
 -- A part of a superclass goes onward and changes no cell.
-pub super_onward : (named : List Value) (code : CodeProgram) (activation : Activation) (arguments : List Value) (progress : Progress) → Going named progress (part_reached (super_part code activation arguments progress))
+pub super_onward : (named : List Value) (code : CodeProgram) (activation : Activation) (arguments : List Value) (progress : Progress) →
+    Going named progress (part_reached (super_part code activation arguments progress))
 super_onward named code activation arguments progress =
     part_onward named code activation (superclass_in (find_cell progress.world.cells activation.holder)) (super_selector code (declaration_of progress.world.cells activation.holder)) arguments progress
 
@@ -208,7 +227,8 @@ left_onward : (named : List Value) (progress : Progress) → Going named progres
 left_onward named progress = onward_in named progress (left progress.world) (leaving_moves named progress.world)
 
 -- The end of a body goes onward, and changes the object that keeps the class.
-pub ended_onward : (code : CodeProgram) (exit : Exit) (activation : Activation) (value : Value) (progress : Progress) → Going (kept_by exit) progress (after_reached (body_ended code exit activation value progress))
+pub ended_onward : (code : CodeProgram) (exit : Exit) (activation : Activation) (value : Value) (progress : Progress) →
+    Going (kept_by exit) progress (after_reached (body_ended code exit activation value progress))
 ended_onward code FromMethod activation value progress = left_onward [] progress
 ended_onward code FromBody activation value progress = left_onward [] progress
 ended_onward code (FromClause object holder class) activation value progress =
@@ -217,7 +237,8 @@ ended_onward code (FromClause object holder class) activation value progress =
     (over_onward (Ref object ∷ []) code object holder class value activation.site down (0, omega arith, refl))
 
 -- The filling of a slot goes onward, and changes self.
-pub filled_onward : (code : CodeProgram) (activation : Activation) (slot : ℕ) (value : Value) (progress : Progress) → Going (activation.self ∷ []) progress (slot_filled code activation slot value progress)
+pub filled_onward : (code : CodeProgram) (activation : Activation) (slot : ℕ) (value : Value) (progress : Progress) →
+    Going (activation.self ∷ []) progress (slot_filled code activation slot value progress)
 filled_onward code activation slot value progress =
     onward_in (activation.self ∷ []) progress (stored progress.world activation.self (entry_word progress.world.cells code activation.holder slot) value)
     (storing_moves (activation.self ∷ []) progress.world activation.self (entry_word progress.world.cells code activation.holder slot) value (0, omega arith, refl))

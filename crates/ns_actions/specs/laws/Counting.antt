@@ -52,7 +52,8 @@ stored_counts world (Kernel class) word value = counts_not world
 
 -- so rows of the kernel keep them
 pub counts_allow : (world : World) → Allows (SameCounts world) world
-counts_allow world = record { same = counts_not world; cell = λ after cell may common e. made_counts world after cell e; output = λ after bytes e. printed_counts world after bytes e }
+counts_allow world =
+    record { same = counts_not world; cell = λ after cell may common e. made_counts world after cell e; output = λ after bytes e. printed_counts world after bytes e }
 
 pub counts_write : (world : World) (object : Value) → Writes (SameCounts world) world object
 counts_write world object word item = stored_counts world object word item
@@ -63,18 +64,22 @@ counts_write world object word item = stored_counts world object word item
 pub nothing_charged : (progress : Progress) → Charged 0 0 0 progress progress
 nothing_charged progress = record { steps = omega arith; depth = omega arith; begun = omega arith }
 
-pub still_charged : (steps frames begun : ℕ) (old progress : Progress) (world : World) → Charged steps frames begun old progress → SameCounts progress.world world → Charged steps frames begun old (in_world progress world)
-still_charged steps frames begun old progress world was same = record { steps = same.steps ∙ was.steps; depth = same.depth ∙ was.depth; begun = was.begun }
+pub still_charged : (steps frames begun : ℕ) (old progress : Progress) (world : World) → Charged steps frames begun old progress →
+    SameCounts progress.world world → Charged steps frames begun old (in_world progress world)
+still_charged steps frames begun old progress world was same =
+    record { steps = same.steps ∙ was.steps; depth = same.depth ∙ was.depth; begun = was.begun }
 
 -- A step charges one step.
-pub step_charged : (progress : Progress) (world : World) → stepped progress.world ≡ Some world → Charged 1 0 0 progress (in_world progress world)
+pub step_charged : (progress : Progress) (world : World) → stepped progress.world ≡ Some world →
+    Charged 1 0 0 progress (in_world progress world)
 step_charged progress world e =
     let more : World = record progress.world { steps = progress.world.steps + 1 } in
     given_by (λ (w : World). Charged 1 0 0 progress (in_world progress w)) more world (nat_lt progress.world.steps progress.world.limits.steps) e
     (record { steps = refl; depth = omega arith; begun = omega arith })
 
 -- A frame that is entered charges one of depth more.
-pub frame_charged : (steps : ℕ) (old progress : Progress) (world : World) → Charged steps 0 0 old progress → entered progress.world ≡ Some world → Charged steps 1 0 old (in_world progress world)
+pub frame_charged : (steps : ℕ) (old progress : Progress) (world : World) → Charged steps 0 0 old progress →
+    entered progress.world ≡ Some world → Charged steps 1 0 old (in_world progress world)
 frame_charged steps old progress world was e =
     let more : World = record progress.world { depth = progress.world.depth + 1 } in
     given_by (λ (w : World). Charged steps 1 0 old (in_world progress w)) more world (nat_lt progress.world.depth progress.world.limits.depth) e
@@ -83,7 +88,8 @@ frame_charged steps old progress world was e =
 pub back_given : (progress : Progress) → GivenBack progress (in_world progress (left progress.world))
 back_given progress = record { steps = refl; depth = refl; begun = refl }
 
-pub still_given : (old progress : Progress) (world : World) → GivenBack old progress → SameCounts progress.world world → GivenBack old (in_world progress world)
+pub still_given : (old progress : Progress) (world : World) → GivenBack old progress → SameCounts progress.world world →
+    GivenBack old (in_world progress world)
 still_given old progress world was same = record { steps = same.steps ∙ was.steps; depth = same.depth ∙ was.depth; begun = was.begun }
 
 pub stopped_here : (steps : ℕ) (old progress : Progress) → Charged steps 0 0 old progress → Stopped steps old progress

@@ -373,7 +373,9 @@ module _ (code : CodeProgram) (site : Site) (fits : FitsSite code site) where
   ended_ends FromBody activation answer progress e = tt
   ended_ends (FromClause object holder class) activation answer progress e = rw e (over_ends object holder class answer (in_world progress (left progress.world)))
 
-part_ends : (code : CodeProgram) (activation : Activation) (fits : FitsSite code activation.site) (over : Value) (sel : ℕ) (list : List Value) (progress : Progress) → PartEnds code (part_of code activation over sel list progress)
+part_ends :
+    (code : CodeProgram) (activation : Activation) (fits : FitsSite code activation.site) (over : Value) (sel : ℕ) (list : List Value) (progress : Progress) →
+    PartEnds code (part_of code activation over sel list progress)
 part_ends code activation fits over' sel list progress = over_part over'
   where
     object_ends : PartEnds code (object_part code activation sel progress)
@@ -403,15 +405,19 @@ part_ends code activation fits over' sel list progress = over_part over'
     over_part (value.Kernel class) = object_ends
 
 cell_ends : (code : CodeProgram) (cell : Cell) (progress : Progress) → EndsAfter code (new_cell cell progress)
-cell_ends code cell progress = charged_all (EndsAfter code) Halts Cells (made progress.world cell) progress (Gives (value.Ref (heap_size progress.world.cells))) tt (λ world e. tt)
+cell_ends code cell progress =
+    charged_all (EndsAfter code) Halts Cells (made progress.world cell) progress (Gives (value.Ref (heap_size progress.world.cells))) tt (λ world e. tt)
 
 -- a plain send that waited with its site
-pub waited_ends : (code : CodeProgram) (receiver : Value) (sel : Sel) (list : List Value) (site : Site) (progress : Progress) → LawfulRun code progress → FitsSite code site
+pub waited_ends : (code : CodeProgram) (receiver : Value) (sel : Sel) (list : List Value) (site : Site) (progress : Progress) →
+    LawfulRun code progress → FitsSite code site
     → EndsControl code (charged halts Steps (stepped progress.world) progress (answered_by code (found_from progress.world.cells code (start_of progress.world.cells receiver) sel.0 Plain) sel receiver list site))
-waited_ends code receiver sel list site progress lawful fits = stepped_ends code site fits (found_from progress.world.cells code (start_of progress.world.cells receiver) sel.0 Plain) sel receiver list progress lawful
+waited_ends code receiver sel list site progress lawful fits =
+    stepped_ends code site fits (found_from progress.world.cells code (start_of progress.world.cells receiver) sel.0 Plain) sel receiver list progress lawful
 
 -- In a lawful run each action ends fitly: never with a value, and an error names its site.
-pub action_ends : (code : CodeProgram) (act : Action) (progress : Progress) → LawfulRun code progress → HasSite code act → EndsFitly code act progress
+pub action_ends : (code : CodeProgram) (act : Action) (progress : Progress) → LawfulRun code progress → HasSite code act →
+    EndsFitly code act progress
 action_ends code (Sends activation target sel list place) progress lawful names =
     let to : Value = receiver_of progress.world.cells activation target in
     stepped_ends code (site_at progress.world.cells place to sel) (site_fits code to sel place progress lawful names.selector names.file)
@@ -421,13 +427,16 @@ action_ends code (SendsPlain receiver sel list place) progress lawful names =
 action_ends code (Performs receiver sel array site) progress lawful names =
     waited_ends code receiver sel (items_of progress.world.cells (value.Ref array)) (site_at progress.world.cells site.place receiver sel) progress lawful
     (site_fits code receiver sel site.place progress lawful names.selector names.file)
-action_ends code (Evaluates block list site) progress lawful fits = entered_ends code site fits (shape_of_value progress.world.cells block) list progress
+action_ends code (Evaluates block list site) progress lawful fits =
+    entered_ends code site fits (shape_of_value progress.world.cells block) list progress
 action_ends code (Continues method state site) progress lawful fits = acted_ends code site fits (next method state) state progress
 action_ends code (BeginsPart activation list) progress lawful fits =
     part_ends code activation fits (superclass_in (find_cell progress.world.cells activation.holder)) (super_selector code (declaration_of progress.world.cells activation.holder)) list progress
 action_ends code EndsPart progress lawful fits = tt
-action_ends code (EndsBody exit activation answer) progress lawful fits = ended_ends code activation.site fits exit activation answer progress refl
-action_ends code (MakesBlock activation body) progress lawful fits = cell_ends code (BlockCell body activation.env activation.home activation.self activation.holder) progress
+action_ends code (EndsBody exit activation answer) progress lawful fits =
+    ended_ends code activation.site fits exit activation answer progress refl
+action_ends code (MakesBlock activation body) progress lawful fits =
+    cell_ends code (BlockCell body activation.env activation.home activation.self activation.holder) progress
 action_ends code (MakesText bytes) progress lawful fits = cell_ends code (TextCell bytes) progress
 action_ends code (MakesArray items) progress lawful fits = cell_ends code (ArrayCell items) progress
 action_ends code (FillsSlot activation slot answer) progress lawful fits = tt

@@ -18,7 +18,8 @@ use Rattle.ns_actions.specs.lemmas.Later.{entered_cells}
 use Rattle.ns_actions.specs.laws.Adding.{adds_none, adds_on, made_adds, stored_adds, cells_same, printed_cells}
 
 -- the same cells
-unmoved : (named : List Value) (old new : World) → new.cells ≡ old.cells → new.limits ≡ old.limits → old.steps ≤ new.steps → (more : List ℕ) → new.output ≡ old.output ++ more → Grown named old new
+unmoved : (named : List Value) (old new : World) → new.cells ≡ old.cells → new.limits ≡ old.limits → old.steps ≤ new.steps →
+    (more : List ℕ) → new.output ≡ old.output ++ more → Grown named old new
 unmoved named old new same limits steps more printed = record {
   limits = limits;
   steps = steps;
@@ -117,7 +118,8 @@ printing_grows named world after bytes e = tested (nat_le (length world.output +
     tested false e = absurd (cc)
 
 -- a word of a cell that is named
-writing_grows : (named : List Value) (world : World) (at word : ℕ) (value : Value) → Contains named (Ref at) → Grown named world (written world at word value)
+writing_grows : (named : List Value) (world : World) (at word : ℕ) (value : Value) → Contains named (Ref at) →
+    Grown named world (written world at word value)
 writing_grows named world at word value has =
     let leaves = writing_leaves world.cells at word value in
     let others : (number : ℕ) → IsSome (find_cell world.cells number) → (Contains named (Ref number) → ⊥) → find_cell (written world at word value).cells number ≡ find_cell world.cells number
@@ -125,7 +127,8 @@ writing_grows named world at word value has =
     record { limits = refl; steps = omega arith; cells = omega (arith, leaves.size); more = []; printed = sym (append-nil world.output); others = others }
 
 -- a word of a value that is named, which may be no cell
-storing_grows : (named : List Value) (world : World) (object : Value) (word : ℕ) (value : Value) → Contains named object → Grown named world (stored world object word value)
+storing_grows : (named : List Value) (world : World) (object : Value) (word : ℕ) (value : Value) → Contains named object →
+    Grown named world (stored world object word value)
 storing_grows named world (Ref at) word value has = writing_grows named world at word value has
 storing_grows named world Nil word value has = grown_not named world
 storing_grows named world True word value has = grown_not named world
@@ -145,38 +148,49 @@ pub record Moving (named : List Value) (old new : World) : Type 0 where
 pub moving_not : (named : List Value) (world : World) → Moving named world world
 moving_not named world = record { grown = grown_not named world; later = later_same world; adds = adds_none is_common world.cells }
 
-pub moving_on : (named : List Value) (first second third : World) → Moving named first second → Moving named second third → Moving named first third
+pub moving_on : (named : List Value) (first second third : World) → Moving named first second → Moving named second third →
+    Moving named first third
 moving_on named first second third one two = record {
   grown = grown_on named first second third one.grown two.grown;
   later = later_on first second third one.later two.later;
   adds = adds_on is_common first.cells second.cells third.cells one.adds two.adds;
 }
 
-pub making_moves : (named : List Value) (world after : World) (cell : Cell) → MayCome world.cells cell → is_common (shape_of cell) ≡ true → made world cell ≡ Some after → Moving named world after
-making_moves named world after cell may common e = record { grown = making_grows named world after cell e; later = later_made world after cell may e; adds = made_adds is_common world after cell common e }
+pub making_moves : (named : List Value) (world after : World) (cell : Cell) → MayCome world.cells cell → is_common (shape_of cell) ≡ true →
+    made world cell ≡ Some after → Moving named world after
+making_moves named world after cell may common e =
+    record { grown = making_grows named world after cell e; later = later_made world after cell may e; adds = made_adds is_common world after cell common e }
 
 pub step_moves : (named : List Value) (world after : World) → stepped world ≡ Some after → Moving named world after
-step_moves named world after e = record { grown = step_grows named world after e; later = later_stepped world after e; adds = cells_same is_common world after (step_cells world after e) }
+step_moves named world after e =
+    record { grown = step_grows named world after e; later = later_stepped world after e; adds = cells_same is_common world after (step_cells world after e) }
 
 pub frame_moves : (named : List Value) (world after : World) → entered world ≡ Some after → Moving named world after
-frame_moves named world after e = record { grown = frame_grows named world after e; later = later_entered world after e; adds = cells_same is_common world after (entered_cells world after e) }
+frame_moves named world after e =
+    record { grown = frame_grows named world after e; later = later_entered world after e; adds = cells_same is_common world after (entered_cells world after e) }
 
 pub leaving_moves : (named : List Value) (world : World) → Moving named world (left world)
 leaving_moves named world = record { grown = leaving_grows named world; later = later_left world; adds = adds_none is_common world.cells }
 
 printing_moves : (named : List Value) (world after : World) (bytes : List ℕ) → printed world bytes ≡ Some after → Moving named world after
-printing_moves named world after bytes e = record { grown = printing_grows named world after bytes e; later = later_printed world after bytes e; adds = cells_same is_common world after (printed_cells world after bytes e) }
+printing_moves named world after bytes e =
+    record { grown = printing_grows named world after bytes e; later = later_printed world after bytes e; adds = cells_same is_common world after (printed_cells world after bytes e) }
 
-pub writing_moves : (named : List Value) (world : World) (at word : ℕ) (value : Value) → Contains named (Ref at) → Moving named world (written world at word value)
-writing_moves named world at word value has = record { grown = writing_grows named world at word value has; later = later_written world at word value; adds = stored_adds is_common world (Ref at) word value }
+pub writing_moves : (named : List Value) (world : World) (at word : ℕ) (value : Value) → Contains named (Ref at) →
+    Moving named world (written world at word value)
+writing_moves named world at word value has =
+    record { grown = writing_grows named world at word value has; later = later_written world at word value; adds = stored_adds is_common world (Ref at) word value }
 
-pub storing_moves : (named : List Value) (world : World) (object : Value) (word : ℕ) (value : Value) → Contains named object → Moving named world (stored world object word value)
-storing_moves named world object word value has = record { grown = storing_grows named world object word value has; later = writes_later world object word value; adds = stored_adds is_common world object word value }
+pub storing_moves : (named : List Value) (world : World) (object : Value) (word : ℕ) (value : Value) → Contains named object →
+    Moving named world (stored world object word value)
+storing_moves named world object word value has =
+    record { grown = storing_grows named world object word value has; later = writes_later world object word value; adds = stored_adds is_common world object word value }
 
 -- ---- what rows of the kernel may leave
 
 pub allows : (named : List Value) (world : World) → Allows (Moving named world) world
-allows named world = record { same = moving_not named world; cell = λ after cell may common e. making_moves named world after cell may common e; output = λ after bytes e. printing_moves named world after bytes e }
+allows named world =
+    record { same = moving_not named world; cell = λ after cell may common e. making_moves named world after cell may common e; output = λ after bytes e. printing_moves named world after bytes e }
 
 pub writes : (named : List Value) (world : World) (object : Value) → Contains named object → Writes (Moving named world) world object
 writes named world object has = λ word item. storing_moves named world object word item has

@@ -31,7 +31,8 @@ use Rattle.ns_actions.specs.lemmas.LawfulBodies.{frame_lawful, opened_lawful}
 use Rattle.ns_actions.specs.lemmas.LawfulClasses.{class_live, object_live}
 
 -- an environment that fits is one, or nil
-environment_fits : (depth : ℕ) (heap : Heap) (code : CodeProgram) (parent : Option ℕ) (env : Value) → FitsEnvironment depth heap code parent env → IsEnvironmentOrNil heap env
+environment_fits : (depth : ℕ) (heap : Heap) (code : CodeProgram) (parent : Option ℕ) (env : Value) →
+    FitsEnvironment depth heap code parent env → IsEnvironmentOrNil heap env
 environment_fits depth heap code None env e = subst (IsEnvironmentOrNil heap) (sym e) tt
 environment_fits zero heap code (Some body) env e = absurd e
 environment_fits (suc depth) heap code (Some body) (Ref at) e = found (find_cell heap at) e.1
@@ -62,7 +63,8 @@ body_side code number body fits e =
     has.side
 
 -- a self that fits a body is live
-pub self_live : (world : World) (code : CodeProgram) (number : ℕ) (body : BodyCode) (self : Value) (holder : ℕ) → IsLawful world code → slice_get code.bodies number ≡ Some body → FitsBody world.cells code body self holder → IsLiveValue world.cells code self
+pub self_live : (world : World) (code : CodeProgram) (number : ℕ) (body : BodyCode) (self : Value) (holder : ℕ) → IsLawful world code →
+    slice_get code.bodies number ≡ Some body → FitsBody world.cells code body self holder → IsLiveValue world.cells code self
 self_live world code number body (Ref at) holder lawful e fits = sided body.side refl (body_side code number body lawful.fits e)
   where
     sided : (side : ℕ) → body.side ≡ side → side ≤ 1 → IsLiveValue world.cells code (Ref at)
@@ -77,9 +79,12 @@ self_live world code number body (Sym sel) holder lawful e fits = absurd fits
 self_live world code number body (Kernel class) holder lawful e fits = absurd fits
 
 -- what a block holds is live
-block_holds : (world : World) (code : CodeProgram) (number : ℕ) (env receiver : Value) (holder : ℕ) (arguments : List Value) (site : Site) (home : ℕ) → IsLawful world code → BlockIsLawful world.cells code number env receiver holder → All (IsLiveValue world.cells code) arguments
+block_holds :
+    (world : World) (code : CodeProgram) (number : ℕ) (env receiver : Value) (holder : ℕ) (arguments : List Value) (site : Site) (home : ℕ) →
+    IsLawful world code → BlockIsLawful world.cells code number env receiver holder → All (IsLiveValue world.cells code) arguments
     → (let running : Activation = record { self = receiver; holder = holder; body = number; home = home; env = env; site = site } in LiveActivation world.cells code running arguments)
-block_holds world code number env receiver holder arguments site home lawful block live = found (slice_get code.bodies number) refl block.declared
+block_holds world code number env receiver holder arguments site home lawful block live =
+    found (slice_get code.bodies number) refl block.declared
   where
     found : (o : Option BodyCode) → slice_get code.bodies number ≡ o → IsSome o → (let running : Activation = record { self = receiver; holder = holder; body = number; home = home; env = env; site = site } in LiveActivation world.cells code running arguments)
     found (Some body) e h = record {
@@ -89,9 +94,11 @@ block_holds world code number env receiver holder arguments site home lawful blo
     }
     found None e h = absurd (cc)
 
-block_cell : (code : CodeProgram) (o : Option Cell) (number : ℕ) (arguments : List Value) (site : Site) (progress : Progress) → LawfulRun code progress → find_cell progress.world.cells number ≡ o → All (IsLiveValue progress.world.cells code) arguments
+block_cell : (code : CodeProgram) (o : Option Cell) (number : ℕ) (arguments : List Value) (site : Site) (progress : Progress) →
+    LawfulRun code progress → find_cell progress.world.cells number ≡ o → All (IsLiveValue progress.world.cells code) arguments
     → LawfulControl code (block_entered code (option_map_or shape_of o (new.Mirror Nil)) arguments site progress)
-block_cell code (Some (BlockCell body env home receiver holder)) number arguments site progress lawful e live = tested (eqb (length arguments) (parameters_of code body))
+block_cell code (Some (BlockCell body env home receiver holder)) number arguments site progress lawful e live =
+    tested (eqb (length arguments) (parameters_of code body))
   where
     activation : Activation
     activation = record { self = receiver; holder = holder; body = body; home = home; env = env; site = site }
@@ -128,9 +135,11 @@ block_cell code (Some (MirrorCell shown)) number arguments site progress lawful 
 block_cell code (Some (MessageCell sel args)) number arguments site progress lawful e live = lawful
 
 -- The evaluation of a block with live arguments leaves a lawful world.
-pub evaluated_lawful : (code : CodeProgram) (block : Value) (arguments : List Value) (site : Site) (progress : Progress) → LawfulRun code progress → All (IsLiveValue progress.world.cells code) arguments
+pub evaluated_lawful : (code : CodeProgram) (block : Value) (arguments : List Value) (site : Site) (progress : Progress) →
+    LawfulRun code progress → All (IsLiveValue progress.world.cells code) arguments
     → LawfulControl code (evaluated code block arguments site progress)
-evaluated_lawful code (Ref at) arguments site progress lawful live = block_cell code (find_cell progress.world.cells at) at arguments site progress lawful refl live
+evaluated_lawful code (Ref at) arguments site progress lawful live =
+    block_cell code (find_cell progress.world.cells at) at arguments site progress lawful refl live
 evaluated_lawful code Nil arguments site progress lawful live = lawful
 evaluated_lawful code True arguments site progress lawful live = lawful
 evaluated_lawful code False arguments site progress lawful live = lawful
@@ -138,17 +147,21 @@ evaluated_lawful code (Int number) arguments site progress lawful live = lawful
 evaluated_lawful code (Sym sel) arguments site progress lawful live = lawful
 evaluated_lawful code (Kernel class) arguments site progress lawful live = lawful
 
-pub array_lawful : (code : CodeProgram) (block array : Value) (site : Site) (progress : Progress) → LawfulRun code progress → IsLiveValue progress.world.cells code block → LawfulControl code (value_with_arguments block array site progress)
-array_lawful code block array site progress lawful live = tested (is_array progress.world.cells array) (nat_lt 255 (length (items_of progress.world.cells array)))
+pub array_lawful : (code : CodeProgram) (block array : Value) (site : Site) (progress : Progress) → LawfulRun code progress →
+    IsLiveValue progress.world.cells code block → LawfulControl code (value_with_arguments block array site progress)
+array_lawful code block array site progress lawful live =
+    tested (is_array progress.world.cells array) (nat_lt 255 (length (items_of progress.world.cells array)))
   where
     tested : (b c : Bool) → LawfulControl code (cond b (cond c (fails WrongArity site progress) (Evaluate block (items_of progress.world.cells array) site progress)) (fails WrongKind site progress))
     tested true true = lawful
     tested true false = (lawful, live, items_live progress.world code array lawful)
     tested false c = lawful
 
-pub begun_lawful : (code : CodeProgram) (method : KMethod) (receiver first second : Value) (site : Site) (progress : Progress) → LawfulRun code progress
+pub begun_lawful : (code : CodeProgram) (method : KMethod) (receiver first second : Value) (site : Site) (progress : Progress) →
+    LawfulRun code progress
     → IsLiveValue progress.world.cells code receiver → IsLiveValue progress.world.cells code first → IsLiveValue progress.world.cells code second → LawfulControl code (method_begun method receiver first second site progress)
-begun_lawful code method receiver first second site progress lawful one two three = tested (has_arguments progress.world.cells method first second)
+begun_lawful code method receiver first second site progress lawful one two three =
+    tested (has_arguments progress.world.cells method first second)
   where
     go : Progress → Control
     go = Begin method (beginning receiver first second (pos (turns_of progress.world.cells method receiver))) site

@@ -38,9 +38,11 @@ use Rattle.ns_actions.specs.lemmas.LawfulClasses.{over_lawful}
 
 -- ---- superclass parts
 
-declared_lawful : (code : CodeProgram) (activation : Activation) (over sel : ℕ) (arguments : List Value) (progress : Progress) → LawfulRun code progress → IsLiveValue progress.world.cells code activation.self → All (IsLiveValue progress.world.cells code) arguments
+declared_lawful : (code : CodeProgram) (activation : Activation) (over sel : ℕ) (arguments : List Value) (progress : Progress) →
+    LawfulRun code progress → IsLiveValue progress.world.cells code activation.self → All (IsLiveValue progress.world.cells code) arguments
     → LawfulPart code (declared_part code activation over sel arguments progress)
-declared_lawful code activation over sel arguments progress lawful live all = tested' (eqb sel (factory_selector code (declaration_of progress.world.cells over)))
+declared_lawful code activation over sel arguments progress lawful live all =
+    tested' (eqb sel (factory_selector code (declaration_of progress.world.cells over)))
   where
     inner : Activation
     inner = record { self = activation.self; holder = over; body = initialiser_of code (declaration_of progress.world.cells over); home = no_home; env = Nil; site = activation.site }
@@ -55,16 +57,19 @@ declared_lawful code activation over sel arguments progress lawful live all = te
     tested' true = charged_all (LawfulPart code) Stop Depth (entered progress.world) progress (opened code Stop EnterPart inner arguments) lawful (λ world e. entered' world (later_entered code progress.world world lawful e))
     tested' false = lawful
 
-object_lawful : (code : CodeProgram) (activation : Activation) (sel : ℕ) (progress : Progress) → LawfulRun code progress → LawfulPart code (object_part code activation sel progress)
+object_lawful : (code : CodeProgram) (activation : Activation) (sel : ℕ) (progress : Progress) → LawfulRun code progress →
+    LawfulPart code (object_part code activation sel progress)
 object_lawful code activation sel progress lawful = tested' (bytes_eq (selector_text code sel) (codes "new"))
   where
     tested' : (b : Bool) → LawfulPart code (cond b (Skip progress) (Stop (error InitMismatch activation.site) progress))
     tested' true = lawful
     tested' false = lawful
 
-part_lawful : (code : CodeProgram) (activation : Activation) (over : Value) (sel : ℕ) (arguments : List Value) (progress : Progress) → LawfulRun code progress → IsLiveValue progress.world.cells code activation.self → All (IsLiveValue progress.world.cells code) arguments
+part_lawful : (code : CodeProgram) (activation : Activation) (over : Value) (sel : ℕ) (arguments : List Value) (progress : Progress) →
+    LawfulRun code progress → IsLiveValue progress.world.cells code activation.self → All (IsLiveValue progress.world.cells code) arguments
     → LawfulPart code (part_of code activation over sel arguments progress)
-part_lawful code activation (Ref over) sel arguments progress lawful live all = declared_lawful code activation over sel arguments progress lawful live all
+part_lawful code activation (Ref over) sel arguments progress lawful live all =
+    declared_lawful code activation over sel arguments progress lawful live all
 part_lawful code activation Nil sel arguments progress lawful live all = object_lawful code activation sel progress lawful
 part_lawful code activation True sel arguments progress lawful live all = object_lawful code activation sel progress lawful
 part_lawful code activation False sel arguments progress lawful live all = object_lawful code activation sel progress lawful
@@ -73,7 +78,8 @@ part_lawful code activation (Sym name) sel arguments progress lawful live all = 
 part_lawful code activation (Kernel class) sel arguments progress lawful live all = object_lawful code activation sel progress lawful
 
 -- A part of a superclass leaves a lawful world where self and the arguments are live.
-pub super_lawful : (code : CodeProgram) (activation : Activation) (arguments : List Value) (progress : Progress) → LawfulRun code progress → IsLiveValue progress.world.cells code activation.self → All (IsLiveValue progress.world.cells code) arguments
+pub super_lawful : (code : CodeProgram) (activation : Activation) (arguments : List Value) (progress : Progress) → LawfulRun code progress →
+    IsLiveValue progress.world.cells code activation.self → All (IsLiveValue progress.world.cells code) arguments
     → LawfulPart code (super_part code activation arguments progress)
 super_lawful code activation arguments progress lawful live all =
     part_lawful code activation (superclass_in (find_cell progress.world.cells activation.holder)) (super_selector code (declaration_of progress.world.cells activation.holder)) arguments progress lawful live all
@@ -81,7 +87,8 @@ super_lawful code activation arguments progress lawful live all =
 -- ---- the end of a body
 
 -- The end of a body with a live value leaves a lawful world.
-pub ended_lawful : (code : CodeProgram) (exit : Exit) (activation : Activation) (value : Value) (progress : Progress) → LawfulRun code progress → FitsExit progress.world.cells code exit → IsLiveValue progress.world.cells code value
+pub ended_lawful : (code : CodeProgram) (exit : Exit) (activation : Activation) (value : Value) (progress : Progress) →
+    LawfulRun code progress → FitsExit progress.world.cells code exit → IsLiveValue progress.world.cells code value
     → LawfulAfter code (body_ended code exit activation value progress)
 ended_lawful code FromMethod activation value progress lawful fits live = let later = later_left code progress.world lawful in (later.lawful, later.live value live)
 ended_lawful code FromBody activation value progress lawful fits live = let later = later_left code progress.world lawful in (later.lawful, later.live value live)
@@ -93,7 +100,8 @@ ended_lawful code (FromClause object holder class) activation value progress law
 
 -- The values of an action are live.
 abbrev LiveAction : Heap → CodeProgram → KAction → Type 0
-LiveAction heap code (action.Evaluate block argument turn count) = IsLiveValue heap code block × ForSome argument (λ value. IsLiveValue heap code value)
+LiveAction heap code (action.Evaluate block argument turn count) =
+    IsLiveValue heap code block × ForSome argument (λ value. IsLiveValue heap code value)
 LiveAction heap code (action.EvaluateItem block item count) = IsLiveValue heap code block
 LiveAction heap code (action.Answer value) = IsLiveValue heap code value
 LiveAction heap code (action.Fail kind) = Unit {0}
@@ -232,21 +240,27 @@ module _ (heap : Heap) (code : CodeProgram) where
   next_live method.TimesRepeat s live = times_live s.receiver s.first s.count live.receiver live.first
   next_live method.Do s live = do_live s.receiver s.first s.size s.count live.receiver live.first
 
-waiting_live : (code : CodeProgram) (old new : World) (state : KState) (count : ℤ) → Later code old new → LiveState old.cells code state → LiveState new.cells code (waiting state count)
-waiting_live code old new state count later live = record { receiver = later.live state.receiver live.receiver; first = later.live state.first live.first; second = later.live state.second live.second; last = λ value e. absurd (cc) }
+waiting_live : (code : CodeProgram) (old new : World) (state : KState) (count : ℤ) → Later code old new → LiveState old.cells code state →
+    LiveState new.cells code (waiting state count)
+waiting_live code old new state count later live =
+    record { receiver = later.live state.receiver live.receiver; first = later.live state.first live.first; second = later.live state.second live.second; last = λ value e. absurd (cc) }
 
-listed_live : (heap : Heap) (code : CodeProgram) (o : Option Value) → ForSome o (λ value. IsLiveValue heap code value) → All (IsLiveValue heap code) (listed o)
+listed_live : (heap : Heap) (code : CodeProgram) (o : Option Value) → ForSome o (λ value. IsLiveValue heap code value) →
+    All (IsLiveValue heap code) (listed o)
 listed_live heap code None o = λ i d h. absurd (omega (arith, h))
 listed_live heap code (Some value) o = one_live heap code value (o value refl)
 
 -- a turn of a loop
-turned_lawful : (code : CodeProgram) (turn : Bool) (progress : Progress) (go : Progress → Waiting) → LawfulRun code progress → ((world : World) → Later code progress.world world → LawfulWaiting code (go (in_world progress world))) → LawfulWaiting code (turned turn progress go)
+turned_lawful : (code : CodeProgram) (turn : Bool) (progress : Progress) (go : Progress → Waiting) → LawfulRun code progress →
+    ((world : World) → Later code progress.world world → LawfulWaiting code (go (in_world progress world))) →
+    LawfulWaiting code (turned turn progress go)
 turned_lawful code true progress go lawful goes =
     charged_all (LawfulWaiting code) (λ ending progress. Finishes (Halts ending progress)) Steps (stepped progress.world) progress go lawful
     (λ world e. goes world (later_stepped code progress.world world lawful e (step_cells progress.world world e)))
 turned_lawful code false progress go lawful goes = goes progress.world (later_not code progress.world lawful)
 
-acted_lawful : (code : CodeProgram) (a : KAction) (state : KState) (site : Site) (progress : Progress) → LawfulRun code progress → LiveState progress.world.cells code state → LiveAction progress.world.cells code a → LawfulWaiting code (acted a state site progress)
+acted_lawful : (code : CodeProgram) (a : KAction) (state : KState) (site : Site) (progress : Progress) → LawfulRun code progress →
+    LiveState progress.world.cells code state → LiveAction progress.world.cells code a → LawfulWaiting code (acted a state site progress)
 acted_lawful code (action.Evaluate block argument turn count) state site progress lawful live fits =
     turned_lawful code turn progress (Waits block (listed argument) (waiting state count)) lawful
     (λ world later. (later.lawful, later.live block fits.0, all_live code progress.world world (listed argument) later (listed_live progress.world.cells code argument fits.1), waiting_live code progress.world world state count later live))
@@ -262,5 +276,7 @@ acted_lawful code (action.Answer value) state site progress lawful live fits = l
 acted_lawful code (action.Fail kind) state site progress lawful live fits = lawful
 
 -- An action of a method of the kernel whose values are live leaves a lawful world.
-pub next_lawful : (code : CodeProgram) (m : KMethod) (state : KState) (site : Site) (progress : Progress) → LawfulRun code progress → LiveState progress.world.cells code state → LawfulWaiting code (method_next m state site progress)
-next_lawful code m state site progress lawful live = acted_lawful code (next m state) state site progress lawful live (next_live progress.world.cells code m state live)
+pub next_lawful : (code : CodeProgram) (m : KMethod) (state : KState) (site : Site) (progress : Progress) → LawfulRun code progress →
+    LiveState progress.world.cells code state → LawfulWaiting code (method_next m state site progress)
+next_lawful code m state site progress lawful live =
+    acted_lawful code (next m state) state site progress lawful live (next_live progress.world.cells code m state live)

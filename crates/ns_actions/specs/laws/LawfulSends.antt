@@ -50,7 +50,8 @@ ArgumentsAreLive heap code (Listed values) = All (IsLiveValue heap code) values
 ArgumentsAreLive heap code (Wrapped sel values) = FitsSelector heap code sel values
 
 -- arguments that are given live
-given_lawful : (code : CodeProgram) (arguments : Arguments) (progress : Progress) (go : List Value → Progress → Control) → LawfulRun code progress → ArgumentsAreLive progress.world.cells code arguments
+given_lawful : (code : CodeProgram) (arguments : Arguments) (progress : Progress) (go : List Value → Progress → Control) →
+    LawfulRun code progress → ArgumentsAreLive progress.world.cells code arguments
     → ((values : List Value) (world : World) → Later code progress.world world → All (IsLiveValue world.cells code) values → LawfulControl code (go values (in_world progress world))) → LawfulControl code (given arguments progress go)
 given_lawful code (Listed values) progress go lawful live goes = goes values progress.world (later_not code progress.world lawful) live
 given_lawful code (Wrapped sel values) progress go lawful fits goes =
@@ -69,13 +70,16 @@ given_lawful code (Wrapped sel values) progress go lawful fits goes =
         goes (value.Ref (heap_size world.cells) ∷ []) next (later_on code progress.world world next later further)
         (one_live next.cells code (value.Ref (heap_size world.cells)) (new_live code world next (MessageCell sel (value.Ref (heap_size progress.world.cells))) refl m)))
 
-arguments_later : (code : CodeProgram) (old new : World) (arguments : Arguments) → Later code old new → ArgumentsAreLive old.cells code arguments → ArgumentsAreLive new.cells code arguments
+arguments_later : (code : CodeProgram) (old new : World) (arguments : Arguments) → Later code old new →
+    ArgumentsAreLive old.cells code arguments → ArgumentsAreLive new.cells code arguments
 arguments_later code old new (Listed values) later fits = all_live code old new values later fits
-arguments_later code old new (Wrapped sel values) later fits = record { selector = fits.selector; arity = fits.arity; live = all_live code old new values later fits.live }
+arguments_later code old new (Wrapped sel values) later fits =
+    record { selector = fits.selector; arity = fits.arity; live = all_live code old new values later fits.live }
 
 -- ---- members
 
-method_lawful : (code : CodeProgram) (body holder : ℕ) (receiver : Value) (arguments : Arguments) (site : Site) (progress : Progress) → LawfulRun code progress → IsLiveValue progress.world.cells code receiver → ArgumentsAreLive progress.world.cells code arguments
+method_lawful : (code : CodeProgram) (body holder : ℕ) (receiver : Value) (arguments : Arguments) (site : Site) (progress : Progress) →
+    LawfulRun code progress → IsLiveValue progress.world.cells code receiver → ArgumentsAreLive progress.world.cells code arguments
     → LawfulControl code (method_entered code body holder receiver arguments site progress)
 method_lawful code body holder receiver arguments site progress lawful live fits =
     frame_lawful code progress _ lawful (λ world later.
@@ -84,7 +88,8 @@ method_lawful code body holder receiver arguments site progress lawful live fits
     (record { self = receiver; holder = holder; body = body; home = progress.begun; env = value.Nil; site = site }) values (in_world progress next) further.lawful
     (record { self = further.live receiver (later.live receiver live); env = tt; locals = all }) further.lawful (λ running locals last more fine. (more.lawful, fine))))
 
-factory_lawful : (code : CodeProgram) (class : ℕ) (arguments : Arguments) (site : Site) (progress : Progress) → LawfulRun code progress → is_class (find_cell progress.world.cells class) ≡ true → ArgumentsAreLive progress.world.cells code arguments
+factory_lawful : (code : CodeProgram) (class : ℕ) (arguments : Arguments) (site : Site) (progress : Progress) → LawfulRun code progress →
+    is_class (find_cell progress.world.cells class) ≡ true → ArgumentsAreLive progress.world.cells code arguments
     → LawfulControl code (factory_entered code class arguments site progress)
 factory_lawful code class arguments site progress lawful is fits =
     frame_lawful code progress _ lawful (λ world later.
@@ -92,7 +97,9 @@ factory_lawful code class arguments site progress lawful is fits =
     instance_lawful code class values site (in_world progress next) further.lawful (further.class class (later.class class is)) all))
 
 -- a slot of a receiver that is written
-stored_lawful : (code : CodeProgram) (old new : World) (receiver : Value) (holder word : ℕ) (v : Value) → HasHolder old.cells receiver holder → is_class (find_cell old.cells holder) ≡ true → IsSlotOf old.cells code holder word → Later code old new → IsLiveValue new.cells code v
+stored_lawful : (code : CodeProgram) (old new : World) (receiver : Value) (holder word : ℕ) (v : Value) →
+    HasHolder old.cells receiver holder → is_class (find_cell old.cells holder) ≡ true → IsSlotOf old.cells code holder word →
+    Later code old new → IsLiveValue new.cells code v
     → IsLawful (stored new receiver word v) code
 stored_lawful code old new (value.Ref at) holder word v has is slot later live =
     let declared : slice_get code.classes (declaration_of new.cells holder) ≡ Some slot.class = ap (slice_get code.classes) (later.declaration holder is) ∙ slot.class_is in
@@ -105,7 +112,8 @@ stored_lawful code old new (value.Int number) holder word v has is slot later li
 stored_lawful code old new (value.Sym sel) holder word v has is slot later live = absurd has
 stored_lawful code old new (value.Kernel class) holder word v has is slot later live = absurd has
 
-stored_live : (code : CodeProgram) (world : World) (object : Value) (word : ℕ) (v other : Value) → IsLiveValue world.cells code other → IsLiveValue (stored world object word v).cells code other
+stored_live : (code : CodeProgram) (world : World) (object : Value) (word : ℕ) (v other : Value) → IsLiveValue world.cells code other →
+    IsLiveValue (stored world object word v).cells code other
 stored_live code world (value.Ref at) word v other live = written_live world.cells code at word v other live
 stored_live code world value.Nil word v other live = live
 stored_live code world value.True word v other live = live
@@ -114,20 +122,25 @@ stored_live code world (value.Int number) word v other live = live
 stored_live code world (value.Sym sel) word v other live = live
 stored_live code world (value.Kernel class) word v other live = live
 
-first_is_live : (heap : Heap) (code : CodeProgram) (values : List Value) → All (IsLiveValue heap code) values → IsLiveValue heap code (first_of values)
+first_is_live : (heap : Heap) (code : CodeProgram) (values : List Value) → All (IsLiveValue heap code) values →
+    IsLiveValue heap code (first_of values)
 first_is_live heap code [] all = (tt, refl)
 first_is_live heap code (v ∷ values) all = all 0 v (omega arith)
 
-set_lawful : (code : CodeProgram) (holder word : ℕ) (receiver : Value) (arguments : Arguments) (progress : Progress) → LawfulRun code progress → IsLiveValue progress.world.cells code receiver → ArgumentsAreLive progress.world.cells code arguments
+set_lawful : (code : CodeProgram) (holder word : ℕ) (receiver : Value) (arguments : Arguments) (progress : Progress) →
+    LawfulRun code progress → IsLiveValue progress.world.cells code receiver → ArgumentsAreLive progress.world.cells code arguments
     → HasHolder progress.world.cells receiver holder → is_class (find_cell progress.world.cells holder) ≡ true → IsSlotOf progress.world.cells code holder word → LawfulControl code (set word receiver arguments progress)
 set_lawful code holder word receiver arguments progress lawful live fits has is slot =
     given_lawful code arguments progress _ lawful fits (λ values world later all.
     let first = first_is_live world.cells code values all in
     (stored_lawful code progress.world world receiver holder word (first_of values) has is slot later first, stored_live code world receiver word (first_of values) receiver (later.live receiver live)))
 
-nested_in_lawful : (code : CodeProgram) (receiver : Value) (holder class : ℕ) (site : Site) (progress : Progress) → LawfulRun code progress → HasHolder progress.world.cells receiver holder → is_class (find_cell progress.world.cells holder) ≡ true → HasNested progress.world.cells code holder class
+nested_in_lawful : (code : CodeProgram) (receiver : Value) (holder class : ℕ) (site : Site) (progress : Progress) →
+    LawfulRun code progress → HasHolder progress.world.cells receiver holder → is_class (find_cell progress.world.cells holder) ≡ true →
+    HasNested progress.world.cells code holder class
     → LawfulControl code (nested_in code receiver holder class site progress)
-nested_in_lawful code (value.Ref object) holder class site progress lawful has is nested = nested_lawful code object holder class site progress lawful (record { object_has = has; holder_is = is; nested = nested })
+nested_in_lawful code (value.Ref object) holder class site progress lawful has is nested =
+    nested_lawful code object holder class site progress lawful (record { object_has = has; holder_is = is; nested = nested })
 nested_in_lawful code value.Nil holder class site progress lawful has is nested = absurd has
 nested_in_lawful code value.True holder class site progress lawful has is nested = absurd has
 nested_in_lawful code value.False holder class site progress lawful has is nested = absurd has
@@ -135,7 +148,8 @@ nested_in_lawful code (value.Int number) holder class site progress lawful has i
 nested_in_lawful code (value.Sym sel) holder class site progress lawful has is nested = absurd has
 nested_in_lawful code (value.Kernel kernel) holder class site progress lawful has is nested = absurd has
 
-slot_live : (world : World) (code : CodeProgram) (receiver : Value) (holder word : ℕ) → IsLawful world code → HasHolder world.cells receiver holder → IsLiveValue world.cells code (word_of_object world.cells receiver word)
+slot_live : (world : World) (code : CodeProgram) (receiver : Value) (holder word : ℕ) → IsLawful world code →
+    HasHolder world.cells receiver holder → IsLiveValue world.cells code (word_of_object world.cells receiver word)
 slot_live world code (value.Ref at) holder word lawful has = word_live world code at word lawful has.1
 slot_live world code value.Nil holder word lawful has = absurd has
 slot_live world code value.True holder word lawful has = absurd has
@@ -145,46 +159,76 @@ slot_live world code (value.Sym sel) holder word lawful has = absurd has
 slot_live world code (value.Kernel class) holder word lawful has = absurd has
 
 -- a member with its arguments as they stand
-listed_lawful : (code : CodeProgram) (member : Found) (sel : Sel) (receiver : Value) (values : List Value) (site : Site) (progress : Progress) → LawfulRun code progress → IsLiveValue progress.world.cells code receiver → All (IsLiveValue progress.world.cells code) values → Suits progress.world.cells code receiver member
+listed_lawful :
+    (code : CodeProgram) (member : Found) (sel : Sel) (receiver : Value) (values : List Value) (site : Site) (progress : Progress) →
+    LawfulRun code progress → IsLiveValue progress.world.cells code receiver → All (IsLiveValue progress.world.cells code) values →
+    Suits progress.world.cells code receiver member
     → LawfulControl code (done_with code member sel receiver (Listed values) site progress)
-listed_lawful code (found.Method body holder) sel receiver values site progress lawful live all suits = method_lawful code body holder receiver (Listed values) site progress lawful live all
-listed_lawful code (found.Getter holder word) sel receiver values site progress lawful live all suits = (lawful, slot_live progress.world code receiver holder word lawful suits.0)
-listed_lawful code (found.Setter holder word) sel receiver values site progress lawful live all suits = set_lawful code holder word receiver (Listed values) progress lawful live all suits.0 suits.1 suits.2
-listed_lawful code (found.Nested class holder) sel receiver values site progress lawful live all suits = nested_in_lawful code receiver holder class site progress lawful suits.0 suits.1 suits.2
-listed_lawful code (found.Factory class) sel receiver values site progress lawful live all suits = factory_lawful code class (Listed values) site progress lawful suits all
-listed_lawful code (found.Kernel number) sel receiver values site progress lawful live all suits = row_lawful code (row_at number) sel receiver values site progress lawful live all
+listed_lawful code (found.Method body holder) sel receiver values site progress lawful live all suits =
+    method_lawful code body holder receiver (Listed values) site progress lawful live all
+listed_lawful code (found.Getter holder word) sel receiver values site progress lawful live all suits =
+    (lawful, slot_live progress.world code receiver holder word lawful suits.0)
+listed_lawful code (found.Setter holder word) sel receiver values site progress lawful live all suits =
+    set_lawful code holder word receiver (Listed values) progress lawful live all suits.0 suits.1 suits.2
+listed_lawful code (found.Nested class holder) sel receiver values site progress lawful live all suits =
+    nested_in_lawful code receiver holder class site progress lawful suits.0 suits.1 suits.2
+listed_lawful code (found.Factory class) sel receiver values site progress lawful live all suits =
+    factory_lawful code class (Listed values) site progress lawful suits all
+listed_lawful code (found.Kernel number) sel receiver values site progress lawful live all suits =
+    row_lawful code (row_at number) sel receiver values site progress lawful live all
 listed_lawful code found.NotPublic sel receiver values site progress lawful live all suits = lawful
 listed_lawful code found.Absent sel receiver values site progress lawful live all suits = lawful
 
 -- a send that found nothing
-absent_lawful : (code : CodeProgram) (member : Found) (sel : Sel) (receiver : Value) (values : List Value) (site : Site) (progress : Progress) → LawfulRun code progress → IsLiveValue progress.world.cells code receiver → FitsSelector progress.world.cells code sel values → Suits progress.world.cells code receiver member
+absent_lawful :
+    (code : CodeProgram) (member : Found) (sel : Sel) (receiver : Value) (values : List Value) (site : Site) (progress : Progress) →
+    LawfulRun code progress → IsLiveValue progress.world.cells code receiver → FitsSelector progress.world.cells code sel values →
+    Suits progress.world.cells code receiver member
     → LawfulControl code (not_found code member sel receiver values site progress)
-absent_lawful code (found.Method body holder) sel receiver values site progress lawful live fits suits = method_lawful code body holder receiver (Wrapped sel values) site progress lawful live fits
-absent_lawful code (found.Getter holder word) sel receiver values site progress lawful live fits suits = (lawful, slot_live progress.world code receiver holder word lawful suits.0)
-absent_lawful code (found.Setter holder word) sel receiver values site progress lawful live fits suits = set_lawful code holder word receiver (Wrapped sel values) progress lawful live fits suits.0 suits.1 suits.2
-absent_lawful code (found.Nested class holder) sel receiver values site progress lawful live fits suits = nested_in_lawful code receiver holder class site progress lawful suits.0 suits.1 suits.2
-absent_lawful code (found.Factory class) sel receiver values site progress lawful live fits suits = factory_lawful code class (Wrapped sel values) site progress lawful suits fits
+absent_lawful code (found.Method body holder) sel receiver values site progress lawful live fits suits =
+    method_lawful code body holder receiver (Wrapped sel values) site progress lawful live fits
+absent_lawful code (found.Getter holder word) sel receiver values site progress lawful live fits suits =
+    (lawful, slot_live progress.world code receiver holder word lawful suits.0)
+absent_lawful code (found.Setter holder word) sel receiver values site progress lawful live fits suits =
+    set_lawful code holder word receiver (Wrapped sel values) progress lawful live fits suits.0 suits.1 suits.2
+absent_lawful code (found.Nested class holder) sel receiver values site progress lawful live fits suits =
+    nested_in_lawful code receiver holder class site progress lawful suits.0 suits.1 suits.2
+absent_lawful code (found.Factory class) sel receiver values site progress lawful live fits suits =
+    factory_lawful code class (Wrapped sel values) site progress lawful suits fits
 absent_lawful code (found.Kernel number) sel receiver values site progress lawful live fits suits = lawful
 absent_lawful code found.NotPublic sel receiver values site progress lawful live fits suits = lawful
 absent_lawful code found.Absent sel receiver values site progress lawful live fits suits = lawful
 
-pub answered_lawful : (code : CodeProgram) (member : Found) (sel : Sel) (receiver : Value) (values : List Value) (site : Site) (progress : Progress) → LawfulRun code progress → IsLiveValue progress.world.cells code receiver → FitsSelector progress.world.cells code sel values → Suits progress.world.cells code receiver member
+pub answered_lawful :
+    (code : CodeProgram) (member : Found) (sel : Sel) (receiver : Value) (values : List Value) (site : Site) (progress : Progress) →
+    LawfulRun code progress → IsLiveValue progress.world.cells code receiver → FitsSelector progress.world.cells code sel values →
+    Suits progress.world.cells code receiver member
     → LawfulControl code (answered_by code member sel receiver values site progress)
 answered_lawful code found.Absent sel receiver values site progress lawful live fits suits =
     absent_lawful code (found_from progress.world.cells code (start_of progress.world.cells receiver) (own_number code DoesNotUnderstand) Inner) sel receiver values site progress lawful live fits
     (found_suits progress.world code receiver (own_number code DoesNotUnderstand) Inner lawful)
-answered_lawful code (found.Method body holder) sel receiver values site progress lawful live fits suits = listed_lawful code (found.Method body holder) sel receiver values site progress lawful live fits.live suits
-answered_lawful code (found.Getter holder word) sel receiver values site progress lawful live fits suits = listed_lawful code (found.Getter holder word) sel receiver values site progress lawful live fits.live suits
-answered_lawful code (found.Setter holder word) sel receiver values site progress lawful live fits suits = listed_lawful code (found.Setter holder word) sel receiver values site progress lawful live fits.live suits
-answered_lawful code (found.Nested class holder) sel receiver values site progress lawful live fits suits = listed_lawful code (found.Nested class holder) sel receiver values site progress lawful live fits.live suits
-answered_lawful code (found.Factory class) sel receiver values site progress lawful live fits suits = listed_lawful code (found.Factory class) sel receiver values site progress lawful live fits.live suits
-answered_lawful code (found.Kernel number) sel receiver values site progress lawful live fits suits = listed_lawful code (found.Kernel number) sel receiver values site progress lawful live fits.live suits
-answered_lawful code found.NotPublic sel receiver values site progress lawful live fits suits = listed_lawful code found.NotPublic sel receiver values site progress lawful live fits.live suits
+answered_lawful code (found.Method body holder) sel receiver values site progress lawful live fits suits =
+    listed_lawful code (found.Method body holder) sel receiver values site progress lawful live fits.live suits
+answered_lawful code (found.Getter holder word) sel receiver values site progress lawful live fits suits =
+    listed_lawful code (found.Getter holder word) sel receiver values site progress lawful live fits.live suits
+answered_lawful code (found.Setter holder word) sel receiver values site progress lawful live fits suits =
+    listed_lawful code (found.Setter holder word) sel receiver values site progress lawful live fits.live suits
+answered_lawful code (found.Nested class holder) sel receiver values site progress lawful live fits suits =
+    listed_lawful code (found.Nested class holder) sel receiver values site progress lawful live fits.live suits
+answered_lawful code (found.Factory class) sel receiver values site progress lawful live fits suits =
+    listed_lawful code (found.Factory class) sel receiver values site progress lawful live fits.live suits
+answered_lawful code (found.Kernel number) sel receiver values site progress lawful live fits suits =
+    listed_lawful code (found.Kernel number) sel receiver values site progress lawful live fits.live suits
+answered_lawful code found.NotPublic sel receiver values site progress lawful live fits suits =
+    listed_lawful code found.NotPublic sel receiver values site progress lawful live fits.live suits
 
 -- ---- sends
 
 -- a send whose member suits its receiver
-pub stepped_lawful : (code : CodeProgram) (member : Found) (sel : Sel) (receiver : Value) (values : List Value) (site : Site) (progress : Progress) → LawfulRun code progress → IsLiveValue progress.world.cells code receiver → FitsSelector progress.world.cells code sel values → Suits progress.world.cells code receiver member
+pub stepped_lawful :
+    (code : CodeProgram) (member : Found) (sel : Sel) (receiver : Value) (values : List Value) (site : Site) (progress : Progress) →
+    LawfulRun code progress → IsLiveValue progress.world.cells code receiver → FitsSelector progress.world.cells code sel values →
+    Suits progress.world.cells code receiver member
     → LawfulControl code (charged halts Steps (stepped progress.world) progress (answered_by code member sel receiver values site))
 stepped_lawful code member sel receiver values site progress lawful live fits suits =
     charged_all (LawfulControl code) halts Steps (stepped progress.world) progress (answered_by code member sel receiver values site) lawful
@@ -196,21 +240,28 @@ stepped_lawful code member sel receiver values site progress lawful live fits su
     (subst (λ cells. Suits cells code receiver member) (sym same) suits))
 
 -- A plain send leaves a lawful world.
-pub plain_lawful : (code : CodeProgram) (receiver : Value) (sel : Sel) (values : List Value) (place : Option SourcePlace) (progress : Progress) → LawfulRun code progress → IsLiveValue progress.world.cells code receiver → FitsSelector progress.world.cells code sel values
+pub plain_lawful :
+    (code : CodeProgram) (receiver : Value) (sel : Sel) (values : List Value) (place : Option SourcePlace) (progress : Progress) →
+    LawfulRun code progress → IsLiveValue progress.world.cells code receiver → FitsSelector progress.world.cells code sel values
     → LawfulControl code (sent_plain code receiver sel values place progress)
 plain_lawful code receiver sel values place progress lawful live fits =
     stepped_lawful code (found_from progress.world.cells code (start_of progress.world.cells receiver) sel.0 Plain) sel receiver values (site_at progress.world.cells place receiver sel) progress lawful live fits
     (found_suits progress.world code receiver sel.0 Plain lawful)
 
 -- A send that `perform:with:` makes leaves a lawful world.
-pub performed_lawful : (code : CodeProgram) (receiver : Value) (sel : Sel) (array : ℕ) (site : Site) (progress : Progress) → LawfulRun code progress → IsLiveValue progress.world.cells code receiver → FitsSelector progress.world.cells code sel (items_of progress.world.cells (value.Ref array))
+pub performed_lawful : (code : CodeProgram) (receiver : Value) (sel : Sel) (array : ℕ) (site : Site) (progress : Progress) →
+    LawfulRun code progress → IsLiveValue progress.world.cells code receiver →
+    FitsSelector progress.world.cells code sel (items_of progress.world.cells (value.Ref array))
     → LawfulControl code (performed code receiver sel array site progress)
-performed_lawful code receiver sel array site progress lawful live fits = plain_lawful code receiver sel (items_of progress.world.cells (value.Ref array)) site.place progress lawful live fits
+performed_lawful code receiver sel array site progress lawful live fits =
+    plain_lawful code receiver sel (items_of progress.world.cells (value.Ref array)) site.place progress lawful live fits
 
 -- a send to super, by the side of the code
-pub super_fits : (world : World) (code : CodeProgram) (activation : Activation) (side : Side) (sel : ℕ) → IsLawful world code → (side ≡ InstanceSide → HasHolder world.cells activation.self activation.holder)
+pub super_fits : (world : World) (code : CodeProgram) (activation : Activation) (side : Side) (sel : ℕ) → IsLawful world code →
+    (side ≡ InstanceSide → HasHolder world.cells activation.self activation.holder)
     → Suits world.cells code activation.self (found_from world.cells code (super_start world.cells activation.holder side) sel Inner)
-super_fits world code activation ClassSide sel lawful has = super_side_suits world.cells code activation.self (superclass_of world.cells activation.holder) sel
+super_fits world code activation ClassSide sel lawful has =
+    super_side_suits world.cells code activation.self (superclass_of world.cells activation.holder) sel
 super_fits world code activation InstanceSide sel lawful has = object activation.self refl (has refl)
   where
     f : Found
@@ -233,12 +284,15 @@ body_declared code body some = found (slice_get code.bodies body) some
     found None h = absurd (cc)
 
 -- each send of running code
-pub sent_lawful : (code : CodeProgram) (activation : Activation) (target : Target) (sel : Sel) (values : List Value) (place : Option SourcePlace) (progress : Progress) → LawfulRun code progress → FitsTarget progress.world.cells code activation target → FitsSelector progress.world.cells code sel values
+pub sent_lawful :
+    (code : CodeProgram) (activation : Activation) (target : Target) (sel : Sel) (values : List Value) (place : Option SourcePlace) (progress : Progress) →
+    LawfulRun code progress → FitsTarget progress.world.cells code activation target → FitsSelector progress.world.cells code sel values
     → LawfulControl code (sent code activation target sel values place progress)
 sent_lawful code activation (To receiver kind) sel values place progress lawful fits selector =
     stepped_lawful code (found_from progress.world.cells code (start_of progress.world.cells receiver) sel.0 kind) sel receiver values (site_at progress.world.cells place receiver sel) progress lawful fits selector
     (found_suits progress.world code receiver sel.0 kind lawful)
-sent_lawful code activation (ToPrivate level) sel values place progress lawful (fits, there) selector = declared (declaration_at code activation.body level) refl there
+sent_lawful code activation (ToPrivate level) sel values place progress lawful (fits, there) selector =
+    declared (declaration_at code activation.body level) refl there
   where
     declared : (o : Option ℕ) → declaration_at code activation.body level ≡ o → IsSome o → LawfulControl code (sent code activation (ToPrivate level) sel values place progress)
     declared (Some decl) e some =
@@ -247,7 +301,8 @@ sent_lawful code activation (ToPrivate level) sel values place progress lawful (
         stepped_lawful code (found_private progress.world.cells code o.holder (side_at code activation level) sel.0) sel o.object values (site_at progress.world.cells place o.object sel) progress lawful p.live selector
         (private_suits progress.world.cells code o.object o.holder (side_at code activation level) sel.0 p.has p.holder_is)
     declared None e some = absurd (cc)
-sent_lawful code activation ToSuper sel values place progress lawful fits selector = declared (declaration_at code activation.body 0) refl (body_declared code activation.body fits.there)
+sent_lawful code activation ToSuper sel values place progress lawful fits selector =
+    declared (declaration_at code activation.body 0) refl (body_declared code activation.body fits.there)
   where
     declared : (o : Option ℕ) → declaration_at code activation.body 0 ≡ o → IsSome o → LawfulControl code (sent code activation ToSuper sel values place progress)
     declared (Some decl) e some =

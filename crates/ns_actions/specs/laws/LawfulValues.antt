@@ -27,28 +27,33 @@ use Rattle.ns_actions.specs.laws.Onward.{Going, charged_all, onward_in}
 use Rattle.ns_actions.specs.lemmas.LawfulBodies.{new_live}
 
 -- a new cell that is no environment is a live value
-new_lawful : (code : CodeProgram) (cell : Cell) (progress : Progress) → LawfulRun code progress → has_superclass progress.world.cells cell ≡ true → MayBeMade progress.world.cells code (shape_of cell)
+new_lawful : (code : CodeProgram) (cell : Cell) (progress : Progress) → LawfulRun code progress →
+    has_superclass progress.world.cells cell ≡ true → MayBeMade progress.world.cells code (shape_of cell)
     → MayHold progress.world.cells code cell → is_receiver_cell (Some cell) ≡ true → LawfulAfter code (new_cell cell progress)
 new_lawful code cell progress lawful over may hold receives =
     charged_all (LawfulAfter code) Halts Cells (made progress.world cell) progress (Gives (Ref (heap_size progress.world.cells))) lawful
     (λ world e. (filled_keeps progress.world world code cell lawful over may hold e, new_live code progress.world world cell receives e))
 
 -- A new text leaves a lawful world.
-pub text_lawful : (code : CodeProgram) (bytes : List ℕ) (progress : Progress) → LawfulRun code progress → LawfulAfter code (new_text bytes progress)
+pub text_lawful : (code : CodeProgram) (bytes : List ℕ) (progress : Progress) → LawfulRun code progress →
+    LawfulAfter code (new_text bytes progress)
 text_lawful code bytes progress lawful = new_lawful code (TextCell bytes) progress lawful refl tt tt refl
 
 -- A new array of live elements leaves a lawful world.
-pub array_lawful : (code : CodeProgram) (items : List Value) (progress : Progress) → LawfulRun code progress → All (IsLiveValue progress.world.cells code) items → LawfulAfter code (new_array items progress)
+pub array_lawful : (code : CodeProgram) (items : List Value) (progress : Progress) → LawfulRun code progress →
+    All (IsLiveValue progress.world.cells code) items → LawfulAfter code (new_array items progress)
 array_lawful code items progress lawful live = new_lawful code (ArrayCell items) progress lawful refl tt live refl
 
 -- A new block whose body fits where it is made leaves a lawful world.
-pub block_lawful : (code : CodeProgram) (activation : Activation) (body : ℕ) (progress : Progress) → LawfulRun code progress → BlockIsLawful progress.world.cells code body activation.env activation.self activation.holder
+pub block_lawful : (code : CodeProgram) (activation : Activation) (body : ℕ) (progress : Progress) → LawfulRun code progress →
+    BlockIsLawful progress.world.cells code body activation.env activation.self activation.holder
     → LawfulAfter code (new_block activation body progress)
 block_lawful code activation body progress lawful fits =
     new_lawful code (BlockCell body activation.env activation.home activation.self activation.holder) progress lawful refl fits tt refl
 
 -- a slot is filled with a live value
-pub slot_lawful : (code : CodeProgram) (activation : Activation) (slot : ℕ) (value : Value) (progress : Progress) → LawfulRun code progress → FitsSlot progress.world.cells code activation slot
+pub slot_lawful : (code : CodeProgram) (activation : Activation) (slot : ℕ) (value : Value) (progress : Progress) →
+    LawfulRun code progress → FitsSlot progress.world.cells code activation slot
     → IsLiveValue progress.world.cells code value → LawfulRun code (slot_filled code activation slot value progress)
 slot_lawful code activation slot value progress lawful fits live = told activation.self fits.holder
   where
@@ -80,7 +85,8 @@ no_object (Some (MirrorCell mirrored)) e = refl
 no_object (Some (MessageCell sel args)) e = refl
 
 -- a live value is stored in a local
-pub local_lawful : (code : CodeProgram) (activation : Activation) (hops place : ℕ) (value : Value) (progress : Progress) → LawfulRun code progress → FitsLocal progress.world.cells code activation hops
+pub local_lawful : (code : CodeProgram) (activation : Activation) (hops place : ℕ) (value : Value) (progress : Progress) →
+    LawfulRun code progress → FitsLocal progress.world.cells code activation hops
     → IsLiveValue progress.world.cells code value → LawfulRun code (local_stored code activation hops place value progress)
 local_lawful code activation hops place value progress lawful fits live = tested (is_beside code activation hops) refl
   where

@@ -13,7 +13,8 @@ use Rattle.ns_actions.specs.laws.LawfulValues.{local_onward}
 use Rattle.ns_actions.specs.laws.SendsOnward.{sent_onward, plain_sent_onward, performed_onward}
 
 -- Each action leads to a later world.
-pub action_leads : (code : CodeProgram) (action : Action) (progress : Progress) → IsLater progress.world (progress_after code action progress).world
+pub action_leads : (code : CodeProgram) (action : Action) (progress : Progress) →
+    IsLater progress.world (progress_after code action progress).world
 action_leads code (Sends activation target sel values place) progress =
     (sent_onward code activation target sel values place progress).world.later
 action_leads code (SendsPlain receiver sel values place) progress = (plain_sent_onward code receiver sel values place progress).world.later
@@ -26,7 +27,9 @@ action_leads code (EndsBody exit activation value) progress = (ended_onward code
 action_leads code (MakesBlock activation body) progress =
     let cell : Cell = BlockCell body activation.env activation.home activation.self activation.holder in
     any_cell_later cell progress (may_come progress.world.cells cell refl refl)
-action_leads code (MakesText bytes) progress = any_cell_later (TextCell bytes) progress (may_come progress.world.cells (TextCell bytes) refl refl)
-action_leads code (MakesArray items) progress = any_cell_later (ArrayCell items) progress (may_come progress.world.cells (ArrayCell items) refl refl)
+action_leads code (MakesText bytes) progress =
+    any_cell_later (TextCell bytes) progress (may_come progress.world.cells (TextCell bytes) refl refl)
+action_leads code (MakesArray items) progress =
+    any_cell_later (ArrayCell items) progress (may_come progress.world.cells (ArrayCell items) refl refl)
 action_leads code (FillsSlot activation slot value) progress = (filled_onward code activation slot value progress).world.later
 action_leads code (StoresLocal activation hops place value) progress = (local_onward code activation hops place value progress).world.later

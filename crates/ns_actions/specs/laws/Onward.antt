@@ -35,14 +35,16 @@ may_come heap cell superclass no_first = record { superclass = superclass; no_fi
 pub onward_not : (named : List Value) (progress : Progress) → Going named progress progress
 onward_not named progress = record { world = moving_not named progress.world; begun = omega arith }
 
-pub onward_on : (named : List Value) (first second third : Progress) → Going named first second → Going named second third → Going named first third
+pub onward_on : (named : List Value) (first second third : Progress) → Going named first second → Going named second third →
+    Going named first third
 onward_on named first second third one two = record {
   world = moving_on named first.world second.world third.world one.world two.world;
   begun = omega (arith, one.begun, two.begun);
 }
 
 -- another world that has grown
-pub onward_in : (named : List Value) (progress : Progress) (world : World) → Moving named progress.world world → Going named progress (in_world progress world)
+pub onward_in : (named : List Value) (progress : Progress) (world : World) → Moving named progress.world world →
+    Going named progress (in_world progress world)
 onward_in named progress world grown = record { world = grown; begun = omega arith }
 
 -- a charge: what holds at its end and of what goes on holds of it
@@ -69,7 +71,8 @@ opened_all P code stop go activation arguments progress stops goes = tested (has
     tested false = goes activation locals progress.world (λ named. moving_not named progress.world)
 
 -- a charge whose world has grown
-pub charge_onward : (named : List Value) (limit : LimitKind) (o : Option World) (progress : Progress) (go : Progress → Control) → ((world : World) → o ≡ Some world → Moving named progress.world world)
+pub charge_onward : (named : List Value) (limit : LimitKind) (o : Option World) (progress : Progress) (go : Progress → Control) →
+    ((world : World) → o ≡ Some world → Moving named progress.world world)
     → ((world : World) → o ≡ Some world → Going named (in_world progress world) (reached (go (in_world progress world)))) → Going named progress (reached (charged halts limit o progress go))
 charge_onward named limit o progress go grows goes =
     charged_all (λ c. Going named progress (reached c)) halts limit o progress go (onward_not named progress)
@@ -80,13 +83,15 @@ pub frame_onward : (named : List Value) (progress : Progress) (go : Progress →
 frame_onward named progress go goes =
     charge_onward named Depth (entered progress.world) progress go (λ world e. frame_moves named progress.world world e) (λ world e. goes (in_world progress world))
 
-pub cells_onward : (named : List Value) (cell : Cell) (progress : Progress) (go : Progress → Control) → MayCome progress.world.cells cell → is_common (shape_of cell) ≡ true
+pub cells_onward : (named : List Value) (cell : Cell) (progress : Progress) (go : Progress → Control) → MayCome progress.world.cells cell →
+    is_common (shape_of cell) ≡ true
     → ((next : Progress) → Going named next (reached (go next))) → Going named progress (reached (charged halts Cells (made progress.world cell) progress go))
 cells_onward named cell progress go may common goes =
     charge_onward named Cells (made progress.world cell) progress go (λ world e. making_moves named progress.world world cell may common e) (λ world e. goes (in_world progress world))
 
 -- the same where a value comes next
-pub after_cells_onward : (named : List Value) (cell : Cell) (progress : Progress) (go : Progress → After) → MayCome progress.world.cells cell → is_common (shape_of cell) ≡ true
+pub after_cells_onward : (named : List Value) (cell : Cell) (progress : Progress) (go : Progress → After) →
+    MayCome progress.world.cells cell → is_common (shape_of cell) ≡ true
     → ((next : Progress) → Going named next (after_reached (go next))) → Going named progress (after_reached (charged Halts Cells (made progress.world cell) progress go))
 after_cells_onward named cell progress go may common goes =
     charged_all (λ a. Going named progress (after_reached a)) Halts Cells (made progress.world cell) progress go (onward_not named progress)

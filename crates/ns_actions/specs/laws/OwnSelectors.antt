@@ -24,7 +24,8 @@ own_inside MainArgs = refl
 own_inside DoesNotUnderstand = refl
 
 -- a number that is behind all names names none of that text
-unnamed : (text : List ℕ) (names : List (List ℕ)) (first other : ℕ) → first + length names ≤ other → name_number names first text other ≡ other
+unnamed : (text : List ℕ) (names : List (List ℕ)) (first other : ℕ) → first + length names ≤ other →
+    name_number names first text other ≡ other
     → list_any (bytes_eq text) names ≡ false
 unnamed text [] first other far e = refl
 unnamed text (name ∷ names) first other far e = tested (bytes_eq name text) refl e (bytes_eq text name) refl

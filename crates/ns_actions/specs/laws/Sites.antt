@@ -29,22 +29,26 @@ use Rattle.ns_actions.specs.Fitting.{names_class, FitsSite}
 use Rattle.ns_actions.specs.lemmas.Fitting.{class_there}
 
 -- the declaration of a class is one of the code
-declared : (world : World) (code : CodeProgram) (class : ℕ) → IsLawful world code → is_class (find_cell world.cells class) ≡ true → nat_lt (declaration_of world.cells class) (length code.classes) ≡ true
-declared world code class lawful is = found (slice_get code.classes (declaration_of world.cells class)) refl (class_there world code class lawful is)
+declared : (world : World) (code : CodeProgram) (class : ℕ) → IsLawful world code → is_class (find_cell world.cells class) ≡ true →
+    nat_lt (declaration_of world.cells class) (length code.classes) ≡ true
+declared world code class lawful is =
+    found (slice_get code.classes (declaration_of world.cells class)) refl (class_there world code class lawful is)
   where
     found : (o : Option ClassCode) → slice_get code.classes (declaration_of world.cells class) ≡ o → IsSome o → nat_lt (declaration_of world.cells class) (length code.classes) ≡ true
     found (Some c) e some = lt-ltb (declaration_of world.cells class) (length code.classes) (slice_get_within code.classes (declaration_of world.cells class) c e)
     found None e some = absurd (cc)
 
 -- the class of an object is one, or the kernel's Object
-instance_named : (world : World) (code : CodeProgram) (class : ℕ) → IsLawful world code → is_chain_start world.cells class ≡ true → names_class code (class_name_at world.cells (start.Instance class)) ≡ true
+instance_named : (world : World) (code : CodeProgram) (class : ℕ) → IsLawful world code → is_chain_start world.cells class ≡ true →
+    names_class code (class_name_at world.cells (start.Instance class)) ≡ true
 instance_named world code class lawful from = tested (eqb class no_class) refl
   where
     tested : (b : Bool) → eqb class no_class ≡ b → names_class code (cond b (name.Kernel row.Object) (name.Declared (declaration_of world.cells class))) ≡ true
     tested true t = refl
     tested false t = declared world code class lawful (class_of_start world.cells class from (λ e. let wrong : true ≡ false = sym e ∙ t in cc))
 
-class_named : (world : World) (code : CodeProgram) (receiver : Value) → IsLawful world code → names_class code (class_name_of world.cells receiver) ≡ true
+class_named : (world : World) (code : CodeProgram) (receiver : Value) → IsLawful world code →
+    names_class code (class_name_of world.cells receiver) ≡ true
 class_named world code (value.Ref at) lawful = cell (find_cell world.cells at) refl
   where
     cell : (o : Option Cell) → find_cell world.cells at ≡ o → names_class code (class_name_at world.cells (start_of_cell (option_map_or shape_of o (new.Mirror value.Nil)) at)) ≡ true
@@ -66,6 +70,8 @@ class_named world code (value.Sym sel) lawful = refl
 class_named world code (value.Kernel class) lawful = refl
 
 -- In a lawful run the site of a send fits the code.
-pub site_fits : (code : CodeProgram) (receiver : Value) (sel : Sel) (place : Option Place) (progress : Progress) → LawfulRun code progress → IsTrue (is_selector_number code sel.0) → ForSome place (λ (place : Place). place.file < length code.files)
+pub site_fits : (code : CodeProgram) (receiver : Value) (sel : Sel) (place : Option Place) (progress : Progress) → LawfulRun code progress →
+    IsTrue (is_selector_number code sel.0) → ForSome place (λ (place : Place). place.file < length code.files)
     → FitsSite code (site_at progress.world.cells place receiver sel)
-site_fits code receiver sel place progress lawful is file = record { place = file; class = class_named progress.world code receiver lawful; sel = is }
+site_fits code receiver sel place progress lawful is file =
+    record { place = file; class = class_named progress.world code receiver lawful; sel = is }

@@ -10,8 +10,10 @@ is_within size count items = int_eq size (pos items) && int_le (pos 0) count && 
 pub first_within : (items : ℕ) → is_within (pos items) (pos 0) items ≡ true
 first_within items = grind (arith)
 
-pub next_within : (size count : ℤ) (items : ℕ) → is_within size count items ≡ true → int_lt count size ≡ true → is_within size (count +ℤ pos 1) items ≡ true
+pub next_within : (size count : ℤ) (items : ℕ) → is_within size count items ≡ true → int_lt count size ≡ true →
+    is_within size (count +ℤ pos 1) items ≡ true
 next_within size count items h l = grind (arith, h, l)
 
-pub same_within : (size count : ℤ) (items others : ℕ) → others ≡ items → is_within size count items ≡ true → is_within size count others ≡ true
+pub same_within : (size count : ℤ) (items others : ℕ) → others ≡ items → is_within size count items ≡ true →
+    is_within size count others ≡ true
 same_within size count items others e h = ap (λ many. is_within size count many) e ∙ h

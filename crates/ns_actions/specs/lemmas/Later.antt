@@ -39,7 +39,8 @@ later_keeping code old new lawful k = record {
 }
 
 pub later_not : (code : CodeProgram) (world : World) → IsLawful world code → Later code world world
-later_not code world lawful = record { lawful = lawful; live = λ value h. h; environment = λ value h. h; holder = λ value holder h. h; class = λ number h. h; declaration = λ number h. refl; word = λ holder entry h. refl }
+later_not code world lawful =
+    record { lawful = lawful; live = λ value h. h; environment = λ value h. h; holder = λ value holder h. h; class = λ number h. h; declaration = λ number h. refl; word = λ holder entry h. refl }
 
 -- another world with the same cells
 later_same : (code : CodeProgram) (old new : World) → IsLawful new code → new.cells ≡ old.cells → Later code old new
@@ -53,7 +54,8 @@ later_same code old new lawful e = record {
   word = λ holder entry h. ap (λ cells. entry_word cells code holder entry) e;
 }
 
-pub later_on : (code : CodeProgram) (first second third : World) → Later code first second → Later code second third → Later code first third
+pub later_on : (code : CodeProgram) (first second third : World) → Later code first second → Later code second third →
+    Later code first third
 later_on code first second third one two = record {
   lawful = two.lawful;
   live = λ value h. two.live value (one.live value h);
@@ -64,14 +66,17 @@ later_on code first second third one two = record {
   word = λ holder entry h. two.word holder entry (one.class holder h) ∙ one.word holder entry h;
 }
 
-pub all_live : (code : CodeProgram) (old new : World) (values : List Value) → Later code old new → All (IsLiveValue old.cells code) values → All (IsLiveValue new.cells code) values
+pub all_live : (code : CodeProgram) (old new : World) (values : List Value) → Later code old new → All (IsLiveValue old.cells code) values →
+    All (IsLiveValue new.cells code) values
 all_live code old new values later all = λ i d h. later.live (get_or values i d) (all i d h)
 
-pub later_made : (code : CodeProgram) (old new : World) (cell : Cell) → IsLawful old code → IsLawful new code → made old cell ≡ Some new → Later code old new
+pub later_made : (code : CodeProgram) (old new : World) (cell : Cell) → IsLawful old code → IsLawful new code → made old cell ≡ Some new →
+    Later code old new
 later_made code old new cell before after e =
     later_keeping code old new after (subst (KeepsCells old.cells) (sym (made_cells old new cell e)) (making_keeps_cells old.cells cell (lawful_order old code before)))
 
-later_written : (code : CodeProgram) (old : World) (at word : ℕ) (value : Value) → IsLawful old code → MayBeWritten old.cells code at word value → Later code old (written old at word value)
+later_written : (code : CodeProgram) (old : World) (at word : ℕ) (value : Value) → IsLawful old code →
+    MayBeWritten old.cells code at word value → Later code old (written old at word value)
 later_written code old at word value lawful may =
     later_keeping code old (written old at word value) (writing_keeps old code at word value lawful may)
     (changing_keeps_cells old.cells at (λ cell. with_word cell word value) (word_plainly word value) (λ cell. word_twins word value cell) (lawful_order old code lawful))
@@ -93,5 +98,6 @@ later_entered code world after lawful e = later_same code world after (enter_kee
 pub later_left : (code : CodeProgram) (world : World) → IsLawful world code → Later code world (left world)
 later_left code world lawful = later_same code world (left world) (leave_keeps world code lawful) refl
 
-pub later_stepped : (code : CodeProgram) (world after : World) → IsLawful world code → stepped world ≡ Some after → after.cells ≡ world.cells → Later code world after
+pub later_stepped : (code : CodeProgram) (world after : World) → IsLawful world code → stepped world ≡ Some after →
+    after.cells ≡ world.cells → Later code world after
 later_stepped code world after lawful e same = later_same code world after (step_keeps world after code lawful e) same

@@ -22,7 +22,8 @@ use Rattle.ns_actions.specs.lemmas.Later.{Later, later_not, later_made, later_en
 use Rattle.ns_world.specs.laws.Making.{made_cells}
 
 -- the first locals of a body are live where its arguments are
-first_live : (heap : Heap) (code : CodeProgram) (body : ℕ) (arguments : List Value) → All (IsLiveValue heap code) arguments → All (IsLiveValue heap code) (first_locals code body arguments)
+first_live : (heap : Heap) (code : CodeProgram) (body : ℕ) (arguments : List Value) → All (IsLiveValue heap code) arguments →
+    All (IsLiveValue heap code) (first_locals code body arguments)
 first_live heap code body arguments live =
     All-append (IsLiveValue heap code) arguments (replicate (locals_of code body - parameters_of code body) Nil) live
     (All-replicate (IsLiveValue heap code) (locals_of code body - parameters_of code body) Nil (tt, refl))
@@ -40,7 +41,8 @@ pub new_found : (old new : World) (cell : Cell) → made old cell ≡ Some new �
 new_found old new cell e = ap (λ cells. find_cell cells (heap_size old.cells)) (made_cells old new cell e) ∙ found_new old.cells cell
 
 -- and is live, where it is no environment
-pub new_live : (code : CodeProgram) (old new : World) (cell : Cell) → is_receiver_cell (Some cell) ≡ true → made old cell ≡ Some new → IsLiveValue new.cells code (Ref (heap_size old.cells))
+pub new_live : (code : CodeProgram) (old new : World) (cell : Cell) → is_receiver_cell (Some cell) ≡ true → made old cell ≡ Some new →
+    IsLiveValue new.cells code (Ref (heap_size old.cells))
 new_live code old new cell receives e = let is = new_found old new cell e in (rw is refl, rw is receives)
 
 -- a frame that is charged

@@ -35,7 +35,8 @@ use Rattle.ns_actions.specs.lemmas.Nesting.{nested_inner, first_nested}
 no_values : (heap : Heap) (code : CodeProgram) → All (IsLiveValue heap code) []
 no_values heap code = λ i d h. absurd (omega (arith, h))
 
-pub class_live : (heap : Heap) (code : CodeProgram) (o : Option Cell) (number : ℕ) → find_cell heap number ≡ o → is_class o ≡ true → IsLiveValue heap code (Ref number)
+pub class_live : (heap : Heap) (code : CodeProgram) (o : Option Cell) (number : ℕ) → find_cell heap number ≡ o → is_class o ≡ true →
+    IsLiveValue heap code (Ref number)
 class_live heap code (Some (ClassCell decl base encl holder over)) number e t = (rw e refl, rw e refl)
 class_live heap code None number e t = absurd (cc)
 class_live heap code (Some (ObjectCell class entries)) number e t = absurd (cc)
@@ -49,7 +50,8 @@ class_live heap code (Some (MessageCell sel args)) number e t = absurd (cc)
 
 -- ---- instances
 
-pub instance_lawful : (code : CodeProgram) (class : ℕ) (arguments : List Value) (site : Site) (progress : Progress) → LawfulRun code progress → is_class (find_cell progress.world.cells class) ≡ true → All (IsLiveValue progress.world.cells code) arguments
+pub instance_lawful : (code : CodeProgram) (class : ℕ) (arguments : List Value) (site : Site) (progress : Progress) →
+    LawfulRun code progress → is_class (find_cell progress.world.cells class) ≡ true → All (IsLiveValue progress.world.cells code) arguments
     → LawfulControl code (instance code class arguments site progress)
 instance_lawful code class arguments site progress lawful is live =
     charged_all (LawfulControl code) halts Cells (made progress.world cell) progress (opened code halts (Enter FromBody) activation arguments) lawful (λ world e. begun world e)
@@ -74,7 +76,8 @@ instance_lawful code class arguments site progress lawful is live =
 -- ---- classes
 
 -- a class that is made over a superclass without a fault
-made_lawful : (code : CodeProgram) (decl : ℕ) (encl holder over : Value) (site : Site) (progress : Progress) (go : ℕ → Progress → After) → LawfulRun code progress → IsEnclosed progress.world.cells code decl encl holder
+made_lawful : (code : CodeProgram) (decl : ℕ) (encl holder over : Value) (site : Site) (progress : Progress) (go : ℕ → Progress → After) →
+    LawfulRun code progress → IsEnclosed progress.world.cells code decl encl holder
     → ((world : World) → Later code progress.world world
     → find_cell world.cells (heap_size progress.world.cells) ≡ Some (class_cell progress.world.cells code decl encl holder over)
     → LawfulAfter code (go (heap_size progress.world.cells) (in_world progress world)))
@@ -94,7 +97,8 @@ made_lawful code decl encl holder over site progress go lawful enclosed goes = b
     by_fault (Some fault) e = lawful
     by_fault None e = charged_all (LawfulAfter code) Halts Cells (made progress.world cell) progress (go (heap_size progress.world.cells)) lawful (λ world m. fine e world m)
 
-mixed_cell : (code : CodeProgram) (o : Option Cell) (number : ℕ) (over : Value) (site : Site) (progress : Progress) → LawfulRun code progress
+mixed_cell : (code : CodeProgram) (o : Option Cell) (number : ℕ) (over : Value) (site : Site) (progress : Progress) →
+    LawfulRun code progress
     → find_cell progress.world.cells number ≡ o → LawfulAfter code (mixed code (option_map_or shape_of o (new.Mirror Nil)) over site progress)
 mixed_cell code (Some (ClassCell decl base encl holder under)) number over site progress lawful e =
     let class = lawful.cells number (ClassCell decl base encl holder under) e in
@@ -111,7 +115,8 @@ mixed_cell code (Some (MirrorCell shown)) number over site progress lawful e = l
 mixed_cell code (Some (MessageCell sel args)) number over site progress lawful e = lawful
 
 -- mixin application, sent to any value
-pub mixed_lawful : (code : CodeProgram) (mixin over : Value) (site : Site) (progress : Progress) → LawfulRun code progress → LawfulAfter code (mixed code (shape_of_value progress.world.cells mixin) over site progress)
+pub mixed_lawful : (code : CodeProgram) (mixin over : Value) (site : Site) (progress : Progress) → LawfulRun code progress →
+    LawfulAfter code (mixed code (shape_of_value progress.world.cells mixin) over site progress)
 mixed_lawful code (Ref at) over site progress lawful = mixed_cell code (find_cell progress.world.cells at) at over site progress lawful refl
 mixed_lawful code Nil over site progress lawful = lawful
 mixed_lawful code True over site progress lawful = lawful
@@ -123,7 +128,8 @@ mixed_lawful code (Kernel class) over site progress lawful = lawful
 -- ---- nested classes
 
 -- a word of an object is live
-pub word_live : (world : World) (code : CodeProgram) (at word : ℕ) → IsLawful world code → IsSome (class_of_object (find_cell world.cells at)) → IsLiveValue world.cells code (word_at world.cells at word)
+pub word_live : (world : World) (code : CodeProgram) (at word : ℕ) → IsLawful world code →
+    IsSome (class_of_object (find_cell world.cells at)) → IsLiveValue world.cells code (word_at world.cells at word)
 word_live world code at word lawful is = found (find_cell world.cells at) refl is
   where
     found : (o : Option Cell) → find_cell world.cells at ≡ o → IsSome (class_of_object o) → IsLiveValue world.cells code (get_or (option_map_or cell_words o []) word Nil)
@@ -148,13 +154,16 @@ kept_is (Sym sel) kept e = absurd (cc)
 kept_is (Kernel class) kept e = absurd (cc)
 
 -- a class that is kept is live
-kept_live : (world : World) (code : CodeProgram) (object holder class kept : ℕ) → IsLawful world code → HasHolder world.cells (Ref object) holder → kept_class world.cells code object holder class ≡ Some kept → IsLiveValue world.cells code (Ref kept)
+kept_live : (world : World) (code : CodeProgram) (object holder class kept : ℕ) → IsLawful world code →
+    HasHolder world.cells (Ref object) holder → kept_class world.cells code object holder class ≡ Some kept →
+    IsLiveValue world.cells code (Ref kept)
 kept_live world code object holder class kept lawful has e =
     let word = entry_word world.cells code holder (nested_entry code (declaration_of world.cells holder) class) in
     subst (IsLiveValue world.cells code) (kept_is (word_at world.cells object word) kept e) (word_live world code object word lawful has.1)
 
 -- the enclosing two of a nested class are those that its declaration asks for
-pub enclosed : (world : World) (code : CodeProgram) (object holder class : ℕ) → IsLawful world code → HasClass world.cells code object holder class → IsEnclosed world.cells code class (Ref object) (Ref holder)
+pub enclosed : (world : World) (code : CodeProgram) (object holder class : ℕ) → IsLawful world code →
+    HasClass world.cells code object holder class → IsEnclosed world.cells code class (Ref object) (Ref holder)
 enclosed world code object holder class lawful has =
     let n = has.nested in
     let inner = nested_inner code (declaration_of world.cells holder) n.place n.class n.nested lawful.classes n.class_is n.nested_is in
@@ -164,7 +173,8 @@ enclosed world code object holder class lawful has =
     (rw there refl, λ (declared : ClassCode) e. let same : inner.inner ≡ declared = cc in subst (λ (c : ClassCode). HasEnclosing world.cells code c.outer (Ref object) (Ref holder)) same two)
 
 -- the object keeps a class that was made for it
-keeping_lawful : (code : CodeProgram) (old world : World) (object holder class base number : ℕ) (over : Value) → IsLawful old code → HasClass old.cells code object holder class → Later code old world
+keeping_lawful : (code : CodeProgram) (old world : World) (object holder class base number : ℕ) (over : Value) → IsLawful old code →
+    HasClass old.cells code object holder class → Later code old world
     → find_cell world.cells number ≡ Some (ClassCell class base (Ref object) (Ref holder) over) → IsLawful (keeping code object holder class number world) code
 keeping_lawful code old world object holder class base number over lawful has later is =
     let n = has.nested in
@@ -179,7 +189,8 @@ keeping_lawful code old world object holder class base number over lawful has la
     subst (λ e. IsLawful (written world object (entry_word world.cells code holder e) (Ref number)) code) (sym entry)
     (class_kept world code object holder place n.class first.one (Ref number) later.lawful (later.holder (Ref object) holder has.object_has) declared at live kept)
 
-pub over_lawful : (code : CodeProgram) (object holder class : ℕ) (over : Value) (site : Site) (progress : Progress) → LawfulRun code progress → HasClass progress.world.cells code object holder class
+pub over_lawful : (code : CodeProgram) (object holder class : ℕ) (over : Value) (site : Site) (progress : Progress) →
+    LawfulRun code progress → HasClass progress.world.cells code object holder class
     → LawfulAfter code (class_over code object holder class over site progress)
 over_lawful code object holder class over site progress lawful has = kept (kept_class progress.world.cells code object holder class) refl
   where
@@ -195,7 +206,8 @@ over_lawful code object holder class over site progress lawful has = kept (kept_
         ))
 
 -- an object is live
-pub object_live : (heap : Heap) (code : CodeProgram) (at : ℕ) → IsSome (class_of_object (find_cell heap at)) → IsLiveValue heap code (Ref at)
+pub object_live : (heap : Heap) (code : CodeProgram) (at : ℕ) → IsSome (class_of_object (find_cell heap at)) →
+    IsLiveValue heap code (Ref at)
 object_live heap code at is = found (find_cell heap at) refl is
   where
     found : (o : Option Cell) → find_cell heap at ≡ o → IsSome (class_of_object o) → IsLiveValue heap code (Ref at)
@@ -210,9 +222,11 @@ object_live heap code at is = found (find_cell heap at) refl is
     found (Some (MirrorCell shown)) e is = absurd (cc)
     found (Some (MessageCell sel args)) e is = absurd (cc)
 
-head_lawful : (code : CodeProgram) (object holder class : ℕ) (clause : Option ℕ) (site : Site) (progress : Progress) → LawfulRun code progress → HasClass progress.world.cells code object holder class
+head_lawful : (code : CodeProgram) (object holder class : ℕ) (clause : Option ℕ) (site : Site) (progress : Progress) →
+    LawfulRun code progress → HasClass progress.world.cells code object holder class
     → LawfulControl code (head code object holder class clause site progress)
-head_lawful code object holder class None site progress lawful has = over_lawful code object holder class (Kernel Object) site progress lawful has
+head_lawful code object holder class None site progress lawful has =
+    over_lawful code object holder class (Kernel Object) site progress lawful has
 head_lawful code object holder class (Some clause) site progress lawful has =
     frame_lawful code progress (opened code halts (Enter (FromClause object holder class)) activation []) lawful
     (λ world later. opened_lawful (LawfulControl code) code halts (Enter (FromClause object holder class)) activation [] (in_world progress world) later.lawful
@@ -222,7 +236,8 @@ head_lawful code object holder class (Some clause) site progress lawful has =
     activation : Activation
     activation = record { self = Ref object; holder = holder; body = clause; home = no_home; env = Nil; site = site }
 
-pub nested_lawful : (code : CodeProgram) (object holder class : ℕ) (site : Site) (progress : Progress) → LawfulRun code progress → HasClass progress.world.cells code object holder class
+pub nested_lawful : (code : CodeProgram) (object holder class : ℕ) (site : Site) (progress : Progress) → LawfulRun code progress →
+    HasClass progress.world.cells code object holder class
     → LawfulControl code (nested code object holder class (kept_class progress.world.cells code object holder class) site progress)
 nested_lawful code object holder class site progress lawful has = kept (kept_class progress.world.cells code object holder class) refl
   where

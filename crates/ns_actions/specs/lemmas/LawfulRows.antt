@@ -52,16 +52,19 @@ use Rattle.ns_actions.specs.lemmas.LawfulClasses.{mixed_lawful}
 use Rattle.ns_actions.specs.laws.LawfulBlocks.{array_lawful, begun_lawful}
 
 -- an argument is live, or nil where there is none
-argument_live : (heap : Heap) (code : CodeProgram) (arguments : List Value) (place : ℕ) → All (IsLiveValue heap code) arguments → IsLiveValue heap code (argument arguments place)
+argument_live : (heap : Heap) (code : CodeProgram) (arguments : List Value) (place : ℕ) → All (IsLiveValue heap code) arguments →
+    IsLiveValue heap code (argument arguments place)
 argument_live heap code arguments place live = get_live (IsLiveValue heap code) arguments place live (tt, refl)
 
-outcome_lawful : (code : CodeProgram) (outcome : RowOutcome) (site : Site) (progress : Progress) → LawfulRun code progress → LeavesLawful code outcome → AnswersLive code outcome → LawfulControl code (outcome_reached outcome site progress)
+outcome_lawful : (code : CodeProgram) (outcome : RowOutcome) (site : Site) (progress : Progress) → LawfulRun code progress →
+    LeavesLawful code outcome → AnswersLive code outcome → LawfulControl code (outcome_reached outcome site progress)
 outcome_lawful code (Answers answer world) site progress lawful after live = (after, live)
 outcome_lawful code (Fails fault) site progress lawful after live = lawful
 
 -- ---- Integer
 
-given_live : (heap : Heap) (code : CodeProgram) (r : Result ℤ Fault) (f : ℤ → Result Value Fault) → ((n : ℤ) → IfOk (f n) (λ v. IsLiveValue heap code v)) → IfOk (given r f) (λ v. IsLiveValue heap code v)
+given_live : (heap : Heap) (code : CodeProgram) (r : Result ℤ Fault) (f : ℤ → Result Value Fault) →
+    ((n : ℤ) → IfOk (f n) (λ v. IsLiveValue heap code v)) → IfOk (given r f) (λ v. IsLiveValue heap code v)
 given_live heap code (Ok n) f live = live n
 given_live heap code (Err fault) f live = tt
 
@@ -82,88 +85,141 @@ int_live heap code n = (tt, refl)
 bits_live : (heap : Heap) (code : CodeProgram) (both : ℕ → ℕ → ℕ) (left right : ℤ) → IsLiveValue heap code (on_bits both left right)
 bits_live heap code both left right = (tt, refl)
 
-integer_live : (heap : Heap) (code : CodeProgram) (r : IntRow) (left : ℤ) (right : Value) → IfOk (integer r left right) (λ v. IsLiveValue heap code v)
-integer_live heap code int.Add left right = given_live heap code (integer_of right) (λ n. fitting (left +ℤ n)) (λ n. fitting_live heap code (left +ℤ n))
-integer_live heap code int.Subtract left right = given_live heap code (integer_of right) (λ n. fitting (left -ℤ n)) (λ n. fitting_live heap code (left -ℤ n))
-integer_live heap code int.Multiply left right = given_live heap code (integer_of right) (λ n. fitting (left *ℤ n)) (λ n. fitting_live heap code (left *ℤ n))
-integer_live heap code int.Quotient left right = given_live heap code (divisor_of right) (λ n. fitting (floored_quotient left n)) (λ n. fitting_live heap code (floored_quotient left n))
-integer_live heap code int.Remainder left right = given_live heap code (divisor_of right) (λ n. Ok (value.Int (floored_remainder left n))) (λ n. int_live heap code (floored_remainder left n))
-integer_live heap code int.Less left right = given_live heap code (integer_of right) (λ n. Ok (truth (int_lt left n))) (λ n. truth_live heap code (int_lt left n))
-integer_live heap code int.LessEqual left right = given_live heap code (integer_of right) (λ n. Ok (truth (int_le left n))) (λ n. truth_live heap code (int_le left n))
-integer_live heap code int.Greater left right = given_live heap code (integer_of right) (λ n. Ok (truth (int_lt n left))) (λ n. truth_live heap code (int_lt n left))
-integer_live heap code int.GreaterEqual left right = given_live heap code (integer_of right) (λ n. Ok (truth (int_le n left))) (λ n. truth_live heap code (int_le n left))
+integer_live : (heap : Heap) (code : CodeProgram) (r : IntRow) (left : ℤ) (right : Value) →
+    IfOk (integer r left right) (λ v. IsLiveValue heap code v)
+integer_live heap code int.Add left right =
+    given_live heap code (integer_of right) (λ n. fitting (left +ℤ n)) (λ n. fitting_live heap code (left +ℤ n))
+integer_live heap code int.Subtract left right =
+    given_live heap code (integer_of right) (λ n. fitting (left -ℤ n)) (λ n. fitting_live heap code (left -ℤ n))
+integer_live heap code int.Multiply left right =
+    given_live heap code (integer_of right) (λ n. fitting (left *ℤ n)) (λ n. fitting_live heap code (left *ℤ n))
+integer_live heap code int.Quotient left right =
+    given_live heap code (divisor_of right) (λ n. fitting (floored_quotient left n)) (λ n. fitting_live heap code (floored_quotient left n))
+integer_live heap code int.Remainder left right =
+    given_live heap code (divisor_of right) (λ n. Ok (value.Int (floored_remainder left n))) (λ n. int_live heap code (floored_remainder left n))
+integer_live heap code int.Less left right =
+    given_live heap code (integer_of right) (λ n. Ok (truth (int_lt left n))) (λ n. truth_live heap code (int_lt left n))
+integer_live heap code int.LessEqual left right =
+    given_live heap code (integer_of right) (λ n. Ok (truth (int_le left n))) (λ n. truth_live heap code (int_le left n))
+integer_live heap code int.Greater left right =
+    given_live heap code (integer_of right) (λ n. Ok (truth (int_lt n left))) (λ n. truth_live heap code (int_lt n left))
+integer_live heap code int.GreaterEqual left right =
+    given_live heap code (integer_of right) (λ n. Ok (truth (int_le n left))) (λ n. truth_live heap code (int_le n left))
 integer_live heap code int.Equal left right = truth_live heap code (same_integer left right)
-integer_live heap code int.BitAnd left right = given_live heap code (integer_of right) (λ n. Ok (on_bits bit_and left n)) (λ n. bits_live heap code bit_and left n)
-integer_live heap code int.BitOr left right = given_live heap code (integer_of right) (λ n. Ok (on_bits bit_or left n)) (λ n. bits_live heap code bit_or left n)
-integer_live heap code int.BitXor left right = given_live heap code (integer_of right) (λ n. Ok (on_bits bit_xor left n)) (λ n. bits_live heap code bit_xor left n)
+integer_live heap code int.BitAnd left right =
+    given_live heap code (integer_of right) (λ n. Ok (on_bits bit_and left n)) (λ n. bits_live heap code bit_and left n)
+integer_live heap code int.BitOr left right =
+    given_live heap code (integer_of right) (λ n. Ok (on_bits bit_or left n)) (λ n. bits_live heap code bit_or left n)
+integer_live heap code int.BitXor left right =
+    given_live heap code (integer_of right) (λ n. Ok (on_bits bit_xor left n)) (λ n. bits_live heap code bit_xor left n)
 integer_live heap code int.Negated left right = fitting_live heap code (neg_ℤ left)
 
-answer_lawful : (code : CodeProgram) (r : Result Value Fault) (site : Site) (progress : Progress) → LawfulRun code progress → IfOk r (λ v. IsLiveValue progress.world.cells code v) → LawfulControl code (answer_reached r site progress)
+answer_lawful : (code : CodeProgram) (r : Result Value Fault) (site : Site) (progress : Progress) → LawfulRun code progress →
+    IfOk r (λ v. IsLiveValue progress.world.cells code v) → LawfulControl code (answer_reached r site progress)
 answer_lawful code (Ok answer) site progress lawful live = (lawful, live)
 answer_lawful code (Err fault) site progress lawful live = lawful
 
 -- ---- facets and mirrors
 
-facet_lawful : (code : CodeProgram) (r : FacetRow) (arguments : List Value) (site : Site) (progress : Progress) → LawfulRun code progress → LawfulControl code (facet_reached code r arguments site progress)
+facet_lawful : (code : CodeProgram) (r : FacetRow) (arguments : List Value) (site : Site) (progress : Progress) → LawfulRun code progress →
+    LawfulControl code (facet_reached code r arguments site progress)
 facet_lawful code r arguments site progress lawful =
     outcome_lawful code (facet_outcome progress.world code r arguments progress.board) site (record progress { board = board_after r arguments progress.board }) lawful
     (facets_lawful progress.world code r (argument arguments 0) (argument arguments 1) progress.board lawful) (facets_live progress.world code r (argument arguments 0) (argument arguments 1) progress.board)
 
-array_is_live : (heap : Heap) (code : CodeProgram) (array : ℕ) (items : List Value) → find_cell heap array ≡ Some (ArrayCell items) → IsLiveValue heap code (value.Ref array)
+array_is_live : (heap : Heap) (code : CodeProgram) (array : ℕ) (items : List Value) → find_cell heap array ≡ Some (ArrayCell items) →
+    IsLiveValue heap code (value.Ref array)
 array_is_live heap code array items e = (rw e refl, rw e refl)
 
-reflected_lawful : (code : CodeProgram) (r : Reflected) (site : Site) (progress : Progress) → LawfulRun code progress → ReflectsLawful code r → ReflectsLive code r → LawfulControl code (reflected_reached r site progress)
+reflected_lawful : (code : CodeProgram) (r : Reflected) (site : Site) (progress : Progress) → LawfulRun code progress →
+    ReflectsLawful code r → ReflectsLive code r → LawfulControl code (reflected_reached r site progress)
 reflected_lawful code (Reflects (Answer answer) world) site progress lawful after live = (after, live)
-reflected_lawful code (Reflects (Perform receiver sel array) world) site progress lawful after (live, is, items, found, many) = (after, live, array_is_live world.cells code array items found)
+reflected_lawful code (Reflects (Perform receiver sel array) world) site progress lawful after (live, is, items, found, many) =
+    (after, live, array_is_live world.cells code array items found)
 reflected_lawful code (Refuses fault) site progress lawful after live = lawful
 
 -- ---- data
 
-refused_lawful : (code : CodeProgram) (outcome : RowOutcome) (selector : Value) (site : Site) (progress : Progress) → LawfulRun code progress → LeavesLawful code outcome → AnswersLive code outcome → LawfulControl code (message_refused outcome selector site progress)
+refused_lawful : (code : CodeProgram) (outcome : RowOutcome) (selector : Value) (site : Site) (progress : Progress) →
+    LawfulRun code progress → LeavesLawful code outcome → AnswersLive code outcome →
+    LawfulControl code (message_refused outcome selector site progress)
 refused_lawful code (Answers answer world) selector site progress lawful after live = (after, live)
 refused_lawful code (Fails fault) selector site progress lawful after live = lawful
 
-data_row_lawful : (code : CodeProgram) (r : DataRow) (receiver : Value) (arguments : List Value) (site : Site) (progress : Progress) → LawfulRun code progress → All (IsLiveValue progress.world.cells code) arguments
+data_row_lawful : (code : CodeProgram) (r : DataRow) (receiver : Value) (arguments : List Value) (site : Site) (progress : Progress) →
+    LawfulRun code progress → All (IsLiveValue progress.world.cells code) arguments
     → LawfulControl code (outcome_reached (datum progress.world code r receiver arguments) site progress)
 data_row_lawful code r receiver arguments site progress lawful live =
     outcome_lawful code (datum progress.world code r receiver arguments) site progress lawful
     (rows_lawful progress.world code r receiver (argument arguments 0) (argument arguments 1) lawful (argument_live progress.world.cells code arguments 1 live))
     (rows_live progress.world code r receiver (argument arguments 0) (argument arguments 1) lawful (argument_live progress.world.cells code arguments 1 live))
 
-data_lawful : (code : CodeProgram) (r : DataRow) (receiver : Value) (arguments : List Value) (site : Site) (progress : Progress) → LawfulRun code progress → All (IsLiveValue progress.world.cells code) arguments → LawfulControl code (data_reached code r receiver arguments site progress)
+data_lawful : (code : CodeProgram) (r : DataRow) (receiver : Value) (arguments : List Value) (site : Site) (progress : Progress) →
+    LawfulRun code progress → All (IsLiveValue progress.world.cells code) arguments →
+    LawfulControl code (data_reached code r receiver arguments site progress)
 data_lawful code values.DoesNotUnderstand receiver arguments site progress lawful live =
     refused_lawful code (datum progress.world code values.DoesNotUnderstand receiver arguments) (message_selector progress.world.cells (argument arguments 0)) site progress lawful tt tt
-data_lawful code values.Identical receiver arguments site progress lawful live = data_row_lawful code values.Identical receiver arguments site progress lawful live
-data_lawful code values.Equal receiver arguments site progress lawful live = data_row_lawful code values.Equal receiver arguments site progress lawful live
-data_lawful code values.IsNil receiver arguments site progress lawful live = data_row_lawful code values.IsNil receiver arguments site progress lawful live
-data_lawful code values.NotNil receiver arguments site progress lawful live = data_row_lawful code values.NotNil receiver arguments site progress lawful live
-data_lawful code values.KernelObject receiver arguments site progress lawful live = data_row_lawful code values.KernelObject receiver arguments site progress lawful live
-data_lawful code values.NewObject receiver arguments site progress lawful live = data_row_lawful code values.NewObject receiver arguments site progress lawful live
-data_lawful code values.NewArray receiver arguments site progress lawful live = data_row_lawful code values.NewArray receiver arguments site progress lawful live
-data_lawful code values.NilPrint receiver arguments site progress lawful live = data_row_lawful code values.NilPrint receiver arguments site progress lawful live
-data_lawful code values.Not receiver arguments site progress lawful live = data_row_lawful code values.Not receiver arguments site progress lawful live
-data_lawful code values.BooleanPrint receiver arguments site progress lawful live = data_row_lawful code values.BooleanPrint receiver arguments site progress lawful live
-data_lawful code values.And receiver arguments site progress lawful live = data_row_lawful code values.And receiver arguments site progress lawful live
-data_lawful code values.Or receiver arguments site progress lawful live = data_row_lawful code values.Or receiver arguments site progress lawful live
-data_lawful code values.IntegerPrint receiver arguments site progress lawful live = data_row_lawful code values.IntegerPrint receiver arguments site progress lawful live
-data_lawful code values.TextSize receiver arguments site progress lawful live = data_row_lawful code values.TextSize receiver arguments site progress lawful live
-data_lawful code values.TextAt receiver arguments site progress lawful live = data_row_lawful code values.TextAt receiver arguments site progress lawful live
-data_lawful code values.TextCopy receiver arguments site progress lawful live = data_row_lawful code values.TextCopy receiver arguments site progress lawful live
-data_lawful code values.TextJoin receiver arguments site progress lawful live = data_row_lawful code values.TextJoin receiver arguments site progress lawful live
-data_lawful code values.TextEqual receiver arguments site progress lawful live = data_row_lawful code values.TextEqual receiver arguments site progress lawful live
-data_lawful code values.TextLess receiver arguments site progress lawful live = data_row_lawful code values.TextLess receiver arguments site progress lawful live
-data_lawful code values.TextPrint receiver arguments site progress lawful live = data_row_lawful code values.TextPrint receiver arguments site progress lawful live
-data_lawful code values.SymbolSize receiver arguments site progress lawful live = data_row_lawful code values.SymbolSize receiver arguments site progress lawful live
-data_lawful code values.SymbolText receiver arguments site progress lawful live = data_row_lawful code values.SymbolText receiver arguments site progress lawful live
-data_lawful code values.SymbolPrint receiver arguments site progress lawful live = data_row_lawful code values.SymbolPrint receiver arguments site progress lawful live
-data_lawful code values.SymbolLess receiver arguments site progress lawful live = data_row_lawful code values.SymbolLess receiver arguments site progress lawful live
-data_lawful code values.ArraySize receiver arguments site progress lawful live = data_row_lawful code values.ArraySize receiver arguments site progress lawful live
-data_lawful code values.ArrayAt receiver arguments site progress lawful live = data_row_lawful code values.ArrayAt receiver arguments site progress lawful live
-data_lawful code values.ArrayPut receiver arguments site progress lawful live = data_row_lawful code values.ArrayPut receiver arguments site progress lawful live
-data_lawful code values.MessageSelector receiver arguments site progress lawful live = data_row_lawful code values.MessageSelector receiver arguments site progress lawful live
-data_lawful code values.MessageArguments receiver arguments site progress lawful live = data_row_lawful code values.MessageArguments receiver arguments site progress lawful live
+data_lawful code values.Identical receiver arguments site progress lawful live =
+    data_row_lawful code values.Identical receiver arguments site progress lawful live
+data_lawful code values.Equal receiver arguments site progress lawful live =
+    data_row_lawful code values.Equal receiver arguments site progress lawful live
+data_lawful code values.IsNil receiver arguments site progress lawful live =
+    data_row_lawful code values.IsNil receiver arguments site progress lawful live
+data_lawful code values.NotNil receiver arguments site progress lawful live =
+    data_row_lawful code values.NotNil receiver arguments site progress lawful live
+data_lawful code values.KernelObject receiver arguments site progress lawful live =
+    data_row_lawful code values.KernelObject receiver arguments site progress lawful live
+data_lawful code values.NewObject receiver arguments site progress lawful live =
+    data_row_lawful code values.NewObject receiver arguments site progress lawful live
+data_lawful code values.NewArray receiver arguments site progress lawful live =
+    data_row_lawful code values.NewArray receiver arguments site progress lawful live
+data_lawful code values.NilPrint receiver arguments site progress lawful live =
+    data_row_lawful code values.NilPrint receiver arguments site progress lawful live
+data_lawful code values.Not receiver arguments site progress lawful live =
+    data_row_lawful code values.Not receiver arguments site progress lawful live
+data_lawful code values.BooleanPrint receiver arguments site progress lawful live =
+    data_row_lawful code values.BooleanPrint receiver arguments site progress lawful live
+data_lawful code values.And receiver arguments site progress lawful live =
+    data_row_lawful code values.And receiver arguments site progress lawful live
+data_lawful code values.Or receiver arguments site progress lawful live =
+    data_row_lawful code values.Or receiver arguments site progress lawful live
+data_lawful code values.IntegerPrint receiver arguments site progress lawful live =
+    data_row_lawful code values.IntegerPrint receiver arguments site progress lawful live
+data_lawful code values.TextSize receiver arguments site progress lawful live =
+    data_row_lawful code values.TextSize receiver arguments site progress lawful live
+data_lawful code values.TextAt receiver arguments site progress lawful live =
+    data_row_lawful code values.TextAt receiver arguments site progress lawful live
+data_lawful code values.TextCopy receiver arguments site progress lawful live =
+    data_row_lawful code values.TextCopy receiver arguments site progress lawful live
+data_lawful code values.TextJoin receiver arguments site progress lawful live =
+    data_row_lawful code values.TextJoin receiver arguments site progress lawful live
+data_lawful code values.TextEqual receiver arguments site progress lawful live =
+    data_row_lawful code values.TextEqual receiver arguments site progress lawful live
+data_lawful code values.TextLess receiver arguments site progress lawful live =
+    data_row_lawful code values.TextLess receiver arguments site progress lawful live
+data_lawful code values.TextPrint receiver arguments site progress lawful live =
+    data_row_lawful code values.TextPrint receiver arguments site progress lawful live
+data_lawful code values.SymbolSize receiver arguments site progress lawful live =
+    data_row_lawful code values.SymbolSize receiver arguments site progress lawful live
+data_lawful code values.SymbolText receiver arguments site progress lawful live =
+    data_row_lawful code values.SymbolText receiver arguments site progress lawful live
+data_lawful code values.SymbolPrint receiver arguments site progress lawful live =
+    data_row_lawful code values.SymbolPrint receiver arguments site progress lawful live
+data_lawful code values.SymbolLess receiver arguments site progress lawful live =
+    data_row_lawful code values.SymbolLess receiver arguments site progress lawful live
+data_lawful code values.ArraySize receiver arguments site progress lawful live =
+    data_row_lawful code values.ArraySize receiver arguments site progress lawful live
+data_lawful code values.ArrayAt receiver arguments site progress lawful live =
+    data_row_lawful code values.ArrayAt receiver arguments site progress lawful live
+data_lawful code values.ArrayPut receiver arguments site progress lawful live =
+    data_row_lawful code values.ArrayPut receiver arguments site progress lawful live
+data_lawful code values.MessageSelector receiver arguments site progress lawful live =
+    data_row_lawful code values.MessageSelector receiver arguments site progress lawful live
+data_lawful code values.MessageArguments receiver arguments site progress lawful live =
+    data_row_lawful code values.MessageArguments receiver arguments site progress lawful live
 
-pub mirrored_live : (world : World) (code : CodeProgram) (number : ℕ) → IsLawful world code → IsLiveValue world.cells code (mirrored world.cells number)
+pub mirrored_live : (world : World) (code : CodeProgram) (number : ℕ) → IsLawful world code →
+    IsLiveValue world.cells code (mirrored world.cells number)
 mirrored_live world code number lawful = found (find_cell world.cells number) refl
   where
     found : (o : Option Cell) → find_cell world.cells number ≡ o → IsLiveValue world.cells code (mirrored_in (option_map_or shape_of o (new.Mirror value.Nil)))
@@ -179,12 +235,16 @@ mirrored_live world code number lawful = found (find_cell world.cells number) re
     found (Some (MessageCell sel args)) e = (tt, refl)
 
 -- a row of the kernel
-pub row_lawful : (code : CodeProgram) (r : Row) (sel : Sel) (receiver : Value) (arguments : List Value) (site : Site) (progress : Progress) → LawfulRun code progress → IsLiveValue progress.world.cells code receiver → All (IsLiveValue progress.world.cells code) arguments
+pub row_lawful :
+    (code : CodeProgram) (r : Row) (sel : Sel) (receiver : Value) (arguments : List Value) (site : Site) (progress : Progress) →
+    LawfulRun code progress → IsLiveValue progress.world.cells code receiver → All (IsLiveValue progress.world.cells code) arguments
     → LawfulControl code (row_reached code r sel receiver arguments site progress)
-row_lawful code (row.Data d) sel receiver arguments site progress lawful live all = data_lawful code d receiver arguments site progress lawful all
+row_lawful code (row.Data d) sel receiver arguments site progress lawful live all =
+    data_lawful code d receiver arguments site progress lawful all
 row_lawful code (row.Integer i) sel receiver arguments site progress lawful live all =
     answer_lawful code (integer i (number_of receiver) (argument arguments 0)) site progress lawful (integer_live progress.world.cells code i (number_of receiver) (argument arguments 0))
-row_lawful code row.Top sel receiver arguments site progress lawful live all = facet_lawful code (facet.Top sel) arguments site progress lawful
+row_lawful code row.Top sel receiver arguments site progress lawful live all =
+    facet_lawful code (facet.Top sel) arguments site progress lawful
 row_lawful code (row.Facet f) sel receiver arguments site progress lawful live all = facet_lawful code f arguments site progress lawful
 row_lawful code (row.Mirror m) sel receiver arguments site progress lawful live all =
     let shown = mirrored progress.world.cells (cell_number receiver) in
@@ -198,5 +258,6 @@ row_lawful code (row.Method m) sel receiver arguments site progress lawful live 
 row_lawful code row.Apply sel receiver arguments site progress lawful live all =
     mixed_lawful code receiver (argument arguments 0) site progress lawful
 row_lawful code row.Value sel receiver arguments site progress lawful live all = (lawful, live, all)
-row_lawful code row.ValueWithArguments sel receiver arguments site progress lawful live all = array_lawful code receiver (argument arguments 0) site progress lawful live
+row_lawful code row.ValueWithArguments sel receiver arguments site progress lawful live all =
+    array_lawful code receiver (argument arguments 0) site progress lawful live
 row_lawful code row.NumArgs sel receiver arguments site progress lawful live all = (lawful, (tt, refl))

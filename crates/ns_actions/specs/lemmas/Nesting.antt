@@ -20,7 +20,8 @@ not_false true e = refl
 not_false false e = absurd (cc)
 
 -- a class record has no fault where none from a number on has one
-sound_from : (code : CodeProgram) (number k : ℕ) (classes : List ClassCode) (class : ClassCode) → are_classes_sound code number classes ≡ true → slice_get classes k ≡ Some class → has_bad_scope code (number + k) class ≡ false
+sound_from : (code : CodeProgram) (number k : ℕ) (classes : List ClassCode) (class : ClassCode) →
+    are_classes_sound code number classes ≡ true → slice_get classes k ≡ Some class → has_bad_scope code (number + k) class ≡ false
 sound_from code number zero [] class s e = absurd (cc)
 sound_from code number (suc k) [] class s e = absurd (cc)
 sound_from code number zero (first ∷ classes) class s e =
@@ -34,7 +35,8 @@ sound_from code number (suc k) (first ∷ classes) class s e =
     let same : number + 1 + k ≡ number + suc k = omega arith in
     subst (λ n. has_bad_scope code n class ≡ false) same (sound_from code (number + 1) k classes class here.1 e)
 
-sound_nested : (code : CodeProgram) (number : ℕ) (class : ClassCode) → has_sound_classes code ≡ true → slice_get code.classes number ≡ Some class → has_nested code number class ≡ true
+sound_nested : (code : CodeProgram) (number : ℕ) (class : ClassCode) → has_sound_classes code ≡ true →
+    slice_get code.classes number ≡ Some class → has_nested code number class ≡ true
 sound_nested code number class s e =
     let none : 0 + number ≡ number = omega arith in
     let all = both_of (nat_lt 0 (length code.classes)) (are_classes_sound code 0 code.classes) s in
@@ -50,7 +52,8 @@ pub record IsInner (code : CodeProgram) (number decl : ℕ) : Type 0 where
   pub outer_is : inner.outer ≡ Some number
 
 abbrev is_inner : CodeProgram → ℕ → NestedCode → Bool
-is_inner code number nested = option_map_or (λ (inner : ClassCode). option_map_or (λ outer. eqb outer number) inner.outer false) (slice_get code.classes nested.class) false
+is_inner code number nested =
+    option_map_or (λ (inner : ClassCode). option_map_or (λ outer. eqb outer number) inner.outer false) (slice_get code.classes nested.class) false
 
 inner_of : (code : CodeProgram) (number : ℕ) (nested : NestedCode) → is_inner code number nested ≡ true → IsInner code number nested.class
 inner_of code number nested h = found (slice_get code.classes nested.class) refl h
@@ -63,15 +66,19 @@ inner_of code number nested h = found (slice_get code.classes nested.class) refl
     found (Some inner) e h = record { inner = inner; inner_is = e; outer_is = outer inner.outer h }
     found None e h = absurd (cc)
 
-entry_inner : (code : CodeProgram) (number k : ℕ) (nested : List NestedCode) (one : NestedCode) → list_all (is_inner code number) nested ≡ true → slice_get nested k ≡ Some one → is_inner code number one ≡ true
+entry_inner : (code : CodeProgram) (number k : ℕ) (nested : List NestedCode) (one : NestedCode) →
+    list_all (is_inner code number) nested ≡ true → slice_get nested k ≡ Some one → is_inner code number one ≡ true
 entry_inner code number zero [] one all e = absurd (cc)
 entry_inner code number (suc k) [] one all e = absurd (cc)
 entry_inner code number zero (first ∷ nested) one all e =
     let is : first ≡ one = cc in ap (is_inner code number) (sym is) ∙ (both_of (is_inner code number first) (list_all (is_inner code number) nested) all).0
-entry_inner code number (suc k) (first ∷ nested) one all e = entry_inner code number k nested one (both_of (is_inner code number first) (list_all (is_inner code number) nested) all).1 e
+entry_inner code number (suc k) (first ∷ nested) one all e =
+    entry_inner code number k nested one (both_of (is_inner code number first) (list_all (is_inner code number) nested) all).1 e
 
-pub nested_inner : (code : CodeProgram) (number k : ℕ) (class : ClassCode) (one : NestedCode) → has_sound_classes code ≡ true → slice_get code.classes number ≡ Some class → slice_get class.nested k ≡ Some one → IsInner code number one.class
-nested_inner code number k class one s e n = inner_of code number one (entry_inner code number k class.nested one (sound_nested code number class s e) n)
+pub nested_inner : (code : CodeProgram) (number k : ℕ) (class : ClassCode) (one : NestedCode) → has_sound_classes code ≡ true →
+    slice_get code.classes number ≡ Some class → slice_get class.nested k ≡ Some one → IsInner code number one.class
+nested_inner code number k class one s e n =
+    inner_of code number one (entry_inner code number k class.nested one (sound_nested code number class s e) n)
 
 -- The first nested class of a number.
 pub record IsFirst (nested : List NestedCode) (class : ℕ) : Type 0 where

@@ -23,7 +23,8 @@ abbrev pub FitsAround : Heap → CodeProgram → ℕ → Value → Type 0
 FitsAround heap code body env = (depth : ℕ) → body ≤ depth → FitsEnvironment depth heap code (parent_of code body) env
 
 -- a body that is no block has nothing around it
-pub nothing_around : (heap : Heap) (code : CodeProgram) (body kind : ℕ) → kind_of code body ≡ kind → kind ≢ block_kind → StandsWell code body → FitsAround heap code body Nil
+pub nothing_around : (heap : Heap) (code : CodeProgram) (body kind : ℕ) → kind_of code body ≡ kind → kind ≢ block_kind →
+    StandsWell code body → FitsAround heap code body Nil
 nothing_around heap code body kind is other stands =
     λ depth deep. subst (λ o. FitsEnvironment depth heap code o Nil) (sym (stands.alone (λ e. other (sym is ∙ e)))) refl
 
@@ -35,7 +36,8 @@ pub record IsOpened (heap : Heap) (code : CodeProgram) (body : ℕ) (around : Va
   pub environment : length arguments ≡ parameters_of code body → StandsWell code body → FitsAround heap code body around → FitsEnvironment (suc body) heap code (environment_body code body) env
 
 -- a body has all of its locals
-all_locals : (code : CodeProgram) (body : ℕ) (arguments : List Value) → length arguments ≡ parameters_of code body → StandsWell code body → length (first_locals code body arguments) ≡ locals_of code body
+all_locals : (code : CodeProgram) (body : ℕ) (arguments : List Value) → length arguments ≡ parameters_of code body → StandsWell code body →
+    length (first_locals code body arguments) ≡ locals_of code body
 all_locals code body arguments count stands =
     let more = locals_of code body - parameters_of code body in
     omega (arith, length-append arguments (replicate more Nil), length-replicate more Nil, count, stands.parameters)
@@ -45,14 +47,16 @@ has_body (Some body) t = refl
 has_body None t = absurd (cc)
 
 -- without an environment
-pub opened_bare : (heap : Heap) (code : CodeProgram) (body : ℕ) (around : Value) (arguments : List Value) → has_environment code body ≡ false → IsOpened heap code body around arguments around (first_locals code body arguments)
+pub opened_bare : (heap : Heap) (code : CodeProgram) (body : ℕ) (around : Value) (arguments : List Value) →
+    has_environment code body ≡ false → IsOpened heap code body around arguments around (first_locals code body arguments)
 opened_bare heap code body around arguments b = record {
   beside = λ count stands. rw b (all_locals code body arguments count stands);
   environment = λ count stands outer. subst (λ c. FitsEnvironment (suc body) heap code (cond c (Some body) (parent_of code body)) around) (sym b) (outer (suc body) (omega arith));
 }
 
 -- with one, which was just made
-pub opened_over : (code : CodeProgram) (old new : World) (body : ℕ) (around : Value) (arguments : List Value) → has_environment code body ≡ true → made old (EnvironmentCell around (first_locals code body arguments)) ≡ Some new
+pub opened_over : (code : CodeProgram) (old new : World) (body : ℕ) (around : Value) (arguments : List Value) →
+    has_environment code body ≡ true → made old (EnvironmentCell around (first_locals code body arguments)) ≡ Some new
     → IsOpened new.cells code body around arguments (Ref (heap_size old.cells)) []
 opened_over code old new body around arguments b made_is = record {
   beside = λ count stands. rw b refl;

@@ -17,10 +17,13 @@ pub record Named (names : List (List ℕ)) (first found : ℕ) (text : List ℕ)
   pub number_is : found ≡ first + place
   pub text_is : slice_index_or names place [] ≡ text
 
-one_more : (name : List ℕ) (names : List (List ℕ)) (first found : ℕ) (text : List ℕ) → Named names (first + 1) found text → Named (name ∷ names) first found text
-one_more name names first found text n = record { place = suc n.place; inside = omega (arith, n.inside); number_is = omega (arith, n.number_is); text_is = n.text_is }
+one_more : (name : List ℕ) (names : List (List ℕ)) (first found : ℕ) (text : List ℕ) → Named names (first + 1) found text →
+    Named (name ∷ names) first found text
+one_more name names first found text n =
+    record { place = suc n.place; inside = omega (arith, n.inside); number_is = omega (arith, n.number_is); text_is = n.text_is }
 
-pub named : (names : List (List ℕ)) (first : ℕ) (text : List ℕ) (other : ℕ) → Named names first (name_number names first text other) text ⊎ (name_number names first text other ≡ other)
+pub named : (names : List (List ℕ)) (first : ℕ) (text : List ℕ) (other : ℕ) →
+    Named names first (name_number names first text other) text ⊎ (name_number names first text other ≡ other)
 named [] first text other = inr refl
 named (name ∷ names) first text other = tested (named names (first + 1) text other) (bytes_eq name text) refl
   where

@@ -30,7 +30,8 @@ pub record FitsPlace (heap : Heap) (code : CodeProgram) (side : Side) (place : P
   pub holder_is : is_class (find_cell heap place.holder) ≡ true
   pub declaration_is : declaration_of heap place.holder ≡ decl
 
-pub holder_live : (heap : Heap) (code : CodeProgram) (value : Value) (holder : ℕ) → HasHolder heap value holder → IsLiveValue heap code value
+pub holder_live : (heap : Heap) (code : CodeProgram) (value : Value) (holder : ℕ) → HasHolder heap value holder →
+    IsLiveValue heap code value
 holder_live heap code (Ref at) holder has = object_live heap code at has.1
 holder_live heap code Nil holder has = absurd has
 holder_live heap code True holder has = absurd has
@@ -40,7 +41,9 @@ holder_live heap code (Sym sel) holder has = absurd has
 holder_live heap code (Kernel class) holder has = absurd has
 
 -- a class within a declaration leads to the object and the holder around it
-around : (world : World) (code : CodeProgram) (encl holder : Value) (outer : Option ℕ) (decl' : ℕ) → outer ≡ Some decl' → HasEnclosing world.cells code outer encl holder → FitsPlace world.cells code InstanceSide (let p : Place = record { object = encl; holder = cell_number holder } in p) decl'
+around : (world : World) (code : CodeProgram) (encl holder : Value) (outer : Option ℕ) (decl' : ℕ) → outer ≡ Some decl' →
+    HasEnclosing world.cells code outer encl holder →
+    FitsPlace world.cells code InstanceSide (let p : Place = record { object = encl; holder = cell_number holder } in p) decl'
 around world code encl (Ref h) (Some o) decl' e has = let is : o ≡ decl' = cc in record { live = holder_live world.cells code encl h has.0; has = λ s. has.0; holder_is = has.1; declaration_is = has.2 ∙ is }
 around world code encl Nil (Some o) decl' e has = absurd has
 around world code encl True (Some o) decl' e has = absurd has
@@ -50,7 +53,8 @@ around world code encl (Sym sel) (Some o) decl' e has = absurd has
 around world code encl (Kernel class) (Some o) decl' e has = absurd has
 around world code encl holder None decl' e has = absurd (cc)
 
-outwards : (world : World) (code : CodeProgram) (number decl decl' : ℕ) (o : Option Cell) → IsLawful world code → find_cell world.cells number ≡ o → is_class o ≡ true → declaration_of world.cells number ≡ decl → outer_of code (Some decl) ≡ Some decl'
+outwards : (world : World) (code : CodeProgram) (number decl decl' : ℕ) (o : Option Cell) → IsLawful world code →
+    find_cell world.cells number ≡ o → is_class o ≡ true → declaration_of world.cells number ≡ decl → outer_of code (Some decl) ≡ Some decl'
     → FitsPlace world.cells code InstanceSide (enclosing_place (option_map_or shape_of o (new.Mirror Nil))) decl'
 outwards world code number decl decl' (Some (ClassCell d base encl holder over)) lawful e t is outer =
     let d_is : d ≡ decl = sym (rw e refl) ∙ is in
@@ -72,7 +76,8 @@ outwards world code number decl decl' (Some (MirrorCell shown)) lawful e t is ou
 outwards world code number decl decl' (Some (MessageCell sel args)) lawful e t is outer = absurd (cc)
 
 -- the side of a body is that of instances where it isn't the class side
-pub instance_body : (code : CodeProgram) (number : ℕ) (body : BodyCode) → slice_get code.bodies number ≡ Some body → body.side ≤ 1 → side_of_body code number ≡ InstanceSide → body.side ≡ 0
+pub instance_body : (code : CodeProgram) (number : ℕ) (body : BodyCode) → slice_get code.bodies number ≡ Some body → body.side ≤ 1 →
+    side_of_body code number ≡ InstanceSide → body.side ≡ 0
 instance_body code number body e few s = sided body.side refl few
   where
     is : side_of_body code number ≡ side_of (eqb body.side class_side)
@@ -83,7 +88,8 @@ instance_body code number body e few s = sided body.side refl few
     sided (suc zero) t h = let class : ClassSide ≡ InstanceSide = ap (λ n. side_of (eqb n class_side)) (sym t) ∙ (sym is ∙ s) in absurd (cc)
     sided (suc (suc n)) t h = absurd (omega (arith, h))
 
-own_place : (world : World) (code : CodeProgram) (activation : Activation) (decl : ℕ) (self : Value) → activation.self ≡ self → IsLawful world code → FitsActivation world.cells code activation → declaration_of_body code activation.body ≡ Some decl
+own_place : (world : World) (code : CodeProgram) (activation : Activation) (decl : ℕ) (self : Value) → activation.self ≡ self →
+    IsLawful world code → FitsActivation world.cells code activation → declaration_of_body code activation.body ≡ Some decl
     → FitsPlace world.cells code (side_of_body code activation.body) (enclosing world.cells activation 0) decl
 own_place world code activation decl self e lawful fits d = found (slice_get code.bodies activation.body) refl fits.there d
   where
@@ -107,10 +113,12 @@ own_place world code activation decl self e lawful fits d = found (slice_get cod
     found None b some d = absurd (cc)
 
 -- the place at each level that there is fits
-pub places_fit : (world : World) (code : CodeProgram) (activation : Activation) (level decl : ℕ) → IsLawful world code → FitsActivation world.cells code activation → declaration_at code activation.body level ≡ Some decl
+pub places_fit : (world : World) (code : CodeProgram) (activation : Activation) (level decl : ℕ) → IsLawful world code →
+    FitsActivation world.cells code activation → declaration_at code activation.body level ≡ Some decl
     → FitsPlace world.cells code (side_at code activation level) (enclosing world.cells activation level) decl
 places_fit world code activation zero decl lawful fits d = own_place world code activation decl activation.self refl lawful fits d
-places_fit world code activation (suc level) decl lawful fits d = further (declaration_at code activation.body level) refl d (λ inner i. places_fit world code activation level inner lawful fits i)
+places_fit world code activation (suc level) decl lawful fits d =
+    further (declaration_at code activation.body level) refl d (λ inner i. places_fit world code activation level inner lawful fits i)
   where
     further : (o : Option ℕ) → declaration_at code activation.body level ≡ o → outer_of code o ≡ Some decl
         → ((inner : ℕ) → declaration_at code activation.body level ≡ Some inner → FitsPlace world.cells code (side_at code activation level) (enclosing world.cells activation level) inner)

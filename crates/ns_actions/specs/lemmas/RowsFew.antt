@@ -50,10 +50,12 @@ abbrev pub FoundFew : CodeProgram → ℕ → Found → Type 0
 FoundFew code sel (found.Kernel number) = RowFew code sel (row_at number)
 FoundFew code sel other = Unit {0}
 
-few_named : (code : CodeProgram) (sel : ℕ) (text : List ℕ) → bytes_eq (selector_text code sel) text ≡ true → text_arity text ≤ 255 → selector_arity code sel ≤ 255
+few_named : (code : CodeProgram) (sel : ℕ) (text : List ℕ) → bytes_eq (selector_text code sel) text ≡ true → text_arity text ≤ 255 →
+    selector_arity code sel ≤ 255
 few_named code sel text n few = let same : selector_arity code sel ≡ text_arity text = ap text_arity ((bytes_eq-Decides (selector_text code sel) text).0 n) in omega (arith, same, few)
 
-tops_few : (heap : Heap) (code : CodeProgram) (sel number : ℕ) (classes : List ClassCode) → EachNamed (FoundFew code sel) code sel (top_rows heap (first_of row.Manifest) number classes)
+tops_few : (heap : Heap) (code : CodeProgram) (sel number : ℕ) (classes : List ClassCode) →
+    EachNamed (FoundFew code sel) code sel (top_rows heap (first_of row.Manifest) number classes)
 tops_few heap code sel number [] = tt
 tops_few heap code sel number (class ∷ classes) = ((λ n. tt), tops_few heap code sel (number + 1) classes)
 
@@ -62,8 +64,10 @@ rows_few heap code sel row.ObjectClass = ((λ n. tt), tt)
 rows_few heap code sel row.ArrayClass = ((λ n. tt), tt)
 rows_few heap code sel row.Class = ((λ n. tt), tt)
 rows_few heap code sel row.UndefinedObject = ((λ n. tt), tt)
-rows_few heap code sel row.Boolean = ((λ n. tt), ((λ n. tt), ((λ n. tt), ((λ n. tt), ((λ n. tt), ((λ n. tt), ((λ n. tt), ((λ n. tt), ((λ n. tt), ((λ n. tt), tt))))))))))
-rows_few heap code sel row.Integer = ((λ n. tt), ((λ n. tt), ((λ n. tt), ((λ n. tt), ((λ n. tt), ((λ n. tt), ((λ n. tt), ((λ n. tt), ((λ n. tt), ((λ n. tt), ((λ n. tt), ((λ n. tt), ((λ n. tt), ((λ n. tt), ((λ n. tt), ((λ n. tt), ((λ n. tt), tt)))))))))))))))))
+rows_few heap code sel row.Boolean =
+    ((λ n. tt), ((λ n. tt), ((λ n. tt), ((λ n. tt), ((λ n. tt), ((λ n. tt), ((λ n. tt), ((λ n. tt), ((λ n. tt), ((λ n. tt), tt))))))))))
+rows_few heap code sel row.Integer =
+    ((λ n. tt), ((λ n. tt), ((λ n. tt), ((λ n. tt), ((λ n. tt), ((λ n. tt), ((λ n. tt), ((λ n. tt), ((λ n. tt), ((λ n. tt), ((λ n. tt), ((λ n. tt), ((λ n. tt), ((λ n. tt), ((λ n. tt), ((λ n. tt), ((λ n. tt), tt)))))))))))))))))
 rows_few heap code sel row.String = ((λ n. tt), ((λ n. tt), ((λ n. tt), ((λ n. tt), ((λ n. tt), ((λ n. tt), ((λ n. tt), tt)))))))
 rows_few heap code sel row.Symbol = ((λ n. tt), ((λ n. tt), ((λ n. tt), ((λ n. tt), tt))))
 rows_few heap code sel row.Array = ((λ n. tt), ((λ n. tt), ((λ n. tt), ((λ n. tt), tt))))
@@ -91,19 +95,24 @@ rows_few heap code sel row.Manifest =
     named_append (FoundFew code sel) code sel (top_rows heap (first_of row.Manifest) 0 code.classes) [] (tops_few heap code sel 0 code.classes) tt
 rows_few heap code sel row.Platform = ((λ n. tt), ((λ n. tt), ((λ n. tt), ((λ n. tt), tt))))
 
-slots_few : (heap : Heap) (code : CodeProgram) (sel : ℕ) (wanted : Wanted) (holder entry : ℕ) (slots : List SlotCode) → EachNamed (FoundFew code sel) code sel (slots_members heap code wanted holder entry slots)
+slots_few : (heap : Heap) (code : CodeProgram) (sel : ℕ) (wanted : Wanted) (holder entry : ℕ) (slots : List SlotCode) →
+    EachNamed (FoundFew code sel) code sel (slots_members heap code wanted holder entry slots)
 slots_few heap code sel wanted holder entry [] = tt
-slots_few heap code sel wanted holder entry (slot ∷ slots) = ((λ n. tt), ((λ n. tt), slots_few heap code sel wanted holder (entry + 1) slots))
+slots_few heap code sel wanted holder entry (slot ∷ slots) =
+    ((λ n. tt), ((λ n. tt), slots_few heap code sel wanted holder (entry + 1) slots))
 
-nested_few : (heap : Heap) (code : CodeProgram) (sel : ℕ) (wanted : Wanted) (holder : ℕ) (nested : List NestedCode) → EachNamed (FoundFew code sel) code sel (nested_members wanted holder nested)
+nested_few : (heap : Heap) (code : CodeProgram) (sel : ℕ) (wanted : Wanted) (holder : ℕ) (nested : List NestedCode) →
+    EachNamed (FoundFew code sel) code sel (nested_members wanted holder nested)
 nested_few heap code sel wanted holder [] = tt
 nested_few heap code sel wanted holder (nested ∷ rest) = ((λ n. tt), nested_few heap code sel wanted holder rest)
 
-methods_few : (heap : Heap) (code : CodeProgram) (sel : ℕ) (wanted : Wanted) (holder : ℕ) (methods : List MethodCode) → EachNamed (FoundFew code sel) code sel (method_members wanted holder methods)
+methods_few : (heap : Heap) (code : CodeProgram) (sel : ℕ) (wanted : Wanted) (holder : ℕ) (methods : List MethodCode) →
+    EachNamed (FoundFew code sel) code sel (method_members wanted holder methods)
 methods_few heap code sel wanted holder [] = tt
 methods_few heap code sel wanted holder (method ∷ methods) = ((λ n. tt), methods_few heap code sel wanted holder methods)
 
-holder_few : (heap : Heap) (code : CodeProgram) (sel : ℕ) (wanted : Wanted) (side : Side) (holder : ℕ) → EachNamed (FoundFew code sel) code sel (holder_members heap code wanted side holder)
+holder_few : (heap : Heap) (code : CodeProgram) (sel : ℕ) (wanted : Wanted) (side : Side) (holder : ℕ) →
+    EachNamed (FoundFew code sel) code sel (holder_members heap code wanted side holder)
 holder_few heap code sel wanted side holder = there (slice_get code.classes (declaration_of heap holder)) side
   where
     there : (o : Option ClassCode) (side : Side) → EachNamed (FoundFew code sel) code sel (option_map_or (side_members heap code wanted side holder) o [])
@@ -115,19 +124,22 @@ holder_few heap code sel wanted side holder = there (slice_get code.classes (dec
         (named_append (FoundFew code sel) code sel (nested_members wanted holder class.nested) (method_members wanted holder class.methods)
         (nested_few heap code sel wanted holder class.nested) (methods_few heap code sel wanted holder class.methods))
 
-along_few : (heap : Heap) (code : CodeProgram) (sel : ℕ) (side : Side) (chain : List ℕ) → EachNamed (FoundFew code sel) code sel (members_along heap code side chain)
+along_few : (heap : Heap) (code : CodeProgram) (sel : ℕ) (side : Side) (chain : List ℕ) →
+    EachNamed (FoundFew code sel) code sel (members_along heap code side chain)
 along_few heap code sel side [] = tt
 along_few heap code sel side (holder ∷ chain) =
     named_append (FoundFew code sel) code sel (holder_members heap code Visible side holder) (members_along heap code side chain) (holder_few heap code sel Visible side holder) (along_few heap code sel side chain)
 
-factory_few : (heap : Heap) (code : CodeProgram) (sel class : ℕ) (factory : Bool) → EachNamed (FoundFew code sel) code sel (factory_member heap code class factory)
+factory_few : (heap : Heap) (code : CodeProgram) (sel class : ℕ) (factory : Bool) →
+    EachNamed (FoundFew code sel) code sel (factory_member heap code class factory)
 factory_few heap code sel class factory = there (slice_get code.classes (declaration_of heap class))
   where
     there : (o : Option ClassCode) → EachNamed (FoundFew code sel) code sel (option_map_or (λ (c : ClassCode). record { there = factory; name = Numbered c.factory.0; access = public_access; found = found.Factory class } ∷ []) o [])
     there (Some c) = ((λ n. tt), tt)
     there None = tt
 
-pub from_few : (heap : Heap) (code : CodeProgram) (from : Start) (sel : ℕ) (kind : Sending) → FoundFew code sel (found_from heap code from sel kind)
+pub from_few : (heap : Heap) (code : CodeProgram) (from : Start) (sel : ℕ) (kind : Sending) →
+    FoundFew code sel (found_from heap code from sel kind)
 from_few heap code (start.Instance class) sel kind =
     search_named (FoundFew code sel) code sel kind (members_from heap code (start.Instance class)) tt tt
     (named_append (FoundFew code sel) code sel (members_along heap code InstanceSide (chain_of heap class)) (kernel_rows heap code row.Object) (along_few heap code sel InstanceSide (chain_of heap class)) (rows_few heap code sel row.Object))

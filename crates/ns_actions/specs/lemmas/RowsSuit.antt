@@ -54,45 +54,57 @@ IsOfKind heap self row.Mirrors = is_reference self ≡ true
 IsOfKind heap self row.Mirror = is_reference self ≡ true
 IsOfKind heap self other = Unit {0}
 
-tops_suit : (heap : Heap) (code : CodeProgram) (self : Value) (sel number : ℕ) (classes : List ClassCode) → facet_at heap self ≡ Some kinds.Manifest → EachNamed (FoundSuits heap self) code sel (top_rows heap (first_of row.Manifest) number classes)
+tops_suit : (heap : Heap) (code : CodeProgram) (self : Value) (sel number : ℕ) (classes : List ClassCode) →
+    facet_at heap self ≡ Some kinds.Manifest →
+    EachNamed (FoundSuits heap self) code sel (top_rows heap (first_of row.Manifest) number classes)
 tops_suit heap code self sel number [] kind = tt
 tops_suit heap code self sel number (class ∷ classes) kind = ((λ n. kind), tops_suit heap code self sel (number + 1) classes kind)
 
-rows_suit : (heap : Heap) (code : CodeProgram) (self : Value) (sel : ℕ) (r : KernelRow) → IsOfKind heap self r → EachNamed (FoundSuits heap self) code sel (kernel_rows heap code r)
+rows_suit : (heap : Heap) (code : CodeProgram) (self : Value) (sel : ℕ) (r : KernelRow) → IsOfKind heap self r →
+    EachNamed (FoundSuits heap self) code sel (kernel_rows heap code r)
 rows_suit heap code self sel row.ObjectClass kind = ((λ n. tt), tt)
 rows_suit heap code self sel row.ArrayClass kind = ((λ n. tt), tt)
 rows_suit heap code self sel row.Class kind = ((λ n. tt), tt)
 rows_suit heap code self sel row.UndefinedObject kind = ((λ n. tt), tt)
-rows_suit heap code self sel row.Boolean kind = ((λ n. tt), ((λ n. tt), ((λ n. tt), ((λ n. tt), ((λ n. kind), ((λ n. kind), ((λ n. kind), ((λ n. kind), ((λ n. kind), ((λ n. kind), tt))))))))))
-rows_suit heap code self sel row.Integer kind = ((λ n. tt), ((λ n. tt), ((λ n. tt), ((λ n. tt), ((λ n. tt), ((λ n. tt), ((λ n. tt), ((λ n. tt), ((λ n. tt), ((λ n. tt), ((λ n. tt), ((λ n. tt), ((λ n. tt), ((λ n. tt), ((λ n. tt), ((λ n. kind), ((λ n. kind), tt)))))))))))))))))
+rows_suit heap code self sel row.Boolean kind =
+    ((λ n. tt), ((λ n. tt), ((λ n. tt), ((λ n. tt), ((λ n. kind), ((λ n. kind), ((λ n. kind), ((λ n. kind), ((λ n. kind), ((λ n. kind), tt))))))))))
+rows_suit heap code self sel row.Integer kind =
+    ((λ n. tt), ((λ n. tt), ((λ n. tt), ((λ n. tt), ((λ n. tt), ((λ n. tt), ((λ n. tt), ((λ n. tt), ((λ n. tt), ((λ n. tt), ((λ n. tt), ((λ n. tt), ((λ n. tt), ((λ n. tt), ((λ n. tt), ((λ n. kind), ((λ n. kind), tt)))))))))))))))))
 rows_suit heap code self sel row.String kind = ((λ n. tt), ((λ n. tt), ((λ n. tt), ((λ n. tt), ((λ n. tt), ((λ n. tt), ((λ n. tt), tt)))))))
 rows_suit heap code self sel row.Symbol kind = ((λ n. tt), ((λ n. tt), ((λ n. tt), ((λ n. tt), tt))))
 rows_suit heap code self sel row.Array kind = ((λ n. tt), ((λ n. tt), ((λ n. tt), ((λ n. kind), tt))))
-rows_suit heap code self sel row.Block kind = ((λ n. kind), ((λ n. kind), ((λ n. kind), ((λ n. kind), ((λ n. kind), ((λ n. tt), ((λ n. kind), ((λ n. kind), tt))))))))
+rows_suit heap code self sel row.Block kind =
+    ((λ n. kind), ((λ n. kind), ((λ n. kind), ((λ n. kind), ((λ n. kind), ((λ n. tt), ((λ n. kind), ((λ n. kind), tt))))))))
 rows_suit heap code self sel row.Kernel kind = ((λ n. kind), ((λ n. kind), tt))
 rows_suit heap code self sel row.Console kind = ((λ n. kind), ((λ n. kind), tt))
 rows_suit heap code self sel row.Board kind = ((λ n. kind), ((λ n. kind), tt))
 rows_suit heap code self sel row.Mirrors kind = ((λ n. kind), tt)
-rows_suit heap code self sel row.Mirror kind = ((λ n. kind), ((λ n. kind), ((λ n. kind), ((λ n. kind), ((λ n. kind), ((λ n. kind), ((λ n. kind), tt)))))))
+rows_suit heap code self sel row.Mirror kind =
+    ((λ n. kind), ((λ n. kind), ((λ n. kind), ((λ n. kind), ((λ n. kind), ((λ n. kind), ((λ n. kind), tt)))))))
 rows_suit heap code self sel row.Message kind = ((λ n. tt), ((λ n. tt), tt))
 rows_suit heap code self sel row.Object kind = ((λ n. tt), ((λ n. tt), ((λ n. tt), ((λ n. tt), ((λ n. tt), ((λ n. tt), tt))))))
 rows_suit heap code self sel row.Manifest kind =
     named_append (FoundSuits heap self) code sel (top_rows heap (first_of row.Manifest) 0 code.classes) [] (tops_suit heap code self sel 0 code.classes kind) tt
 rows_suit heap code self sel row.Platform kind = ((λ n. kind), ((λ n. kind), ((λ n. kind), ((λ n. kind), tt))))
 
-slots_suit : (heap : Heap) (code : CodeProgram) (self : Value) (sel : ℕ) (wanted : Wanted) (holder entry : ℕ) (slots : List SlotCode) → EachNamed (FoundSuits heap self) code sel (slots_members heap code wanted holder entry slots)
+slots_suit : (heap : Heap) (code : CodeProgram) (self : Value) (sel : ℕ) (wanted : Wanted) (holder entry : ℕ) (slots : List SlotCode) →
+    EachNamed (FoundSuits heap self) code sel (slots_members heap code wanted holder entry slots)
 slots_suit heap code self sel wanted holder entry [] = tt
-slots_suit heap code self sel wanted holder entry (slot ∷ slots) = ((λ n. tt), ((λ n. tt), slots_suit heap code self sel wanted holder (entry + 1) slots))
+slots_suit heap code self sel wanted holder entry (slot ∷ slots) =
+    ((λ n. tt), ((λ n. tt), slots_suit heap code self sel wanted holder (entry + 1) slots))
 
-nested_suit : (heap : Heap) (code : CodeProgram) (self : Value) (sel : ℕ) (wanted : Wanted) (holder : ℕ) (nested : List NestedCode) → EachNamed (FoundSuits heap self) code sel (nested_members wanted holder nested)
+nested_suit : (heap : Heap) (code : CodeProgram) (self : Value) (sel : ℕ) (wanted : Wanted) (holder : ℕ) (nested : List NestedCode) →
+    EachNamed (FoundSuits heap self) code sel (nested_members wanted holder nested)
 nested_suit heap code self sel wanted holder [] = tt
 nested_suit heap code self sel wanted holder (nested ∷ rest) = ((λ n. tt), nested_suit heap code self sel wanted holder rest)
 
-methods_suit : (heap : Heap) (code : CodeProgram) (self : Value) (sel : ℕ) (wanted : Wanted) (holder : ℕ) (methods : List MethodCode) → EachNamed (FoundSuits heap self) code sel (method_members wanted holder methods)
+methods_suit : (heap : Heap) (code : CodeProgram) (self : Value) (sel : ℕ) (wanted : Wanted) (holder : ℕ) (methods : List MethodCode) →
+    EachNamed (FoundSuits heap self) code sel (method_members wanted holder methods)
 methods_suit heap code self sel wanted holder [] = tt
 methods_suit heap code self sel wanted holder (method ∷ methods) = ((λ n. tt), methods_suit heap code self sel wanted holder methods)
 
-holder_suits : (heap : Heap) (code : CodeProgram) (self : Value) (sel : ℕ) (wanted : Wanted) (side : Side) (holder : ℕ) → EachNamed (FoundSuits heap self) code sel (holder_members heap code wanted side holder)
+holder_suits : (heap : Heap) (code : CodeProgram) (self : Value) (sel : ℕ) (wanted : Wanted) (side : Side) (holder : ℕ) →
+    EachNamed (FoundSuits heap self) code sel (holder_members heap code wanted side holder)
 holder_suits heap code self sel wanted side holder = there (slice_get code.classes (declaration_of heap holder)) side
   where
     there : (o : Option ClassCode) (side : Side) → EachNamed (FoundSuits heap self) code sel (option_map_or (side_members heap code wanted side holder) o [])
@@ -104,12 +116,14 @@ holder_suits heap code self sel wanted side holder = there (slice_get code.class
         (named_append (FoundSuits heap self) code sel (nested_members wanted holder class.nested) (method_members wanted holder class.methods)
         (nested_suit heap code self sel wanted holder class.nested) (methods_suit heap code self sel wanted holder class.methods))
 
-along_suit : (heap : Heap) (code : CodeProgram) (self : Value) (sel : ℕ) (side : Side) (chain : List ℕ) → EachNamed (FoundSuits heap self) code sel (members_along heap code side chain)
+along_suit : (heap : Heap) (code : CodeProgram) (self : Value) (sel : ℕ) (side : Side) (chain : List ℕ) →
+    EachNamed (FoundSuits heap self) code sel (members_along heap code side chain)
 along_suit heap code self sel side [] = tt
 along_suit heap code self sel side (holder ∷ chain) =
     named_append (FoundSuits heap self) code sel (holder_members heap code Visible side holder) (members_along heap code side chain) (holder_suits heap code self sel Visible side holder) (along_suit heap code self sel side chain)
 
-factory_suits : (heap : Heap) (code : CodeProgram) (self : Value) (sel class : ℕ) (factory : Bool) → EachNamed (FoundSuits heap self) code sel (factory_member heap code class factory)
+factory_suits : (heap : Heap) (code : CodeProgram) (self : Value) (sel class : ℕ) (factory : Bool) →
+    EachNamed (FoundSuits heap self) code sel (factory_member heap code class factory)
 factory_suits heap code self sel class factory = there (slice_get code.classes (declaration_of heap class))
   where
     there : (o : Option ClassCode) → EachNamed (FoundSuits heap self) code sel (option_map_or (λ (c : ClassCode). record { there = factory; name = Numbered c.factory.0; access = public_access; found = found.Factory class } ∷ []) o [])
@@ -122,7 +136,8 @@ StartsAs heap self (start.Instance class) = Unit {0}
 StartsAs heap self (start.ClassSide class factory) = Unit {0}
 StartsAs heap self (start.Kernel r) = IsOfKind heap self r
 
-from_suits : (heap : Heap) (code : CodeProgram) (self : Value) (from : Start) (sel : ℕ) (kind : Sending) → StartsAs heap self from → FoundSuits heap self (found_from heap code from sel kind)
+from_suits : (heap : Heap) (code : CodeProgram) (self : Value) (from : Start) (sel : ℕ) (kind : Sending) → StartsAs heap self from →
+    FoundSuits heap self (found_from heap code from sel kind)
 from_suits heap code self (start.Instance class) sel kind known =
     search_named (FoundSuits heap self) code sel kind (members_from heap code (start.Instance class)) tt tt
     (named_append (FoundSuits heap self) code sel (members_along heap code InstanceSide (chain_of heap class)) (kernel_rows heap code row.Object) (along_suit heap code self sel InstanceSide (chain_of heap class)) (rows_suit heap code self sel row.Object tt))
@@ -170,12 +185,16 @@ starts_as heap (value.Sym name) = tt
 starts_as heap (value.Kernel class) = class_kind heap (value.Kernel class) class
 
 -- what a send to a value, to super and to a private member finds
-pub value_suits : (heap : Heap) (code : CodeProgram) (self : Value) (sel : ℕ) (kind : Sending) → FoundSuits heap self (found_from heap code (start_of heap self) sel kind)
+pub value_suits : (heap : Heap) (code : CodeProgram) (self : Value) (sel : ℕ) (kind : Sending) →
+    FoundSuits heap self (found_from heap code (start_of heap self) sel kind)
 value_suits heap code self sel kind = from_suits heap code self (start_of heap self) sel kind (starts_as heap self)
 
-pub above_suits : (heap : Heap) (code : CodeProgram) (self : Value) (holder : ℕ) (side : Side) (sel : ℕ) → FoundSuits heap self (found_from heap code (super_start heap holder side) sel Inner)
+pub above_suits : (heap : Heap) (code : CodeProgram) (self : Value) (holder : ℕ) (side : Side) (sel : ℕ) →
+    FoundSuits heap self (found_from heap code (super_start heap holder side) sel Inner)
 above_suits heap code self holder InstanceSide sel = from_suits heap code self (super_start heap holder InstanceSide) sel Inner tt
 above_suits heap code self holder ClassSide sel = from_suits heap code self (super_start heap holder ClassSide) sel Inner tt
 
-pub own_suits : (heap : Heap) (code : CodeProgram) (self : Value) (holder : ℕ) (side : Side) (sel : ℕ) → FoundSuits heap self (found_private heap code holder side sel)
-own_suits heap code self holder side sel = search_named (FoundSuits heap self) code sel Inner (holder_members heap code Private side holder) tt tt (holder_suits heap code self sel Private side holder)
+pub own_suits : (heap : Heap) (code : CodeProgram) (self : Value) (holder : ℕ) (side : Side) (sel : ℕ) →
+    FoundSuits heap self (found_private heap code holder side sel)
+own_suits heap code self holder side sel =
+    search_named (FoundSuits heap self) code sel Inner (holder_members heap code Private side holder) tt tt (holder_suits heap code self sel Private side holder)

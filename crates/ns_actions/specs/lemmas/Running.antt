@@ -41,7 +41,9 @@ pub record BodyRuns (heap : Heap) (code : CodeProgram) (self : Value) (holder bo
   pub kind_is : kind_of code body ≡ kind
   pub params_are : parameters_of code body ≡ params
 
-pub body_runs : (heap : Heap) (code : CodeProgram) (self : Value) (holder number kind side class params : ℕ) (has : IsBody code number kind side class params) → IsLiveValue heap code self → FitsBody heap code has.body self holder → BodyRuns heap code self holder number kind params
+pub body_runs :
+    (heap : Heap) (code : CodeProgram) (self : Value) (holder number kind side class params : ℕ) (has : IsBody code number kind side class params) →
+    IsLiveValue heap code self → FitsBody heap code has.body self holder → BodyRuns heap code self holder number kind params
 body_runs heap code self holder number kind side class params has live fits = record {
   live = live;
   there = rw (has.body_is) refl;
@@ -56,16 +58,24 @@ Runs heap code self sel (found.Method body holder) = BodyRuns heap code self hol
 Runs heap code self sel (found.Factory class) = IsInitialiserOf heap code class (selector_arity code sel)
 Runs heap code self sel other = Unit {0}
 
-pub instance_fits : (heap : Heap) (code : CodeProgram) (at holder : ℕ) (body : BodyCode) → is_class (find_cell heap holder) ≡ true → body.class ≡ declaration_of heap holder → body.side ≡ instance_side → HasHolder heap (value.Ref at) holder → FitsBody heap code body (value.Ref at) holder
-instance_fits heap code at holder body is class side has = (is, sym class, λ s. has, λ s. absurd (let q : 0 ≡ 1 = sym side ∙ s in omega (arith, q)))
+pub instance_fits : (heap : Heap) (code : CodeProgram) (at holder : ℕ) (body : BodyCode) → is_class (find_cell heap holder) ≡ true →
+    body.class ≡ declaration_of heap holder → body.side ≡ instance_side → HasHolder heap (value.Ref at) holder →
+    FitsBody heap code body (value.Ref at) holder
+instance_fits heap code at holder body is class side has =
+    (is, sym class, λ s. has, λ s. absurd (let q : 0 ≡ 1 = sym side ∙ s in omega (arith, q)))
 
-class_fits : (heap : Heap) (code : CodeProgram) (at holder : ℕ) (body : BodyCode) → is_class (find_cell heap holder) ≡ true → body.class ≡ declaration_of heap holder → body.side ≡ class_side → is_class (find_cell heap at) ≡ true → Contains (chain_of heap at) holder
+class_fits : (heap : Heap) (code : CodeProgram) (at holder : ℕ) (body : BodyCode) → is_class (find_cell heap holder) ≡ true →
+    body.class ≡ declaration_of heap holder → body.side ≡ class_side → is_class (find_cell heap at) ≡ true →
+    Contains (chain_of heap at) holder
     → FitsBody heap code body (value.Ref at) holder
-class_fits heap code at holder body is class side self has = (is, sym class, λ s. absurd (let q : 0 ≡ 1 = sym s ∙ side in omega (arith, q)), λ s. (self, has))
+class_fits heap code at holder body is class side self has =
+    (is, sym class, λ s. absurd (let q : 0 ≡ 1 = sym s ∙ side in omega (arith, q)), λ s. (self, has))
 
 -- ---- by the chain in which it is found
 
-pub instance_runs : (heap : Heap) (code : CodeProgram) (at : ℕ) (chain : List ℕ) (sel : ℕ) (f : Found) → IsLiveValue heap code (value.Ref at) → ((holder : ℕ) → Contains chain holder → HasHolder heap (value.Ref at) holder × (is_class (find_cell heap holder) ≡ true))
+pub instance_runs : (heap : Heap) (code : CodeProgram) (at : ℕ) (chain : List ℕ) (sel : ℕ) (f : Found) →
+    IsLiveValue heap code (value.Ref at) →
+    ((holder : ℕ) → Contains chain holder → HasHolder heap (value.Ref at) holder × (is_class (find_cell heap holder) ≡ true))
     → Belongs heap code InstanceSide chain [] f → TakesArguments heap code InstanceSide sel f → Runs heap code (value.Ref at) sel f
 instance_runs heap code at chain sel (found.Method body holder) live among b t =
     let h = among holder b.0 in
@@ -78,7 +88,8 @@ instance_runs heap code at chain sel (found.Kernel number) live among b t = tt
 instance_runs heap code at chain sel found.NotPublic live among b t = tt
 instance_runs heap code at chain sel found.Absent live among b t = tt
 
-pub side_runs : (heap : Heap) (code : CodeProgram) (at : ℕ) (chain factories : List ℕ) (sel : ℕ) (f : Found) → IsLiveValue heap code (value.Ref at) → is_class (find_cell heap at) ≡ true
+pub side_runs : (heap : Heap) (code : CodeProgram) (at : ℕ) (chain factories : List ℕ) (sel : ℕ) (f : Found) →
+    IsLiveValue heap code (value.Ref at) → is_class (find_cell heap at) ≡ true
     → ((holder : ℕ) → Contains chain holder → Contains (chain_of heap at) holder × (is_class (find_cell heap holder) ≡ true)) → Belongs heap code ClassSide chain factories f → TakesArguments heap code ClassSide sel f → Runs heap code (value.Ref at) sel f
 side_runs heap code at chain factories sel (found.Method body holder) live self among b t =
     let h = among holder b.0 in
@@ -92,7 +103,8 @@ side_runs heap code at chain factories sel found.NotPublic live self among b t =
 side_runs heap code at chain factories sel found.Absent live self among b t = tt
 
 -- rows of the kernel are no methods
-none_runs : (heap : Heap) (code : CodeProgram) (receiver : Value) (sel : ℕ) (f : Found) → Belongs heap code InstanceSide [] [] f → Runs heap code receiver sel f
+none_runs : (heap : Heap) (code : CodeProgram) (receiver : Value) (sel : ℕ) (f : Found) → Belongs heap code InstanceSide [] [] f →
+    Runs heap code receiver sel f
 none_runs heap code receiver sel (found.Method body holder) b = absurd (no_holder holder b.0)
 none_runs heap code receiver sel (found.Getter holder word) b = tt
 none_runs heap code receiver sel (found.Setter holder word) b = tt
@@ -102,12 +114,16 @@ none_runs heap code receiver sel (found.Kernel number) b = tt
 none_runs heap code receiver sel found.NotPublic b = tt
 none_runs heap code receiver sel found.Absent b = tt
 
-row_runs : (heap : Heap) (code : CodeProgram) (receiver : Value) (r : KernelRow) (sel : ℕ) (kind : Sending) → Runs heap code receiver sel (found_from heap code (start.Kernel r) sel kind)
-row_runs heap code receiver r sel kind = none_runs heap code receiver sel (found_from heap code (start.Kernel r) sel kind) (kernel_belongs heap code InstanceSide r sel kind)
+row_runs : (heap : Heap) (code : CodeProgram) (receiver : Value) (r : KernelRow) (sel : ℕ) (kind : Sending) →
+    Runs heap code receiver sel (found_from heap code (start.Kernel r) sel kind)
+row_runs heap code receiver r sel kind =
+    none_runs heap code receiver sel (found_from heap code (start.Kernel r) sel kind) (kernel_belongs heap code InstanceSide r sel kind)
 
 -- ---- sends to a value
 
-pub found_runs : (world : World) (code : CodeProgram) (receiver : Value) (sel : ℕ) (kind : Sending) → IsLawful world code → IsLiveValue world.cells code receiver → Runs world.cells code receiver sel (found_from world.cells code (start_of world.cells receiver) sel kind)
+pub found_runs : (world : World) (code : CodeProgram) (receiver : Value) (sel : ℕ) (kind : Sending) → IsLawful world code →
+    IsLiveValue world.cells code receiver →
+    Runs world.cells code receiver sel (found_from world.cells code (start_of world.cells receiver) sel kind)
 found_runs world code (value.Ref at) sel kind lawful live = cell (find_cell world.cells at) refl
   where
     runs : Start → Type 0
@@ -138,4 +154,5 @@ found_runs world code value.True sel kind lawful live = row_runs world.cells cod
 found_runs world code value.False sel kind lawful live = row_runs world.cells code value.False row.Boolean sel kind
 found_runs world code (value.Int number) sel kind lawful live = row_runs world.cells code (value.Int number) row.Integer sel kind
 found_runs world code (value.Sym name) sel kind lawful live = row_runs world.cells code (value.Sym name) row.Symbol sel kind
-found_runs world code (value.Kernel class) sel kind lawful live = row_runs world.cells code (value.Kernel class) (kernel_class_row class) sel kind
+found_runs world code (value.Kernel class) sel kind lawful live =
+    row_runs world.cells code (value.Kernel class) (kernel_class_row class) sel kind

@@ -31,7 +31,9 @@ pub no_holder : (holder : ℕ) → Contains [] holder → ⊥
 no_holder holder (k, inside, is) = omega (arith, inside)
 
 -- on the instance side each holder in the chain is one of the receiver's
-instance_suits : (heap : Heap) (code : CodeProgram) (receiver : Value) (chain : List ℕ) (f : Found) → ((holder : ℕ) → Contains chain holder → HasHolder heap receiver holder × (is_class (find_cell heap holder) ≡ true)) → Belongs heap code InstanceSide chain [] f → Suits heap code receiver f
+instance_suits : (heap : Heap) (code : CodeProgram) (receiver : Value) (chain : List ℕ) (f : Found) →
+    ((holder : ℕ) → Contains chain holder → HasHolder heap receiver holder × (is_class (find_cell heap holder) ≡ true)) →
+    Belongs heap code InstanceSide chain [] f → Suits heap code receiver f
 instance_suits heap code receiver chain (found.Getter holder word) among b = let h = among holder b.1 in (h.0, h.1, b.2)
 instance_suits heap code receiver chain (found.Setter holder word) among b = let h = among holder b.1 in (h.0, h.1, b.2)
 instance_suits heap code receiver chain (found.Nested class holder) among b = let h = among holder b.1 in (h.0, h.1, b.2)
@@ -42,7 +44,9 @@ instance_suits heap code receiver chain found.NotPublic among b = tt
 instance_suits heap code receiver chain found.Absent among b = tt
 
 -- on a class side there are methods alone, and the factory of a class
-side_suits : (heap : Heap) (code : CodeProgram) (receiver : Value) (chain factories : List ℕ) (f : Found) → ((class : ℕ) → Contains factories class → is_class (find_cell heap class) ≡ true) → Belongs heap code ClassSide chain factories f → Suits heap code receiver f
+side_suits : (heap : Heap) (code : CodeProgram) (receiver : Value) (chain factories : List ℕ) (f : Found) →
+    ((class : ℕ) → Contains factories class → is_class (find_cell heap class) ≡ true) → Belongs heap code ClassSide chain factories f →
+    Suits heap code receiver f
 side_suits heap code receiver chain factories (found.Getter holder word) among b = absurd b.0
 side_suits heap code receiver chain factories (found.Setter holder word) among b = absurd b.0
 side_suits heap code receiver chain factories (found.Nested class holder) among b = absurd b.0
@@ -52,24 +56,29 @@ side_suits heap code receiver chain factories (found.Kernel number) among b = tt
 side_suits heap code receiver chain factories found.NotPublic among b = tt
 side_suits heap code receiver chain factories found.Absent among b = tt
 
-row_suits : (heap : Heap) (code : CodeProgram) (receiver : Value) (r : KernelRow) (sel : ℕ) (kind : Sending) → Suits heap code receiver (found_from heap code (start.Kernel r) sel kind)
+row_suits : (heap : Heap) (code : CodeProgram) (receiver : Value) (r : KernelRow) (sel : ℕ) (kind : Sending) →
+    Suits heap code receiver (found_from heap code (start.Kernel r) sel kind)
 row_suits heap code receiver r sel kind =
     instance_suits heap code receiver [] (found_from heap code (start.Kernel r) sel kind) (λ holder c. absurd (no_holder holder c)) (kernel_belongs heap code InstanceSide r sel kind)
 
 -- the holders of an object
-pub object_holders : (world : World) (code : CodeProgram) (at class : ℕ) → IsLawful world code → class_of_object (find_cell world.cells at) ≡ Some class → is_chain_start world.cells class ≡ true → (holder : ℕ) → Contains (chain_of world.cells class) holder
+pub object_holders : (world : World) (code : CodeProgram) (at class : ℕ) → IsLawful world code →
+    class_of_object (find_cell world.cells at) ≡ Some class → is_chain_start world.cells class ≡ true → (holder : ℕ) →
+    Contains (chain_of world.cells class) holder
     → HasHolder world.cells (value.Ref at) holder × (is_class (find_cell world.cells holder) ≡ true)
 object_holders world code at class lawful e s holder (k, inside, is) = (
   (λ other f. let same : Some class ≡ Some other = sym e ∙ f in let it : class ≡ other = cc in subst (λ c. Contains (chain_of world.cells c) holder) it (k, inside, is), rw e refl),
   class_in_chain world.cells k class holder (lawful_order world code lawful) s inside is,
 )
 
-one_class : (heap : Heap) (class at : ℕ) → is_class (find_cell heap at) ≡ true → Contains (at ∷ []) class → is_class (find_cell heap class) ≡ true
+one_class : (heap : Heap) (class at : ℕ) → is_class (find_cell heap at) ≡ true → Contains (at ∷ []) class →
+    is_class (find_cell heap class) ≡ true
 one_class heap class at t (zero, inside, is) = ap (λ n. is_class (find_cell heap n)) (sym is) ∙ t
 one_class heap class at t (suc k, inside, is) = absurd (omega (arith, inside))
 
 -- what a send to a value finds
-pub found_suits : (world : World) (code : CodeProgram) (receiver : Value) (sel : ℕ) (kind : Sending) → IsLawful world code → Suits world.cells code receiver (found_from world.cells code (start_of world.cells receiver) sel kind)
+pub found_suits : (world : World) (code : CodeProgram) (receiver : Value) (sel : ℕ) (kind : Sending) → IsLawful world code →
+    Suits world.cells code receiver (found_from world.cells code (start_of world.cells receiver) sel kind)
 found_suits world code (value.Ref at) sel kind lawful = cell (find_cell world.cells at) refl
   where
     suits : Start → Type 0
@@ -96,10 +105,13 @@ found_suits world code value.True sel kind lawful = row_suits world.cells code v
 found_suits world code value.False sel kind lawful = row_suits world.cells code value.False row.Boolean sel kind
 found_suits world code (value.Int number) sel kind lawful = row_suits world.cells code (value.Int number) row.Integer sel kind
 found_suits world code (value.Sym name) sel kind lawful = row_suits world.cells code (value.Sym name) row.Symbol sel kind
-found_suits world code (value.Kernel class) sel kind lawful = row_suits world.cells code (value.Kernel class) (kernel_class_row class) sel kind
+found_suits world code (value.Kernel class) sel kind lawful =
+    row_suits world.cells code (value.Kernel class) (kernel_class_row class) sel kind
 
 -- the holders above one in a chain are in the chain too
-pub above_too : (heap : Heap) (class holder other k : ℕ) → IsInOrder heap → is_chain_start heap class ≡ true → k < length (chain_of heap class) → get_or (chain_of heap class) k holder ≡ holder → Contains (chain_of heap (superclass_of heap holder)) other → Contains (chain_of heap class) other
+pub above_too : (heap : Heap) (class holder other k : ℕ) → IsInOrder heap → is_chain_start heap class ≡ true →
+    k < length (chain_of heap class) → get_or (chain_of heap class) k holder ≡ holder →
+    Contains (chain_of heap (superclass_of heap holder)) other → Contains (chain_of heap class) other
 above_too heap class holder other zero order s inside is (j, below, at) =
     let g = (started heap class 0 order s inside).0 in
     let same : class ≡ holder = sym (ap (λ ms. get_or ms 0 holder) g.chain) ∙ is in
@@ -111,7 +123,8 @@ above_too heap class holder other (suc k) order s inside is has =
     (suc rest.0, omega (arith, rest.1, ap length g.chain), ap (λ ms. get_or ms (suc rest.0) other) g.chain ∙ rest.2)
 
 -- what a send to super finds on the instance side
-pub super_suits : (world : World) (code : CodeProgram) (at holder sel : ℕ) → IsLawful world code → HasHolder world.cells (value.Ref at) holder
+pub super_suits : (world : World) (code : CodeProgram) (at holder sel : ℕ) → IsLawful world code →
+    HasHolder world.cells (value.Ref at) holder
     → Suits world.cells code (value.Ref at) (found_from world.cells code (start.Instance (superclass_of world.cells holder)) sel Inner)
 super_suits world code at holder sel lawful has = object (find_cell world.cells at) refl has
   where
@@ -136,16 +149,21 @@ super_suits world code at holder sel lawful has = object (find_cell world.cells 
     object (Some (MessageCell name args)) e h = let none = h.1 in absurd (cc)
 
 -- on a class side such a send finds no factory
-pub super_side_suits : (heap : Heap) (code : CodeProgram) (receiver : Value) (class sel : ℕ) → Suits heap code receiver (found_from heap code (start.ClassSide class false) sel Inner)
+pub super_side_suits : (heap : Heap) (code : CodeProgram) (receiver : Value) (class sel : ℕ) →
+    Suits heap code receiver (found_from heap code (start.ClassSide class false) sel Inner)
 super_side_suits heap code receiver class sel =
     side_suits heap code receiver (chain_of heap class) [] (found_from heap code (start.ClassSide class false) sel Inner) (λ other c. absurd (no_holder other c)) (class_belongs heap code class false sel Inner)
 
-pub one_holder : (heap : Heap) (receiver : Value) (place other : ℕ) → HasHolder heap receiver place → is_class (find_cell heap place) ≡ true → Contains (place ∷ []) other → HasHolder heap receiver other × (is_class (find_cell heap other) ≡ true)
-one_holder heap receiver place other has t (zero, inside, is) = (subst (HasHolder heap receiver) is has, ap (λ n. is_class (find_cell heap n)) (sym is) ∙ t)
+pub one_holder : (heap : Heap) (receiver : Value) (place other : ℕ) → HasHolder heap receiver place →
+    is_class (find_cell heap place) ≡ true → Contains (place ∷ []) other →
+    HasHolder heap receiver other × (is_class (find_cell heap other) ≡ true)
+one_holder heap receiver place other has t (zero, inside, is) =
+    (subst (HasHolder heap receiver) is has, ap (λ n. is_class (find_cell heap n)) (sym is) ∙ t)
 one_holder heap receiver place other has t (suc k, inside, is) = absurd (omega (arith, inside))
 
 -- what is found of private members
-pub private_suits : (heap : Heap) (code : CodeProgram) (receiver : Value) (holder : ℕ) (side : Side) (sel : ℕ) → (side ≡ InstanceSide → HasHolder heap receiver holder) → is_class (find_cell heap holder) ≡ true
+pub private_suits : (heap : Heap) (code : CodeProgram) (receiver : Value) (holder : ℕ) (side : Side) (sel : ℕ) →
+    (side ≡ InstanceSide → HasHolder heap receiver holder) → is_class (find_cell heap holder) ≡ true
     → Suits heap code receiver (found_private heap code holder side sel)
 private_suits heap code receiver holder InstanceSide sel has t =
     instance_suits heap code receiver (holder ∷ []) (found_private heap code holder InstanceSide sel) (λ other c. one_holder heap receiver holder other (has refl) t c) (private_belongs heap code holder InstanceSide sel)

@@ -15,7 +15,8 @@ use Rattle.ns_world.specs.Lawful.{IsLawful}
 use Rattle.ns_world.specs.laws.Above.{chain_none, class_of_start}
 use Rattle.ns_world.specs.laws.Classes.{lawful_small as below_no_class}
 
-class_fits : (classes : List ClassCode) (k : ℕ) (class : ClassCode) → All ClassFits classes → slice_get classes k ≡ Some class → ClassFits class
+class_fits : (classes : List ClassCode) (k : ℕ) (class : ClassCode) → All ClassFits classes → slice_get classes k ≡ Some class →
+    ClassFits class
 class_fits classes k class fits e =
     let is : get_or classes k class ≡ class = sym (unwrap_or-slice_get classes k class) ∙ ap (λ o. unwrap_or o class) e in
     subst ClassFits is (All-get_or ClassFits classes k class (slice_get_within classes k class e) fits)
@@ -30,13 +31,15 @@ entries_few code decl fits = found (slice_get code.classes decl) refl
 
 entries_along_few : (heap : Heap) (code : CodeProgram) (chain : List ℕ) → Fits code → entries_along heap code chain ≤ length chain * 131070
 entries_along_few heap code [] fits = omega arith
-entries_along_few heap code (class ∷ chain) fits = omega (arith, entries_along_few heap code chain fits, entries_few code (declaration_of heap class) fits)
+entries_along_few heap code (class ∷ chain) fits =
+    omega (arith, entries_along_few heap code chain fits, entries_few code (declaration_of heap class) fits)
 
 -- in a lawful world the cells used are below the number of no class
 pub lawful_small : (world : World) (code : CodeProgram) → IsLawful world code → heap_size world.cells ≤ no_class
 lawful_small world code lawful = omega (arith, below_no_class world code lawful)
 
-class_short : (world : World) (code : CodeProgram) (class : ℕ) → IsLawful world code → is_class (find_cell world.cells class) ≡ true → length (chain_of world.cells class) ≤ 256
+class_short : (world : World) (code : CodeProgram) (class : ℕ) → IsLawful world code → is_class (find_cell world.cells class) ≡ true →
+    length (chain_of world.cells class) ≤ 256
 class_short world code class lawful h = found (find_cell world.cells class) refl h
   where
     found : (o : Option Cell) → find_cell world.cells class ≡ o → is_class o ≡ true → length (chain_of world.cells class) ≤ 256
@@ -52,7 +55,8 @@ class_short world code class lawful h = found (find_cell world.cells class) refl
     found (Some (MessageCell sel args)) e h = absurd (cc)
 
 -- a chain is at most 256 long
-chain_short : (world : World) (code : CodeProgram) (class : ℕ) → IsLawful world code → is_chain_start world.cells class ≡ true → length (chain_of world.cells class) ≤ 256
+chain_short : (world : World) (code : CodeProgram) (class : ℕ) → IsLawful world code → is_chain_start world.cells class ≡ true →
+    length (chain_of world.cells class) ≤ 256
 chain_short world code class lawful s = tested (eqb class no_class) refl
   where
     tested : (b : Bool) → eqb class no_class ≡ b → length (chain_of world.cells class) ≤ 256
@@ -60,12 +64,14 @@ chain_short world code class lawful s = tested (eqb class no_class) refl
     tested false e = class_short world code class lawful (class_of_start world.cells class s (λ t. cc))
 
 -- the entries of a chain are few
-pub layout_few : (world : World) (code : CodeProgram) (class : ℕ) → IsLawful world code → is_chain_start world.cells class ≡ true → layout_of world.cells code class ≤ 33553920
+pub layout_few : (world : World) (code : CodeProgram) (class : ℕ) → IsLawful world code → is_chain_start world.cells class ≡ true →
+    layout_of world.cells code class ≤ 33553920
 layout_few world code class lawful s =
     omega (arith, entries_along_few world.cells code (chain_of world.cells class) lawful.fits, chain_short world code class lawful s)
 
 -- one step down the chain takes the entries of its class
-pub layout_step : (heap : Heap) (code : CodeProgram) (class next : ℕ) → chain_of heap class ≡ class ∷ chain_of heap next → layout_of heap code class ≡ entries_of code (declaration_of heap class) + layout_of heap code next
+pub layout_step : (heap : Heap) (code : CodeProgram) (class next : ℕ) → chain_of heap class ≡ class ∷ chain_of heap next →
+    layout_of heap code class ≡ entries_of code (declaration_of heap class) + layout_of heap code next
 layout_step heap code class next e = ap (entries_along heap code) e
 
 -- past the end of a chain there are no entries

@@ -21,7 +21,8 @@ use Rattle.ns_classes.specs.laws.Bounds.{layout_step}
 pub nested_entry_past : (code : CodeProgram) (decl class : ℕ) → length code.classes ≤ decl → 0 ≡ nested_entry code decl class
 nested_entry_past code decl class h = rw (slice_get_past code.classes decl h) refl
 
-place_within : (nested : List NestedCode) (class : ℕ) → list_any (λ (one : NestedCode). eqb one.class class) nested ≡ true → place_of nested class < length nested
+place_within : (nested : List NestedCode) (class : ℕ) → list_any (λ (one : NestedCode). eqb one.class class) nested ≡ true →
+    place_of nested class < length nested
 place_within [] class h = absurd (cc)
 place_within (one ∷ nested) class h = tested (eqb one.class class) h (place_within nested class)
   where
@@ -30,7 +31,8 @@ place_within (one ∷ nested) class h = tested (eqb one.class class) h (place_wi
     tested false e below = omega (arith, below e)
 
 -- a nested class's entry is one of its declaration
-pub nested_entry_within : (code : CodeProgram) (decl class : ℕ) → has_nested code decl class ≡ true → nested_entry code decl class < entries_of code decl
+pub nested_entry_within : (code : CodeProgram) (decl class : ℕ) → has_nested code decl class ≡ true →
+    nested_entry code decl class < entries_of code decl
 nested_entry_within code decl class h = found (slice_get code.classes decl) refl h
   where
     found : (o : Option ClassCode) → slice_get code.classes decl ≡ o → option_map_or (λ (c : ClassCode). list_any (λ (one : NestedCode). eqb one.class class) c.nested) o false ≡ true → option_map_or (λ (c : ClassCode). length c.slots + place_of c.nested class) (slice_get code.classes decl) 0 < option_map_or (λ (c : ClassCode). length c.slots + length c.nested) (slice_get code.classes decl) 0
@@ -38,11 +40,14 @@ nested_entry_within code decl class h = found (slice_get code.classes decl) refl
     found (Some c) e h = rw e (omega (arith, place_within c.nested class h))
 
 -- What is known of the class at which a chain that isn't empty starts.
-pub started : (world : World) (code : CodeProgram) (class k : ℕ) → IsLawful world code → is_chain_start world.cells class ≡ true → k < length (chain_of world.cells class) → ChainGoesOn world.cells class
+pub started : (world : World) (code : CodeProgram) (class k : ℕ) → IsLawful world code → is_chain_start world.cells class ≡ true →
+    k < length (chain_of world.cells class) → ChainGoesOn world.cells class
 started world code class k lawful s h = (goes_on_from world.cells class k (lawful_order world code lawful) s h).0
 
 -- the entries of a class in a chain, and of those above it, are among those of the chain
-pub along : (world : World) (code : CodeProgram) (k class holder : ℕ) → IsLawful world code → is_chain_start world.cells class ≡ true → k < length (chain_of world.cells class) → get_or (chain_of world.cells class) k holder ≡ holder → layout_of world.cells code (superclass_of world.cells holder) + entries_of code (declaration_of world.cells holder) ≤ layout_of world.cells code class
+pub along : (world : World) (code : CodeProgram) (k class holder : ℕ) → IsLawful world code → is_chain_start world.cells class ≡ true →
+    k < length (chain_of world.cells class) → get_or (chain_of world.cells class) k holder ≡ holder →
+    layout_of world.cells code (superclass_of world.cells holder) + entries_of code (declaration_of world.cells holder) ≤ layout_of world.cells code class
 along world code zero class holder lawful s h e =
     let g = started world code class zero lawful s h in
     let is : class ≡ holder = sym (ap (λ ms. get_or ms 0 holder) g.chain) ∙ e in
@@ -57,7 +62,9 @@ along world code (suc k) class holder lawful s h e =
     omega (arith, step, along world code k (superclass_of world.cells class) holder lawful g.start inside there)
 
 -- an entry's word is one of the object
-pub entry_inside : (world : World) (code : CodeProgram) (object holder entry : ℕ) → IsLawful world code → HasHolder world.cells (Ref object) holder → entry < entries_of code (declaration_of world.cells holder) → entry_word world.cells code holder entry < length (words_at world.cells object)
+pub entry_inside : (world : World) (code : CodeProgram) (object holder entry : ℕ) → IsLawful world code →
+    HasHolder world.cells (Ref object) holder → entry < entries_of code (declaration_of world.cells holder) →
+    entry_word world.cells code holder entry < length (words_at world.cells object)
 entry_inside world code object holder entry lawful h within = found (find_cell world.cells object) refl h.0 h.1
   where
     found : (o : Option Cell) → find_cell world.cells object ≡ o → ForSome (class_of_object o) (λ class. Contains (chain_of world.cells class) holder) → IsSome (class_of_object o) → entry_word world.cells code holder entry < length (words_at world.cells object)

@@ -44,11 +44,17 @@ fits heap (Int number) e = absurd (cc)
 fits heap (Sym sel) e = absurd (cc)
 
 -- an entry of a declaration that is there
-entries_are : (code : CodeProgram) (decl : ℕ) (declared : ClassCode) → slice_get code.classes decl ≡ Some declared → entries_of code decl ≡ length declared.slots + length declared.nested
+entries_are : (code : CodeProgram) (decl : ℕ) (declared : ClassCode) → slice_get code.classes decl ≡ Some declared →
+    entries_of code decl ≡ length declared.slots + length declared.nested
 entries_are code decl declared e = ap (λ o. option_map_or (λ (class : ClassCode). length class.slots + length class.nested) o 0) e
 
 -- an entry is written: no nested class of another holder, and none of another number, stands at its word
-entry_written : (world : World) (code : CodeProgram) (object holder entry : ℕ) (declared : ClassCode) (value : Value) → IsLawful world code → HasHolder world.cells (Ref object) holder → slice_get code.classes (declaration_of world.cells holder) ≡ Some declared → entry < length declared.slots + length declared.nested → IsLiveValue world.cells code value → ((k : ℕ) (nested : NestedCode) → slice_get declared.nested k ≡ Some nested → entry ≡ length declared.slots + k → IsKept world.cells object holder nested.class value) → IsLawful (written world object (entry_word world.cells code holder entry) value) code
+entry_written : (world : World) (code : CodeProgram) (object holder entry : ℕ) (declared : ClassCode) (value : Value) →
+    IsLawful world code → HasHolder world.cells (Ref object) holder →
+    slice_get code.classes (declaration_of world.cells holder) ≡ Some declared → entry < length declared.slots + length declared.nested →
+    IsLiveValue world.cells code value →
+    ((k : ℕ) (nested : NestedCode) → slice_get declared.nested k ≡ Some nested → entry ≡ length declared.slots + k → IsKept world.cells object holder nested.class value) →
+    IsLawful (written world object (entry_word world.cells code holder entry) value) code
 entry_written world code object holder entry declared value lawful has d inside live kept =
     writing_keeps world code object (entry_word world.cells code holder entry) value lawful (live, λ class c other contained found f k nested n w. same class c other contained found f k nested n w)
   where
@@ -65,12 +71,19 @@ entry_written world code object holder entry declared value lawful has d inside 
         (kept k nested (ap (λ (x : ClassCode). slice_get x.nested k) is ∙ n) (m.1 ∙ ap (λ (x : ClassCode). length x.slots + k) (sym is)))
 
 -- a slot is filled
-pub slot_filled : (world : World) (code : CodeProgram) (object holder entry : ℕ) (declared : ClassCode) (value : Value) → IsLawful world code → HasHolder world.cells (Ref object) holder → slice_get code.classes (declaration_of world.cells holder) ≡ Some declared → entry < length declared.slots → IsLiveValue world.cells code value → IsLawful (written world object (entry_word world.cells code holder entry) value) code
+pub slot_filled : (world : World) (code : CodeProgram) (object holder entry : ℕ) (declared : ClassCode) (value : Value) →
+    IsLawful world code → HasHolder world.cells (Ref object) holder →
+    slice_get code.classes (declaration_of world.cells holder) ≡ Some declared → entry < length declared.slots →
+    IsLiveValue world.cells code value → IsLawful (written world object (entry_word world.cells code holder entry) value) code
 slot_filled world code object holder entry declared value lawful has d inside live =
     entry_written world code object holder entry declared value lawful has d (omega (arith, inside)) live (λ k nested n e. absurd (omega (arith, e, inside)))
 
 -- a nested class is kept
-pub class_kept : (world : World) (code : CodeProgram) (object holder k : ℕ) (declared : ClassCode) (nested : NestedCode) (value : Value) → IsLawful world code → HasHolder world.cells (Ref object) holder → slice_get code.classes (declaration_of world.cells holder) ≡ Some declared → slice_get declared.nested k ≡ Some nested → IsLiveValue world.cells code value → IsKept world.cells object holder nested.class value → IsLawful (written world object (entry_word world.cells code holder (length declared.slots + k)) value) code
+pub class_kept : (world : World) (code : CodeProgram) (object holder k : ℕ) (declared : ClassCode) (nested : NestedCode) (value : Value) →
+    IsLawful world code → HasHolder world.cells (Ref object) holder →
+    slice_get code.classes (declaration_of world.cells holder) ≡ Some declared → slice_get declared.nested k ≡ Some nested →
+    IsLiveValue world.cells code value → IsKept world.cells object holder nested.class value →
+    IsLawful (written world object (entry_word world.cells code holder (length declared.slots + k)) value) code
 class_kept world code object holder k declared nested value lawful has d n live kept =
     entry_written world code object holder (length declared.slots + k) declared value lawful has d (omega (arith, slice_get_within declared.nested k nested n)) live
     (λ j other o e.

@@ -8,7 +8,12 @@ use Rattle.ns_world.specs.Lawful.{IsLawful}
 use Rattle.ns_classes.specs.laws.Entries.{started, along}
 
 -- an entry stands at or behind the entries above its class
-pub meet : (world : World) (code : CodeProgram) (i j class first second entry other : ℕ) → IsLawful world code → is_chain_start world.cells class ≡ true → i < length (chain_of world.cells class) → get_or (chain_of world.cells class) i first ≡ first → j < length (chain_of world.cells class) → get_or (chain_of world.cells class) j second ≡ second → entry < entries_of code (declaration_of world.cells first) → other < entries_of code (declaration_of world.cells second) → entry_word world.cells code first entry ≡ entry_word world.cells code second other → (first ≡ second) × (entry ≡ other)
+pub meet : (world : World) (code : CodeProgram) (i j class first second entry other : ℕ) → IsLawful world code →
+    is_chain_start world.cells class ≡ true → i < length (chain_of world.cells class) →
+    get_or (chain_of world.cells class) i first ≡ first → j < length (chain_of world.cells class) →
+    get_or (chain_of world.cells class) j second ≡ second → entry < entries_of code (declaration_of world.cells first) →
+    other < entries_of code (declaration_of world.cells second) →
+    entry_word world.cells code first entry ≡ entry_word world.cells code second other → (first ≡ second) × (entry ≡ other)
 meet world code zero zero class first second entry other lawful s hi ei hj ej b c w =
     let g = started world code class zero lawful s hi in
     let one : class ≡ first = sym (ap (λ ms. get_or ms 0 first) g.chain) ∙ ei in

@@ -26,14 +26,16 @@ bytes_lawful world code bytes lawful = found (printed world bytes) refl
     found (Some after) e = print_keeps world after code bytes lawful e
     found None e = tt
 
-text_lawful : (world : World) (code : CodeProgram) (text : Value) (tail : List ℕ) → IsLawful world code → LeavesLawful code (printed_text world text tail)
+text_lawful : (world : World) (code : CodeProgram) (text : Value) (tail : List ℕ) → IsLawful world code →
+    LeavesLawful code (printed_text world text tail)
 text_lawful world code text tail lawful = tested (is_text world.cells text)
   where
     tested : (b : Bool) → LeavesLawful code (cond b (printed_bytes world (bytes_of world.cells text ++ tail)) (Fails wrong_kind))
     tested true = bytes_lawful world code (bytes_of world.cells text ++ tail) lawful
     tested false = tt
 
-printing_lawful : (world : World) (code : CodeProgram) (shown : Value) (tail : List ℕ) → IsLawful world code → LeavesLawful code (printing world code shown tail)
+printing_lawful : (world : World) (code : CodeProgram) (shown : Value) (tail : List ℕ) → IsLawful world code →
+    LeavesLawful code (printing world code shown tail)
 printing_lawful world code (value.Int number) tail lawful = bytes_lawful world code (signed_decimal number ++ tail) lawful
 printing_lawful world code (value.Sym sel) tail lawful = bytes_lawful world code (selector_text code sel.0 ++ tail) lawful
 printing_lawful world code value.Nil tail lawful = text_lawful world code value.Nil tail lawful
@@ -43,7 +45,8 @@ printing_lawful world code (value.Kernel class) tail lawful = text_lawful world 
 printing_lawful world code (value.Ref at) tail lawful = text_lawful world code (value.Ref at) tail lawful
 
 -- each row leaves a lawful world: it prints, or changes nothing
-pub rows_lawful : (world : World) (code : CodeProgram) (row : FacetRow) (first second : Value) (board : Board) → IsLawful world code → LeavesLawful code (row_outcome world code row first second board)
+pub rows_lawful : (world : World) (code : CodeProgram) (row : FacetRow) (first second : Value) (board : Board) → IsLawful world code →
+    LeavesLawful code (row_outcome world code row first second board)
 rows_lawful world code (row.Top sel) first second board lawful = lawful
 rows_lawful world code row.PlatformConsole first second board lawful = lawful
 rows_lawful world code row.PlatformKernel first second board lawful = lawful

@@ -18,28 +18,39 @@ use Rattle.ns_world.specs.Later.{IsLater}
 use Rattle.ns_kdata.specs.Leading.{HoldsAfter}
 use Rattle.ns_kdata.specs.laws.Leading.{Allows, allows_later, unchanged_leads}
 
-print_leads : (holds : World → Type 0) (world : World) (may : Allows holds world) (bytes : List ℕ) (o : Option World) → printed world bytes ≡ o → HoldsAfter holds (printed_as o)
+print_leads : (holds : World → Type 0) (world : World) (may : Allows holds world) (bytes : List ℕ) (o : Option World) →
+    printed world bytes ≡ o → HoldsAfter holds (printed_as o)
 print_leads holds world may bytes (Some after) e = may.output after bytes e
 print_leads holds world may bytes None e = tt
 
-bytes_lead : (holds : World → Type 0) (world : World) (may : Allows holds world) (bytes : List ℕ) → HoldsAfter holds (printed_bytes world bytes)
+bytes_lead : (holds : World → Type 0) (world : World) (may : Allows holds world) (bytes : List ℕ) →
+    HoldsAfter holds (printed_bytes world bytes)
 bytes_lead holds world may bytes = print_leads holds world may bytes (printed world bytes) refl
 
-text_leads : (holds : World → Type 0) (world : World) (may : Allows holds world) (bytes : List ℕ) (b : Bool) → HoldsAfter holds (cond b (printed_bytes world bytes) (Fails wrong_kind))
+text_leads : (holds : World → Type 0) (world : World) (may : Allows holds world) (bytes : List ℕ) (b : Bool) →
+    HoldsAfter holds (cond b (printed_bytes world bytes) (Fails wrong_kind))
 text_leads holds world may bytes true = bytes_lead holds world may bytes
 text_leads holds world may bytes false = tt
 
-shown_leads : (holds : World → Type 0) (world : World) (may : Allows holds world) (code : CodeProgram) (shown : Value) (tail : List ℕ) → HoldsAfter holds (printing world code shown tail)
+shown_leads : (holds : World → Type 0) (world : World) (may : Allows holds world) (code : CodeProgram) (shown : Value) (tail : List ℕ) →
+    HoldsAfter holds (printing world code shown tail)
 shown_leads holds world may code (value.Int number) tail = bytes_lead holds world may (signed_decimal number ++ tail)
 shown_leads holds world may code (value.Sym sel) tail = bytes_lead holds world may (selector_text code sel.0 ++ tail)
-shown_leads holds world may code value.Nil tail = text_leads holds world may (bytes_of world.cells value.Nil ++ tail) (is_text world.cells value.Nil)
-shown_leads holds world may code value.True tail = text_leads holds world may (bytes_of world.cells value.True ++ tail) (is_text world.cells value.True)
-shown_leads holds world may code value.False tail = text_leads holds world may (bytes_of world.cells value.False ++ tail) (is_text world.cells value.False)
-shown_leads holds world may code (value.Kernel class) tail = text_leads holds world may (bytes_of world.cells (value.Kernel class) ++ tail) (is_text world.cells (value.Kernel class))
-shown_leads holds world may code (value.Ref at) tail = text_leads holds world may (bytes_of world.cells (value.Ref at) ++ tail) (is_text world.cells (value.Ref at))
+shown_leads holds world may code value.Nil tail =
+    text_leads holds world may (bytes_of world.cells value.Nil ++ tail) (is_text world.cells value.Nil)
+shown_leads holds world may code value.True tail =
+    text_leads holds world may (bytes_of world.cells value.True ++ tail) (is_text world.cells value.True)
+shown_leads holds world may code value.False tail =
+    text_leads holds world may (bytes_of world.cells value.False ++ tail) (is_text world.cells value.False)
+shown_leads holds world may code (value.Kernel class) tail =
+    text_leads holds world may (bytes_of world.cells (value.Kernel class) ++ tail) (is_text world.cells (value.Kernel class))
+shown_leads holds world may code (value.Ref at) tail =
+    text_leads holds world may (bytes_of world.cells (value.Ref at) ++ tail) (is_text world.cells (value.Ref at))
 
 -- the rows of facets write no cell
-pub facet_leads : (holds : World → Type 0) (world : World) (may : Allows holds world) (code : CodeProgram) (r : FacetRow) (first second : Value) (board : Board) → HoldsAfter holds (row_outcome world code r first second board)
+pub facet_leads :
+    (holds : World → Type 0) (world : World) (may : Allows holds world) (code : CodeProgram) (r : FacetRow) (first second : Value) (board : Board) →
+    HoldsAfter holds (row_outcome world code r first second board)
 facet_leads holds world may code (row.Top sel) first second board = may.same
 facet_leads holds world may code row.PlatformConsole first second board = may.same
 facet_leads holds world may code row.PlatformKernel first second board = may.same
@@ -53,5 +64,6 @@ facet_leads holds world may code row.BoardAt first second board = unchanged_lead
 facet_leads holds world may code row.BoardPut first second board = unchanged_leads holds world may (board_put first second)
 
 -- so each leads to a later world
-pub rows_lead_on : (world : World) (code : CodeProgram) (r : FacetRow) (first second : Value) (board : Board) → HoldsAfter (IsLater world) (row_outcome world code r first second board)
+pub rows_lead_on : (world : World) (code : CodeProgram) (r : FacetRow) (first second : Value) (board : Board) →
+    HoldsAfter (IsLater world) (row_outcome world code r first second board)
 rows_lead_on world code r first second board = facet_leads (IsLater world) world (allows_later world) code r first second board

@@ -75,7 +75,9 @@ top_receiver number (FacetCell kind') e = refl
 top_receiver number (MirrorCell mirrored) e = refl
 top_receiver number (MessageCell sel args) e = refl
 
-cell_live : (heap : Heap) (code : CodeProgram) (test : Cell → Bool) → ((cell : Cell) → test cell ≡ true → is_receiver_cell (Some cell) ≡ true) → (o : Option ℕ) → first_such test heap ≡ o → IsLiveValue heap code (cell_value o)
+cell_live : (heap : Heap) (code : CodeProgram) (test : Cell → Bool) →
+    ((cell : Cell) → test cell ≡ true → is_receiver_cell (Some cell) ≡ true) → (o : Option ℕ) → first_such test heap ≡ o →
+    IsLiveValue heap code (cell_value o)
 cell_live heap code test receives None e = (tt, refl)
 cell_live heap code test receives (Some number) e = found (first_passes test heap number e)
   where
@@ -85,7 +87,8 @@ cell_live heap code test receives (Some number) e = found (first_passes test hea
 granted_live : (heap : Heap) (code : CodeProgram) (kind : FacetKind) → IsLiveValue heap code (granted heap kind)
 granted_live heap code kind = cell_live heap code (is_facet kind) (facet_receiver kind) (first_such (is_facet kind) heap) refl
 
-top_live : (heap : Heap) (code : CodeProgram) (number : ℕ) (classes : List ClassCode) (sel : Sel) → IsLiveValue heap code (top_class heap number classes sel)
+top_live : (heap : Heap) (code : CodeProgram) (number : ℕ) (classes : List ClassCode) (sel : Sel) →
+    IsLiveValue heap code (top_class heap number classes sel)
 top_live heap code number [] sel = (tt, refl)
 top_live heap code number (class ∷ classes) sel =
     tested (eqb sel.0 class.name.0 && is_none class.outer) (cell_live heap code (is_top number) (top_receiver number) (first_such (is_top number) heap) refl) (top_live heap code (number + 1) classes sel)
@@ -98,18 +101,22 @@ print_live : (code : CodeProgram) (o : Option World) → AnswersLive code (print
 print_live code (Some next) = (tt, refl)
 print_live code None = tt
 
-text_live : (world : World) (code : CodeProgram) (bytes : List ℕ) (b : Bool) → AnswersLive code (cond b (printed_bytes world bytes) (Fails wrong_kind))
+text_live : (world : World) (code : CodeProgram) (bytes : List ℕ) (b : Bool) →
+    AnswersLive code (cond b (printed_bytes world bytes) (Fails wrong_kind))
 text_live world code bytes true = print_live code (printed world bytes)
 text_live world code bytes false = tt
 
 printing_live : (world : World) (code : CodeProgram) (shown : Value) (tail : List ℕ) → AnswersLive code (printing world code shown tail)
 printing_live world code value.Nil tail = text_live world code (bytes_of world.cells value.Nil ++ tail) (is_text world.cells value.Nil)
 printing_live world code value.True tail = text_live world code (bytes_of world.cells value.True ++ tail) (is_text world.cells value.True)
-printing_live world code value.False tail = text_live world code (bytes_of world.cells value.False ++ tail) (is_text world.cells value.False)
+printing_live world code value.False tail =
+    text_live world code (bytes_of world.cells value.False ++ tail) (is_text world.cells value.False)
 printing_live world code (value.Int number) tail = print_live code (printed world (signed_decimal number ++ tail))
 printing_live world code (value.Sym sel) tail = print_live code (printed world (selector_text code sel.0 ++ tail))
-printing_live world code (value.Kernel class) tail = text_live world code (bytes_of world.cells (value.Kernel class) ++ tail) (is_text world.cells (value.Kernel class))
-printing_live world code (value.Ref at) tail = text_live world code (bytes_of world.cells (value.Ref at) ++ tail) (is_text world.cells (value.Ref at))
+printing_live world code (value.Kernel class) tail =
+    text_live world code (bytes_of world.cells (value.Kernel class) ++ tail) (is_text world.cells (value.Kernel class))
+printing_live world code (value.Ref at) tail =
+    text_live world code (bytes_of world.cells (value.Ref at) ++ tail) (is_text world.cells (value.Ref at))
 
 plain_live : (heap : Heap) (code : CodeProgram) (plain : Plain) → IsLiveValue heap code (value_of plain)
 plain_live heap code Nil = (tt, refl)
@@ -117,11 +124,13 @@ plain_live heap code True = (tt, refl)
 plain_live heap code False = (tt, refl)
 plain_live heap code (Int number) = (tt, refl)
 
-place_live : (heap : Heap) (code : CodeProgram) (places : List Plain) (place : Result ℕ Fault) → IfOk (value_at_place places place) (λ v. IsLiveValue heap code v)
+place_live : (heap : Heap) (code : CodeProgram) (places : List Plain) (place : Result ℕ Fault) →
+    IfOk (value_at_place places place) (λ v. IsLiveValue heap code v)
 place_live heap code places (Ok place) = plain_live heap code (slice_index_or places place Nil)
 place_live heap code places (Err fault) = tt
 
-put_live : (heap : Heap) (code : CodeProgram) (place : Result ℕ Fault) (shown : Value) → IfOk (answer_of_put place (plain_of shown) shown) (λ v. IsLiveValue heap code v)
+put_live : (heap : Heap) (code : CodeProgram) (place : Result ℕ Fault) (shown : Value) →
+    IfOk (answer_of_put place (plain_of shown) shown) (λ v. IsLiveValue heap code v)
 put_live heap code (Err fault) shown = tt
 put_live heap code (Ok place) value.Nil = (tt, refl)
 put_live heap code (Ok place) value.True = (tt, refl)
@@ -132,7 +141,8 @@ put_live heap code (Ok place) (value.Kernel class) = tt
 put_live heap code (Ok place) (value.Ref at) = tt
 
 -- each row's answer is live
-pub rows_live : (world : World) (code : CodeProgram) (row : FacetRow) (first second : Value) (board : Board) → AnswersLive code (row_outcome world code row first second board)
+pub rows_live : (world : World) (code : CodeProgram) (row : FacetRow) (first second : Value) (board : Board) →
+    AnswersLive code (row_outcome world code row first second board)
 rows_live world code (row.Top sel) first second board = top_live world.cells code 0 code.classes sel
 rows_live world code row.PlatformConsole first second board = granted_live world.cells code Console
 rows_live world code row.PlatformKernel first second board = granted_live world.cells code Kernel
@@ -142,5 +152,7 @@ rows_live world code row.KernelObject first second board = (tt, refl)
 rows_live world code row.KernelArray first second board = (tt, refl)
 rows_live world code row.ConsolePrint first second board = printing_live world code first []
 rows_live world code row.ConsolePrintLine first second board = printing_live world code first (10 ∷ [])
-rows_live world code row.BoardAt first second board = unchanged_live world code (board_at board first) (place_live world.cells code board.places (place_in first 64))
-rows_live world code row.BoardPut first second board = unchanged_live world code (board_put first second) (put_live world.cells code (place_in first 64) second)
+rows_live world code row.BoardAt first second board =
+    unchanged_live world code (board_at board first) (place_live world.cells code board.places (place_in first 64))
+rows_live world code row.BoardPut first second board =
+    unchanged_live world code (board_put first second) (put_live world.cells code (place_in first 64) second)

@@ -46,9 +46,11 @@ allowed_has P Plain access found closed open' = tested (eqb access public_access
     tested false = closed
 
 -- and so has what the search finds
-search_has : (P : Found → Type 0) (code : CodeProgram) (sel : ℕ) (kind : Sending) (members : List Member) → P NotPublic → P Absent → Each P members → P (unwrap_or (search code sel kind members) Absent)
+search_has : (P : Found → Type 0) (code : CodeProgram) (sel : ℕ) (kind : Sending) (members : List Member) → P NotPublic → P Absent →
+    Each P members → P (unwrap_or (search code sel kind members) Absent)
 search_has P code sel kind [] closed absent each = absent
-search_has P code sel kind (member ∷ members) closed absent (here, rest) = tested (is_named code sel member.name && member.there) refl (search_has P code sel kind members closed absent rest)
+search_has P code sel kind (member ∷ members) closed absent (here, rest) =
+    tested (is_named code sel member.name && member.there) refl (search_has P code sel kind members closed absent rest)
   where
     tested : (b : Bool) → (is_named code sel member.name && member.there) ≡ b → P (unwrap_or (search code sel kind members) Absent) → P (unwrap_or (cond b (Some (allowed kind member.access member.found)) (search code sel kind members)) Absent)
     tested true e below = allowed_has P kind member.access member.found closed (here (both_of (is_named code sel member.name) member.there e).1)
@@ -78,7 +80,9 @@ record Holds (heap : Heap) (code : CodeProgram) (chain : List ℕ) (holder : ℕ
   contained : Contains chain holder
   class_is : slice_get code.classes (declaration_of heap holder) ≡ Some class
 
-slots_belong : (heap : Heap) (code : CodeProgram) (wanted : Wanted) (chain factories : List ℕ) (holder : ℕ) (class : ClassCode) (entry : ℕ) (slots : List SlotCode) → Holds heap code chain holder class → drop entry class.slots ≡ slots
+slots_belong :
+    (heap : Heap) (code : CodeProgram) (wanted : Wanted) (chain factories : List ℕ) (holder : ℕ) (class : ClassCode) (entry : ℕ) (slots : List SlotCode) →
+    Holds heap code chain holder class → drop entry class.slots ≡ slots
     → Each (Belongs heap code InstanceSide chain factories) (slots_members heap code wanted holder entry slots)
 slots_belong heap code wanted chain factories holder class entry [] holds e = tt
 slots_belong heap code wanted chain factories holder class entry (slot ∷ slots) holds e =
@@ -86,7 +90,9 @@ slots_belong heap code wanted chain factories holder class entry (slot ∷ slots
     record { class = class; class_is = holds.class_is; entry = entry; inside = left_inside class.slots entry slot slots e; word_is = refl } in
     ((λ t. (tt, holds.contained, has)), ((λ t. (tt, holds.contained, has)), slots_belong heap code wanted chain factories holder class (entry + 1) slots holds (next_left class.slots entry slot slots e)))
 
-nested_belong : (heap : Heap) (code : CodeProgram) (wanted : Wanted) (chain factories : List ℕ) (holder : ℕ) (class : ClassCode) (k : ℕ) (rest : List NestedCode) → Holds heap code chain holder class → drop k class.nested ≡ rest
+nested_belong :
+    (heap : Heap) (code : CodeProgram) (wanted : Wanted) (chain factories : List ℕ) (holder : ℕ) (class : ClassCode) (k : ℕ) (rest : List NestedCode) →
+    Holds heap code chain holder class → drop k class.nested ≡ rest
     → Each (Belongs heap code InstanceSide chain factories) (nested_members wanted holder rest)
 nested_belong heap code wanted chain factories holder class k [] holds e = tt
 nested_belong heap code wanted chain factories holder class k (nested ∷ rest) holds e =
@@ -94,7 +100,9 @@ nested_belong heap code wanted chain factories holder class k (nested ∷ rest) 
     record { class = class; class_is = holds.class_is; place = k; nested = nested; nested_is = first_left class.nested k nested rest e; decl_is = refl } in
     ((λ t. (tt, holds.contained, has)), nested_belong heap code wanted chain factories holder class (k + 1) rest holds (next_left class.nested k nested rest e))
 
-methods_belong : (heap : Heap) (code : CodeProgram) (wanted : Wanted) (side : Side) (chain factories : List ℕ) (holder : ℕ) (class : ClassCode) (k : ℕ) (methods : List MethodCode) → Holds heap code chain holder class → drop k (methods_on side class) ≡ methods
+methods_belong :
+    (heap : Heap) (code : CodeProgram) (wanted : Wanted) (side : Side) (chain factories : List ℕ) (holder : ℕ) (class : ClassCode) (k : ℕ) (methods : List MethodCode) →
+    Holds heap code chain holder class → drop k (methods_on side class) ≡ methods
     → Each (Belongs heap code side chain factories) (method_members wanted holder methods)
 methods_belong heap code wanted side chain factories holder class k [] holds e = tt
 methods_belong heap code wanted side chain factories holder class k (method ∷ methods) holds e =
@@ -102,22 +110,28 @@ methods_belong heap code wanted side chain factories holder class k (method ∷ 
     record { class = class; class_is = holds.class_is; place = k; method = method; method_is = first_left (methods_on side class) k method methods e; body_is = refl } in
     ((λ t. (holds.contained, has)), methods_belong heap code wanted side chain factories holder class (k + 1) methods holds (next_left (methods_on side class) k method methods e))
 
-side_belongs : (heap : Heap) (code : CodeProgram) (wanted : Wanted) (side : Side) (chain factories : List ℕ) (holder : ℕ) (class : ClassCode) → Holds heap code chain holder class → Each (Belongs heap code side chain factories) (side_members heap code wanted side holder class)
+side_belongs :
+    (heap : Heap) (code : CodeProgram) (wanted : Wanted) (side : Side) (chain factories : List ℕ) (holder : ℕ) (class : ClassCode) →
+    Holds heap code chain holder class → Each (Belongs heap code side chain factories) (side_members heap code wanted side holder class)
 side_belongs heap code wanted InstanceSide chain factories holder class holds =
     each_append (Belongs heap code InstanceSide chain factories) (slots_members heap code wanted holder 0 class.slots) (nested_members wanted holder class.nested ++ method_members wanted holder class.methods)
     (slots_belong heap code wanted chain factories holder class 0 class.slots holds refl)
     (each_append (Belongs heap code InstanceSide chain factories) (nested_members wanted holder class.nested) (method_members wanted holder class.methods)
     (nested_belong heap code wanted chain factories holder class 0 class.nested holds refl) (methods_belong heap code wanted InstanceSide chain factories holder class 0 class.methods holds refl))
-side_belongs heap code wanted ClassSide chain factories holder class holds = methods_belong heap code wanted ClassSide chain factories holder class 0 class.side_methods holds refl
+side_belongs heap code wanted ClassSide chain factories holder class holds =
+    methods_belong heap code wanted ClassSide chain factories holder class 0 class.side_methods holds refl
 
-holder_belongs : (heap : Heap) (code : CodeProgram) (wanted : Wanted) (side : Side) (chain factories : List ℕ) (holder : ℕ) → Contains chain holder → Each (Belongs heap code side chain factories) (holder_members heap code wanted side holder)
+holder_belongs : (heap : Heap) (code : CodeProgram) (wanted : Wanted) (side : Side) (chain factories : List ℕ) (holder : ℕ) →
+    Contains chain holder → Each (Belongs heap code side chain factories) (holder_members heap code wanted side holder)
 holder_belongs heap code wanted side chain factories holder contained = found (slice_get code.classes (declaration_of heap holder)) refl
   where
     found : (o : Option ClassCode) → slice_get code.classes (declaration_of heap holder) ≡ o → Each (Belongs heap code side chain factories) (option_map_or (side_members heap code wanted side holder) o [])
     found (Some class) e = side_belongs heap code wanted side chain factories holder class (record { contained = contained; class_is = e })
     found None e = tt
 
-along_belongs : (heap : Heap) (code : CodeProgram) (side : Side) (chain factories rest : List ℕ) → ((holder : ℕ) → Contains rest holder → Contains chain holder) → Each (Belongs heap code side chain factories) (members_along heap code side rest)
+along_belongs : (heap : Heap) (code : CodeProgram) (side : Side) (chain factories rest : List ℕ) →
+    ((holder : ℕ) → Contains rest holder → Contains chain holder) →
+    Each (Belongs heap code side chain factories) (members_along heap code side rest)
 along_belongs heap code side chain factories [] among = tt
 along_belongs heap code side chain factories (holder ∷ rest) among =
     each_append (Belongs heap code side chain factories) (holder_members heap code Visible side holder) (members_along heap code side rest)
@@ -125,24 +139,30 @@ along_belongs heap code side chain factories (holder ∷ rest) among =
     (along_belongs heap code side chain factories rest (λ other (k, inside, is). among other (suc k, omega (arith, inside), is)))
 
 -- rows of the kernel have no holder
-top_belong : (heap : Heap) (code : CodeProgram) (side : Side) (chain factories : List ℕ) (row number : ℕ) (classes : List ClassCode) → Each (Belongs heap code side chain factories) (top_rows heap row number classes)
+top_belong : (heap : Heap) (code : CodeProgram) (side : Side) (chain factories : List ℕ) (row number : ℕ) (classes : List ClassCode) →
+    Each (Belongs heap code side chain factories) (top_rows heap row number classes)
 top_belong heap code side chain factories row number [] = tt
-top_belong heap code side chain factories row number (class ∷ classes) = ((λ t. tt), top_belong heap code side chain factories row (number + 1) classes)
+top_belong heap code side chain factories row number (class ∷ classes) =
+    ((λ t. tt), top_belong heap code side chain factories row (number + 1) classes)
 
-row_belongs : (heap : Heap) (code : CodeProgram) (side : Side) (chain factories : List ℕ) (row : NumberedRow) (text : Option (List ℕ)) → Each (Belongs heap code side chain factories) (called_by heap code row text)
+row_belongs : (heap : Heap) (code : CodeProgram) (side : Side) (chain factories : List ℕ) (row : NumberedRow) (text : Option (List ℕ)) →
+    Each (Belongs heap code side chain factories) (called_by heap code row text)
 row_belongs heap code side chain factories row (Some text) = ((λ t. tt), tt)
 row_belongs heap code side chain factories row None = top_belong heap code side chain factories row.number 0 code.classes
 
-each_belongs : (heap : Heap) (code : CodeProgram) (side : Side) (chain factories : List ℕ) (rows : List NumberedRow) → Each (Belongs heap code side chain factories) (rows_members heap code rows)
+each_belongs : (heap : Heap) (code : CodeProgram) (side : Side) (chain factories : List ℕ) (rows : List NumberedRow) →
+    Each (Belongs heap code side chain factories) (rows_members heap code rows)
 each_belongs heap code side chain factories [] = tt
 each_belongs heap code side chain factories (row ∷ rows) =
     each_append (Belongs heap code side chain factories) (row_members heap code row) (rows_members heap code rows)
     (row_belongs heap code side chain factories row row.line.text) (each_belongs heap code side chain factories rows)
 
-rows_belong : (heap : Heap) (code : CodeProgram) (side : Side) (chain factories : List ℕ) (r : KernelRow) → Each (Belongs heap code side chain factories) (kernel_rows heap code r)
+rows_belong : (heap : Heap) (code : CodeProgram) (side : Side) (chain factories : List ℕ) (r : KernelRow) →
+    Each (Belongs heap code side chain factories) (kernel_rows heap code r)
 rows_belong heap code side chain factories r = each_belongs heap code side chain factories (rows_of r)
 
-factory_belongs : (heap : Heap) (code : CodeProgram) (side : Side) (chain : List ℕ) (class : ℕ) (factory : Bool) → Each (Belongs heap code side chain (factories_at class factory)) (factory_member heap code class factory)
+factory_belongs : (heap : Heap) (code : CodeProgram) (side : Side) (chain : List ℕ) (class : ℕ) (factory : Bool) →
+    Each (Belongs heap code side chain (factories_at class factory)) (factory_member heap code class factory)
 factory_belongs heap code side chain class factory = found (slice_get code.classes (declaration_of heap class))
   where
     there : (b : Bool) → b ≡ true → Contains (factories_at class b) class
@@ -154,7 +174,8 @@ factory_belongs heap code side chain class factory = found (slice_get code.class
     found None = tt
 
 -- What is found from an instance of a class belongs to the class's chain.
-pub instance_belongs : (heap : Heap) (code : CodeProgram) (class sel : ℕ) (kind : Sending) → Belongs heap code InstanceSide (chain_of heap class) [] (found_from heap code (start.Instance class) sel kind)
+pub instance_belongs : (heap : Heap) (code : CodeProgram) (class sel : ℕ) (kind : Sending) →
+    Belongs heap code InstanceSide (chain_of heap class) [] (found_from heap code (start.Instance class) sel kind)
 instance_belongs heap code class sel kind =
     let chain = chain_of heap class in
     search_has (Belongs heap code InstanceSide chain []) code sel kind (members_from heap code (start.Instance class)) tt tt
@@ -162,7 +183,8 @@ instance_belongs heap code class sel kind =
     (along_belongs heap code InstanceSide chain [] chain (λ holder c. c)) (rows_belong heap code InstanceSide chain [] row.Object))
 
 -- What is found from a class belongs to its chain or to a factory.
-pub class_belongs : (heap : Heap) (code : CodeProgram) (class : ℕ) (factory : Bool) (sel : ℕ) (kind : Sending) → Belongs heap code ClassSide (chain_of heap class) (factories_at class factory) (found_from heap code (start.ClassSide class factory) sel kind)
+pub class_belongs : (heap : Heap) (code : CodeProgram) (class : ℕ) (factory : Bool) (sel : ℕ) (kind : Sending) →
+    Belongs heap code ClassSide (chain_of heap class) (factories_at class factory) (found_from heap code (start.ClassSide class factory) sel kind)
 class_belongs heap code class factory sel kind =
     let chain = chain_of heap class in
     let P = Belongs heap code ClassSide chain (factories_at class factory) in
@@ -175,12 +197,14 @@ class_belongs heap code class factory sel kind =
     (rows_belong heap code ClassSide chain (factories_at class factory) row.Class) (rows_belong heap code ClassSide chain (factories_at class factory) row.Object))))
 
 -- What is found from a row of the kernel belongs to the kernel.
-pub kernel_belongs : (heap : Heap) (code : CodeProgram) (side : Side) (named : KernelRow) (sel : ℕ) (kind : Sending) → Belongs heap code side [] [] (found_from heap code (start.Kernel named) sel kind)
+pub kernel_belongs : (heap : Heap) (code : CodeProgram) (side : Side) (named : KernelRow) (sel : ℕ) (kind : Sending) →
+    Belongs heap code side [] [] (found_from heap code (start.Kernel named) sel kind)
 kernel_belongs heap code side named sel kind =
     search_has (Belongs heap code side [] []) code sel kind (members_from heap code (start.Kernel named)) tt tt
     (each_append (Belongs heap code side [] []) (kernel_rows heap code named) (kernel_rows heap code row.Object) (rows_belong heap code side [] [] named) (rows_belong heap code side [] [] row.Object))
 
 -- What is found privately belongs to its holder.
-pub private_belongs : (heap : Heap) (code : CodeProgram) (holder : ℕ) (side : Side) (sel : ℕ) → Belongs heap code side (holder ∷ []) [] (found_private heap code holder side sel)
+pub private_belongs : (heap : Heap) (code : CodeProgram) (holder : ℕ) (side : Side) (sel : ℕ) →
+    Belongs heap code side (holder ∷ []) [] (found_private heap code holder side sel)
 private_belongs heap code holder side sel =
     search_has (Belongs heap code side (holder ∷ []) []) code sel Inner (holder_members heap code Private side holder) tt tt (holder_belongs heap code Private side (holder ∷ []) [] holder (0, omega arith, refl))

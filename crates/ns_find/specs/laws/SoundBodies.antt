@@ -56,7 +56,8 @@ record IsFine (code : CodeProgram) (number : ℕ) (class : ClassCode) : Type 0 w
   scope : has_bad_scope code number class ≡ false
   literals : has_bad_literal code class ≡ false
 
-fine_from : (code : CodeProgram) (number k : ℕ) (classes : List ClassCode) (class : ClassCode) → are_classes_sound code number classes ≡ true → slice_get classes k ≡ Some class → IsFine code (number + k) class
+fine_from : (code : CodeProgram) (number k : ℕ) (classes : List ClassCode) (class : ClassCode) →
+    are_classes_sound code number classes ≡ true → slice_get classes k ≡ Some class → IsFine code (number + k) class
 fine_from code number zero [] class s e = absurd (cc)
 fine_from code number (suc k) [] class s e = absurd (cc)
 fine_from code number zero (first ∷ classes) class s e =
@@ -70,7 +71,8 @@ fine_from code number (suc k) (first ∷ classes) class s e =
     let same : number + 1 + k ≡ number + suc k = omega arith in
     subst (λ n. IsFine code n class) same (fine_from code (number + 1) k classes class here.1 e)
 
-fine_at : (code : CodeProgram) (number : ℕ) (class : ClassCode) → has_sound_classes code ≡ true → slice_get code.classes number ≡ Some class → IsFine code number class
+fine_at : (code : CodeProgram) (number : ℕ) (class : ClassCode) → has_sound_classes code ≡ true →
+    slice_get code.classes number ≡ Some class → IsFine code number class
 fine_at code number class s e =
     let all = both_of (nat_lt 0 (length code.classes)) (are_classes_sound code 0 code.classes) s in
     let none : 0 + number ≡ number = omega arith in
@@ -117,7 +119,8 @@ names_of code number class fine =
     }
 
 -- a body that is there
-body_there : (code : CodeProgram) (number kind side class params : ℕ) (has : ℕ → Bool) → ((count : ℕ) → has count ≡ true → count ≡ params) → is_body_of code number kind side class has ≡ true → IsBody code number kind side class params
+body_there : (code : CodeProgram) (number kind side class params : ℕ) (has : ℕ → Bool) → ((count : ℕ) → has count ≡ true → count ≡ params) →
+    is_body_of code number kind side class has ≡ true → IsBody code number kind side class params
 body_there code number kind side class params has counts e = found (slice_get code.bodies number) refl e
   where
     found : (o : Option BodyCode) → slice_get code.bodies number ≡ o → option_map_or (λ (body : BodyCode). (eqb body.kind kind && eqb body.side side) && (eqb body.class class && has body.params)) o false ≡ true → IsBody code number kind side class params
@@ -136,14 +139,17 @@ body_there code number kind side class params has counts e = found (slice_get co
         }
 
 -- a name's parameters are counted
-counted : (code : CodeProgram) (sel : Sel) (params : ℕ) → is_name code sel ≡ true → has_params_of code sel params ≡ true → params ≡ selector_arity code sel.0
+counted : (code : CodeProgram) (sel : Sel) (params : ℕ) → is_name code sel ≡ true → has_params_of code sel params ≡ true →
+    params ≡ selector_arity code sel.0
 counted code sel params named e = tested (is_name code sel) named e
   where
     tested : (b : Bool) → b ≡ true → (not b || eqb params (selector_arity code sel.0)) ≡ true → params ≡ selector_arity code sel.0
     tested true t e = eqb-true params (selector_arity code sel.0) e
     tested false t e = absurd (cc)
 
-method_there : (code : CodeProgram) (side number : ℕ) (methods : List MethodCode) (place : ℕ) (method : MethodCode) → have_bodies code side number methods ≡ true → list_any (λ (m : MethodCode). not (is_name code m.sel)) methods ≡ false → slice_get methods place ≡ Some method
+method_there : (code : CodeProgram) (side number : ℕ) (methods : List MethodCode) (place : ℕ) (method : MethodCode) →
+    have_bodies code side number methods ≡ true → list_any (λ (m : MethodCode). not (is_name code m.sel)) methods ≡ false →
+    slice_get methods place ≡ Some method
     → IsBody code method.body method_kind side number (selector_arity code method.sel.0)
 method_there code side number methods place method have named e =
     let is : is_name code method.sel ≡ true = not_false (is_name code method.sel) (none_at (λ (m : MethodCode). not (is_name code m.sel)) methods place method named e) in
@@ -151,8 +157,11 @@ method_there code side number methods place method have named e =
     (all_at (λ (m : MethodCode). is_body_of code m.body method_kind side number (has_params_of code m.sel)) methods place method have e)
 
 -- a method that has a selector takes as many arguments
-named_method : (heap : Heap) (code : CodeProgram) (side : Side) (holder sel body : ℕ) → has_sound_classes code ≡ true → HasNamed heap code side holder sel body → IsBody code body method_kind (side_number side) (declaration_of heap holder) (selector_arity code sel)
-named_method heap code side holder sel body s has = sided side (has.class) has.class_is has.method has.place has.method_is has.sel_is has.body_is
+named_method : (heap : Heap) (code : CodeProgram) (side : Side) (holder sel body : ℕ) → has_sound_classes code ≡ true →
+    HasNamed heap code side holder sel body →
+    IsBody code body method_kind (side_number side) (declaration_of heap holder) (selector_arity code sel)
+named_method heap code side holder sel body s has =
+    sided side (has.class) has.class_is has.method has.place has.method_is has.sel_is has.body_is
   where
     sided : (side : Side) (class : ClassCode) → slice_get code.classes (declaration_of heap holder) ≡ Some class → (method : MethodCode) (place : ℕ) → slice_get (methods_on side class) place ≡ Some method → method.sel.0 ≡ sel → method.body ≡ body
         → IsBody code body method_kind (side_number side) (declaration_of heap holder) (selector_arity code sel)
@@ -168,7 +177,8 @@ named_method heap code side holder sel body s has = sided side (has.class) has.c
         (method_there code class_side (declaration_of heap holder) class.side_methods place method names.side_methods names.side_named m))
 
 -- and so does the initialiser of a factory's class
-pub named_factory : (heap : Heap) (code : CodeProgram) (class sel : ℕ) → has_sound_classes code ≡ true → HasFactory heap code class sel → IsInitialiserOf heap code class (selector_arity code sel)
+pub named_factory : (heap : Heap) (code : CodeProgram) (class sel : ℕ) → has_sound_classes code ≡ true → HasFactory heap code class sel →
+    IsInitialiserOf heap code class (selector_arity code sel)
 named_factory heap code class sel s has =
     let names = names_of code (declaration_of heap class) has.declared (fine_at code (declaration_of heap class) has.declared s has.class_is) in
     let arity : has.declared.params ≡ selector_arity code sel = counted code has.declared.factory has.declared.params names.factory names.params ∙ ap (selector_arity code) has.sel_is in
@@ -180,12 +190,15 @@ named_factory heap code class sel s has =
     }
 
 -- the initialiser of a class, and its clause
-pub initialiser_there : (code : CodeProgram) (number : ℕ) (class : ClassCode) → has_sound_classes code ≡ true → slice_get code.classes number ≡ Some class → IsBody code class.init initialiser_kind instance_side number class.params
+pub initialiser_there : (code : CodeProgram) (number : ℕ) (class : ClassCode) → has_sound_classes code ≡ true →
+    slice_get code.classes number ≡ Some class → IsBody code class.init initialiser_kind instance_side number class.params
 initialiser_there code number class s e =
     body_there code class.init initialiser_kind instance_side number class.params (λ params. eqb params class.params) (λ count h. eqb-true count class.params h) (names_of code number class (fine_at code number class s e)).init
 
 -- The clause of a class of sound code is a body of its kind.
-pub clause_there : (code : CodeProgram) (number clause : ℕ) (class : ClassCode) → has_sound_classes code ≡ true → slice_get code.classes number ≡ Some class → class.clause ≡ Some clause → IsBody code clause clause_kind instance_side (unwrap_or class.outer number) 0
+pub clause_there : (code : CodeProgram) (number clause : ℕ) (class : ClassCode) → has_sound_classes code ≡ true →
+    slice_get code.classes number ≡ Some class → class.clause ≡ Some clause →
+    IsBody code clause clause_kind instance_side (unwrap_or class.outer number) 0
 clause_there code number clause class s e c =
     let here : is_body_of code clause clause_kind instance_side (unwrap_or class.outer number) (λ params. eqb params 0) ≡ true =
     ap (λ o. option_map_or (λ clause. is_body_of code clause clause_kind instance_side (unwrap_or class.outer number) (λ params. eqb params 0)) o true) (sym c)
@@ -193,7 +206,8 @@ clause_there code number clause class s e c =
     body_there code clause clause_kind instance_side (unwrap_or class.outer number) 0 (λ params. eqb params 0) (λ count h. eqb-true count 0 h) here
 
 -- so what is found by a selector takes as many arguments as it
-takes_of : (heap : Heap) (code : CodeProgram) (side : Side) (sel : ℕ) (found : Found) → has_sound_classes code ≡ true → IsNamedBy heap code side sel found → TakesArguments heap code side sel found
+takes_of : (heap : Heap) (code : CodeProgram) (side : Side) (sel : ℕ) (found : Found) → has_sound_classes code ≡ true →
+    IsNamedBy heap code side sel found → TakesArguments heap code side sel found
 takes_of heap code side sel (Method body holder) s named = named_method heap code side holder sel body s named
 takes_of heap code side sel (Factory class) s named = named_factory heap code class sel s named
 takes_of heap code side sel (Getter holder word) s named = tt
@@ -204,18 +218,23 @@ takes_of heap code side sel NotPublic s named = tt
 takes_of heap code side sel Absent s named = tt
 
 -- of each start, and of private members
-found_named : (heap : Heap) (code : CodeProgram) (from : Start) (sel : ℕ) (kind : Sending) → IsNamedBy heap code (side_from from) sel (found_from heap code from sel kind)
+found_named : (heap : Heap) (code : CodeProgram) (from : Start) (sel : ℕ) (kind : Sending) →
+    IsNamedBy heap code (side_from from) sel (found_from heap code from sel kind)
 found_named heap code (start.Instance class) sel kind = instance_named heap code class sel kind
 found_named heap code (start.ClassSide class factory) sel kind = class_named heap code class factory sel kind
 found_named heap code (start.Kernel named) sel kind = kernel_named heap code InstanceSide named sel kind
 
-by_name : (heap : Heap) (code : CodeProgram) (side : Side) (sel : ℕ) (found : Found) → IsNamedBy heap code side sel found → FoundBy heap code side sel found
+by_name : (heap : Heap) (code : CodeProgram) (side : Side) (sel : ℕ) (found : Found) → IsNamedBy heap code side sel found →
+    FoundBy heap code side sel found
 by_name heap code side sel found named = record { named = named; takes = λ s. takes_of heap code side sel found s named }
 
 -- What a lookup finds is found by the name that is sent.
 pub found_by : (heap : Heap) (code : CodeProgram) (from : Start) (sel : ℕ) (kind : Sending) → FindsBy heap code from sel kind
-found_by heap code from sel kind = by_name heap code (side_from from) sel (found_from heap code from sel kind) (found_named heap code from sel kind)
+found_by heap code from sel kind =
+    by_name heap code (side_from from) sel (found_from heap code from sel kind) (found_named heap code from sel kind)
 
 -- What a private lookup finds is found by the name that is sent.
-pub private_by : (heap : Heap) (code : CodeProgram) (holder sel : ℕ) (side : Side) → FoundBy heap code side sel (found_private heap code holder side sel)
-private_by heap code holder sel side = by_name heap code side sel (found_private heap code holder side sel) (private_named heap code holder side sel)
+pub private_by : (heap : Heap) (code : CodeProgram) (holder sel : ℕ) (side : Side) →
+    FoundBy heap code side sel (found_private heap code holder side sel)
+private_by heap code holder sel side =
+    by_name heap code side sel (found_private heap code holder side sel) (private_named heap code holder side sel)

@@ -17,7 +17,8 @@ abbrev pub steps_names : List m.Step → List (List ℕ)
 steps_names steps = flat_map (λ step. node_names (step_node step)) steps
 
 -- a node's lines before others whose names are known
-before : (node : m.Node) (k : ℕ) (rest : List CodeLine) (names : List (List ℕ)) → used rest ≡ names → used (node_lines k node rest) ≡ node_names node ++ names
+before : (node : m.Node) (k : ℕ) (rest : List CodeLine) (names : List (List ℕ)) → used rest ≡ names →
+    used (node_lines k node rest) ≡ node_names node ++ names
 before node k rest names e = node_in_order node k rest ∙ ap (node_names node ++◌) e
 
 locals_used : (values : List m.First) (k : ℕ) (rest : ℕ → List CodeLine) (names : List (List ℕ)) → ((n : ℕ) → used (rest n) ≡ names) →

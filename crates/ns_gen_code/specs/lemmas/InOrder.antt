@@ -12,7 +12,8 @@ abbrev pub used : List CodeLine → List (List ℕ)
 used lines = flat_map line_names lines
 
 -- what comes first, and then a selector and more
-selector_last : (names : List (List ℕ)) (selector : List ℕ) (more : List (List ℕ)) → names ++ (selector ∷ more) ≡ (names ++ selector ∷ []) ++ more
+selector_last : (names : List (List ℕ)) (selector : List ℕ) (more : List (List ℕ)) →
+    names ++ (selector ∷ more) ≡ (names ++ selector ∷ []) ++ more
 selector_last names selector more = sym (append_assoc names (selector ∷ []) more)
 
 mutual

@@ -9,4 +9,5 @@ use Rattle.ns_gen_draft.specs.Keys.{keys_count}
 -- The arguments of keywords are as many nodes as keywords.
 pub keys_many : (here : e.Standing) (next : ℕ) (keys : p.Keys) → how_many (e.keys_nodes here next keys) ≡ keys_count keys
 keys_many here next p.no_keys = refl
-keys_many here next (p.more_keys name argument rest) = ap (λ n. n + 1) (keys_many here (next + length (b.bin_blocks here.scope argument)) rest)
+keys_many here next (p.more_keys name argument rest) =
+    ap (λ n. n + 1) (keys_many here (next + length (b.bin_blocks here.scope argument)) rest)

@@ -4,11 +4,13 @@ use Rattle.std.proofs.lemmas.List.{drop_more}
 use Rattle.ns_scope.specs.declared.scope.Scope.{Scope}
 
 -- the number behind two parts
-pub behind_both : (x y : List Scope) (next middle last : ℕ) → middle ≡ next + length x → last ≡ middle + length y → last ≡ next + length (x ++ y)
+pub behind_both : (x y : List Scope) (next middle last : ℕ) → middle ≡ next + length x → last ≡ middle + length y →
+    last ≡ next + length (x ++ y)
 behind_both x y next middle last e f = omega (e, f, length-append x y, arith)
 
 -- The number behind so many of the items of a list, after each turn of a loop over it.
-pub loop_number : {A : Type 0} (one : A → List Scope) (rest : List A → List Scope) → ((x : A) (xs : List A) → rest (x ∷ xs) ≡ one x ++ rest xs) →
+pub loop_number : {A : Type 0} (one : A → List Scope) (rest : List A → List Scope) →
+    ((x : A) (xs : List A) → rest (x ∷ xs) ≡ one x ++ rest xs) →
     (next next' k last : ℕ) (items : List A) (item : A) → k < length items → item ≡ get_or items k item →
     next + length (rest (drop k items)) ≡ last → next' ≡ next + length (one item) → next' + length (rest (drop (k + 1) items)) ≡ last
 loop_number one rest parts next next' k last items item within is before number =

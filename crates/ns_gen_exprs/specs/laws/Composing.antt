@@ -15,12 +15,14 @@ use Rattle.ns_gen_code.specs.laws.GoesOn.{node_goes_on, nodes_go_on}
 -- ---- lines behind those of a node or of nodes
 
 -- Lines behind those of a node are lines that the node's go before.
-pub behind_node : (node : m.Node) (k : ℕ) (before after : List CodeLine) → (before ++ node_lines k node []) ++ after ≡ before ++ node_lines k node after
+pub behind_node : (node : m.Node) (k : ℕ) (before after : List CodeLine) →
+    (before ++ node_lines k node []) ++ after ≡ before ++ node_lines k node after
 behind_node node k before after =
     append_assoc before (node_lines k node []) after ∙ ap (before ++◌) (sym (node_goes_on node k [] after))
 
 -- Lines behind those of nodes are lines that the nodes' go before.
-pub behind_nodes : (nodes : m.Nodes) (k : ℕ) (before after : List CodeLine) → (before ++ nodes_lines k nodes []) ++ after ≡ before ++ nodes_lines k nodes after
+pub behind_nodes : (nodes : m.Nodes) (k : ℕ) (before after : List CodeLine) →
+    (before ++ nodes_lines k nodes []) ++ after ≡ before ++ nodes_lines k nodes after
 behind_nodes nodes k before after =
     append_assoc before (nodes_lines k nodes []) after ∙ ap (before ++◌) (sym (nodes_go_on nodes k [] after))
 
@@ -30,7 +32,8 @@ behind_nodes nodes k before after =
 pub with_none : (before : Written) → with_nodes m.no_nodes before ≡ before
 with_none before = written_is _ _ _ _ _ _ refl (append-nil before.texts) (append-nil before.lines)
 
-pub with_more : (node : m.Node) (rest : m.Nodes) (before : Written) → with_nodes (m.more_nodes node rest) before ≡ with_nodes rest (with_node node before)
+pub with_more : (node : m.Node) (rest : m.Nodes) (before : Written) →
+    with_nodes (m.more_nodes node rest) before ≡ with_nodes rest (with_node node before)
 with_more node rest before =
     let k = length before.texts in
     written_is _ _ _ _ _ _ (put_more (node_names node) (nodes_names rest) before.names)
@@ -58,7 +61,8 @@ begin_on scope v.Super selector rest = refl
 begin_on scope (v.Outer class) selector rest = object_on (e.reach_outer scope class selector) rest
 
 -- what is written behind lines, arguments and a send
-sent_behind : (begin : List CodeLine) (way : Way) (sent : m.Sent) (arguments : m.Nodes) (count : ℕ) (before : Written) → count ≡ how_many arguments →
+sent_behind : (begin : List CodeLine) (way : Way) (sent : m.Sent) (arguments : m.Nodes) (count : ℕ) (before : Written) →
+    count ≡ how_many arguments →
     with_line (with_name (with_nodes arguments (with_lines begin before)) sent.selector) (sends way sent count)
     ≡ (let w : Written = record {
       names = put_all before.names (nodes_names arguments ++ sent.selector ∷ []);
@@ -108,7 +112,8 @@ message_is scope e.to_self sent arguments before = refl
 message_is scope e.to_super sent arguments before = refl
 message_is scope (e.to_outer class) sent arguments before = refl
 
-pub value_is : (receiver : e.Receiver) (before : Written) → with_value (kept receiver) (with_receiver receiver before) ≡ with_node (e.value_of receiver) before
+pub value_is : (receiver : e.Receiver) (before : Written) →
+    with_value (kept receiver) (with_receiver receiver before) ≡ with_node (e.value_of receiver) before
 value_is (e.to_value node) before = refl
 value_is e.to_self before = refl
 value_is e.to_super before = refl

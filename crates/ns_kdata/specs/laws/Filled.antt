@@ -21,7 +21,9 @@ use Rattle.ns_world.specs.laws.Making.{making_keeps}
 use Rattle.ns_kdata.specs.Lawful.{MayHold}
 
 -- a heap with one cell more that is lawful once it is there
-more_lawful : (world : World) (code : CodeProgram) (new : Cell) → IsLawful world code → CellIsLawful (new ∷ world.cells) code (heap_size world.cells) new → (number : ℕ) (cell : Cell) → find_cell (new ∷ world.cells) number ≡ Some cell → CellIsLawful (new ∷ world.cells) code number cell
+more_lawful : (world : World) (code : CodeProgram) (new : Cell) → IsLawful world code →
+    CellIsLawful (new ∷ world.cells) code (heap_size world.cells) new → (number : ℕ) (cell : Cell) →
+    find_cell (new ∷ world.cells) number ≡ Some cell → CellIsLawful (new ∷ world.cells) code number cell
 more_lawful world code new lawful l number cell e = tested (eqb number (heap_size world.cells)) refl e
   where
     tested : (b : Bool) → eqb number (heap_size world.cells) ≡ b → cond b (Some new) (find_cell world.cells number) ≡ Some cell → CellIsLawful (new ∷ world.cells) code number cell
@@ -33,7 +35,8 @@ more_lawful world code new lawful l number cell e = tested (eqb number (heap_siz
     tested false t e = cell_lawful world.cells (new ∷ world.cells) code number cell (making_keeps_cells world.cells new (lawful_order world code lawful)) e (lawful.cells number cell e)
 
 -- a lawful world in which a cell is made that is lawful once it is there
-lawful_cell_keeps : (world after : World) (code : CodeProgram) (new : Cell) → IsLawful world code → has_superclass world.cells new ≡ true → CellIsLawful (new ∷ world.cells) code (heap_size world.cells) new → made world new ≡ Some after → IsLawful after code
+lawful_cell_keeps : (world after : World) (code : CodeProgram) (new : Cell) → IsLawful world code → has_superclass world.cells new ≡ true →
+    CellIsLawful (new ∷ world.cells) code (heap_size world.cells) new → made world new ≡ Some after → IsLawful after code
 lawful_cell_keeps world after code new lawful s l e = tested (nat_le (heap_size world.cells + cell_size new) world.limits.cells) refl e
   where
     more : World
@@ -61,7 +64,8 @@ nils_are (value ∷ entries) nils =
     rw first (ap (λ values. Nil ∷ values) (nils_are entries (All-tail (λ (v : Value). v ≡ Nil) value entries nils)))
 
 -- a lawful world in which a cell is made that may be made, and may hold what it holds, is lawful
-pub filled_keeps : (world after : World) (code : CodeProgram) (cell : Cell) → IsLawful world code → has_superclass world.cells cell ≡ true → MayBeMade world.cells code (shape_of cell) → MayHold world.cells code cell → made world cell ≡ Some after → IsLawful after code
+pub filled_keeps : (world after : World) (code : CodeProgram) (cell : Cell) → IsLawful world code → has_superclass world.cells cell ≡ true →
+    MayBeMade world.cells code (shape_of cell) → MayHold world.cells code cell → made world cell ≡ Some after → IsLawful after code
 filled_keeps world after code (ObjectCell class entries) lawful s m nils e =
     making_keeps world after code (Object class (length entries)) lawful refl m (subst (λ values. made world (ObjectCell class values) ≡ Some after) (nils_are entries nils) e)
 filled_keeps world after code (EnvironmentCell parent locals) lawful s m live e =
@@ -72,8 +76,10 @@ filled_keeps world after code (ArrayCell items) lawful s m live e =
     let k : KeepsCells world.cells (ArrayCell items ∷ world.cells) = making_keeps_cells world.cells (ArrayCell items) (lawful_order world code lawful) in
     lawful_cell_keeps world after code (ArrayCell items) lawful s (values_stay world.cells (ArrayCell items ∷ world.cells) code items k live) e
 filled_keeps world after code (TextCell bytes) lawful s m h e = lawful_cell_keeps world after code (TextCell bytes) lawful s tt e
-filled_keeps world after code (ClassCell decl base encl holder over) lawful s m h e = making_keeps world after code (Class decl base encl holder over) lawful s m e
-filled_keeps world after code (BlockCell body env home receiver holder) lawful s m h e = making_keeps world after code (Block body env home receiver holder) lawful s m e
+filled_keeps world after code (ClassCell decl base encl holder over) lawful s m h e =
+    making_keeps world after code (Class decl base encl holder over) lawful s m e
+filled_keeps world after code (BlockCell body env home receiver holder) lawful s m h e =
+    making_keeps world after code (Block body env home receiver holder) lawful s m e
 filled_keeps world after code (FacetCell kind) lawful s m h e = making_keeps world after code (Facet kind) lawful s m e
 filled_keeps world after code (MirrorCell mirrored) lawful s m h e = making_keeps world after code (Mirror mirrored) lawful s m e
 filled_keeps world after code (MessageCell sel args) lawful s m h e = making_keeps world after code (Message sel args) lawful s m e

@@ -6,7 +6,8 @@ use Rattle.ns_world.specs.Cell.{Cell, cell_words, open_words, ObjectCell, ClassC
 use Rattle.ns_world.specs.Heap.{Heap, find_cell, words_at, open_words_at}
 use Rattle.ns_kdata.specs.Arguments.{array_items, items_of}
 
-items_of_cell : (o : Option Cell) (place : ℕ) → place < length (array_items o) → (option_map_or cell_words o [] ≡ array_items o) × (option_map_or open_words o [] ≡ array_items o)
+items_of_cell : (o : Option Cell) (place : ℕ) → place < length (array_items o) →
+    (option_map_or cell_words o [] ≡ array_items o) × (option_map_or open_words o [] ≡ array_items o)
 items_of_cell None place h = absurd (omega arith)
 items_of_cell (Some (ObjectCell class entries)) place h = absurd (omega arith)
 items_of_cell (Some (ClassCell decl base encl holder over)) place h = absurd (omega arith)
@@ -19,5 +20,6 @@ items_of_cell (Some (MirrorCell mirrored)) place h = absurd (omega arith)
 items_of_cell (Some (MessageCell sel args)) place h = absurd (omega arith)
 
 -- the elements of an array that has some are its words, and may be written
-pub items_are_words : (heap : Heap) (at place : ℕ) → place < length (items_of heap (Ref at)) → (words_at heap at ≡ items_of heap (Ref at)) × (open_words_at heap at ≡ items_of heap (Ref at))
+pub items_are_words : (heap : Heap) (at place : ℕ) → place < length (items_of heap (Ref at)) →
+    (words_at heap at ≡ items_of heap (Ref at)) × (open_words_at heap at ≡ items_of heap (Ref at))
 items_are_words heap at place h = items_of_cell (find_cell heap at) place h

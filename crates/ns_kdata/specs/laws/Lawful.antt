@@ -18,7 +18,8 @@ use Rattle.ns_kdata.specs.laws.Leaving.{unchanged_lawful, text_lawful, object_la
 use Rattle.ns_kdata.specs.lemmas.Storing.{put_lawful}
 
 -- each row leaves a lawful world, where the value that may be stored is live
-pub rows_lawful : (world : World) (code : CodeProgram) (row : DataRow) (receiver first second : Value) → IsLawful world code → IsLiveValue world.cells code second → LeavesLawful code (row_outcome world code row receiver first second)
+pub rows_lawful : (world : World) (code : CodeProgram) (row : DataRow) (receiver first second : Value) → IsLawful world code →
+    IsLiveValue world.cells code second → LeavesLawful code (row_outcome world code row receiver first second)
 rows_lawful world code row.Identical receiver first second lawful live = lawful
 rows_lawful world code row.Equal receiver first second lawful live = lawful
 rows_lawful world code row.IsNil receiver first second lawful live = lawful
@@ -32,20 +33,28 @@ rows_lawful world code row.Not receiver first second lawful live = lawful
 rows_lawful world code row.BooleanPrint receiver first second lawful live = text_lawful world code (boolean_text receiver) lawful
 rows_lawful world code row.And receiver first second lawful live = unchanged_lawful world code (conjunction receiver first) lawful
 rows_lawful world code row.Or receiver first second lawful live = unchanged_lawful world code (disjunction receiver first) lawful
-rows_lawful world code row.IntegerPrint receiver first second lawful live = text_lawful world code (signed_decimal (number_of receiver)) lawful
+rows_lawful world code row.IntegerPrint receiver first second lawful live =
+    text_lawful world code (signed_decimal (number_of receiver)) lawful
 rows_lawful world code row.TextSize receiver first second lawful live = lawful
-rows_lawful world code row.TextAt receiver first second lawful live = unchanged_lawful world code (text_at world.cells receiver first) lawful
-rows_lawful world code row.TextCopy receiver first second lawful live = copied_lawful world code (bytes_of world.cells receiver) (part_in first second (length (bytes_of world.cells receiver))) lawful
-rows_lawful world code row.TextJoin receiver first second lawful live = joined_lawful world code (bytes_of world.cells receiver ++ bytes_of world.cells first) (is_text world.cells first) lawful
+rows_lawful world code row.TextAt receiver first second lawful live =
+    unchanged_lawful world code (text_at world.cells receiver first) lawful
+rows_lawful world code row.TextCopy receiver first second lawful live =
+    copied_lawful world code (bytes_of world.cells receiver) (part_in first second (length (bytes_of world.cells receiver))) lawful
+rows_lawful world code row.TextJoin receiver first second lawful live =
+    joined_lawful world code (bytes_of world.cells receiver ++ bytes_of world.cells first) (is_text world.cells first) lawful
 rows_lawful world code row.TextEqual receiver first second lawful live = lawful
-rows_lawful world code row.TextLess receiver first second lawful live = unchanged_lawful world code (text_less world.cells receiver first) lawful
-rows_lawful world code row.TextPrint receiver first second lawful live = text_lawful world code (quoted (bytes_of world.cells receiver)) lawful
+rows_lawful world code row.TextLess receiver first second lawful live =
+    unchanged_lawful world code (text_less world.cells receiver first) lawful
+rows_lawful world code row.TextPrint receiver first second lawful live =
+    text_lawful world code (quoted (bytes_of world.cells receiver)) lawful
 rows_lawful world code row.SymbolSize receiver first second lawful live = lawful
 rows_lawful world code row.SymbolText receiver first second lawful live = text_lawful world code (symbol_text code receiver) lawful
 rows_lawful world code row.SymbolPrint receiver first second lawful live = text_lawful world code (codes "#" ++ symbol_text code receiver) lawful
-rows_lawful world code row.SymbolLess receiver first second lawful live = unchanged_lawful world code (symbol_less code receiver first) lawful
+rows_lawful world code row.SymbolLess receiver first second lawful live =
+    unchanged_lawful world code (symbol_less code receiver first) lawful
 rows_lawful world code row.ArraySize receiver first second lawful live = lawful
-rows_lawful world code row.ArrayAt receiver first second lawful live = unchanged_lawful world code (array_at world.cells receiver first) lawful
+rows_lawful world code row.ArrayAt receiver first second lawful live =
+    unchanged_lawful world code (array_at world.cells receiver first) lawful
 rows_lawful world code row.ArrayPut receiver first second lawful live = put_lawful world code receiver first second lawful live
 rows_lawful world code row.MessageSelector receiver first second lawful live = lawful
 rows_lawful world code row.MessageArguments receiver first second lawful live = lawful

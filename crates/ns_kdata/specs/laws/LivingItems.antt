@@ -25,7 +25,8 @@ get_live P (item ∷ items) zero all nil = all 0 item (omega arith)
 get_live P (item ∷ items) (suc place) all nil = get_live P items place (λ k d h. all (suc k) d (omega (arith, h))) nil
 
 -- In a lawful world the elements of a cell are live.
-pub cell_items_live : (world : World) (code : CodeProgram) (at : ℕ) → IsLawful world code → (o : Option Cell) → find_cell world.cells at ≡ o → All (IsLiveValue world.cells code) (array_items o)
+pub cell_items_live : (world : World) (code : CodeProgram) (at : ℕ) → IsLawful world code → (o : Option Cell) →
+    find_cell world.cells at ≡ o → All (IsLiveValue world.cells code) (array_items o)
 cell_items_live world code at lawful None e = λ k d h. absurd (omega (arith, h))
 cell_items_live world code at lawful (Some (ObjectCell class entries)) e = λ k d h. absurd (omega (arith, h))
 cell_items_live world code at lawful (Some (ClassCell decl base encl holder over)) e = λ k d h. absurd (omega (arith, h))
@@ -38,7 +39,8 @@ cell_items_live world code at lawful (Some (MirrorCell mirrored)) e = λ k d h. 
 cell_items_live world code at lawful (Some (MessageCell sel args)) e = λ k d h. absurd (omega (arith, h))
 
 -- In a lawful world the elements of an array are live.
-pub items_live : (world : World) (code : CodeProgram) (array : Value) → IsLawful world code → All (IsLiveValue world.cells code) (items_of world.cells array)
+pub items_live : (world : World) (code : CodeProgram) (array : Value) → IsLawful world code →
+    All (IsLiveValue world.cells code) (items_of world.cells array)
 items_live world code Nil lawful = λ k d h. absurd (omega (arith, h))
 items_live world code True lawful = λ k d h. absurd (omega (arith, h))
 items_live world code False lawful = λ k d h. absurd (omega (arith, h))
@@ -47,11 +49,13 @@ items_live world code (Sym sel) lawful = λ k d h. absurd (omega (arith, h))
 items_live world code (Kernel class) lawful = λ k d h. absurd (omega (arith, h))
 items_live world code (Ref at) lawful = cell_items_live world code at lawful (find_cell world.cells at) refl
 
-pub item_live : (world : World) (code : CodeProgram) (items : List Value) (place : Result ℕ Fault) → All (IsLiveValue world.cells code) items → IfOk (item_at_place items place) (λ v. IsLiveValue world.cells code v)
+pub item_live : (world : World) (code : CodeProgram) (items : List Value) (place : Result ℕ Fault) →
+    All (IsLiveValue world.cells code) items → IfOk (item_at_place items place) (λ v. IsLiveValue world.cells code v)
 item_live world code items (Ok place) all = get_live (IsLiveValue world.cells code) items place all (tt, refl)
 item_live world code items (Err fault) all = tt
 
-same_receiver : (cell : Cell) (place : ℕ) (value : Value) → is_receiver_cell (Some (with_word cell place value)) ≡ is_receiver_cell (Some cell)
+same_receiver : (cell : Cell) (place : ℕ) (value : Value) →
+    is_receiver_cell (Some (with_word cell place value)) ≡ is_receiver_cell (Some cell)
 same_receiver (ObjectCell class entries) place value = refl
 same_receiver (ClassCell decl base encl holder over) place value = refl
 same_receiver (BlockCell body env home receiver holder) place value = refl
@@ -62,7 +66,8 @@ same_receiver (FacetCell kind) place value = refl
 same_receiver (MirrorCell mirrored) place value = refl
 same_receiver (MessageCell sel args) place value = refl
 
-written_cell : (heap : Heap) (code : CodeProgram) (at place number : ℕ) (value : Value) → IsLiveValue heap code (Ref number) → IsLiveValue (write_word heap at place value) code (Ref number)
+written_cell : (heap : Heap) (code : CodeProgram) (at place number : ℕ) (value : Value) → IsLiveValue heap code (Ref number) →
+    IsLiveValue (write_word heap at place value) code (Ref number)
 written_cell heap code at place number value live = tested (eqb number at) refl
   where
     other : number ≢ at → IsLiveValue (write_word heap at place value) code (Ref number)
@@ -81,7 +86,8 @@ written_cell heap code at place number value live = tested (eqb number at) refl
     tested false e = other (λ q. let t : true ≡ false = sym (eq-eqb number at q) ∙ e in absurd (cc))
 
 -- a live value is live where a word was written
-pub written_live : (heap : Heap) (code : CodeProgram) (at place : ℕ) (new value : Value) → IsLiveValue heap code value → IsLiveValue (write_word heap at place new) code value
+pub written_live : (heap : Heap) (code : CodeProgram) (at place : ℕ) (new value : Value) → IsLiveValue heap code value →
+    IsLiveValue (write_word heap at place new) code value
 written_live heap code at place new Nil live = (tt, refl)
 written_live heap code at place new True live = (tt, refl)
 written_live heap code at place new False live = (tt, refl)
@@ -91,7 +97,8 @@ written_live heap code at place new (Kernel class) live = (tt, refl)
 written_live heap code at place new (Ref number) live = written_cell heap code at place number new live
 
 -- A live value stays live when an element is stored.
-pub stored_live : (world : World) (code : CodeProgram) (array : Value) (place : ℕ) (value : Value) → IsLiveValue world.cells code value → IsLiveValue (stored world array place value).cells code value
+pub stored_live : (world : World) (code : CodeProgram) (array : Value) (place : ℕ) (value : Value) → IsLiveValue world.cells code value →
+    IsLiveValue (stored world array place value).cells code value
 stored_live world code Nil place value live = live
 stored_live world code True place value live = live
 stored_live world code False place value live = live
@@ -100,6 +107,7 @@ stored_live world code (Sym sel) place value live = live
 stored_live world code (Kernel class) place value live = live
 stored_live world code (Ref at) place value live = written_live world.cells code at place value value live
 
-pub put_live : (world : World) (code : CodeProgram) (array : Value) (place : Result ℕ Fault) (value : Value) → IsLiveValue world.cells code value → AnswersLive code (put_at_place world array place value)
+pub put_live : (world : World) (code : CodeProgram) (array : Value) (place : Result ℕ Fault) (value : Value) →
+    IsLiveValue world.cells code value → AnswersLive code (put_at_place world array place value)
 put_live world code array (Ok place) value live = stored_live world code array place value live
 put_live world code array (Err fault) value live = tt

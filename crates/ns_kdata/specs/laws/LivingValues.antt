@@ -25,7 +25,8 @@ truth_live heap code true = (tt, refl)
 truth_live heap code false = (tt, refl)
 
 -- a cell that is made is live, unless it is an environment
-pub making_live : (world : World) (code : CodeProgram) (cell : Cell) → is_receiver_cell (Some cell) ≡ true → AnswersLive code (making world cell)
+pub making_live : (world : World) (code : CodeProgram) (cell : Cell) → is_receiver_cell (Some cell) ≡ true →
+    AnswersLive code (making world cell)
 making_live world code cell h = tested (nat_le (heap_size world.cells + cell_size cell) world.limits.cells)
   where
     next : World
@@ -39,7 +40,8 @@ making_live world code cell h = tested (nat_le (heap_size world.cells + cell_siz
     tested false = tt
 
 -- A row that changes nothing answers a live value.
-pub unchanged_live : (world : World) (code : CodeProgram) (r : Result Value Fault) → IfOk r (λ v. IsLiveValue world.cells code v) → AnswersLive code (unchanged world r)
+pub unchanged_live : (world : World) (code : CodeProgram) (r : Result Value Fault) → IfOk r (λ v. IsLiveValue world.cells code v) →
+    AnswersLive code (unchanged world r)
 unchanged_live world code (Ok value) h = h
 unchanged_live world code (Err fault) h = tt
 
@@ -61,7 +63,8 @@ negation_live heap code (Sym sel) = (tt, refl)
 negation_live heap code (Kernel class) = (tt, refl)
 negation_live heap code (Ref at) = (tt, refl)
 
-pub conjunction_live : (heap : Heap) (code : CodeProgram) (receiver value : Value) → IfOk (conjunction receiver value) (λ v. IsLiveValue heap code v)
+pub conjunction_live : (heap : Heap) (code : CodeProgram) (receiver value : Value) →
+    IfOk (conjunction receiver value) (λ v. IsLiveValue heap code v)
 conjunction_live heap code receiver Nil = tt
 conjunction_live heap code receiver True = only_true_live heap code receiver
 conjunction_live heap code receiver False = (tt, refl)
@@ -70,7 +73,8 @@ conjunction_live heap code receiver (Sym sel) = tt
 conjunction_live heap code receiver (Kernel class) = tt
 conjunction_live heap code receiver (Ref at) = tt
 
-pub disjunction_live : (heap : Heap) (code : CodeProgram) (receiver value : Value) → IfOk (disjunction receiver value) (λ v. IsLiveValue heap code v)
+pub disjunction_live : (heap : Heap) (code : CodeProgram) (receiver value : Value) →
+    IfOk (disjunction receiver value) (λ v. IsLiveValue heap code v)
 disjunction_live heap code receiver Nil = tt
 disjunction_live heap code receiver True = (tt, refl)
 disjunction_live heap code receiver False = only_true_live heap code receiver
@@ -79,15 +83,18 @@ disjunction_live heap code receiver (Sym sel) = tt
 disjunction_live heap code receiver (Kernel class) = tt
 disjunction_live heap code receiver (Ref at) = tt
 
-pub byte_live : (heap : Heap) (code : CodeProgram) (bytes : List ℕ) (place : Result ℕ Fault) → IfOk (byte_at_place bytes place) (λ v. IsLiveValue heap code v)
+pub byte_live : (heap : Heap) (code : CodeProgram) (bytes : List ℕ) (place : Result ℕ Fault) →
+    IfOk (byte_at_place bytes place) (λ v. IsLiveValue heap code v)
 byte_live heap code bytes (Ok place) = (tt, refl)
 byte_live heap code bytes (Err fault) = tt
 
-pub copied_live : (world : World) (code : CodeProgram) (bytes : List ℕ) (part : Result Part Fault) → AnswersLive code (copied world bytes part)
+pub copied_live : (world : World) (code : CodeProgram) (bytes : List ℕ) (part : Result Part Fault) →
+    AnswersLive code (copied world bytes part)
 copied_live world code bytes (Ok part) = making_live world code (TextCell (bytes_in bytes part)) refl
 copied_live world code bytes (Err fault) = tt
 
-pub joined_live : (world : World) (code : CodeProgram) (bytes : List ℕ) (b : Bool) → AnswersLive code (cond b (making world (TextCell bytes)) (Fails wrong_kind))
+pub joined_live : (world : World) (code : CodeProgram) (bytes : List ℕ) (b : Bool) →
+    AnswersLive code (cond b (making world (TextCell bytes)) (Fails wrong_kind))
 joined_live world code bytes true = making_live world code (TextCell bytes) refl
 joined_live world code bytes false = tt
 
@@ -95,11 +102,13 @@ pub equal_live : (heap : Heap) (code : CodeProgram) (b c : Bool) → IsLiveValue
 equal_live heap code true c = truth_live heap code c
 equal_live heap code false c = (tt, refl)
 
-pub less_live : (heap : Heap) (code : CodeProgram) (b c : Bool) → IfOk (cond b (Ok (truth c)) (Err wrong_kind)) (λ v. IsLiveValue heap code v)
+pub less_live : (heap : Heap) (code : CodeProgram) (b c : Bool) →
+    IfOk (cond b (Ok (truth c)) (Err wrong_kind)) (λ v. IsLiveValue heap code v)
 less_live heap code true c = truth_live heap code c
 less_live heap code false c = tt
 
-sized_live : (world : World) (code : CodeProgram) (size : ℕ) (b : Bool) → AnswersLive code (cond b (Fails out_of_range) (making world (ArrayCell (replicate size Nil))))
+sized_live : (world : World) (code : CodeProgram) (size : ℕ) (b : Bool) →
+    AnswersLive code (cond b (Fails out_of_range) (making world (ArrayCell (replicate size Nil))))
 sized_live world code size true = tt
 sized_live world code size false = making_live world code (ArrayCell (replicate size Nil)) refl
 
@@ -112,7 +121,8 @@ array_live world code (Sym sel) = tt
 array_live world code (Kernel class) = tt
 array_live world code (Ref at) = tt
 
-pub symbols_live : (heap : Heap) (code : CodeProgram) (symbol other : Value) → IfOk (symbol_less code symbol other) (λ v. IsLiveValue heap code v)
+pub symbols_live : (heap : Heap) (code : CodeProgram) (symbol other : Value) →
+    IfOk (symbol_less code symbol other) (λ v. IsLiveValue heap code v)
 symbols_live heap code symbol Nil = tt
 symbols_live heap code symbol True = tt
 symbols_live heap code symbol False = tt

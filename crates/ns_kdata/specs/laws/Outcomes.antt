@@ -27,7 +27,8 @@ live_there heap code (Sym sel) live = tt
 live_there heap code (Kernel class) live = tt
 
 -- and so is each argument
-pub argument_there : (heap : Heap) (code : CodeProgram) (args : List Value) (place : ℕ) → All (IsLive heap code) args → CellIsThere heap (argument args place)
+pub argument_there : (heap : Heap) (code : CodeProgram) (args : List Value) (place : ℕ) → All (IsLive heap code) args →
+    CellIsThere heap (argument args place)
 argument_there heap code [] place live = tt
 argument_there heap code (value ∷ args) zero live = live_there heap code value (live 0 value (omega arith))
 argument_there heap code (value ∷ args) (suc place) live = argument_there heap code args place (λ k d h. live (suc k) d (omega (arith, h)))

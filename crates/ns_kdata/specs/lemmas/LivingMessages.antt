@@ -13,7 +13,8 @@ use Rattle.ns_world.specs.Starts.{is_receiver_cell}
 use Rattle.ns_world.specs.Lawful.{IsLawful, IsLiveValue, MessageIsLawful, HasArguments}
 use Rattle.ns_kdata.specs.Rows.{selector_in, arguments_in, message_selector, message_arguments}
 
-pub sel_of_message : (heap : Heap) (code : CodeProgram) (sel : Sel) (args : Value) → MessageIsLawful heap code sel args → IsLiveValue heap code (Sym sel)
+pub sel_of_message : (heap : Heap) (code : CodeProgram) (sel : Sel) (args : Value) → MessageIsLawful heap code sel args →
+    IsLiveValue heap code (Sym sel)
 sel_of_message heap code sel Nil lawful = absurd lawful
 sel_of_message heap code sel True lawful = absurd lawful
 sel_of_message heap code sel False lawful = absurd lawful
@@ -34,7 +35,8 @@ array_there code sel (Some (FacetCell kind)) h = absurd h
 array_there code sel (Some (MirrorCell mirrored)) h = absurd h
 array_there code sel (Some (MessageCell sel' args)) h = absurd h
 
-pub args_of_message : (heap : Heap) (code : CodeProgram) (sel : Sel) (args : Value) → MessageIsLawful heap code sel args → IsLiveValue heap code args
+pub args_of_message : (heap : Heap) (code : CodeProgram) (sel : Sel) (args : Value) → MessageIsLawful heap code sel args →
+    IsLiveValue heap code args
 args_of_message heap code sel Nil lawful = absurd lawful
 args_of_message heap code sel True lawful = absurd lawful
 args_of_message heap code sel False lawful = absurd lawful
@@ -43,7 +45,8 @@ args_of_message heap code sel (Sym other) lawful = absurd lawful
 args_of_message heap code sel (Kernel class) lawful = absurd lawful
 args_of_message heap code sel (Ref at) lawful = array_there code sel (find_cell heap at) (lawful.1)
 
-selector_cell : (world : World) (code : CodeProgram) (at : ℕ) → IsLawful world code → (o : Option Cell) → find_cell world.cells at ≡ o → IsLiveValue world.cells code (selector_in (option_map_or shape_of o (new.Mirror Nil)))
+selector_cell : (world : World) (code : CodeProgram) (at : ℕ) → IsLawful world code → (o : Option Cell) → find_cell world.cells at ≡ o →
+    IsLiveValue world.cells code (selector_in (option_map_or shape_of o (new.Mirror Nil)))
 selector_cell world code at lawful None e = (tt, refl)
 selector_cell world code at lawful (Some (ObjectCell class entries)) e = (tt, refl)
 selector_cell world code at lawful (Some (ClassCell decl base encl holder over)) e = (tt, refl)
@@ -53,9 +56,11 @@ selector_cell world code at lawful (Some (ArrayCell items)) e = (tt, refl)
 selector_cell world code at lawful (Some (TextCell bytes)) e = (tt, refl)
 selector_cell world code at lawful (Some (FacetCell kind)) e = (tt, refl)
 selector_cell world code at lawful (Some (MirrorCell mirrored)) e = (tt, refl)
-selector_cell world code at lawful (Some (MessageCell sel args)) e = sel_of_message world.cells code sel args (lawful.cells at (MessageCell sel args) e)
+selector_cell world code at lawful (Some (MessageCell sel args)) e =
+    sel_of_message world.cells code sel args (lawful.cells at (MessageCell sel args) e)
 
-pub selector_live : (world : World) (code : CodeProgram) (message : Value) → IsLawful world code → IsLiveValue world.cells code (message_selector world.cells message)
+pub selector_live : (world : World) (code : CodeProgram) (message : Value) → IsLawful world code →
+    IsLiveValue world.cells code (message_selector world.cells message)
 selector_live world code Nil lawful = (tt, refl)
 selector_live world code True lawful = (tt, refl)
 selector_live world code False lawful = (tt, refl)
@@ -64,7 +69,8 @@ selector_live world code (Sym sel) lawful = (tt, refl)
 selector_live world code (Kernel class) lawful = (tt, refl)
 selector_live world code (Ref at) lawful = selector_cell world code at lawful (find_cell world.cells at) refl
 
-arguments_cell : (world : World) (code : CodeProgram) (at : ℕ) → IsLawful world code → (o : Option Cell) → find_cell world.cells at ≡ o → IsLiveValue world.cells code (arguments_in (option_map_or shape_of o (new.Mirror Nil)))
+arguments_cell : (world : World) (code : CodeProgram) (at : ℕ) → IsLawful world code → (o : Option Cell) → find_cell world.cells at ≡ o →
+    IsLiveValue world.cells code (arguments_in (option_map_or shape_of o (new.Mirror Nil)))
 arguments_cell world code at lawful None e = (tt, refl)
 arguments_cell world code at lawful (Some (ObjectCell class entries)) e = (tt, refl)
 arguments_cell world code at lawful (Some (ClassCell decl base encl holder over)) e = (tt, refl)
@@ -74,9 +80,11 @@ arguments_cell world code at lawful (Some (ArrayCell items)) e = (tt, refl)
 arguments_cell world code at lawful (Some (TextCell bytes)) e = (tt, refl)
 arguments_cell world code at lawful (Some (FacetCell kind)) e = (tt, refl)
 arguments_cell world code at lawful (Some (MirrorCell mirrored)) e = (tt, refl)
-arguments_cell world code at lawful (Some (MessageCell sel args)) e = args_of_message world.cells code sel args (lawful.cells at (MessageCell sel args) e)
+arguments_cell world code at lawful (Some (MessageCell sel args)) e =
+    args_of_message world.cells code sel args (lawful.cells at (MessageCell sel args) e)
 
-pub arguments_live : (world : World) (code : CodeProgram) (message : Value) → IsLawful world code → IsLiveValue world.cells code (message_arguments world.cells message)
+pub arguments_live : (world : World) (code : CodeProgram) (message : Value) → IsLawful world code →
+    IsLiveValue world.cells code (message_arguments world.cells message)
 arguments_live world code Nil lawful = (tt, refl)
 arguments_live world code True lawful = (tt, refl)
 arguments_live world code False lawful = (tt, refl)

@@ -53,7 +53,8 @@ items_of_none (Some (MirrorCell mirrored)) place class h e = cc
 items_of_none (Some (MessageCell sel args)) place class h e = cc
 
 -- so an element that is stored is no entry of an object
-stored_lawful : (world : World) (code : CodeProgram) (array : Value) (place : ℕ) (value : Value) → IsLawful world code → IsLiveValue world.cells code value → place < length (items_of world.cells array) → IsLawful (stored world array place value) code
+stored_lawful : (world : World) (code : CodeProgram) (array : Value) (place : ℕ) (value : Value) → IsLawful world code →
+    IsLiveValue world.cells code value → place < length (items_of world.cells array) → IsLawful (stored world array place value) code
 stored_lawful world code (Ref at) place value lawful live h =
     writing_keeps world code at place value lawful (live, λ class e. absurd (items_of_none (find_cell world.cells at) place class h e))
 stored_lawful world code Nil place value lawful live h = lawful
@@ -63,7 +64,8 @@ stored_lawful world code (Int number) place value lawful live h = lawful
 stored_lawful world code (Sym sel) place value lawful live h = lawful
 stored_lawful world code (Kernel class) place value lawful live h = lawful
 
-pub put_lawful : (world : World) (code : CodeProgram) (array place value : Value) → IsLawful world code → IsLiveValue world.cells code value → LeavesLawful code (array_put world array place value)
+pub put_lawful : (world : World) (code : CodeProgram) (array place value : Value) → IsLawful world code →
+    IsLiveValue world.cells code value → LeavesLawful code (array_put world array place value)
 put_lawful world code array place value lawful live =
     placed (place_in place (length (items_of world.cells array))) (λ p e. place_below place (length (items_of world.cells array)) p e)
   where

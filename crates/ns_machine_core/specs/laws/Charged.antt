@@ -29,7 +29,8 @@ step_is old new e = tested (nat_lt old.steps old.limits.steps) e
     tested false is = absurd (cc)
 
 -- So the body that runs stays on top, with one step charged.
-pub step_on_top : (core : Core) (world : WorldView) → stepped core.run.world.world ≡ Some world.world → StaysOnTop 1 core (in_other core world)
+pub step_on_top : (core : Core) (world : WorldView) → stepped core.run.world.world ≡ Some world.world →
+    StaysOnTop 1 core (in_other core world)
 step_on_top core world e body runs = record {
   runs = runs;
   steps = ap (λ (w : World). w.steps) (step_is core.run.world.world world.world e);
@@ -65,7 +66,8 @@ given_on_top code charged old new at to value progress spent e body runs = by_fr
         record { runs = is.0; steps = is.1 }
 
 -- One after the other, it stays there with the steps of both charged.
-pub on_top_after : (first second : ℕ) (old mid new : Core) → StaysOnTop first old mid → StaysOnTop second mid new → StaysOnTop (first + second) old new
+pub on_top_after : (first second : ℕ) (old mid new : Core) → StaysOnTop first old mid → StaysOnTop second mid new →
+    StaysOnTop (first + second) old new
 on_top_after first second old mid new begins goes body runs =
     let one = begins body runs in
     let other = goes body one.runs in

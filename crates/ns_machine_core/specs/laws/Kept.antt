@@ -34,11 +34,13 @@ waiting_progress code places phase (pending.EvaluatingKept block site floor) kep
 -- The progress of the state that is shown is the machine's.
 pub shown_progress : (code : CodeProgram) (core : Core) (n : Next) → progress_of (shown code core n) ≡ progress_in core
 shown_progress code core (next.On at) = refl
-shown_progress code core (next.Waits at) = waiting_progress code core.places (phase_shown core.phase) core.waiting core.arguments.items core.stack at (progress_in core)
+shown_progress code core (next.Waits at) =
+    waiting_progress code core.places (phase_shown core.phase) core.waiting core.arguments.items core.stack at (progress_in core)
 shown_progress code core next.Ended = refl
 
 -- The world of a machine in a valid state is lawful.
-pub ready_lawful : (code : CodeProgram) (grants : Grants) (core : Core) (n : Next) → Valid code grants (shown code core n) → IsLawful (progress_in core).world code
+pub ready_lawful : (code : CodeProgram) (grants : Grants) (core : Core) (n : Next) → Valid code grants (shown code core n) →
+    IsLawful (progress_in core).world code
 ready_lawful code grants core n valid =
     subst (λ (p : Progress). IsLawful p.world code) (shown_progress code core n) (valid_lawful code grants (shown code core n) valid)
 

@@ -34,11 +34,13 @@ stack_stays core stack values frames = record {
 
 -- or where a run has ended, or something waits in it
 pub ended_stays : (core : Core) (ending : Ending) → KeepsRooms core (record core { ending = ending })
-ended_stays core ending = record { world = record { limits = refl; room = (refl, refl) }; values = refl; frames = refl; places = refl; arguments = refl }
+ended_stays core ending =
+    record { world = record { limits = refl; room = (refl, refl) }; values = refl; frames = refl; places = refl; arguments = refl }
 
 -- All but what waits stays where what waits is set.
 pub waiting_stays : (core : Core) (waiting : Pending) → KeepsRooms core (record core { waiting = waiting })
-waiting_stays core waiting = record { world = record { limits = refl; room = (refl, refl) }; values = refl; frames = refl; places = refl; arguments = refl }
+waiting_stays core waiting =
+    record { world = record { limits = refl; room = (refl, refl) }; values = refl; frames = refl; places = refl; arguments = refl }
 
 -- how many operands the topmost frame has
 pub operands_count : (from top : ℕ) (items : List Value) → top ≤ length items → length (reverse (drop from (take top items))) ≡ top - from
@@ -66,7 +68,8 @@ one_more code core at instr can on = by_frames core.stack.frames.items can.stand
         (omega (arith, count, enough, low), omega (arith, count, enough, room, low, reach))
 
 -- a body runs where an instruction can be done
-pub runs : (code : CodeProgram) (core : Core) (at : Registers) (instr : Instr) → CanDo code core at instr → IsRunning core.stack.frames.items
+pub runs : (code : CodeProgram) (core : Core) (at : Registers) (instr : Instr) → CanDo code core at instr →
+    IsRunning core.stack.frames.items
 runs code core at instr can = by_frames core.stack.frames.items can.finds
   where
     by_frames : (frames : List Frame) → Finds code core.places instr (standing (at_next at.next frames) (take at.top core.stack.values.items)) (progress_in core)

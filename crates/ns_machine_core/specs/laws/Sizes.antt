@@ -14,7 +14,8 @@ use Rattle.ns_machine_frames.specs.Calls.{frame_for}
 use Rattle.ns_actions.specs.Bodies.{height_in, greatest_of}
 
 -- a body's frame is no greater than the greatest
-greatest_is : (bodies : List BodyCode) (number : ℕ) (body : BodyCode) → slice_get bodies number ≡ Some body → body.locals + body.height ≤ greatest_of bodies
+greatest_is : (bodies : List BodyCode) (number : ℕ) (body : BodyCode) → slice_get bodies number ≡ Some body →
+    body.locals + body.height ≤ greatest_of bodies
 greatest_is [] number body e = absurd (cc)
 greatest_is (first ∷ bodies) zero body e =
     let same : first ≡ body = cc in
@@ -39,7 +40,8 @@ frame_floor shape call entered = by_environment shape.environment
     by_environment false = refl
 
 -- The base of a frame is no higher than its first local.
-pub frame_base : (shape : BodyShape) (call : Call) (entered : Entered) → call.floor ≤ call.first → (frame_for shape call entered).base ≤ call.first
+pub frame_base : (shape : BodyShape) (call : Call) (entered : Entered) → call.floor ≤ call.first →
+    (frame_for shape call entered).base ≤ call.first
 frame_base shape call entered low = by_environment shape.environment entered.given
   where
     by_environment : (b : Bool) (g : Given) → (frame_for (record shape { environment = b }) call (record entered { given = g })).base ≤ call.first

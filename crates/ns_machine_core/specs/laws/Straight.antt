@@ -39,7 +39,8 @@ use Rattle.ns_machine_core.specs.Straight.{TopRunsBody, StaysIn, StaysOnTop, Goe
 -- ---- the topmost frame
 
 -- It is one of its body.
-pub runs_top : (frames : List Frame) (frame : RunningFrame) → frames ≡ Running frame ∷ below frames → TopRunsBody frame.activation.body frames
+pub runs_top : (frames : List Frame) (frame : RunningFrame) → frames ≡ Running frame ∷ below frames →
+    TopRunsBody frame.activation.body frames
 runs_top frames frame e = subst (λ (all : List Frame). TopRunsBody frame.activation.body all) (sym e) refl
 
 -- The body of a frame that is on top is the one that runs.
@@ -231,7 +232,8 @@ same_straight code i place old new at to same does = record {
 }
 
 -- Where one step was charged and the body that runs stays on top, it does so too.
-pub charged_straight : (code : CodeProgram) (i : Instr) (place : Option SourcePlace) (old new : Core) (at to : Registers) → StaysOnTop 1 old new
+pub charged_straight : (code : CodeProgram) (i : Instr) (place : Option SourcePlace) (old new : Core) (at to : Registers) →
+    StaysOnTop 1 old new
     → IsDone code i place old at new (On to) → GoesStraight code 1 i place old at new to
 charged_straight code i place old new at to stays does = record { does = does; stays = stays }
 

@@ -11,7 +11,8 @@ use Rattle.ns_machine_core.specs.Shown.{progress_in}
 use Rattle.ns_machine_core.specs.Doing.{Finds, CanDo}
 
 -- the operands that an instruction takes are there
-pub some_operand : (code : CodeProgram) (core : Core) (at : Registers) (instr : Instr) → CanDo code core at instr → takes instr ≤ length (operands_in (stood core.stack at))
+pub some_operand : (code : CodeProgram) (core : Core) (at : Registers) (instr : Instr) → CanDo code core at instr →
+    takes instr ≤ length (operands_in (stood core.stack at))
 some_operand code core at instr can = by_stood (stood core.stack at) can.finds
   where
     by_stood : (s : List Stood) → Finds code core.places instr s (progress_in core) → takes instr ≤ length (operands_in s)

@@ -21,7 +21,8 @@ many_next next [] = refl
 many_next next (frame ∷ frames) = refl
 
 -- As many frames are shown as stand.
-pub many_shown : (code : CodeProgram) (places : List SourcePlace) (stood : List Stood) → length (frames_shown code places stood) ≡ length stood
+pub many_shown : (code : CodeProgram) (places : List SourcePlace) (stood : List Stood) →
+    length (frames_shown code places stood) ≡ length stood
 many_shown code places [] = refl
 many_shown code places (one ∷ stood) = ap suc (many_shown code places stood)
 

@@ -26,7 +26,8 @@ reach_all greatest depth frames few =
     omega (arith, more, same)
 
 -- Frames that are within their room are within more.
-pub within_more : (height : ℕ → ℕ) (greatest filled more : ℕ) (frames : List Frame) → filled ≤ more → FramesFitWithin height greatest filled frames
+pub within_more : (height : ℕ → ℕ) (greatest filled more : ℕ) (frames : List Frame) → filled ≤ more →
+    FramesFitWithin height greatest filled frames
     → FramesFitWithin height greatest more frames
 within_more height greatest filled more [] le within = tt
 within_more height greatest filled more (frame ∷ frames) le within =
@@ -46,7 +47,8 @@ within_next height greatest filled next (Running frame ∷ frames) within = with
 within_next height greatest filled next (Looping frame ∷ frames) within = within
 
 -- Nor does an answer that waits in it.
-pub within_answer : (height : ℕ → ℕ) (greatest filled : ℕ) (value : Value) (frames : List Frame) → FramesFitWithin height greatest filled frames
+pub within_answer : (height : ℕ → ℕ) (greatest filled : ℕ) (value : Value) (frames : List Frame) →
+    FramesFitWithin height greatest filled frames
     → FramesFitWithin height greatest filled (with_answer value frames)
 within_answer height greatest filled value [] within = within
 within_answer height greatest filled value (Running frame ∷ frames) within = within

@@ -30,7 +30,8 @@ within_use next (Running frame ∷ frames) values count few =
     let some = length-drop frame.operands values in
     omega (arith, few, all, some)
 
-pub operands_used : (stack : Stack) (at : Registers) (count : ℕ) → IsLaid stack at → count ≤ length (operands_in (stood stack at)) → count ≤ at.top
+pub operands_used : (stack : Stack) (at : Registers) (count : ℕ) → IsLaid stack at → count ≤ length (operands_in (stood stack at)) →
+    count ≤ at.top
 operands_used stack at count laid few =
     omega (arith, within_use at.next stack.frames.items (in_use stack at) count few, length-take-le at.top stack.values.items laid.filled)
 
@@ -49,7 +50,8 @@ taken_laid stack at count laid few =
     }
 
 -- the values below those that are taken are in use at the lower top
-lower_used : (stack : Stack) (at : Registers) (count : ℕ) → take (at.top - count) (in_use stack at) ≡ in_use stack (with_top (at.top - count) at)
+lower_used : (stack : Stack) (at : Registers) (count : ℕ) →
+    take (at.top - count) (in_use stack at) ≡ in_use stack (with_top (at.top - count) at)
 lower_used stack at count = take-take (at.top - count) at.top stack.values.items (omega arith)
 
 -- With the operands that are taken put back, the frames stand as before.

@@ -14,7 +14,8 @@ laid_next next (Running frame ∷ frames) top laid = laid
 laid_next next (Looping frame ∷ frames) top laid = laid
 
 -- frames that are laid stand in the values in use
-pub laid_in_use : (stack : Stack) (at : Registers) → IsLaid stack at → AreLaid (at_next at.next stack.frames.items) (length (in_use stack at))
+pub laid_in_use : (stack : Stack) (at : Registers) → IsLaid stack at →
+    AreLaid (at_next at.next stack.frames.items) (length (in_use stack at))
 laid_in_use stack at laid =
     subst (λ (top : ℕ). AreLaid (at_next at.next stack.frames.items) top) (sym (length-take-le at.top stack.values.items laid.filled))
     (laid_next at.next stack.frames.items at.top laid.frames)

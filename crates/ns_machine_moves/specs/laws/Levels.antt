@@ -21,7 +21,8 @@ same_outer code (Some decl) = there (slice_get code.classes decl)
 same_class : (code : CodeProgram) (number level : ℕ) (body : BodyCode) → slice_get code.bodies number ≡ Some body
     → declaration_at code number level ≡ class_at code level body.class
 same_class code number zero body e = ap (λ o. option_map (λ (b : BodyCode). b.class) o) e
-same_class code number (suc level) body e = ap (outer_of code) (same_class code number level body e) ∙ same_outer code (class_at code level body.class)
+same_class code number (suc level) body e =
+    ap (outer_of code) (same_class code number level body e) ∙ same_outer code (class_at code level body.class)
 
 -- The level that an instruction of sound code names is there.
 pub level_there : (code : CodeProgram) (number level class : ℕ) (body : BodyCode) → slice_get code.bodies number ≡ Some body

@@ -11,14 +11,16 @@ on_top_all P missing [] go m g = m
 on_top_all P missing (v ∷ below) go m g = g v below
 
 -- What holds of each state to which operands lead holds where they are taken.
-pub taken_all : (P : State → Type 0) (missing : State) (count : ℕ) (values stack : List Value) (go : List Value → List Value → State) → P missing
+pub taken_all : (P : State → Type 0) (missing : State) (count : ℕ) (values stack : List Value) (go : List Value → List Value → State) →
+    P missing
     → ((vs below : List Value) → P (go vs below)) → P (taken_off missing count values stack go)
 taken_all P missing zero values stack go m g = g values stack
 taken_all P missing (suc count) values [] go m g = m
 taken_all P missing (suc count) values (v ∷ stack) go m g = taken_all P missing count (v ∷ values) stack go m g
 
 -- What holds of each state to which an operand leads holds where one is picked.
-pub picked_all : (P : State → Type 0) (missing : State) (place : ℕ) (stack : List Value) (go : Value → State) → P missing → ((v : Value) → P (go v))
+pub picked_all : (P : State → Type 0) (missing : State) (place : ℕ) (stack : List Value) (go : Value → State) → P missing →
+    ((v : Value) → P (go v))
     → P (picked missing place stack go)
 picked_all P missing place [] go m g = m
 picked_all P missing zero (v ∷ stack) go m g = g v

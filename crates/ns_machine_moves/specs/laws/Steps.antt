@@ -5,12 +5,14 @@ use Rattle.ns_code.specs.declared.instruction.Instr.{Instr}
 use Rattle.ns_machine_moves.specs.Steps.{PlacedInstr, place_in, placed}
 
 -- There are as many steps as instructions.
-pub placed_length : (places : List (ℕ × SourcePlace)) (number : ℕ) (instrs : List Instr) → length (placed places number instrs) ≡ length instrs
+pub placed_length : (places : List (ℕ × SourcePlace)) (number : ℕ) (instrs : List Instr) →
+    length (placed places number instrs) ≡ length instrs
 placed_length places number [] = refl
 placed_length places number (instr ∷ instrs) = let e = placed_length places (number + 1) instrs in cc
 
 -- A step is the instruction of its number, at the place of that number.
-pub placed_at : (places : List (ℕ × SourcePlace)) (number k : ℕ) (instrs : List Instr) (step : PlacedInstr) → slice_get (placed places number instrs) k ≡ Some step
+pub placed_at : (places : List (ℕ × SourcePlace)) (number k : ℕ) (instrs : List Instr) (step : PlacedInstr) →
+    slice_get (placed places number instrs) k ≡ Some step
     → (slice_get instrs k ≡ Some step.0) × (step.1 ≡ place_in places (number + k))
 placed_at places number zero [] step e = absurd (cc)
 placed_at places number (suc k) [] step e = absurd (cc)

@@ -9,7 +9,8 @@ use Rattle.ns_actions.specs.Control.{Progress}
 use Rattle.ns_machine_moves.specs.State.{Phase, Start, First, Second, Hosted, State, Unbegun, Going, Pends, Ended, Stuck, progress_of}
 use Rattle.ns_machine_moves.specs.Valid.{Valid, EndIsValid}
 
-ended_lawful : (code : CodeProgram) (grants : Grants) (ending : Ending) (phase : Phase) (p : Progress) → EndIsValid code grants ending phase p → IsLawful p.world code
+ended_lawful : (code : CodeProgram) (grants : Grants) (ending : Ending) (phase : Phase) (p : Progress) →
+    EndIsValid code grants ending phase p → IsLawful p.world code
 ended_lawful code grants (Limit Cells) Start p v = v.lawful
 ended_lawful code grants (Limit Steps) Start p v = absurd v
 ended_lawful code grants (Limit Depth) Start p v = absurd v

@@ -16,7 +16,8 @@ use Rattle.ns_actions.specs.Sends.{Target, receiver_of, site_at, sent}
 use Rattle.ns_machine_sends.specs.Going.{HasRoomAbove, ControlGoesOn}
 
 -- A frame that was charged is within the limit, and few arguments stay few.
-pub room_above : (code : CodeProgram) (frames steps home : ℕ) (Few : Type 0) (old : Progress) (site : Site) (c : Control) → ControlSpends steps old c → LawfulControl code c
+pub room_above : (code : CodeProgram) (frames steps home : ℕ) (Few : Type 0) (old : Progress) (site : Site) (c : Control) →
+    ControlSpends steps old c → LawfulControl code c
     → GoesOnAt Few site home c → Few → old.world.depth ≡ frames → HasRoomAbove frames c
 room_above code frames steps home Few old site (Now after) spends lawful at few depth = tt
 room_above code frames steps home Few old site (Enter FromMethod activation locals p) spends lawful at few depth =
@@ -41,7 +42,8 @@ pub record SendsKnown : Type 0 where
       → GoesOnAt (length values ≤ 255) (site_at progress.world.cells place (receiver_of progress.world.cells activation target) sel) no_home
       (sent code activation target sel values place progress)
 
-pub send_goes : SendsKnown → (code : CodeProgram) (activation : Activation) (target : Target) (sel : Sel) (values : List Value) (place : Option SourcePlace) (frames : ℕ)
+pub send_goes : SendsKnown →
+    (code : CodeProgram) (activation : Activation) (target : Target) (sel : Sel) (values : List Value) (place : Option SourcePlace) (frames : ℕ)
     (progress : Progress) → LawfulRun code progress → FitsTarget progress.world.cells code activation target → FitsSelector progress.world.cells code sel values
     → length values ≤ 255 → progress.world.depth ≡ frames → ControlGoesOn code frames (sent code activation target sel values place progress)
 send_goes known code activation target sel values place frames progress lawful fits selector few depth =

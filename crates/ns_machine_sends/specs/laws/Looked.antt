@@ -27,13 +27,15 @@ looked core run = run ≡ record core.run { memo = run.memo }
 -- Where control has arrived it has led, and the lookups that are kept stay.
 pub comes_leads : (code : CodeProgram) (old new : Core) (at : Registers) (sent : Sent) (control : Control) (next : Next)
     → Arrives code old at sent.floor control new next → Leads code old at sent.floor control new next
-comes_leads code old new at sent control next is = record { state = is.state; stand = is.stand; memo = ap (λ r. r.memo) is.run; stays = is.stays }
+comes_leads code old new at sent control next is =
+    record { state = is.state; stand = is.stand; memo = ap (λ r. r.memo) is.run; stays = is.stays }
 
 -- What a lookup answered can go on where control can, and has led there.
 pub answer_goes : (code : CodeProgram) (core : Core) (at : Registers) (sent : Sent) (receiver : Value) (run : Run) (answer : Answered) (control : Control)
     → answered_at code (record core { run = run }) at sent receiver answer ≡ control → ControlGoesOn code (length core.stack.frames.items) control
     → ControlGoesOn code (length core.stack.frames.items) (answered_at code (record core { run = run }) at sent receiver answer)
-answer_goes code core at sent receiver run answer control e goes = subst (λ (c : Control). ControlGoesOn code (length core.stack.frames.items) c) (sym e) goes
+answer_goes code core at sent receiver run answer control e goes =
+    subst (λ (c : Control). ControlGoesOn code (length core.stack.frames.items) c) (sym e) goes
 
 pub answer_sends : (code : CodeProgram) (core new : Core) (at : Registers) (sent : Sent) (receiver : Value) (run : Run) (answer : Answered) (control : Control) (next : Next)
     → answered_at code (record core { run = run }) at sent receiver answer ≡ control → SameRest core.run.world run.world

@@ -80,14 +80,16 @@ reach_on code core at instr can on = by_frames core.stack.frames.items can.stand
         let reach = within.1 in
         omega (arith, count, enough, room, low, reach)
 
-pub laid_below : (code : CodeProgram) (core : Core) (at : Registers) (instr : Instr) (count : ℕ) → CanDo code core at instr → count ≤ takes instr
+pub laid_below : (code : CodeProgram) (core : Core) (at : Registers) (instr : Instr) (count : ℕ) → CanDo code core at instr →
+    count ≤ takes instr
     → IsLaid core.stack (with_top (at.top - count) at)
 laid_below code core at instr count can few =
     let some = some_operand code core at instr can in
     taken_laid core.stack at count can.stands.frames.laid (omega (arith, few, some))
 
 -- An instruction that takes its arguments off, and a receiver below them, leaves a caller to which an answer can come.
-pub left_behind : (code : CodeProgram) (core : Core) (at : Registers) (instr : Instr) (sent : Sent) → CanDo code core at instr → goes_on instr ≡ true → leaves instr ≡ 1
+pub left_behind : (code : CodeProgram) (core : Core) (at : Registers) (instr : Instr) (sent : Sent) → CanDo code core at instr →
+    goes_on instr ≡ true → leaves instr ≡ 1
     → sent.floor ≡ at.top - takes instr → sent.floor ≤ sent.first → sent.first ≤ sent.floor + 1 → sent.first ≤ at.top → IsLeft code core at sent
 left_behind code core at instr sent can on one floor low high order =
     let all = known code core at instr can in
@@ -115,7 +117,8 @@ left_behind code core at instr sent can on one floor low high order =
 -- ---- what they are
 
 -- the operands that were taken off are live, and so are those below
-pub live_apart : (code : CodeProgram) (core : Core) (at : Registers) (instr : Instr) (values : List Value) (under : List Stood) → CanDo code core at instr
+pub live_apart : (code : CodeProgram) (core : Core) (at : Registers) (instr : Instr) (values : List Value) (under : List Stood) →
+    CanDo code core at instr
     → stood core.stack at ≡ pushed_all values under
     → All (IsLiveValue core.run.world.world.cells code) values × All (IsLiveValue core.run.world.world.cells code) (operands_in under)
 live_apart code core at instr values under can is =
@@ -128,7 +131,8 @@ live_apart code core at instr values under can is =
     by_stood (Runs frame locals stack ∷ s) finds = all_apart (IsLiveValue core.run.world.world.cells code) values stack finds.live
 
 -- as many are left as there were, less those
-pub left_many : (code : CodeProgram) (core : Core) (at : Registers) (instr : Instr) (values : List Value) (under : List Stood) → CanDo code core at instr
+pub left_many : (code : CodeProgram) (core : Core) (at : Registers) (instr : Instr) (values : List Value) (under : List Stood) →
+    CanDo code core at instr
     → stood core.stack at ≡ pushed_all values under → takes instr ≤ length values + length (operands_in under)
 left_many code core at instr values under can is =
     by_stood under (subst (λ (s : List Stood). Finds code core.places instr s (progress_in core)) is can.finds)
@@ -143,7 +147,9 @@ left_many code core at instr values under can is =
         omega (arith, enough, sum, size)
 
 -- the receiver that was pushed is live
-pub top_live : (code : CodeProgram) (core : Core) (at : Registers) (instr : Instr) (values : List Value) (receiver : Value) (under : List Stood) → CanDo code core at instr
+pub top_live :
+    (code : CodeProgram) (core : Core) (at : Registers) (instr : Instr) (values : List Value) (receiver : Value) (under : List Stood) →
+    CanDo code core at instr
     → stood core.stack at ≡ pushed_all values (pushed receiver under) → IsLiveValue core.run.world.world.cells code receiver
 top_live code core at instr values receiver under can is =
     by_stood under (subst (λ (s : List Stood). Finds code core.places instr s (progress_in core)) is can.finds)

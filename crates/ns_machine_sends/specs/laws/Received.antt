@@ -120,7 +120,8 @@ send_operands code core at sel argc can = record {
     by_stood (Loops frame ∷ s) finds = absurd finds
     by_stood (Runs frame locals stack ∷ s) finds = finds.asks
 
-pub inner_operands : (code : CodeProgram) (core : Core) (at : Registers) (sel : Sel) (argc : ℕ) → CanDo code core at (instr.SendInner sel argc)
+pub inner_operands : (code : CodeProgram) (core : Core) (at : Registers) (sel : Sel) (argc : ℕ) →
+    CanDo code core at (instr.SendInner sel argc)
     → SendsOperands code core at sel argc (argc + 1)
 inner_operands code core at sel argc can = record {
   instr = instr.SendInner sel argc;
@@ -160,7 +161,8 @@ sent_by code old instr place sel values receiver kind (Runs frame locals stack �
     record { activation = activation_shown old.places frame.activation; is = does frame locals stack s }
 
 -- each kind of instruction is
-send_is : ((missing : State) → ComeOffAgain missing) → (code : CodeProgram) (old : Core) (at : Registers) (sel : Sel) (argc : ℕ) (place : Option SourcePlace)
+send_is : ((missing : State) → ComeOffAgain missing) →
+    (code : CodeProgram) (old : Core) (at : Registers) (sel : Sel) (argc : ℕ) (place : Option SourcePlace)
     (receiver : Value) (kind : Sending) → length (topmost old at argc) ≡ argc
     → DoesSend code old (send_instr kind sel argc) place sel (topmost old at argc) receiver kind
 send_is taken code old at sel argc place receiver Plain many frame locals stack others =

@@ -79,7 +79,8 @@ module _ (code : CodeProgram) (core : Core) (at : Registers) (sel : Sel) (argc :
 
 -- ---- the instructions
 
-pub private_operands : (code : CodeProgram) (core : Core) (at : Registers) (level : ℕ) (sel : Sel) (argc : ℕ) → CanDo code core at (instr.SendPrivate level sel argc)
+pub private_operands : (code : CodeProgram) (core : Core) (at : Registers) (level : ℕ) (sel : Sel) (argc : ℕ) →
+    CanDo code core at (instr.SendPrivate level sel argc)
     → SendsOperands code core at sel argc argc
 private_operands code core at level sel argc can = record {
   instr = instr.SendPrivate level sel argc;
@@ -96,13 +97,15 @@ private_operands code core at level sel argc can = record {
     by_stood (Runs frame locals stack ∷ s) finds = finds.asks.0
 
 -- the code that runs fits, wherever it was sent
-pub here_fits : (code : CodeProgram) (core : Core) (at : Registers) (instr : Instr) (running : RunningFrame) (here : RunningCode) → CanDo code core at instr
+pub here_fits : (code : CodeProgram) (core : Core) (at : Registers) (instr : Instr) (running : RunningFrame) (here : RunningCode) →
+    CanDo code core at instr
     → core.stack.frames.items ≡ Running running ∷ below core.stack.frames.items → here ≡ running_of running.activation
     → FitsActivation core.run.world.world.cells code (code_of here)
 here_fits code core at instr running here can top e =
     subst (λ (r : RunningCode). FitsActivation core.run.world.world.cells code (code_of r)) (sym e) (fits_anywhere code core at instr running can top)
 
-pub here_lawful : (code : CodeProgram) (core : Core) (at : Registers) (instr : Instr) → CanDo code core at instr → IsLawful core.run.world.world code
+pub here_lawful : (code : CodeProgram) (core : Core) (at : Registers) (instr : Instr) → CanDo code core at instr →
+    IsLawful core.run.world.world code
 here_lawful code core at instr can = (known code core at instr can).lawful
 
 pub level_there : (code : CodeProgram) (core : Core) (at : Registers) (level : ℕ) (sel : Sel) (argc : ℕ) (running : RunningFrame) (here : RunningCode)
@@ -112,7 +115,8 @@ level_there code core at level sel argc running here can top e =
     subst (λ (r : RunningCode). IsSome (declaration_at code r.body level)) (sym e) (finds_in code core at (instr.SendPrivate level sel argc) running can top).asks.1.1
 
 -- What such a send leads to is what the instruction does, whatever the frame.
-abbrev pub DoesOwn : CodeProgram → Core → Registers → Instr → Option SourcePlace → Sel → List Value → Target → RunningCode → RunningFrame → Type 0
+abbrev pub DoesOwn : CodeProgram → Core → Registers → Instr → Option SourcePlace → Sel → List Value → Target → RunningCode → RunningFrame →
+    Type 0
 DoesOwn code old at instr place sel values target here running =
     (locals stack : List Value) (others : List Stood)
     → arrived code (phase_shown old.phase) (sent code (code_of here) target sel values place (progress_in old))
@@ -147,7 +151,8 @@ own_does code old new at instr sel argc place class target here running next can
         ≡ done code old.places (phase_shown old.phase) instr (slice_get old.places place) (pushed_all (topmost old at argc) (Runs f locals stack ∷ s)) (progress_in old))
         (sym same) (does locals stack s)
 
-pub private_does : ((missing : State) → ComeOffAgain missing) → (code : CodeProgram) (old new : Core) (at : Registers) (level : ℕ) (sel : Sel) (argc place : ℕ) (class : ClassName)
+pub private_does : ((missing : State) → ComeOffAgain missing) →
+    (code : CodeProgram) (old new : Core) (at : Registers) (level : ℕ) (sel : Sel) (argc place : ℕ) (class : ClassName)
     (here : RunningCode) (running : RunningFrame) (next : Next) → CanDo code old at (instr.SendPrivate level sel argc)
     → old.stack.frames.items ≡ Running running ∷ below old.stack.frames.items → here ≡ running_of running.activation
     → Sends code old at (at.top - argc) (sent_at code old at (own_sent at argc place class sel) (code_of here) (ToPrivate level)) new next

@@ -33,7 +33,8 @@ use Rattle.ns_machine_sends.specs.Sending.{CanSend, looked_up, sent_at, Sends}
 use Rattle.ns_machine_sends.specs.laws.Goes.{SendsKnown, send_goes}
 
 -- the site of a send is the one that its receiver gives
-pub site_is : (code : CodeProgram) (core : Core) (at : Registers) (sent : Sent) (receiver : Value) → sent.site.class ≡ class_name_of core.run.world.world.cells receiver
+pub site_is : (code : CodeProgram) (core : Core) (at : Registers) (sent : Sent) (receiver : Value) →
+    sent.site.class ≡ class_name_of core.run.world.world.cells receiver
     → site_at core.run.world.world.cells (site_shown core.places sent.site).place receiver sent.site.sel ≡ site_shown core.places sent.site
 site_is code core at sent receiver named =
     ap (λ (c : ClassName). let site : Site = record { place = (site_shown core.places sent.site).place; class = c; sel = sent.site.sel } in site) (sym named)
@@ -46,7 +47,8 @@ StepAndAnswer =
     (answered code activation target sel values (site_at progress.world.cells place (receiver_of progress.world.cells activation target) sel))
 
 -- a send is its step, and what its lookup answers then
-pub sent_stepped : StepAndAnswer → (code : CodeProgram) (core : Core) (at : Registers) (sent : Sent) (receiver : Value) (activation : Activation) (target : Target)
+pub sent_stepped : StepAndAnswer →
+    (code : CodeProgram) (core : Core) (at : Registers) (sent : Sent) (receiver : Value) (activation : Activation) (target : Target)
     (world : WorldView) → stepped core.run.world.world ≡ Some world.world → receiver_of core.run.world.world.cells activation target ≡ receiver
     → sent.site.class ≡ class_name_of core.run.world.world.cells receiver
     → sent_at code core at sent activation target ≡ looked_up code (in_other core world) at sent activation target
@@ -61,7 +63,8 @@ sent_stepped steps code core at sent receiver activation target world e to named
     (answered code activation target sent.site.sel (arguments_in core at sent) (site_shown core.places sent.site))) e))
 
 -- what its lookup answers can go on
-pub step_goes : SendsKnown → StepAndAnswer → (code : CodeProgram) (core : Core) (at : Registers) (sent : Sent) (receiver : Value) (activation : Activation) (target : Target)
+pub step_goes : SendsKnown → StepAndAnswer →
+    (code : CodeProgram) (core : Core) (at : Registers) (sent : Sent) (receiver : Value) (activation : Activation) (target : Target)
     (world : WorldView) → stepped core.run.world.world ≡ Some world.world → receiver_of core.run.world.world.cells activation target ≡ receiver
     → FitsTarget core.run.world.world.cells code activation target → CanSend code core at sent receiver
     → ControlGoesOn code (length core.stack.frames.items) (looked_up code (in_other core world) at sent activation target)
@@ -91,7 +94,8 @@ step_kept code core new world e kept =
     subst (λ (h : Heap). All (PlaceIsRight h code) new.run.memo) (ap (λ (w : World). w.cells) (step_is core.run.world.world world.world e)) kept
 
 -- with the step it is the send
-pub step_sends : StepAndAnswer → (code : CodeProgram) (core new : Core) (at : Registers) (sent : Sent) (receiver : Value) (activation : Activation) (target : Target)
+pub step_sends : StepAndAnswer →
+    (code : CodeProgram) (core new : Core) (at : Registers) (sent : Sent) (receiver : Value) (activation : Activation) (target : Target)
     (world : WorldView) (next : Next) → stepped core.run.world.world ≡ Some world.world → SameRoom core.run.world world
     → receiver_of core.run.world.world.cells activation target ≡ receiver → CanSend code core at sent receiver
     → Sends code (in_other core world) at sent.floor (looked_up code (in_other core world) at sent activation target) new next

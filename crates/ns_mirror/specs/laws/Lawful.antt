@@ -32,15 +32,18 @@ reflected_lawful : (code : CodeProgram) (outcome : RowOutcome) → LeavesLawful 
 reflected_lawful code (Answers value world) lawful = lawful
 reflected_lawful code (Fails fault) lawful = tt
 
-performed_lawful : (world : World) (code : CodeProgram) (receiver : Value) (sel : Sel) (args : Value) → IsLawful world code → ReflectsLawful code (performed_with world code receiver sel args)
-performed_lawful world code receiver sel args lawful = tested (is_array world.cells args) (eqb (length (items_of world.cells args)) (selector_arity code sel.0))
+performed_lawful : (world : World) (code : CodeProgram) (receiver : Value) (sel : Sel) (args : Value) → IsLawful world code →
+    ReflectsLawful code (performed_with world code receiver sel args)
+performed_lawful world code receiver sel args lawful =
+    tested (is_array world.cells args) (eqb (length (items_of world.cells args)) (selector_arity code sel.0))
   where
     tested : (b c : Bool) → ReflectsLawful code (cond b (cond c (Reflects (Perform receiver sel (cell_number args)) world) (Refuses (Kind kind.WrongArity))) (Refuses wrong_kind))
     tested true true = lawful
     tested true false = tt
     tested false c = tt
 
-perform_lawful : (world : World) (code : CodeProgram) (receiver name args : Value) → IsLawful world code → ReflectsLawful code (perform world code receiver name args)
+perform_lawful : (world : World) (code : CodeProgram) (receiver name args : Value) → IsLawful world code →
+    ReflectsLawful code (perform world code receiver name args)
 perform_lawful world code receiver (Sym sel) args lawful = performed_lawful world code receiver sel args lawful
 perform_lawful world code receiver Nil args lawful = tt
 perform_lawful world code receiver True args lawful = tt
@@ -50,16 +53,21 @@ perform_lawful world code receiver (Kernel class) args lawful = tt
 perform_lawful world code receiver (Ref at) args lawful = tt
 
 -- each row leaves a lawful world, where the value that may be mirrored and the one that may be stored are live
-pub rows_lawful : (world : World) (code : CodeProgram) (row : MirrorRow) (value first second : Value) → IsLawful world code → IsLiveValue world.cells code first → IsLiveValue world.cells code second → ReflectsLawful code (row_outcome world code row value first second)
-rows_lawful world code row.On value first second lawful one two = reflected_lawful code (making world (MirrorCell first)) (making_lawful world code (MirrorCell first) lawful refl one tt)
+pub rows_lawful : (world : World) (code : CodeProgram) (row : MirrorRow) (value first second : Value) → IsLawful world code →
+    IsLiveValue world.cells code first → IsLiveValue world.cells code second →
+    ReflectsLawful code (row_outcome world code row value first second)
+rows_lawful world code row.On value first second lawful one two =
+    reflected_lawful code (making world (MirrorCell first)) (making_lawful world code (MirrorCell first) lawful refl one tt)
 rows_lawful world code row.ClassName value first second lawful one two =
     let text = class_text code (class_name_of world.cells value) in reflected_lawful code (making world (TextCell text)) (text_lawful world code text lawful)
 rows_lawful world code row.SlotNames value first second lawful one two =
     let chain = chain_of world.cells (object_class world.cells value) in
     let names = slot_names_along world.cells code chain in
     reflected_lawful code (making world (ArrayCell names)) (items_lawful world code names lawful (slot_names_live world.cells code chain lawful.classes))
-rows_lawful world code row.Slot value first second lawful one two = reflected_lawful code (unchanged world (slot world.cells code value first)) (unchanged_lawful world code (slot world.cells code value first) lawful)
-rows_lawful world code row.SlotPut value first second lawful one two = reflected_lawful code (slot_put world code value first second) (slot_put_lawful world code value first second lawful two)
+rows_lawful world code row.Slot value first second lawful one two =
+    reflected_lawful code (unchanged world (slot world.cells code value first)) (unchanged_lawful world code (slot world.cells code value first) lawful)
+rows_lawful world code row.SlotPut value first second lawful one two =
+    reflected_lawful code (slot_put world code value first second) (slot_put_lawful world code value first second lawful two)
 rows_lawful world code row.Selectors value first second lawful one two =
     let shape = shape_of_value world.cells value in
     let shown = public_selectors (methods_of_shape world.cells code shape) in

@@ -19,7 +19,8 @@ use Rattle.ns_mirror.specs.declared.slots.SlotPlace.{SlotPlace}
 use Rattle.ns_mirror.specs.Looking.{object_class_in}
 use Rattle.ns_mirror.specs.Slots.{entry_of, slot_along}
 
-pub entry_inside : (slots : List SlotCode) (sel : Sel) (first : ℕ) (entry : Entry) → entry_of slots sel first ≡ Some entry → entry.number < first + length slots
+pub entry_inside : (slots : List SlotCode) (sel : Sel) (first : ℕ) (entry : Entry) → entry_of slots sel first ≡ Some entry →
+    entry.number < first + length slots
 entry_inside [] sel first entry e = absurd (cc)
 entry_inside (slot ∷ slots) sel first entry e = tested (eqb slot.name.0 sel.0) e (entry_inside slots sel (first + 1) entry)
   where
@@ -37,7 +38,8 @@ no_chain world code lawful = chain_none world.cells no_class (lawful_small world
 abbrev pub class_of : Option Cell → ℕ
 class_of o = object_class_in (option_map_or shape_of o (new.Mirror Nil))
 
-pub no_slot : (world : World) (code : CodeProgram) (sel : Sel) (place : SlotPlace) → IsLawful world code → slot_along world.cells code (chain_of world.cells no_class) sel ≡ Some place → ⊥
+pub no_slot : (world : World) (code : CodeProgram) (sel : Sel) (place : SlotPlace) → IsLawful world code →
+    slot_along world.cells code (chain_of world.cells no_class) sel ≡ Some place → ⊥
 no_slot world code sel place lawful f =
     let none : None ≡ Some place = ap (λ chain. slot_along world.cells code chain sel) (sym (no_chain world code lawful)) ∙ f in
     let e : true ≡ false = ap is_none none in

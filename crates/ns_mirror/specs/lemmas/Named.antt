@@ -50,7 +50,8 @@ good_names code class e =
     let l = last_three (not (is_identifier_name code class.name)) (not (is_name code class.factory)) (not (is_name code class.super_sel)) (has_bad_slot code class.slots) (has_bad_method code class.methods) (has_bad_method code class.side_methods) e in
     record { slots = l.0; methods = l.1; side_methods = l.2 }
 
-good_literals : (code : CodeProgram) (number : ℕ) (classes : List ClassCode) (decl : ℕ) (class : ClassCode) → are_classes_sound code number classes ≡ true → slice_get classes decl ≡ Some class → has_bad_literal code class ≡ false
+good_literals : (code : CodeProgram) (number : ℕ) (classes : List ClassCode) (decl : ℕ) (class : ClassCode) →
+    are_classes_sound code number classes ≡ true → slice_get classes decl ≡ Some class → has_bad_literal code class ≡ false
 good_literals code number [] decl class s e = absurd (cc)
 good_literals code number (first ∷ classes) zero class s e =
     let is : first ≡ class = cc in
@@ -61,7 +62,8 @@ good_literals code number (first ∷ classes) (suc decl) class s e =
     let here = and_parts (not (has_bad_scope code number first) && not (has_bad_literal code first)) (are_classes_sound code (number + 1) classes) s in
     good_literals code (number + 1) classes decl class here.1 e
 
-sound_names : (code : CodeProgram) (decl : ℕ) (class : ClassCode) → has_sound_classes code ≡ true → slice_get code.classes decl ≡ Some class → HasNames code class
+sound_names : (code : CodeProgram) (decl : ℕ) (class : ClassCode) → has_sound_classes code ≡ true →
+    slice_get code.classes decl ≡ Some class → HasNames code class
 sound_names code decl class sound e =
     let sounds = and_parts (nat_lt 0 (length code.classes)) (are_classes_sound code 0 code.classes) sound in
     good_names code class (good_literals code 0 code.classes decl class sounds.1 e)
@@ -79,13 +81,15 @@ identifier_named code sel e = found (slice_get code.names sel.0) refl e
     found None f e = absurd (cc)
     found (Some name) f e = lt-ltb sel.0 (length code.names) (slice_get_within code.names sel.0 name f)
 
-symbols_live : (heap : Heap) (code : CodeProgram) (slots : List SlotCode) → has_bad_slot code slots ≡ false → All (IsLiveValue heap code) (slot_symbols slots)
+symbols_live : (heap : Heap) (code : CodeProgram) (slots : List SlotCode) → has_bad_slot code slots ≡ false →
+    All (IsLiveValue heap code) (slot_symbols slots)
 symbols_live heap code [] e = All-nil (IsLiveValue heap code)
 symbols_live heap code (slot ∷ slots) e =
     let both = or_parts (not (is_identifier_name code slot.name)) (has_bad_slot code slots) e in
     All-cons (IsLiveValue heap code) (Sym slot.name) (slot_symbols slots) (name_live heap code slot.name (identifier_named code slot.name (not-false (is_identifier_name code slot.name) both.0))) (symbols_live heap code slots both.1)
 
-selectors_live : (heap : Heap) (code : CodeProgram) (methods : List MethodCode) → has_bad_method code methods ≡ false → All (IsLiveValue heap code) (public_selectors methods)
+selectors_live : (heap : Heap) (code : CodeProgram) (methods : List MethodCode) → has_bad_method code methods ≡ false →
+    All (IsLiveValue heap code) (public_selectors methods)
 selectors_live heap code [] e = All-nil (IsLiveValue heap code)
 selectors_live heap code (method ∷ methods) e =
     let both = or_parts (not (is_name code method.sel)) (has_bad_method code methods) e in
@@ -95,7 +99,8 @@ selectors_live heap code (method ∷ methods) e =
     tested true named rest = All-cons (IsLiveValue heap code) (Sym method.sel) (public_selectors methods) (name_live heap code method.sel named) rest
     tested false named rest = rest
 
-slots_of_live : (heap : Heap) (code : CodeProgram) (decl : ℕ) → has_sound_classes code ≡ true → All (IsLiveValue heap code) (slot_symbols (declared_slots code decl))
+slots_of_live : (heap : Heap) (code : CodeProgram) (decl : ℕ) → has_sound_classes code ≡ true →
+    All (IsLiveValue heap code) (slot_symbols (declared_slots code decl))
 slots_of_live heap code decl sound = found (slice_get code.classes decl) refl
   where
     found : (o : Option ClassCode) → slice_get code.classes decl ≡ o → All (IsLiveValue heap code) (slot_symbols (option_map_or (λ (class : ClassCode). class.slots) o []))
@@ -103,26 +108,30 @@ slots_of_live heap code decl sound = found (slice_get code.classes decl) refl
     found (Some class) e = symbols_live heap code class.slots (sound_names code decl class sound e).slots
 
 -- the names of the slots along a chain
-pub slot_names_live : (heap : Heap) (code : CodeProgram) (chain : List ℕ) → has_sound_classes code ≡ true → All (IsLiveValue heap code) (slot_names_along heap code chain)
+pub slot_names_live : (heap : Heap) (code : CodeProgram) (chain : List ℕ) → has_sound_classes code ≡ true →
+    All (IsLiveValue heap code) (slot_names_along heap code chain)
 slot_names_live heap code [] sound = All-nil (IsLiveValue heap code)
 slot_names_live heap code (class ∷ classes) sound =
     All-append (IsLiveValue heap code) (slot_names_along heap code classes) (slot_symbols (declared_slots code (declaration_of heap class))) (slot_names_live heap code classes sound) (slots_of_live heap code (declaration_of heap class) sound)
 
-methods_live : (heap : Heap) (code : CodeProgram) (decl : ℕ) → has_sound_classes code ≡ true → All (IsLiveValue heap code) (public_selectors (declared_methods code decl))
+methods_live : (heap : Heap) (code : CodeProgram) (decl : ℕ) → has_sound_classes code ≡ true →
+    All (IsLiveValue heap code) (public_selectors (declared_methods code decl))
 methods_live heap code decl sound = found (slice_get code.classes decl) refl
   where
     found : (o : Option ClassCode) → slice_get code.classes decl ≡ o → All (IsLiveValue heap code) (public_selectors (option_map_or (λ (class : ClassCode). class.methods) o []))
     found None e = All-nil (IsLiveValue heap code)
     found (Some class) e = selectors_live heap code class.methods (sound_names code decl class sound e).methods
 
-side_methods_live : (heap : Heap) (code : CodeProgram) (decl : ℕ) → has_sound_classes code ≡ true → All (IsLiveValue heap code) (public_selectors (declared_side_methods code decl))
+side_methods_live : (heap : Heap) (code : CodeProgram) (decl : ℕ) → has_sound_classes code ≡ true →
+    All (IsLiveValue heap code) (public_selectors (declared_side_methods code decl))
 side_methods_live heap code decl sound = found (slice_get code.classes decl) refl
   where
     found : (o : Option ClassCode) → slice_get code.classes decl ≡ o → All (IsLiveValue heap code) (public_selectors (option_map_or (λ (class : ClassCode). class.side_methods) o []))
     found None e = All-nil (IsLiveValue heap code)
     found (Some class) e = selectors_live heap code class.side_methods (sound_names code decl class sound e).side_methods
 
-of_class_live : (heap : Heap) (code : CodeProgram) (class : ℕ) → has_sound_classes code ≡ true → All (IsLiveValue heap code) (public_selectors (methods_of_class heap code class))
+of_class_live : (heap : Heap) (code : CodeProgram) (class : ℕ) → has_sound_classes code ≡ true →
+    All (IsLiveValue heap code) (public_selectors (methods_of_class heap code class))
 of_class_live heap code class sound = tested (eqb class no_class)
   where
     tested : (b : Bool) → All (IsLiveValue heap code) (public_selectors (cond b [] (declared_methods code (declaration_of heap class))))
@@ -130,7 +139,8 @@ of_class_live heap code class sound = tested (eqb class no_class)
     tested false = methods_live heap code (declaration_of heap class) sound
 
 -- the selectors that a mirror shows
-pub shown_selectors_live : (heap : Heap) (code : CodeProgram) (shape : NewCell) → has_sound_classes code ≡ true → All (IsLiveValue heap code) (public_selectors (methods_of_shape heap code shape))
+pub shown_selectors_live : (heap : Heap) (code : CodeProgram) (shape : NewCell) → has_sound_classes code ≡ true →
+    All (IsLiveValue heap code) (public_selectors (methods_of_shape heap code shape))
 shown_selectors_live heap code (new.Object class words) sound = of_class_live heap code class sound
 shown_selectors_live heap code (new.Class decl base encl holder over) sound = side_methods_live heap code decl sound
 shown_selectors_live heap code (new.Block body env home receiver holder) sound = All-nil (IsLiveValue heap code)

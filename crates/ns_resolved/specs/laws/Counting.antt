@@ -57,7 +57,8 @@ class_side_counted p.no_class_side around class next = refl
 class_side_counted (p.class_side_with others) around class next = side_counted others around side.Class class next
 
 -- A class has as many bodies of its own as are counted.
-pub own_counted : (class : p.Class) (around : Around) (number next : ℕ) → length (own_bodies around number next class) ≡ length (b.own_bodies around.classes class)
+pub own_counted : (class : p.Class) (around : Around) (number next : ℕ) →
+    length (own_bodies around number next class) ≡ length (b.own_bodies around.classes class)
 own_counted (p.class_with name factory clause bars body members others) around number next =
     let class = p.class_with name factory clause bars body members others in
     let here = standing around (initialiser_scope around.classes factory) number next in

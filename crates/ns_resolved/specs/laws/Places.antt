@@ -46,7 +46,8 @@ put_cases : (b : Bool) (table : List (List ℕ)) (name : List ℕ) (P : List (Li
 put_cases true table name P here behind = here
 put_cases false table name P here behind = behind
 
-place_stands : (table : List (List ℕ)) (other name : List ℕ) → has table name ≡ true → place_of (put_in table other) name ≡ place_of table name
+place_stands : (table : List (List ℕ)) (other name : List ℕ) → has table name ≡ true →
+    place_of (put_in table other) name ≡ place_of table name
 place_stands table other name h =
     put_cases (has table other) table other (λ t. place_of t name ≡ place_of table name) refl (place_in_front table (other ∷ []) name h)
 
@@ -56,7 +57,8 @@ has_more table more name h = list_any-append (bytes_eq name) table more ∙ ap (
 has_stands : (table : List (List ℕ)) (other name : List ℕ) → has table name ≡ true → has (put_in table other) name ≡ true
 has_stands table other name h = put_cases (has table other) table other (λ t. has t name ≡ true) h (has_more table (other ∷ []) name h)
 
-new_step : (b : Bool) (table : List (List ℕ)) (name : List ℕ) → has table name ≡ b → has (if b then table else table ++ name ∷ []) name ≡ true
+new_step : (b : Bool) (table : List (List ℕ)) (name : List ℕ) → has table name ≡ b →
+    has (if b then table else table ++ name ∷ []) name ≡ true
 new_step true table name e = e
 new_step false table name e =
     list_any-append (bytes_eq name) table (name ∷ []) ∙ ap (λ b. b || (bytes_eq name name || false)) e
@@ -74,7 +76,8 @@ has_stands_all [] table name h = h
 has_stands_all (other ∷ names) table name h = has_stands_all names (put_in table other) name (has_stands table other name h)
 
 -- A name keeps its place while names are put in the table.
-pub place_stands_all : (names table : List (List ℕ)) (name : List ℕ) → has table name ≡ true → place_of (put_all table names) name ≡ place_of table name
+pub place_stands_all : (names table : List (List ℕ)) (name : List ℕ) → has table name ≡ true →
+    place_of (put_all table names) name ≡ place_of table name
 place_stands_all [] table name h = refl
 place_stands_all (other ∷ names) table name h =
     place_stands_all names (put_in table other) name (has_stands table other name h) ∙ place_stands table other name h

@@ -22,7 +22,8 @@ pub sits_left : {A : Type 0} → (all : List A) (n : ℕ) (a b : List A) → Sit
 sits_left all n a b s k item e = s k item (get_left a b k item e)
 
 -- The second part sits behind the first.
-pub sits_right : {A : Type 0} → (all : List A) (n count : ℕ) (a b : List A) → length a ≡ count → Sits all n (a ++ b) → Sits all (n + count) b
+pub sits_right : {A : Type 0} → (all : List A) (n count : ℕ) (a b : List A) → length a ≡ count → Sits all n (a ++ b) →
+    Sits all (n + count) b
 sits_right all n count a b h s k item e =
     let z : length a + k + n ≡ k + (n + count) = omega (h, arith) in
     subst (λ j. slice_get all j ≡ Some item) z (s (length a + k) item (get_right a b k item e))

@@ -4,7 +4,8 @@ use Rattle.ns_base.specs.Files.{AllStand, Files}
 use Rattle.ns_run_outcome.specs.Outcome.{OfFiles}
 
 -- What holds of the files, holds of them otherwise.
-pub of_files_so : (P Q : Files → Files → Type 0) → ((old new : Files) → P old new → Q old new) → (a b : Option Files) → OfFiles P a b → OfFiles Q a b
+pub of_files_so : (P Q : Files → Files → Type 0) → ((old new : Files) → P old new → Q old new) → (a b : Option Files) → OfFiles P a b →
+    OfFiles Q a b
 of_files_so P Q f None b h = h
 of_files_so P Q f (Some old) None h = absurd h
 of_files_so P Q f (Some old) (Some new) h = f old new h

@@ -24,7 +24,8 @@ pub record ChainGoesOn (heap : Heap) (class : ℕ) : Type 0 where
   pub start : is_chain_start heap (superclass_of heap class) ≡ true
 
 -- the chain above a class is that of the number of its superclass
-pub above : (heap : Heap) (over : Value) → heap_size heap ≤ no_class → is_superclass heap over ≡ true → chain_above over (chain_of heap) ≡ chain_of heap (declared_class over)
+pub above : (heap : Heap) (over : Value) → heap_size heap ≤ no_class → is_superclass heap over ≡ true →
+    chain_above over (chain_of heap) ≡ chain_of heap (declared_class over)
 above heap (Ref class) small e = refl
 above heap Nil small e = absurd (cc)
 above heap True small e = absurd (cc)
@@ -47,7 +48,8 @@ starts heap (Kernel class) e = no_start (is_class (find_cell heap no_class))
     no_start true = refl
     no_start false = refl
 
-class_goes_on : (heap : Heap) (class decl base : ℕ) (encl holder over : Value) → is_ordered heap ≡ true → heap_size heap ≤ no_class → find_cell heap class ≡ Some (ClassCell decl base encl holder over) → ChainGoesOn heap class
+class_goes_on : (heap : Heap) (class decl base : ℕ) (encl holder over : Value) → is_ordered heap ≡ true → heap_size heap ≤ no_class →
+    find_cell heap class ≡ Some (ClassCell decl base encl holder over) → ChainGoesOn heap class
 class_goes_on heap class decl base encl holder over ordered small e =
     let l = linked heap class decl base encl holder over ordered e in
     let is : superclass_in (find_cell heap class) ≡ over = rw e refl in
@@ -59,7 +61,8 @@ class_goes_on heap class decl base encl holder over ordered small e =
     }
 
 -- In an ordered heap a class's chain goes on with its superclass's.
-pub goes_on : (heap : Heap) (class : ℕ) → is_ordered heap ≡ true → heap_size heap ≤ no_class → is_class (find_cell heap class) ≡ true → ChainGoesOn heap class
+pub goes_on : (heap : Heap) (class : ℕ) → is_ordered heap ≡ true → heap_size heap ≤ no_class → is_class (find_cell heap class) ≡ true →
+    ChainGoesOn heap class
 goes_on heap class ordered small h = found (find_cell heap class) refl h
   where
     found : (o : Option Cell) → find_cell heap class ≡ o → is_class o ≡ true → ChainGoesOn heap class
@@ -75,7 +78,8 @@ goes_on heap class ordered small h = found (find_cell heap class) refl h
     found (Some (MessageCell sel args)) e h = absurd (cc)
 
 -- a chain starts at a class where it isn't the number of none
-pub class_of_start : (heap : Heap) (class : ℕ) → is_chain_start heap class ≡ true → (eqb class no_class ≡ true → ⊥) → is_class (find_cell heap class) ≡ true
+pub class_of_start : (heap : Heap) (class : ℕ) → is_chain_start heap class ≡ true → (eqb class no_class ≡ true → ⊥) →
+    is_class (find_cell heap class) ≡ true
 class_of_start heap class s n = tested (is_class (find_cell heap class)) refl s
   where
     tested : (b : Bool) → is_class (find_cell heap class) ≡ b → (b || eqb class no_class) ≡ true → is_class (find_cell heap class) ≡ true
@@ -83,7 +87,8 @@ class_of_start heap class s n = tested (is_class (find_cell heap class)) refl s
     tested false t s = absurd (n s)
 
 -- a chain begins with its class
-pub chain_first : (heap : Heap) (class : ℕ) → is_ordered heap ≡ true → heap_size heap ≤ no_class → is_chain_start heap class ≡ true → eqb class no_class ≡ false → slice_get (chain_of heap class) 0 ≡ Some class
+pub chain_first : (heap : Heap) (class : ℕ) → is_ordered heap ≡ true → heap_size heap ≤ no_class → is_chain_start heap class ≡ true →
+    eqb class no_class ≡ false → slice_get (chain_of heap class) 0 ≡ Some class
 chain_first heap class ordered small s e =
     let g = goes_on heap class ordered small (class_of_start heap class s (λ t. cc)) in
     ap (λ ms. slice_get ms 0) g.chain

@@ -53,7 +53,8 @@ found_in_more cell earlier n h = rw (not_next earlier n h) refl
 pub chain_in_more : (cell : Cell) (earlier : Heap) (n : ℕ) → n < heap_size earlier → chain_of (cell ∷ earlier) n ≡ chain_of earlier n
 chain_in_more cell earlier n h = rw (not_next earlier n h) refl
 
-above_in_more : (cell : Cell) (earlier : Heap) (over : Value) → is_superclass earlier over ≡ true → chain_above over (chain_of (cell ∷ earlier)) ≡ chain_above over (chain_of earlier)
+above_in_more : (cell : Cell) (earlier : Heap) (over : Value) → is_superclass earlier over ≡ true →
+    chain_above over (chain_of (cell ∷ earlier)) ≡ chain_above over (chain_of earlier)
 above_in_more cell earlier (Ref class) e = chain_in_more cell earlier class (class_below earlier class e)
 above_in_more cell earlier Nil e = refl
 above_in_more cell earlier True e = refl
@@ -63,7 +64,8 @@ above_in_more cell earlier (Sym sel) e = refl
 above_in_more cell earlier (Kernel class) e = refl
 
 -- a superclass stays one among more cells
-superclass_in_more : (cell : Cell) (earlier : Heap) (over : Value) → is_superclass earlier over ≡ true → is_superclass (cell ∷ earlier) over ≡ true
+superclass_in_more : (cell : Cell) (earlier : Heap) (over : Value) → is_superclass earlier over ≡ true →
+    is_superclass (cell ∷ earlier) over ≡ true
 superclass_in_more cell earlier (Ref class) e = ap is_class (found_in_more cell earlier class (class_below earlier class e)) ∙ e
 superclass_in_more cell earlier Nil e = absurd (cc)
 superclass_in_more cell earlier True e = absurd (cc)
@@ -79,7 +81,8 @@ pub record Linked (heap : Heap) (n : ℕ) (over : Value) : Type 0 where
   pub chain : chain_of heap n ≡ n ∷ chain_above over (chain_of heap)
 
 -- The superclass of a class is one, and the class's chain is the class and then its superclass's.
-pub linked : (heap : Heap) (n decl base : ℕ) (encl holder over : Value) → is_ordered heap ≡ true → find_cell heap n ≡ Some (ClassCell decl base encl holder over) → Linked heap n over
+pub linked : (heap : Heap) (n decl base : ℕ) (encl holder over : Value) → is_ordered heap ≡ true →
+    find_cell heap n ≡ Some (ClassCell decl base encl holder over) → Linked heap n over
 linked [] n decl base encl holder over o e = absurd (cc)
 linked (first ∷ earlier) n decl base encl holder over o e =
     let parts = both_of (has_superclass earlier first) (is_ordered earlier) o in

@@ -36,7 +36,8 @@ above_short (Int number) chain most h = omega arith
 above_short (Sym sel) chain most h = omega arith
 above_short (Kernel class) chain most h = omega arith
 
-chain_at_short : (cell : Cell) (class : ℕ) (chain : ℕ → List ℕ) (most : ℕ) → ((n : ℕ) → length (chain n) ≤ most) → length (chain_at cell class chain) ≤ most + cell_size cell
+chain_at_short : (cell : Cell) (class : ℕ) (chain : ℕ → List ℕ) (most : ℕ) → ((n : ℕ) → length (chain n) ≤ most) →
+    length (chain_at cell class chain) ≤ most + cell_size cell
 chain_at_short (ClassCell decl base encl holder over) class chain most h = omega (arith, above_short over chain most h)
 chain_at_short (ObjectCell class' entries) class chain most h = omega arith
 chain_at_short (BlockCell body env home receiver holder) class chain most h = omega arith
@@ -58,7 +59,8 @@ chain_no_longer (cell ∷ earlier) class =
     tested false h k = omega arith
 
 -- A cell that is set to one as large leaves the heap as large.
-pub set_size : (heap : Heap) (at : ℕ) (old new : Cell) → find_cell heap at ≡ Some old → cell_size new ≡ cell_size old → heap_size (set_cell heap at new) ≡ heap_size heap
+pub set_size : (heap : Heap) (at : ℕ) (old new : Cell) → find_cell heap at ≡ Some old → cell_size new ≡ cell_size old →
+    heap_size (set_cell heap at new) ≡ heap_size heap
 set_size [] at old new e s = refl
 set_size (cell ∷ earlier) at old new e s = tested (eqb at (heap_size earlier)) e (set_size earlier at old new)
   where
@@ -67,9 +69,11 @@ set_size (cell ∷ earlier) at old new e s = tested (eqb at (heap_size earlier))
     tested false e below = omega (arith, below e s)
 
 -- a cell that is replaced is the only one that changes
-set_other : (heap : Heap) (at : ℕ) (old new : Cell) (number : ℕ) → find_cell heap at ≡ Some old → cell_size new ≡ cell_size old → number ≢ at → find_cell (set_cell heap at new) number ≡ find_cell heap number
+set_other : (heap : Heap) (at : ℕ) (old new : Cell) (number : ℕ) → find_cell heap at ≡ Some old → cell_size new ≡ cell_size old →
+    number ≢ at → find_cell (set_cell heap at new) number ≡ find_cell heap number
 set_other [] at old new number e s h = refl
-set_other (cell ∷ earlier) at old new number e s h = tested (eqb at (heap_size earlier)) refl e (λ f. set_other earlier at old new number f s h) (λ f. set_size earlier at old new f s)
+set_other (cell ∷ earlier) at old new number e s h =
+    tested (eqb at (heap_size earlier)) refl e (λ f. set_other earlier at old new number f s h) (λ f. set_size earlier at old new f s)
   where
     tested : (b : Bool) → eqb at (heap_size earlier) ≡ b → cond b (Some cell) (find_cell earlier at) ≡ Some old → (find_cell earlier at ≡ Some old → find_cell (set_cell earlier at new) number ≡ find_cell earlier number) → (find_cell earlier at ≡ Some old → heap_size (set_cell earlier at new) ≡ heap_size earlier) → find_cell (cond b (new ∷ earlier) (cell ∷ set_cell earlier at new)) number ≡ find_cell (cell ∷ earlier) number
     tested true t e below size =
@@ -80,9 +84,11 @@ set_other (cell ∷ earlier) at old new number e s h = tested (eqb at (heap_size
         ∙ ap (λ o. cond (eqb number (heap_size earlier)) (Some cell) o) (below e)
 
 -- a cell that is replaced is found anew
-pub set_here : (heap : Heap) (at : ℕ) (old new : Cell) → find_cell heap at ≡ Some old → cell_size new ≡ cell_size old → find_cell (set_cell heap at new) at ≡ Some new
+pub set_here : (heap : Heap) (at : ℕ) (old new : Cell) → find_cell heap at ≡ Some old → cell_size new ≡ cell_size old →
+    find_cell (set_cell heap at new) at ≡ Some new
 set_here [] at old new e s = absurd (cc)
-set_here (cell ∷ earlier) at old new e s = tested (eqb at (heap_size earlier)) refl e (λ f. set_here earlier at old new f s) (λ f. set_size earlier at old new f s)
+set_here (cell ∷ earlier) at old new e s =
+    tested (eqb at (heap_size earlier)) refl e (λ f. set_here earlier at old new f s) (λ f. set_size earlier at old new f s)
   where
     tested : (b : Bool) → eqb at (heap_size earlier) ≡ b → cond b (Some cell) (find_cell earlier at) ≡ Some old → (find_cell earlier at ≡ Some old → find_cell (set_cell earlier at new) at ≡ Some new) → (find_cell earlier at ≡ Some old → heap_size (set_cell earlier at new) ≡ heap_size earlier) → find_cell (cond b (new ∷ earlier) (cell ∷ set_cell earlier at new)) at ≡ Some new
     tested true t e below size = rw t refl
@@ -111,7 +117,8 @@ set_same (first ∷ earlier) at cell e = tested (eqb at (heap_size earlier)) e (
     tested true e below = ap (λ c. c ∷ earlier) (let is : cell ≡ first = cc in is)
     tested false e below = ap (λ cs. first ∷ cs) (below e)
 
-pub changing_leaves : (heap : Heap) (at : ℕ) (change : Cell → Cell) → ChangesPlainly change → ChangeLeaves heap (change_cell heap at change) at
+pub changing_leaves : (heap : Heap) (at : ℕ) (change : Cell → Cell) → ChangesPlainly change →
+    ChangeLeaves heap (change_cell heap at change) at
 changing_leaves heap at change plainly = found (find_cell heap at) refl
   where
     unchanged : change_cell heap at change ≡ heap → ChangeLeaves heap (change_cell heap at change) at

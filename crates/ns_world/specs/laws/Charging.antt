@@ -11,7 +11,9 @@ use Rattle.ns_world.specs.World.{World, empty_world, stepped, entered, left, pri
 use Rattle.ns_world.specs.Lawful.{IsLawful}
 
 -- other counters and other output, within the limits
-recounted : (world : World) (code : CodeProgram) (steps depth : ℕ) (output : List ℕ) → IsLawful world code → steps ≤ world.limits.steps → depth ≤ world.limits.depth → length output ≤ world.limits.out → IsLawful (record world { steps = steps; depth = depth; output = output }) code
+recounted : (world : World) (code : CodeProgram) (steps depth : ℕ) (output : List ℕ) → IsLawful world code → steps ≤ world.limits.steps →
+    depth ≤ world.limits.depth → length output ≤ world.limits.out →
+    IsLawful (record world { steps = steps; depth = depth; output = output }) code
 recounted world code steps depth output lawful s d o = record {
   within = record { limits = lawful.within.limits; cells = lawful.within.cells; steps = s; depth = d; out = o };
   ordered = lawful.ordered;
@@ -22,7 +24,8 @@ recounted world code steps depth output lawful s d o = record {
 }
 
 -- a charge leaves what it leaves where it fits
-charged : (after more : World) (code : CodeProgram) (b : Bool) → (b ≡ true → IsLawful more code) → cond b (Some more) None ≡ Some after → IsLawful after code
+charged : (after more : World) (code : CodeProgram) (b : Bool) → (b ≡ true → IsLawful more code) → cond b (Some more) None ≡ Some after →
+    IsLawful after code
 charged after more code true lawful e = let is : more ≡ after = cc in subst (λ (w : World). IsLawful w code) is (lawful refl)
 charged after more code false lawful e = absurd (cc)
 
@@ -40,19 +43,23 @@ enter_keeps world after code lawful e =
 
 -- A frame that is left leaves a lawful world lawful.
 pub leave_keeps : (world : World) (code : CodeProgram) → IsLawful world code → IsLawful (left world) code
-leave_keeps world code lawful = recounted world code world.steps (world.depth - 1) world.output lawful lawful.within.steps (omega (arith, lawful.within.depth)) lawful.within.out
+leave_keeps world code lawful =
+    recounted world code world.steps (world.depth - 1) world.output lawful lawful.within.steps (omega (arith, lawful.within.depth)) lawful.within.out
 
 -- What is printed leaves a lawful world lawful.
-pub print_keeps : (world after : World) (code : CodeProgram) (bytes : List ℕ) → IsLawful world code → printed world bytes ≡ Some after → IsLawful after code
+pub print_keeps : (world after : World) (code : CodeProgram) (bytes : List ℕ) → IsLawful world code → printed world bytes ≡ Some after →
+    IsLawful after code
 print_keeps world after code bytes lawful e =
     charged after (record world { output = world.output ++ bytes }) code (nat_le (length world.output + length bytes) world.limits.out)
     (λ t. recounted world code world.steps world.depth (world.output ++ bytes) lawful lawful.within.steps lawful.within.depth (omega (arith, leb-true (length world.output + length bytes) world.limits.out t, length-append world.output bytes))) e
 
-pub resume_keeps : (world : World) (code : CodeProgram) (steps depth : ℕ) → IsLawful world code → steps ≤ world.limits.steps → depth ≤ world.limits.depth → IsLawful (record world { steps = steps; depth = depth }) code
+pub resume_keeps : (world : World) (code : CodeProgram) (steps depth : ℕ) → IsLawful world code → steps ≤ world.limits.steps →
+    depth ≤ world.limits.depth → IsLawful (record world { steps = steps; depth = depth }) code
 resume_keeps world code steps depth lawful s d = recounted world code steps depth world.output lawful s d lawful.within.out
 
 -- a world without cells
-pub empty_is_lawful : (limits : Limits) (code : CodeProgram) → InRange limits → Fits code → are_parents_earlier 0 code.bodies ≡ true → has_sound_classes code ≡ true → IsLawful (empty_world limits) code
+pub empty_is_lawful : (limits : Limits) (code : CodeProgram) → InRange limits → Fits code → are_parents_earlier 0 code.bodies ≡ true →
+    has_sound_classes code ≡ true → IsLawful (empty_world limits) code
 empty_is_lawful limits code range fits parents classes = record {
   within = record { limits = range; cells = omega arith; steps = omega arith; depth = omega arith; out = omega arith };
   ordered = refl;

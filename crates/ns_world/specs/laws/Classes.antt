@@ -37,11 +37,13 @@ pub record SameClasses (before after : Heap) : Type 0 where
   pub none : find_cell after no_class ≡ find_cell before no_class
 
 -- A class stays one where classes stay the same.
-pub class_stays : (before after : Heap) (n : ℕ) → SameClasses before after → is_class (find_cell before n) ≡ true → is_class (find_cell after n) ≡ true
+pub class_stays : (before after : Heap) (n : ℕ) → SameClasses before after → is_class (find_cell before n) ≡ true →
+    is_class (find_cell after n) ≡ true
 class_stays before after n same e = ap is_class (same.classes n e) ∙ e
 
 -- A cell that stays the same keeps its declaration.
-pub declaration_stays : (before after : Heap) (n : ℕ) → find_cell after n ≡ find_cell before n → declaration_of after n ≡ declaration_of before n
+pub declaration_stays : (before after : Heap) (n : ℕ) → find_cell after n ≡ find_cell before n →
+    declaration_of after n ≡ declaration_of before n
 declaration_stays before after n e = ap (λ o. declaration_in (option_map_or shape_of o (Mirror Nil))) e
 
 superclass_stays : (before after : Heap) (n : ℕ) → find_cell after n ≡ find_cell before n → superclass_of after n ≡ superclass_of before n
@@ -60,7 +62,8 @@ start_stays before after n same s = tested (is_class (find_cell before n)) refl 
     tested false e s = either (is_class (find_cell after n)) s
 
 -- What is known of the class at which a chain that isn't empty starts.
-pub started : (heap : Heap) (class k : ℕ) → IsInOrder heap → is_chain_start heap class ≡ true → k < length (chain_of heap class) → ChainGoesOn heap class × (is_class (find_cell heap class) ≡ true)
+pub started : (heap : Heap) (class k : ℕ) → IsInOrder heap → is_chain_start heap class ≡ true → k < length (chain_of heap class) →
+    ChainGoesOn heap class × (is_class (find_cell heap class) ≡ true)
 started heap class k order s h = tested (eqb class no_class) refl
   where
     small : heap_size heap ≤ no_class
@@ -71,7 +74,8 @@ started heap class k order s h = tested (eqb class no_class) refl
     tested false e = let is : is_class (find_cell heap class) ≡ true = class_of_start heap class s (λ t. cc) in (goes_on heap class order.ordered small is, is)
 
 -- each number in a chain is that of a class
-pub class_in_chain : (heap : Heap) (k class holder : ℕ) → IsInOrder heap → is_chain_start heap class ≡ true → k < length (chain_of heap class) → get_or (chain_of heap class) k holder ≡ holder → is_class (find_cell heap holder) ≡ true
+pub class_in_chain : (heap : Heap) (k class holder : ℕ) → IsInOrder heap → is_chain_start heap class ≡ true →
+    k < length (chain_of heap class) → get_or (chain_of heap class) k holder ≡ holder → is_class (find_cell heap holder) ≡ true
 class_in_chain heap zero class holder order s h e =
     let f = started heap class zero order s h in
     let is : class ≡ holder = sym (ap (λ ms. get_or ms 0 holder) f.0.chain) ∙ e in
@@ -94,7 +98,8 @@ chain_starts (cell ∷ earlier) n k h = tested (eqb n (heap_size earlier)) h (ch
     tested true h below = first (is_class (Some cell)) refl h
     tested false h below = below h
 
-entries_stay : (before after : Heap) (code : CodeProgram) → IsInOrder before → SameClasses before after → (chain : List ℕ) (class : ℕ) → chain_of before class ≡ chain → is_chain_start before class ≡ true → entries_along after code chain ≡ entries_along before code chain
+entries_stay : (before after : Heap) (code : CodeProgram) → IsInOrder before → SameClasses before after → (chain : List ℕ) (class : ℕ) →
+    chain_of before class ≡ chain → is_chain_start before class ≡ true → entries_along after code chain ≡ entries_along before code chain
 entries_stay before after code order same [] class c s = refl
 entries_stay before after code order same (head ∷ rest) class c s =
     let f = started before class 0 order s (omega (arith, ap length c)) in
@@ -106,8 +111,10 @@ entries_stay before after code order same (head ∷ rest) class c s =
     ∙ ap (λ m. entries_of code (declaration_of before head) + m) (entries_stay before after code order same rest (superclass_of before class) up f.0.start)
 
 -- an object has as many entries as before
-pub layout_stays : (before after : Heap) (code : CodeProgram) (class : ℕ) → IsInOrder before → SameClasses before after → is_chain_start before class ≡ true → layout_of after code class ≡ layout_of before code class
-layout_stays before after code class order same s = ap (entries_along after code) (same.chains class s) ∙ entries_stay before after code order same (chain_of before class) class refl s
+pub layout_stays : (before after : Heap) (code : CodeProgram) (class : ℕ) → IsInOrder before → SameClasses before after →
+    is_chain_start before class ≡ true → layout_of after code class ≡ layout_of before code class
+layout_stays before after code class order same s =
+    ap (entries_along after code) (same.chains class s) ∙ entries_stay before after code order same (chain_of before class) class refl s
 
 -- the classes above a class have as many entries as before
 pub base_stays : (before after : Heap) (code : CodeProgram) (class : ℕ) → IsInOrder before → SameClasses before after
@@ -119,7 +126,8 @@ base_stays before after code class order same h =
     ∙ layout_stays before after code (superclass_of before class) order same g.start
 
 -- an entry has the word that it had
-pub word_stays : (before after : Heap) (code : CodeProgram) (holder entry : ℕ) → IsInOrder before → SameClasses before after → is_class (find_cell before holder) ≡ true → entry_word after code holder entry ≡ entry_word before code holder entry
+pub word_stays : (before after : Heap) (code : CodeProgram) (holder entry : ℕ) → IsInOrder before → SameClasses before after →
+    is_class (find_cell before holder) ≡ true → entry_word after code holder entry ≡ entry_word before code holder entry
 word_stays before after code holder entry order same h = ap (λ base. base + entry) (base_stays before after code holder order same h)
 
 -- one cell more
@@ -141,7 +149,8 @@ same_after_making heap cell order = record {
         rw past refl
 
 -- a word or a byte written
-pub same_after_changing : (heap : Heap) (at : ℕ) (change : Cell → Cell) → ChangesPlainly change → IsInOrder heap → SameClasses heap (change_cell heap at change)
+pub same_after_changing : (heap : Heap) (at : ℕ) (change : Cell → Cell) → ChangesPlainly change → IsInOrder heap →
+    SameClasses heap (change_cell heap at change)
 same_after_changing heap at change plainly order =
     let leaves = changing_leaves heap at change plainly in
     record {

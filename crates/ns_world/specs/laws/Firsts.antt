@@ -19,7 +19,8 @@ found_past heap n h = found (find_cell heap n) refl
     found (Some cell) e = absurd (omega (arith, found_below heap n cell e))
 
 -- a cell that doesn't pass changes no first
-pub first_without : (test : Cell → Bool) (heap : Heap) (cell : Cell) → test cell ≡ false → first_such test (cell ∷ heap) ≡ first_such test heap
+pub first_without : (test : Cell → Bool) (heap : Heap) (cell : Cell) → test cell ≡ false →
+    first_such test (cell ∷ heap) ≡ first_such test heap
 first_without test heap cell e = rw e (or_none (first_such test heap))
   where
     or_none : (o : Option ℕ) → earlier_or o None ≡ o
@@ -27,14 +28,16 @@ first_without test heap cell e = rw e (or_none (first_such test heap))
     or_none (Some n) = refl
 
 -- nor does a cell behind the first
-pub first_behind : (test : Cell → Bool) (heap : Heap) (cell : Cell) → IsSome (first_such test heap) → first_such test (cell ∷ heap) ≡ first_such test heap
+pub first_behind : (test : Cell → Bool) (heap : Heap) (cell : Cell) → IsSome (first_such test heap) →
+    first_such test (cell ∷ heap) ≡ first_such test heap
 first_behind test heap cell h = some (first_such test heap) h
   where
     some : (o : Option ℕ) → IsSome o → earlier_or o (cond (test cell) (Some (heap_size heap)) None) ≡ o
     some (Some n) h = refl
     some None h = absurd (cc)
 
-first_set : (test : Cell → Bool) (heap : Heap) (at : ℕ) (old new : Cell) → find_cell heap at ≡ Some old → cell_size new ≡ cell_size old → test new ≡ test old → first_such test (set_cell heap at new) ≡ first_such test heap
+first_set : (test : Cell → Bool) (heap : Heap) (at : ℕ) (old new : Cell) → find_cell heap at ≡ Some old → cell_size new ≡ cell_size old →
+    test new ≡ test old → first_such test (set_cell heap at new) ≡ first_such test heap
 first_set test [] at old new e s t = refl
 first_set test (cell ∷ earlier) at old new e s t =
     tested (eqb at (heap_size earlier)) e (λ f. first_set test earlier at old new f s t) (λ f. set_size earlier at old new f s)
@@ -47,7 +50,8 @@ first_set test (cell ∷ earlier) at old new e s t =
         ap (λ o. earlier_or o (cond (test cell) (Some (heap_size (set_cell earlier at new))) None)) (below e)
         ∙ ap (λ n. earlier_or (first_such test earlier) (cond (test cell) (Some n) None)) (size e)
 
-first_changed : (test : Cell → Bool) (heap : Heap) (at : ℕ) (change : Cell → Cell) → ChangesPlainly change → ((cell : Cell) → test (change cell) ≡ test cell) → first_such test (change_cell heap at change) ≡ first_such test heap
+first_changed : (test : Cell → Bool) (heap : Heap) (at : ℕ) (change : Cell → Cell) → ChangesPlainly change →
+    ((cell : Cell) → test (change cell) ≡ test cell) → first_such test (change_cell heap at change) ≡ first_such test heap
 first_changed test heap at change plainly t = found (find_cell heap at) refl
   where
     found : (o : Option Cell) → find_cell heap at ≡ o → first_such test (change_cell heap at change) ≡ first_such test heap
@@ -101,27 +105,37 @@ top_byte decl place byte (MirrorCell mirrored) = refl
 top_byte decl place byte (MessageCell sel args) = refl
 
 -- a written word changes no first facet and no first class
-pub facets_after_word : (heap : Heap) (at word : ℕ) (value : Value) (kind : FacetKind) → first_such (is_facet kind) (write_word heap at word value) ≡ first_such (is_facet kind) heap
-facets_after_word heap at word value kind = first_changed (is_facet kind) heap at (λ cell. with_word cell word value) (word_plainly word value) (facet_word kind word value)
+pub facets_after_word : (heap : Heap) (at word : ℕ) (value : Value) (kind : FacetKind) →
+    first_such (is_facet kind) (write_word heap at word value) ≡ first_such (is_facet kind) heap
+facets_after_word heap at word value kind =
+    first_changed (is_facet kind) heap at (λ cell. with_word cell word value) (word_plainly word value) (facet_word kind word value)
 
 -- A word that is written changes no first class of a declaration.
-pub tops_after_word : (heap : Heap) (at word : ℕ) (value : Value) (decl : ℕ) → first_such (is_top decl) (write_word heap at word value) ≡ first_such (is_top decl) heap
-tops_after_word heap at word value decl = first_changed (is_top decl) heap at (λ cell. with_word cell word value) (word_plainly word value) (top_word decl word value)
+pub tops_after_word : (heap : Heap) (at word : ℕ) (value : Value) (decl : ℕ) →
+    first_such (is_top decl) (write_word heap at word value) ≡ first_such (is_top decl) heap
+tops_after_word heap at word value decl =
+    first_changed (is_top decl) heap at (λ cell. with_word cell word value) (word_plainly word value) (top_word decl word value)
 
 -- nor does a written byte
-pub facets_after_byte : (heap : Heap) (at place byte : ℕ) (kind : FacetKind) → first_such (is_facet kind) (write_byte heap at place byte) ≡ first_such (is_facet kind) heap
-facets_after_byte heap at place byte kind = first_changed (is_facet kind) heap at (λ cell. with_byte cell place byte) (byte_plainly place byte) (facet_byte kind place byte)
+pub facets_after_byte : (heap : Heap) (at place byte : ℕ) (kind : FacetKind) →
+    first_such (is_facet kind) (write_byte heap at place byte) ≡ first_such (is_facet kind) heap
+facets_after_byte heap at place byte kind =
+    first_changed (is_facet kind) heap at (λ cell. with_byte cell place byte) (byte_plainly place byte) (facet_byte kind place byte)
 
 -- A byte that is written changes no first class of a declaration.
-pub tops_after_byte : (heap : Heap) (at place byte decl : ℕ) → first_such (is_top decl) (write_byte heap at place byte) ≡ first_such (is_top decl) heap
-tops_after_byte heap at place byte decl = first_changed (is_top decl) heap at (λ cell. with_byte cell place byte) (byte_plainly place byte) (top_byte decl place byte)
+pub tops_after_byte : (heap : Heap) (at place byte decl : ℕ) →
+    first_such (is_top decl) (write_byte heap at place byte) ≡ first_such (is_top decl) heap
+tops_after_byte heap at place byte decl =
+    first_changed (is_top decl) heap at (λ cell. with_byte cell place byte) (byte_plainly place byte) (top_byte decl place byte)
 
 -- what is looked for is the first after a written word that it was before, and after a written byte
-pub sought_after_word : (heap : Heap) (at word : ℕ) (value : Value) (sought : Sought) → first_such (is_sought sought) (write_word heap at word value) ≡ first_such (is_sought sought) heap
+pub sought_after_word : (heap : Heap) (at word : ℕ) (value : Value) (sought : Sought) →
+    first_such (is_sought sought) (write_word heap at word value) ≡ first_such (is_sought sought) heap
 sought_after_word heap at word value (Facet kind) = facets_after_word heap at word value kind
 sought_after_word heap at word value (Top decl) = tops_after_word heap at word value decl
 
-pub sought_after_byte : (heap : Heap) (at place byte : ℕ) (sought : Sought) → first_such (is_sought sought) (write_byte heap at place byte) ≡ first_such (is_sought sought) heap
+pub sought_after_byte : (heap : Heap) (at place byte : ℕ) (sought : Sought) →
+    first_such (is_sought sought) (write_byte heap at place byte) ≡ first_such (is_sought sought) heap
 sought_after_byte heap at place byte (Facet kind) = facets_after_byte heap at place byte kind
 sought_after_byte heap at place byte (Top decl) = tops_after_byte heap at place byte decl
 

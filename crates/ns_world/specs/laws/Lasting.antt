@@ -39,7 +39,8 @@ keeps_of code old new run = record {
 }
 
 -- A cell keeps its shape while the run goes on.
-pub shape_lasts : (number : ℕ) (code : CodeProgram) (old new : World) → RunsOn code old new → IsSome (find_cell old.cells number) → shape_at new.cells number ≡ shape_at old.cells number
+pub shape_lasts : (number : ℕ) (code : CodeProgram) (old new : World) → RunsOn code old new → IsSome (find_cell old.cells number) →
+    shape_at new.cells number ≡ shape_at old.cells number
 shape_lasts number code old new run h = found (find_cell old.cells number) refl h
   where
     found : (o : Option Cell) → find_cell old.cells number ≡ o → IsSome o → shape_at new.cells number ≡ shape_at old.cells number
@@ -49,13 +50,16 @@ shape_lasts number code old new run h = found (find_cell old.cells number) refl 
         let told : Option Cell → NewCell = λ o. option_map_or shape_of o (Mirror Nil) in
         ap told s.there ∙ (s.shape ∙ ap told (sym e))
 
-pub class_lasts : (class : ℕ) (code : CodeProgram) (old new : World) → RunsOn code old new → is_class (find_cell old.cells class) ≡ true → find_cell new.cells class ≡ find_cell old.cells class
+pub class_lasts : (class : ℕ) (code : CodeProgram) (old new : World) → RunsOn code old new → is_class (find_cell old.cells class) ≡ true →
+    find_cell new.cells class ≡ find_cell old.cells class
 class_lasts class code old new run is = class_same old.cells new.cells class run.later.cells is
 
 -- A class keeps its declaration while the run goes on.
-pub declaration_lasts : (class : ℕ) (code : CodeProgram) (old new : World) → RunsOn code old new → is_class (find_cell old.cells class) ≡ true → declaration_of new.cells class ≡ declaration_of old.cells class
+pub declaration_lasts : (class : ℕ) (code : CodeProgram) (old new : World) → RunsOn code old new →
+    is_class (find_cell old.cells class) ≡ true → declaration_of new.cells class ≡ declaration_of old.cells class
 declaration_lasts class code old new run is = declaration_stays old.cells new.cells class (class_lasts class code old new run is)
 
 -- An entry of a holder keeps its word while the run goes on.
-pub word_lasts : (holder entry : ℕ) (code : CodeProgram) (old new : World) → RunsOn code old new → is_class (find_cell old.cells holder) ≡ true → entry_word new.cells code holder entry ≡ entry_word old.cells code holder entry
+pub word_lasts : (holder entry : ℕ) (code : CodeProgram) (old new : World) → RunsOn code old new →
+    is_class (find_cell old.cells holder) ≡ true → entry_word new.cells code holder entry ≡ entry_word old.cells code holder entry
 word_lasts holder entry code old new run is = let k = keeps_of code old new run in word_stays old.cells new.cells code holder entry k.order k.same is

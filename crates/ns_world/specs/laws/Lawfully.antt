@@ -20,7 +20,8 @@ pub record WasHolder (before after : Heap) (code : CodeProgram) (class holder : 
   pub declared : declaration_of before holder ≡ declaration_of after holder
   pub words : (entry : ℕ) → entry_word before code holder entry ≡ entry_word after code holder entry
 
-pub was_holder : (before after : Heap) (code : CodeProgram) (class holder : ℕ) → KeepsCells before after → is_chain_start before class ≡ true → Contains (chain_of after class) holder → WasHolder before after code class holder
+pub was_holder : (before after : Heap) (code : CodeProgram) (class holder : ℕ) → KeepsCells before after →
+    is_chain_start before class ≡ true → Contains (chain_of after class) holder → WasHolder before after code class holder
 was_holder before after code class holder k start h =
     let contained : Contains (chain_of before class) holder = subst (λ chain. Contains chain holder) (k.same.chains class start) h in
     let is : is_class (find_cell before holder) ≡ true = class_in_chain before contained.0 class holder k.order start contained.1 contained.2 in
@@ -31,13 +32,15 @@ was_holder before after code class holder k start h =
     }
 
 -- what may come into a word may come there later
-pub keeps_word_stays : (before after : Heap) (code : CodeProgram) (object class word : ℕ) (value : Value) → KeepsCells before after → is_chain_start before class ≡ true → KeepsWord before code object class word value → KeepsWord after code object class word value
+pub keeps_word_stays : (before after : Heap) (code : CodeProgram) (object class word : ℕ) (value : Value) → KeepsCells before after →
+    is_chain_start before class ≡ true → KeepsWord before code object class word value → KeepsWord after code object class word value
 keeps_word_stays before after code object class word value k start keeps = λ holder c declared d i nested n w.
     let was = was_holder before after code class holder k start c in
     kept_stays before after object holder nested.class value k
     (keeps holder was.contained declared (ap (slice_get code.classes) was.declared ∙ d) i nested n (was.words (length declared.slots + i) ∙ w))
 
-object_lawful : (before after : Heap) (code : CodeProgram) (number class : ℕ) (entries : List Value) → KeepsCells before after → ObjectIsLawful before code number class entries → ObjectIsLawful after code number class entries
+object_lawful : (before after : Heap) (code : CodeProgram) (number class : ℕ) (entries : List Value) → KeepsCells before after →
+    ObjectIsLawful before code number class entries → ObjectIsLawful after code number class entries
 object_lawful before after code number class entries k l = record {
   class_is = start_stays before after class k.same l.class_is;
   words = l.words ∙ sym (layout_stays before after code class k.order k.same l.class_is);
@@ -60,7 +63,8 @@ class_lawful before after code number decl base encl holder k is l =
     }
 
 -- A body that fits a value and a holder fits them where the cells are kept.
-pub body_stays : (before after : Heap) (code : CodeProgram) (body : BodyCode) (value : Value) (holder : ℕ) → KeepsCells before after → FitsBody before code body value holder → FitsBody after code body value holder
+pub body_stays : (before after : Heap) (code : CodeProgram) (body : BodyCode) (value : Value) (holder : ℕ) → KeepsCells before after →
+    FitsBody before code body value holder → FitsBody after code body value holder
 body_stays before after code body (Ref self) holder k h = (
   class_stays before after holder k.same h.0,
   declared_stays before after holder k h.0 ∙ h.1,
@@ -74,7 +78,8 @@ body_stays before after code body (Int number) holder k h = h
 body_stays before after code body (Sym sel) holder k h = h
 body_stays before after code body (Kernel class) holder k h = h
 
-locals_stay : (before after : Heap) (at : ℕ) (e : Value × List Value) → KeepsCells before after → IsSome (environment_in (find_cell before at)) → environment_in (find_cell after at) ≡ Some e → TellsLocals (find_cell before at) e
+locals_stay : (before after : Heap) (at : ℕ) (e : Value × List Value) → KeepsCells before after →
+    IsSome (environment_in (find_cell before at)) → environment_in (find_cell after at) ≡ Some e → TellsLocals (find_cell before at) e
 locals_stay before after at e k h g = found (find_cell before at) refl h
   where
     found : (o : Option Cell) → find_cell before at ≡ o → IsSome (environment_in o) → TellsLocals (find_cell before at) e
@@ -83,7 +88,8 @@ locals_stay before after at e k h g = found (find_cell before at) refl h
         let s = k.cells at cell f in
         subst (λ o. TellsLocals o e) (sym f) (s.twins.locals e (ap environment_in (sym s.is) ∙ g))
 
-has_locals_stays : (before after : Heap) (at : ℕ) → KeepsCells before after → IsSome (environment_in (find_cell before at)) → IsSome (environment_in (find_cell after at))
+has_locals_stays : (before after : Heap) (at : ℕ) → KeepsCells before after → IsSome (environment_in (find_cell before at)) →
+    IsSome (environment_in (find_cell after at))
 has_locals_stays before after at k h = found (find_cell before at) refl h
   where
     found : (o : Option Cell) → find_cell before at ≡ o → IsSome (environment_in o) → IsSome (environment_in (find_cell after at))
@@ -91,7 +97,8 @@ has_locals_stays before after at k h = found (find_cell before at) refl h
     found (Some cell) e h = let s = k.cells at cell e in ap (λ o. is_some (environment_in o)) s.is ∙ (s.twins.has_locals ∙ h)
 
 -- an environment fits the body that it fitted
-pub fits_stays : (depth : ℕ) (before after : Heap) (code : CodeProgram) (body : Option ℕ) (env : Value) → KeepsCells before after → FitsEnvironment depth before code body env → FitsEnvironment depth after code body env
+pub fits_stays : (depth : ℕ) (before after : Heap) (code : CodeProgram) (body : Option ℕ) (env : Value) → KeepsCells before after →
+    FitsEnvironment depth before code body env → FitsEnvironment depth after code body env
 fits_stays zero before after code None env k h = h
 fits_stays zero before after code (Some body) env k h = h
 fits_stays (suc depth) before after code None env k h = h
@@ -110,7 +117,8 @@ fits_stays (suc depth) before after code (Some body) (Int number) k h = h
 fits_stays (suc depth) before after code (Some body) (Sym sel) k h = h
 fits_stays (suc depth) before after code (Some body) (Kernel class) k h = h
 
-pub block_lawful : (before after : Heap) (code : CodeProgram) (number : ℕ) (env receiver : Value) (holder : ℕ) → KeepsCells before after → BlockIsLawful before code number env receiver holder → BlockIsLawful after code number env receiver holder
+pub block_lawful : (before after : Heap) (code : CodeProgram) (number : ℕ) (env receiver : Value) (holder : ℕ) → KeepsCells before after →
+    BlockIsLawful before code number env receiver holder → BlockIsLawful after code number env receiver holder
 block_lawful before after code number env receiver holder k l = record {
   declared = l.declared;
   is_block = l.is_block;
@@ -118,7 +126,8 @@ block_lawful before after code number env receiver holder k l = record {
   environment = λ (body : BodyCode) e. fits_stays (number + 1) before after code body.parent env k (l.environment body e);
 }
 
-pub message_lawful : (before after : Heap) (code : CodeProgram) (sel : Sel) (args : Value) → KeepsCells before after → MessageIsLawful before code sel args → MessageIsLawful after code sel args
+pub message_lawful : (before after : Heap) (code : CodeProgram) (sel : Sel) (args : Value) → KeepsCells before after →
+    MessageIsLawful before code sel args → MessageIsLawful after code sel args
 message_lawful before after code sel (Ref at) k h = (h.0, found (find_cell before at) refl h.1)
   where
     found : (o : Option Cell) → find_cell before at ≡ o → HasArguments code sel o → HasArguments code sel (find_cell after at)
@@ -132,11 +141,16 @@ message_lawful before after code sel (Sym name) k h = h
 message_lawful before after code sel (Kernel class) k h = h
 
 -- a cell that was lawful is lawful later
-pub cell_lawful : (before after : Heap) (code : CodeProgram) (number : ℕ) (cell : Cell) → KeepsCells before after → find_cell before number ≡ Some cell → CellIsLawful before code number cell → CellIsLawful after code number cell
-cell_lawful before after code number (ObjectCell class entries) k e l = (object_lawful before after code number class entries k l.0, values_stay before after code entries k l.1)
-cell_lawful before after code number (ClassCell decl base encl holder over) k e l = class_lawful before after code number decl base encl holder k (ap is_class e) l
-cell_lawful before after code number (BlockCell body env home receiver holder) k e l = block_lawful before after code body env receiver holder k l
-cell_lawful before after code number (EnvironmentCell parent locals) k e l = (environment_stays before after parent k l.0, values_stay before after code locals k l.1)
+pub cell_lawful : (before after : Heap) (code : CodeProgram) (number : ℕ) (cell : Cell) → KeepsCells before after →
+    find_cell before number ≡ Some cell → CellIsLawful before code number cell → CellIsLawful after code number cell
+cell_lawful before after code number (ObjectCell class entries) k e l =
+    (object_lawful before after code number class entries k l.0, values_stay before after code entries k l.1)
+cell_lawful before after code number (ClassCell decl base encl holder over) k e l =
+    class_lawful before after code number decl base encl holder k (ap is_class e) l
+cell_lawful before after code number (BlockCell body env home receiver holder) k e l =
+    block_lawful before after code body env receiver holder k l
+cell_lawful before after code number (EnvironmentCell parent locals) k e l =
+    (environment_stays before after parent k l.0, values_stay before after code locals k l.1)
 cell_lawful before after code number (ArrayCell items) k e l = values_stay before after code items k l
 cell_lawful before after code number (TextCell bytes) k e l = l
 cell_lawful before after code number (FacetCell kind) k e l = l

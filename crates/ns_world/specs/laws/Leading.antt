@@ -25,7 +25,8 @@ cells_same : (heap : Heap) → AreLater heap heap
 cells_same heap = record { size = omega arith; cells = stays_itself heap; chains = λ class is. refl; ordered = λ o. o }
 
 -- the same cells, under other counters and with more output
-recounted : (old new : World) → new.limits ≡ old.limits → old.steps ≤ new.steps → new.cells ≡ old.cells → (more : List ℕ) → new.output ≡ old.output ++ more → IsLater old new
+recounted : (old new : World) → new.limits ≡ old.limits → old.steps ≤ new.steps → new.cells ≡ old.cells → (more : List ℕ) →
+    new.output ≡ old.output ++ more → IsLater old new
 recounted old new limits steps same more printed = record {
   limits = limits;
   steps = steps;
@@ -39,12 +40,14 @@ recounted old new limits steps same more printed = record {
 pub later_same : (world : World) → IsLater world world
 later_same world = recounted world world refl (omega arith) refl [] (sym (append-nil world.output))
 
-stays_on : (second third : Heap) (number : ℕ) (cell : Cell) → AreLater second third → StaysThere second number cell → StaysThere third number cell
+stays_on : (second third : Heap) (number : ℕ) (cell : Cell) → AreLater second third → StaysThere second number cell →
+    StaysThere third number cell
 stays_on second third number cell later one =
     let two = later.cells number one.now one.there in
     record { now = two.now; there = two.there; shape = two.shape ∙ one.shape; bytes = two.bytes ∙ one.bytes }
 
-is_of_shape : (decl base : ℕ) (encl holder over : Value) (now : Cell) → shape_of now ≡ shape_of (ClassCell decl base encl holder over) → now ≡ ClassCell decl base encl holder over
+is_of_shape : (decl base : ℕ) (encl holder over : Value) (now : Cell) → shape_of now ≡ shape_of (ClassCell decl base encl holder over) →
+    now ≡ ClassCell decl base encl holder over
 is_of_shape decl base encl holder over (ClassCell decl' base' encl' holder' over') e = cc
 is_of_shape decl base encl holder over (ObjectCell class entries) e = absurd (cc)
 is_of_shape decl base encl holder over (BlockCell body env home receiver holder') e = absurd (cc)
@@ -68,7 +71,8 @@ same_class (MirrorCell mirrored) now is e = absurd (cc)
 same_class (MessageCell sel args) now is e = absurd (cc)
 
 -- A later heap has the same class at the same number.
-pub class_same : (old new : Heap) (class : ℕ) → AreLater old new → is_class (find_cell old class) ≡ true → find_cell new class ≡ find_cell old class
+pub class_same : (old new : Heap) (class : ℕ) → AreLater old new → is_class (find_cell old class) ≡ true →
+    find_cell new class ≡ find_cell old class
 class_same old new class later is = found (find_cell old class) refl is
   where
     found : (o : Option Cell) → find_cell old class ≡ o → is_class o ≡ true → find_cell new class ≡ find_cell old class
@@ -96,8 +100,10 @@ later_on first second third one two = record {
   printed = two.printed ∙ (ap (λ output. output ++ two.more) one.printed ∙ append_assoc first.output one.more two.more);
 }
 
-pub run_on : (code : CodeProgram) (first second third : World) → RunsOn code first second → RunsOn code second third → RunsOn code first third
-run_on code first second third one two = record { before = one.before; after = two.after; later = later_on first second third one.later two.later }
+pub run_on : (code : CodeProgram) (first second third : World) → RunsOn code first second → RunsOn code second third →
+    RunsOn code first third
+run_on code first second third one two =
+    record { before = one.before; after = two.after; later = later_on first second third one.later two.later }
 
 -- ---- one cell more
 
@@ -126,7 +132,8 @@ not_none true (Some number) e n = refl
 not_none true None e n = absurd (cc)
 not_none false o e n = absurd (cc)
 
-behind : (heap : Heap) (cell : Cell) (decl : ℕ) → may_be_first heap (shape_of cell) ≡ false → is_top decl cell ≡ true → IsSome (first_such (is_top decl) heap)
+behind : (heap : Heap) (cell : Cell) (decl : ℕ) → may_be_first heap (shape_of cell) ≡ false → is_top decl cell ≡ true →
+    IsSome (first_such (is_top decl) heap)
 behind heap (ClassCell other base encl holder over) decl e t =
     let both = both_of (eqb decl other) (is_nil encl) t in
     subst (λ n. IsSome (first_such (is_top n) heap)) (sym (eqb-true decl other both.0)) (not_none (is_nil encl) (first_such (is_top other) heap) e both.1)
@@ -154,7 +161,8 @@ tested_world old more after false e later = absurd (cc)
 
 -- A cell that may come leads to a later world.
 pub later_made : (world after : World) (cell : Cell) → MayCome world.cells cell → made world cell ≡ Some after → IsLater world after
-later_made world after cell may e = tested_world world (record world { cells = cell ∷ world.cells }) after (nat_le (heap_size world.cells + cell_size cell) world.limits.cells) e (record {
+later_made world after cell may e =
+    tested_world world (record world { cells = cell ∷ world.cells }) after (nat_le (heap_size world.cells + cell_size cell) world.limits.cells) e (record {
   limits = refl;
   steps = omega arith;
   cells = cells_after_making world.cells cell may.superclass;
@@ -182,7 +190,8 @@ pub later_left : (world : World) → IsLater world (left world)
 later_left world = recounted world (left world) refl (omega arith) refl [] (sym (append-nil world.output))
 
 pub later_counted : (world : World) (steps depth : ℕ) → world.steps ≤ steps → IsLater world (record world { steps = steps; depth = depth })
-later_counted world steps depth h = recounted world (record world { steps = steps; depth = depth }) refl h refl [] (sym (append-nil world.output))
+later_counted world steps depth h =
+    recounted world (record world { steps = steps; depth = depth }) refl h refl [] (sym (append-nil world.output))
 
 -- What is printed leads to a later world.
 pub later_printed : (world after : World) (bytes : List ℕ) → printed world bytes ≡ Some after → IsLater world after
@@ -203,7 +212,8 @@ word_bytes word value (FacetCell kind) = refl
 word_bytes word value (MirrorCell mirrored) = refl
 word_bytes word value (MessageCell sel args) = refl
 
-stays_written : (heap : Heap) (at word : ℕ) (value : Value) (number : ℕ) (cell : Cell) → find_cell heap number ≡ Some cell → StaysThere (write_word heap at word value) number cell
+stays_written : (heap : Heap) (at word : ℕ) (value : Value) (number : ℕ) (cell : Cell) → find_cell heap number ≡ Some cell →
+    StaysThere (write_word heap at word value) number cell
 stays_written heap at word value number cell e = tested (eqb number at) refl
   where
     tested : (b : Bool) → eqb number at ≡ b → StaysThere (write_word heap at word value) number cell
@@ -232,7 +242,8 @@ later_written world at word value =
 
 -- ---- a byte that is written of a text that wasn't there
 
-pub later_byte_written : (old new : World) (at place byte : ℕ) → IsLater old new → heap_size old.cells ≤ at → IsLater old (byte_written new at place byte)
+pub later_byte_written : (old new : World) (at place byte : ℕ) → IsLater old new → heap_size old.cells ≤ at →
+    IsLater old (byte_written new at place byte)
 later_byte_written old new at place byte later past =
     let leaves = byte_leaves new.cells at place byte in
     let other : (number : ℕ) (cell : Cell) → find_cell old.cells number ≡ Some cell → number ≢ at = λ number cell e q. omega (arith, found_below old.cells number cell e, past, q) in

@@ -34,7 +34,8 @@ nil_entry P words k value e nil =
 nils_live : (heap : Heap) (code : CodeProgram) (words : ℕ) → All (IsLiveValue heap code) (replicate words Nil)
 nils_live heap code words = All-replicate (IsLiveValue heap code) words Nil (tt, refl)
 
-new_chain : (heap : Heap) (decl base : ℕ) (encl holder over : Value) → chain_of (ClassCell decl base encl holder over ∷ heap) (heap_size heap) ≡ heap_size heap ∷ chain_above over (chain_of heap)
+new_chain : (heap : Heap) (decl base : ℕ) (encl holder over : Value) →
+    chain_of (ClassCell decl base encl holder over ∷ heap) (heap_size heap) ≡ heap_size heap ∷ chain_above over (chain_of heap)
 new_chain heap decl base encl holder over = rw (eq-eqb (heap_size heap) (heap_size heap) refl) refl
 
 -- the classes above a new class have the entries of its superclass
@@ -47,7 +48,8 @@ new_base heap code cell order s =
     ∙ sym (ap (entries_along heap code) (above heap over (omega (arith, order.small)) s))
 
 -- what is asked of a new cell holds once it is there
-new_lawful : (heap : Heap) (code : CodeProgram) (new : NewCell) → IsInOrder heap → has_superclass heap (fresh new) ≡ true → MayBeMade heap code new → CellIsLawful (fresh new ∷ heap) code (heap_size heap) (fresh new)
+new_lawful : (heap : Heap) (code : CodeProgram) (new : NewCell) → IsInOrder heap → has_superclass heap (fresh new) ≡ true →
+    MayBeMade heap code new → CellIsLawful (fresh new ∷ heap) code (heap_size heap) (fresh new)
 new_lawful heap code (Object class words) order s m =
     let after : Heap = fresh (Object class words) ∷ heap in
     let k = making_keeps_cells heap (fresh (Object class words)) order in
@@ -97,7 +99,9 @@ more_lawful world code new lawful s m number cell e = tested (eqb number (heap_s
     tested false t e = cell_lawful world.cells (fresh new ∷ world.cells) code number cell (making_keeps_cells world.cells (fresh new) order) e (lawful.cells number cell e)
 
 -- a lawful world in which a cell is made that may be made is lawful
-pub making_keeps : (world after : World) (code : CodeProgram) (new : NewCell) → IsLawful world code → has_superclass world.cells (fresh new) ≡ true → MayBeMade world.cells code new → made world (fresh new) ≡ Some after → IsLawful after code
+pub making_keeps : (world after : World) (code : CodeProgram) (new : NewCell) → IsLawful world code →
+    has_superclass world.cells (fresh new) ≡ true → MayBeMade world.cells code new → made world (fresh new) ≡ Some after →
+    IsLawful after code
 making_keeps world after code new lawful s m e = tested (nat_le (heap_size world.cells + cell_size (fresh new)) world.limits.cells) refl e
   where
     more : World

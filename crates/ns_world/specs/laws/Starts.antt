@@ -12,7 +12,8 @@ use Rattle.ns_world.specs.World.{World}
 use Rattle.ns_world.specs.Starts.{start_of, start_of_cell, has_class}
 use Rattle.ns_world.specs.Lawful.{IsLawful}
 
-named_cell : (world : World) (code : CodeProgram) (at : ℕ) → IsLawful world code → (o : Option Cell) → find_cell world.cells at ≡ o → has_class world.cells (start_of_cell (option_map_or shape_of o (new.Mirror Nil)) at) ≡ true
+named_cell : (world : World) (code : CodeProgram) (at : ℕ) → IsLawful world code → (o : Option Cell) → find_cell world.cells at ≡ o →
+    has_class world.cells (start_of_cell (option_map_or shape_of o (new.Mirror Nil)) at) ≡ true
 named_cell world code at lawful None e = refl
 named_cell world code at lawful (Some (ObjectCell class entries)) e = (lawful.cells at (ObjectCell class entries) e).0.class_is
 named_cell world code at lawful (Some (MirrorCell value)) e = refl
@@ -25,7 +26,8 @@ named_cell world code at lawful (Some (FacetCell kind)) e = refl
 named_cell world code at lawful (Some (MessageCell sel args)) e = refl
 
 -- The class at which the lookup of a message to a value starts is there, or is none.
-pub class_named : (world : World) (code : CodeProgram) (value : Value) → IsLawful world code → has_class world.cells (start_of world.cells value) ≡ true
+pub class_named : (world : World) (code : CodeProgram) (value : Value) → IsLawful world code →
+    has_class world.cells (start_of world.cells value) ≡ true
 class_named world code (Ref at) lawful = named_cell world code at lawful (find_cell world.cells at) refl
 class_named world code Nil lawful = refl
 class_named world code True lawful = refl

@@ -100,7 +100,8 @@ locals_told (MessageCell sel args) = refl
 
 -- what is asked of a message's arguments is asked of a shape
 abbrev SameSize : CodeProgram → Sel → Cell → Type 0
-SameSize code sel cell = (HasArguments code sel (Some cell) → HasSize code sel (shape_of cell)) × (HasSize code sel (shape_of cell) → HasArguments code sel (Some cell))
+SameSize code sel cell =
+    (HasArguments code sel (Some cell) → HasSize code sel (shape_of cell)) × (HasSize code sel (shape_of cell) → HasArguments code sel (Some cell))
 
 arguments_told : (code : CodeProgram) (sel : Sel) (cell : Cell) → SameSize code sel cell
 arguments_told code sel (ObjectCell class entries) = (λ h. h, λ h. h)
@@ -114,7 +115,8 @@ arguments_told code sel (MirrorCell mirrored) = (λ h. h, λ h. h)
 arguments_told code sel (MessageCell other args) = (λ h. h, λ h. h)
 
 -- what one option tells of locals, where another tells as much
-locals_of_other : (o : Option (Value × List Value)) (e : Value × List Value) → option_map counted o ≡ Some (counted e) → (before : Value × List Value) × (o ≡ Some before) × (counted before ≡ counted e)
+locals_of_other : (o : Option (Value × List Value)) (e : Value × List Value) → option_map counted o ≡ Some (counted e) →
+    (before : Value × List Value) × (o ≡ Some before) × (counted before ≡ counted e)
 locals_of_other None e h = absurd (cc)
 locals_of_other (Some before) e h = (before, refl, cc)
 
@@ -192,13 +194,15 @@ making_keeps_cells heap cell order = record {
 }
 
 -- a cell that is changed is found changed
-pub found_changed : (heap : Heap) (at : ℕ) (change : Cell → Cell) (cell : Cell) → ChangesPlainly change → find_cell heap at ≡ Some cell → find_cell (change_cell heap at change) at ≡ Some (change cell)
+pub found_changed : (heap : Heap) (at : ℕ) (change : Cell → Cell) (cell : Cell) → ChangesPlainly change → find_cell heap at ≡ Some cell →
+    find_cell (change_cell heap at change) at ≡ Some (change cell)
 found_changed heap at change cell plainly e =
     let is : change_cell heap at change ≡ set_cell heap at (change cell) = rw e refl in
     ap (λ h. find_cell h at) is ∙ set_here heap at cell (change cell) e (plainly.size cell)
 
 -- a word or a byte written
-pub changing_keeps_cells : (heap : Heap) (at : ℕ) (change : Cell → Cell) → ChangesPlainly change → ((cell : Cell) → Twins cell (change cell)) → IsInOrder heap → KeepsCells heap (change_cell heap at change)
+pub changing_keeps_cells : (heap : Heap) (at : ℕ) (change : Cell → Cell) → ChangesPlainly change →
+    ((cell : Cell) → Twins cell (change cell)) → IsInOrder heap → KeepsCells heap (change_cell heap at change)
 changing_keeps_cells heap at change plainly twins order = record {
   order = order;
   same = same_after_changing heap at change plainly order;

@@ -20,7 +20,8 @@ use Rattle.ns_world.specs.laws.Staying.{value_stays}
 use Rattle.ns_world.specs.laws.Lawfully.{keeps_word_stays, cell_lawful}
 
 -- the value at a place is the one written there, or the one that was there
-value_at_place : (P : Value → Type 0) (entries : List Value) (word k : ℕ) (value found : Value) → slice_get (set entries word value) k ≡ Some found → (k ≡ word → P value) → (slice_get entries k ≡ Some found → P found) → P found
+value_at_place : (P : Value → Type 0) (entries : List Value) (word k : ℕ) (value found : Value) →
+    slice_get (set entries word value) k ≡ Some found → (k ≡ word → P value) → (slice_get entries k ≡ Some found → P found) → P found
 value_at_place P entries word k value found e here there = tested (eqb k word) refl
   where
     inside : k < length entries
@@ -39,7 +40,9 @@ value_at_place P entries word k value found e here there = tested (eqb k word) r
         let is : get_or entries k found ≡ found = sym (get_or-set_other entries word k value found other) ∙ read in
         there (slice_get-get_or entries k found inside ∙ ap Some is)
 
-object_word : (heap : Heap) (code : CodeProgram) (number class : ℕ) (entries : List Value) (word : ℕ) (value : Value) → ObjectIsLawful heap code number class entries → KeepsWord heap code number class word value → ObjectIsLawful heap code number class (set entries word value)
+object_word : (heap : Heap) (code : CodeProgram) (number class : ℕ) (entries : List Value) (word : ℕ) (value : Value) →
+    ObjectIsLawful heap code number class entries → KeepsWord heap code number class word value →
+    ObjectIsLawful heap code number class (set entries word value)
 object_word heap code number class entries word value l keeps = record {
   class_is = l.class_is;
   words = length-set entries word value ∙ l.words;
@@ -50,10 +53,14 @@ object_word heap code number class entries word value l keeps = record {
 }
 
 -- a lawful cell with a word written that may be written
-word_lawful : (heap : Heap) (code : CodeProgram) (number : ℕ) (cell : Cell) (word : ℕ) (value : Value) → CellIsLawful heap code number cell → IsLiveValue heap code value → ForSome (class_of_object (Some cell)) (λ class. KeepsWord heap code number class word value) → CellIsLawful heap code number (with_word cell word value)
+word_lawful : (heap : Heap) (code : CodeProgram) (number : ℕ) (cell : Cell) (word : ℕ) (value : Value) →
+    CellIsLawful heap code number cell → IsLiveValue heap code value →
+    ForSome (class_of_object (Some cell)) (λ class. KeepsWord heap code number class word value) →
+    CellIsLawful heap code number (with_word cell word value)
 word_lawful heap code number (ObjectCell class entries) word value l live keeps =
     (object_word heap code number class entries word value l.0 (keeps class refl), All-set (IsLiveValue heap code) entries word value live l.1)
-word_lawful heap code number (EnvironmentCell parent locals) word value l live keeps = (l.0, All-set (IsLiveValue heap code) locals word value live l.1)
+word_lawful heap code number (EnvironmentCell parent locals) word value l live keeps =
+    (l.0, All-set (IsLiveValue heap code) locals word value live l.1)
 word_lawful heap code number (ArrayCell items) word value l live keeps = All-set (IsLiveValue heap code) items word value live l
 word_lawful heap code number (ClassCell decl base encl holder over) word value l live keeps = l
 word_lawful heap code number (BlockCell body env home receiver holder) word value l live keeps = l
@@ -62,7 +69,8 @@ word_lawful heap code number (FacetCell kind) word value l live keeps = l
 word_lawful heap code number (MirrorCell mirrored) word value l live keeps = l
 word_lawful heap code number (MessageCell sel args) word value l live keeps = l
 
-byte_lawful : (heap : Heap) (code : CodeProgram) (number : ℕ) (cell : Cell) (place byte : ℕ) → CellIsLawful heap code number cell → CellIsLawful heap code number (with_byte cell place byte)
+byte_lawful : (heap : Heap) (code : CodeProgram) (number : ℕ) (cell : Cell) (place byte : ℕ) → CellIsLawful heap code number cell →
+    CellIsLawful heap code number (with_byte cell place byte)
 byte_lawful heap code number (TextCell bytes) place byte l = tt
 byte_lawful heap code number (ObjectCell class entries) place byte l = l
 byte_lawful heap code number (EnvironmentCell parent locals) place byte l = l
@@ -74,7 +82,10 @@ byte_lawful heap code number (MirrorCell mirrored) place byte l = l
 byte_lawful heap code number (MessageCell sel args) place byte l = l
 
 -- a lawful world in which a cell is changed into a lawful one
-changed_lawful : (world : World) (code : CodeProgram) (at : ℕ) (change : Cell → Cell) → IsLawful world code → ChangesPlainly change → ((cell : Cell) → Twins cell (change cell)) → ((cell : Cell) → find_cell world.cells at ≡ Some cell → CellIsLawful (change_cell world.cells at change) code at cell → CellIsLawful (change_cell world.cells at change) code at (change cell)) → IsLawful (record world { cells = change_cell world.cells at change }) code
+changed_lawful : (world : World) (code : CodeProgram) (at : ℕ) (change : Cell → Cell) → IsLawful world code → ChangesPlainly change →
+    ((cell : Cell) → Twins cell (change cell)) →
+    ((cell : Cell) → find_cell world.cells at ≡ Some cell → CellIsLawful (change_cell world.cells at change) code at cell → CellIsLawful (change_cell world.cells at change) code at (change cell)) →
+    IsLawful (record world { cells = change_cell world.cells at change }) code
 changed_lawful world code at change lawful plainly twins here = record {
   within = record { limits = lawful.within.limits; cells = omega (arith, leaves.size, lawful.within.cells); steps = lawful.within.steps; depth = lawful.within.depth; out = lawful.within.out };
   ordered = leaves.order ∙ lawful.ordered;
@@ -109,7 +120,8 @@ changed_lawful world code at change lawful plainly twins here = record {
         cell_lawful world.cells after code number cell keeps was (lawful.cells number cell was)
 
 -- a chain starts at the class of an object
-pub object_starts : (world : World) (code : CodeProgram) (at class : ℕ) → IsLawful world code → class_of_object (find_cell world.cells at) ≡ Some class → is_chain_start world.cells class ≡ true
+pub object_starts : (world : World) (code : CodeProgram) (at class : ℕ) → IsLawful world code →
+    class_of_object (find_cell world.cells at) ≡ Some class → is_chain_start world.cells class ≡ true
 object_starts world code at class lawful h = found (find_cell world.cells at) refl h
   where
     found : (o : Option Cell) → find_cell world.cells at ≡ o → class_of_object o ≡ Some class → is_chain_start world.cells class ≡ true
@@ -125,7 +137,8 @@ object_starts world code at class lawful h = found (find_cell world.cells at) re
     found (Some (MessageCell sel args)) e h = absurd (cc)
 
 -- a word that may be written
-pub writing_keeps : (world : World) (code : CodeProgram) (at word : ℕ) (value : Value) → IsLawful world code → MayBeWritten world.cells code at word value → IsLawful (written world at word value) code
+pub writing_keeps : (world : World) (code : CodeProgram) (at word : ℕ) (value : Value) → IsLawful world code →
+    MayBeWritten world.cells code at word value → IsLawful (written world at word value) code
 writing_keeps world code at word value lawful m =
     changed_lawful world code at change lawful (word_plainly word value) (word_twins word value) (λ cell e l. word_lawful after code at cell word value l (value_stays world.cells after code value keeps m.0) (λ class c. kept cell e class c))
   where
@@ -144,6 +157,7 @@ writing_keeps world code at word value lawful m =
         keeps_word_stays world.cells after code at class word value keeps (object_starts world code at class lawful is) (m.1 class is)
 
 -- a byte of a text
-pub byte_keeps : (world : World) (code : CodeProgram) (at place byte : ℕ) → IsLawful world code → IsLawful (byte_written world at place byte) code
+pub byte_keeps : (world : World) (code : CodeProgram) (at place byte : ℕ) → IsLawful world code →
+    IsLawful (byte_written world at place byte) code
 byte_keeps world code at place byte lawful =
     changed_lawful world code at (λ cell. with_byte cell place byte) lawful (byte_plainly place byte) (byte_twins place byte) (λ cell e l. byte_lawful (write_byte world.cells at place byte) code at cell place byte l)

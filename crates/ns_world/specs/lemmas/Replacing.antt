@@ -13,11 +13,13 @@ pub record Replaces (old new : Cell) : Type 0 where
   pub old_plain : is_class (Some old) ≡ false
   pub new_plain : is_class (Some new) ≡ false
 
-pub heap_size-replaced : (later earlier : Heap) (old new : Cell) → cell_size new ≡ cell_size old → heap_size (later ++ new ∷ earlier) ≡ heap_size (later ++ old ∷ earlier)
+pub heap_size-replaced : (later earlier : Heap) (old new : Cell) → cell_size new ≡ cell_size old →
+    heap_size (later ++ new ∷ earlier) ≡ heap_size (later ++ old ∷ earlier)
 heap_size-replaced [] earlier old new e = ap (λ n. heap_size earlier + n) e
 heap_size-replaced (cell ∷ later) earlier old new e = ap (λ n. n + cell_size cell) (heap_size-replaced later earlier old new e)
 
-class_replaced : (later earlier : Heap) (old new : Cell) (n : ℕ) → Replaces old new → is_class (find_cell (later ++ new ∷ earlier) n) ≡ is_class (find_cell (later ++ old ∷ earlier) n)
+class_replaced : (later earlier : Heap) (old new : Cell) (n : ℕ) → Replaces old new →
+    is_class (find_cell (later ++ new ∷ earlier) n) ≡ is_class (find_cell (later ++ old ∷ earlier) n)
 class_replaced [] earlier old new n r = here (eqb n (heap_size earlier))
   where
     here : (b : Bool) → is_class (cond b (Some new) (find_cell earlier n)) ≡ is_class (cond b (Some old) (find_cell earlier n))
@@ -31,7 +33,8 @@ class_replaced (cell ∷ later) earlier old new n r =
     here true e = refl
     here false e = e
 
-superclass_replaced : (later earlier : Heap) (old new : Cell) (over : Value) → Replaces old new → is_superclass (later ++ new ∷ earlier) over ≡ is_superclass (later ++ old ∷ earlier) over
+superclass_replaced : (later earlier : Heap) (old new : Cell) (over : Value) → Replaces old new →
+    is_superclass (later ++ new ∷ earlier) over ≡ is_superclass (later ++ old ∷ earlier) over
 superclass_replaced later earlier old new Nil r = refl
 superclass_replaced later earlier old new True r = refl
 superclass_replaced later earlier old new False r = refl
@@ -41,7 +44,8 @@ superclass_replaced later earlier old new (Kernel kernel.Object) r = refl
 superclass_replaced later earlier old new (Kernel kernel.Array) r = refl
 superclass_replaced later earlier old new (Ref class) r = class_replaced later earlier old new class r
 
-has_superclass_replaced : (later earlier : Heap) (old new cell : Cell) → Replaces old new → has_superclass (later ++ new ∷ earlier) cell ≡ has_superclass (later ++ old ∷ earlier) cell
+has_superclass_replaced : (later earlier : Heap) (old new cell : Cell) → Replaces old new →
+    has_superclass (later ++ new ∷ earlier) cell ≡ has_superclass (later ++ old ∷ earlier) cell
 has_superclass_replaced later earlier old new (ClassCell decl base encl holder over) r = superclass_replaced later earlier old new over r
 has_superclass_replaced later earlier old new (ObjectCell class entries) r = refl
 has_superclass_replaced later earlier old new (BlockCell body env home receiver holder) r = refl
@@ -64,7 +68,8 @@ no_superclass earlier (FacetCell kind) e = refl
 no_superclass earlier (MirrorCell mirrored) e = refl
 no_superclass earlier (MessageCell sel args) e = refl
 
-ordered_replaced : (later earlier : Heap) (old new : Cell) → Replaces old new → is_ordered (later ++ new ∷ earlier) ≡ is_ordered (later ++ old ∷ earlier)
+ordered_replaced : (later earlier : Heap) (old new : Cell) → Replaces old new →
+    is_ordered (later ++ new ∷ earlier) ≡ is_ordered (later ++ old ∷ earlier)
 ordered_replaced [] earlier old new r =
     ap (λ b. b && is_ordered earlier) (no_superclass earlier new r.new_plain ∙ sym (no_superclass earlier old r.old_plain))
 ordered_replaced (cell ∷ later) earlier old new r =
@@ -103,7 +108,8 @@ chain_at_same (FacetCell kind) n f g e = refl
 chain_at_same (MirrorCell mirrored) n f g e = refl
 chain_at_same (MessageCell sel args) n f g e = refl
 
-chain_replaced : (later earlier : Heap) (old new : Cell) (n : ℕ) → Replaces old new → chain_of (later ++ new ∷ earlier) n ≡ chain_of (later ++ old ∷ earlier) n
+chain_replaced : (later earlier : Heap) (old new : Cell) (n : ℕ) → Replaces old new →
+    chain_of (later ++ new ∷ earlier) n ≡ chain_of (later ++ old ∷ earlier) n
 chain_replaced [] earlier old new n r = here (eqb n (heap_size earlier))
   where
     here : (b : Bool) → cond b (chain_at new n (chain_of earlier)) (chain_of earlier n) ≡ cond b (chain_at old n (chain_of earlier)) (chain_of earlier n)
@@ -124,7 +130,8 @@ pub record StaysReplaced (before after : Heap) : Type 0 where
   pub classes_stay : (n : ℕ) → is_class (find_cell after n) ≡ is_class (find_cell before n)
   pub chains_stay : (n : ℕ) → chain_of after n ≡ chain_of before n
 
-pub set_cell_stays : (heap : Heap) (number : ℕ) (old new : Cell) → find_cell heap number ≡ Some old → Replaces old new → StaysReplaced heap (set_cell heap number new)
+pub set_cell_stays : (heap : Heap) (number : ℕ) (old new : Cell) → find_cell heap number ≡ Some old → Replaces old new →
+    StaysReplaced heap (set_cell heap number new)
 set_cell_stays heap number old new e r =
     let s = stands heap number old e in
     record {
