@@ -46,12 +46,12 @@ after_high : (codes : List BodyCode) →
 after_high [] = refl
 after_high (code ∷ codes) =
     tested (is_too_long code) (is_too_high code) (list_any is_too_long codes) (after_long codes) (after_high codes) where
-  tested : (long high any : Bool) → fault_behind (Some s.Code) codes ≡ Some s.Code →
-      fault_behind (Some s.Height) codes ≡ (if any then Some s.Code else Some s.Height) →
-      fault_behind (fault_next (Some s.Height) (sized long high code)) codes ≡ (if long || any then Some s.Code else Some s.Height)
-  tested true high any one two = one
-  tested false true any one two = two
-  tested false false any one two = two
+      tested : (long high any : Bool) → fault_behind (Some s.Code) codes ≡ Some s.Code →
+          fault_behind (Some s.Height) codes ≡ (if any then Some s.Code else Some s.Height) →
+          fault_behind (fault_next (Some s.Height) (sized long high code)) codes ≡ (if long || any then Some s.Code else Some s.Height)
+      tested true high any one two = one
+      tested false true any one two = two
+      tested false false any one two = two
 
 pub sizes_are : (codes : List BodyCode) → fault_behind None codes ≡ bodies_fault codes
 sizes_are [] = refl

@@ -54,9 +54,9 @@ pub no_level : (meant : m.Meant) (body : BodyCode) (level class : ℕ) → t.dec
     w.is_no_level (code_of meant) body level ≡ false
 no_level meant body level class e =
     and_false (nat_lt body.class (length (code_of meant).classes)) _ (level_there meant level body.class class e) where
-  and_false : (a b : Bool) → b ≡ false → (a && b) ≡ false
-  and_false true b h = h
-  and_false false b h = refl
+      and_false : (a b : Bool) → b ≡ false → (a && b) ≡ false
+      and_false true b h = h
+      and_false false b h = refl
 
 -- ---- blocks
 

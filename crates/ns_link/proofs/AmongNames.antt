@@ -53,7 +53,7 @@ pub right_more : (there : Bool) (name : List ℕ) (first second : List (List ℕ
 right_more false name first second text h = h
 right_more true name first second text h =
     by (bytes_eq text name) (list_any (bytes_eq text) first) (list_any (bytes_eq text) second) h where
-  by : (x y z : Bool) → (y || z) ≡ true → (y || (x || z)) ≡ true
-  by x true z h = refl
-  by true false z h = refl
-  by false false z h = h
+      by : (x y z : Bool) → (y || z) ≡ true → (y || (x || z)) ≡ true
+      by x true z h = refl
+      by true false z h = refl
+      by false false z h = h

@@ -39,11 +39,11 @@ pub lawful_source : (tokens : List Kind) (depth at : ℕ) → AllHaveText tokens
 lawful_source [] depth at texts e = tt
 lawful_source (kind ∷ rest) depth at texts e =
     by (opens kind && nat_le most_brackets depth) (lawful_source rest (open_behind depth kind) (at + 1) texts.1) e where
-  by : (deep : Bool) → (deep_from (open_behind depth kind) (at + 1) rest ≡ None → Lawful (open_behind depth kind) rest) →
-      (if deep then Some at else deep_from (open_behind depth kind) (at + 1) rest) ≡ None →
-      HasText kind × (deep ≡ false) × Lawful (open_behind depth kind) rest
-  by true further e = absurd (let f : Some at ≡ None = e in cc)
-  by false further e = (texts.0, refl, further e)
+      by : (deep : Bool) → (deep_from (open_behind depth kind) (at + 1) rest ≡ None → Lawful (open_behind depth kind) rest) →
+          (if deep then Some at else deep_from (open_behind depth kind) (at + 1) rest) ≡ None →
+          HasText kind × (deep ≡ false) × Lawful (open_behind depth kind) rest
+      by true further e = absurd (let f : Some at ≡ None = e in cc)
+      by false further e = (texts.0, refl, further e)
 
 -- where a bracket opens, few are open
 pub few_open : (depth : ℕ) → nat_le most_brackets depth ≡ false → depth < 100

@@ -163,13 +163,13 @@ tested_world old more after false e later = absurd (cc)
 pub later_made : (world after : World) (cell : Cell) → MayCome world.cells cell → made world cell ≡ Some after → IsLater world after
 later_made world after cell may e =
     tested_world world (record world { cells = cell ∷ world.cells }) after (nat_le (heap_size world.cells + cell_size cell) world.limits.cells) e (record {
-  limits = refl;
-  steps = omega arith;
-  cells = cells_after_making world.cells cell may.superclass;
-  firsts = firsts_after_making world.cells cell may.no_first;
-  more = [];
-  printed = sym (append-nil world.output);
-})
+      limits = refl;
+      steps = omega arith;
+      cells = cells_after_making world.cells cell may.superclass;
+      firsts = firsts_after_making world.cells cell may.no_first;
+      more = [];
+      printed = sym (append-nil world.output);
+    })
 
 -- ---- charges, and output
 
