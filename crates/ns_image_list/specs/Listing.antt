@@ -1,5 +1,5 @@
 -- The listing of code, line by line.
-use Rattle.std.specs.Prelude.{ℕ, zero, suc, ◌+◌, List, [], ◌∷◌, ◌++◌, codes, decimal, slice_get}
+use Rattle.std.specs.Prelude.{ℕ, zero, suc, ◌+◌, List, [], ◌∷◌, ◌++◌, codes, decimal, map, slice_get}
 use Rattle.std.specs.Option.{option_map_or}
 use Rattle.std.specs.Fmt.{signed_decimal}
 use Rattle.std.specs.List.{concat}
@@ -19,6 +19,10 @@ name_shown code number = option_map_or (λ name. name) (slice_get code.names num
 -- the text of that number in quotes, or a question mark where there is none
 abbrev pub text_shown : CodeProgram → ℕ → List ℕ
 text_shown code number = option_map_or quoted (slice_get code.texts number) (codes "?")
+
+-- all texts in quotes
+abbrev pub all_quoted : CodeProgram → List (List ℕ)
+all_quoted code = map quoted code.texts
 
 -- operands, each behind a blank
 abbrev pub number : ℕ → List ℕ

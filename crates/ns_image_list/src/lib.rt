@@ -1,8 +1,9 @@
 //! Writes the listing of code.
 //! `specs/Listing.antt` says it line by line.
 //! Stands between code and run.
-#![tactic(auto)]
+#![tactic(auto, using(crate::proofs::Puts::after_after))]
 
 pub mod instruction;
 pub mod list;
 pub mod output;
+pub mod source;

@@ -2,9 +2,11 @@
 
 ghost use Rattle.std.specs.Prelude.{◌≡◌, ◌++◌, OnOk, IfOk};
 ghost use Rattle.ns_image_list.specs.Listing as spec;
+ghost use Rattle.ns_image_list.specs.Output.{after};
 
 use crate::instruction::put_instruction;
-use crate::output::{end_line, put, put_counted, put_name};
+use crate::output::Output;
+use crate::source::Source;
 use ns_base::no_memory::NoMemory;
 use ns_base::text::Text;
 use ns_code::body::BodyCode;
@@ -16,78 +18,88 @@ use ns_code::program::CodeProgram;
 use std::alloc::Global;
 
 /// A line for each class, and then for each body its own line, one for each local and one for each
-/// instruction. A number that names nothing is shown as a question mark.
+/// instruction. A number that names nothing is shown as a question mark. The bytes are counted first, so that room
+/// for them is asked for once: a listing that finds none is refused before any of it is written.
 pub fn list(alloc: Global, code: &CodeProgram) -> Result<Vec<u8>, NoMemory>
     ensures { IfOk result (λ lines. lines.items ≡ spec.listing code.now) }
 {
-    let mut out = Vec::new(alloc);
-    put_classes(&mut out, code)?;
-    put_bodies(&mut out, code)?;
-    Ok(out)
+    let source = Source::new(alloc, code)?;
+    let mut counted = Output::counting(alloc);
+    put_listing(&mut counted, &source)?;
+    let mut lines = Output::with_room(alloc, counted.counted())?;
+    put_listing(&mut lines, &source)?;
+    Ok(lines.into_bytes())
 }
 
-fn put_classes(out: &mut Vec<u8>, code: &CodeProgram) -> Result<(), NoMemory>
-    ensures { OnOk result (out.new.items ≡ out.old.items ++ spec.numbered (spec.class_line code.now) 0 code.now.classes) }
+fn put_listing(out: &mut Output, source: &Source<'_>) -> Result<(), NoMemory>
+    ensures { OnOk result (out.new ≡ after out.old (spec.listing source.now)) }
 {
-    'classes: for (place, class) in code.classes.as_slice().iter().enumerate() {
-        put_class(out, code, place, class)?;
+    put_classes(out, source)?;
+    put_bodies(out, source)
+}
+
+fn put_classes(out: &mut Output, source: &Source<'_>) -> Result<(), NoMemory>
+    ensures { OnOk result (out.new ≡ after out.old (spec.numbered (spec.class_line source.now) 0 source.now.classes)) }
+{
+    'classes: for (place, class) in source.classes().iter().enumerate() {
+        put_class(out, source, place, class)?;
     }
     Ok(())
 }
 
 fn put_class(
-    out: &mut Vec<u8>,
-    code: &CodeProgram,
+    out: &mut Output,
+    source: &Source<'_>,
     place: usize,
     class: &ClassCode,
 ) -> Result<(), NoMemory>
-    ensures { OnOk result (out.new.items ≡ out.old.items ++ spec.class_line code.now place class.now) }
+    ensures { OnOk result (out.new ≡ after out.old (spec.class_line source.now place class.now)) }
 {
-    put_counted(out, b"class", place as u64)?;
-    put_name(out, code, class.name)?;
-    end_line(out)
+    out.put_counted(b"class", place as u64)?;
+    out.put_behind_blank(source.name(class.name))?;
+    out.end_line()
 }
 
-fn put_bodies(out: &mut Vec<u8>, code: &CodeProgram) -> Result<(), NoMemory>
-    ensures { OnOk result (out.new.items ≡ out.old.items ++ spec.numbered (spec.body_lines code.now) 0 code.now.bodies) }
+fn put_bodies(out: &mut Output, source: &Source<'_>) -> Result<(), NoMemory>
+    ensures { OnOk result (out.new ≡ after out.old (spec.numbered (spec.body_lines source.now) 0 source.now.bodies)) }
 {
-    'bodies: for (place, body) in code.bodies.as_slice().iter().enumerate() {
-        put_body(out, code, place, body)?;
+    'bodies: for (place, body) in source.bodies().iter().enumerate() {
+        put_body(out, source, place, body)?;
     }
     Ok(())
 }
 
 fn put_body(
-    out: &mut Vec<u8>,
-    code: &CodeProgram,
+    out: &mut Output,
+    source: &Source<'_>,
     place: usize,
     body: &BodyCode,
 ) -> Result<(), NoMemory>
-    ensures { OnOk result (out.new.items ≡ out.old.items ++ spec.body_lines code.now place body.now) }
+    ensures { OnOk result (out.new ≡ after out.old (spec.body_lines source.now place body.now)) }
 {
     put_body_line(out, place, body)?;
     put_local_names(out, &body.local_names)?;
-    let instrs = body.instrs.to_vec(*out.allocator())?;
-    put_instructions(out, code, &instrs)
+    let instrs = body.instrs.to_vec(out.alloc)?;
+    put_instructions(out, source, &instrs)
 }
 
-fn put_body_line(out: &mut Vec<u8>, place: usize, body: &BodyCode) -> Result<(), NoMemory>
-    ensures { OnOk result (out.new.items ≡ out.old.items ++ spec.body_line place body.now) }
+fn put_body_line(out: &mut Output, place: usize, body: &BodyCode) -> Result<(), NoMemory>
+    ensures { OnOk result (out.new ≡ after out.old (spec.body_line place body.now)) }
 {
-    put_counted(out, b"body", place as u64)?;
-    put(out, b" ")?;
-    put(out, kind_shown(body.kind))?;
+    out.put_counted(b"body", place as u64)?;
+    out.put(b" ")?;
+    out.put(kind_shown(body.kind))?;
     put_body_numbers(out, body)
 }
 
 /// What stands in a body's line behind its kind.
-fn put_body_numbers(out: &mut Vec<u8>, body: &BodyCode) -> Result<(), NoMemory>
-    ensures { OnOk result (out.new.items ≡ out.old.items ++ spec.body_numbers body.now) }
+fn put_body_numbers(out: &mut Output, body: &BodyCode) -> Result<(), NoMemory>
+    ensures { OnOk result (out.new ≡ after out.old (spec.body_numbers body.now)) }
 {
-    put_counted(out, b" class", u64::from(body.class))?;
-    put_counted(out, b" params", u64::from(body.params))?;
-    put_counted(out, b" locals", u64::from(body.locals))?;
-    end_line(out)
+    out.put_counted(b" class", u64::from(body.class))?;
+    out.put_counted(b" params", u64::from(body.params))?;
+    out.put_counted(b" locals", u64::from(body.locals))?;
+    out.end_line()
 }
 
 fn kind_shown(kind: u8) -> &'static [u8]
@@ -102,20 +114,19 @@ fn kind_shown(kind: u8) -> &'static [u8]
 }
 
 /// Their lines, from the names that are there, or from as many as are made of numbers.
-fn put_local_names(out: &mut Vec<u8>, names: &LocalNames) -> Result<(), NoMemory>
-    ensures { OnOk result (out.new.items ≡ out.old.items ++ spec.numbered spec.local_line 0 names.now) }
+fn put_local_names(out: &mut Output, names: &LocalNames) -> Result<(), NoMemory>
+    ensures { OnOk result (out.new ≡ after out.old (spec.numbered spec.local_line 0 names.now)) }
 {
     let (given, count) = names.parts();
     if given.is_empty() {
-        let alloc = *out.allocator();
-        let made = numbered_texts(alloc, count)?;
+        let made = numbered_texts(out.alloc, count)?;
         return put_locals(out, &made);
     }
     put_locals(out, given)
 }
 
-fn put_locals(out: &mut Vec<u8>, names: &[Text]) -> Result<(), NoMemory>
-    ensures { OnOk result (out.new.items ≡ out.old.items ++ spec.numbered spec.local_line 0 names.now) }
+fn put_locals(out: &mut Output, names: &[Text]) -> Result<(), NoMemory>
+    ensures { OnOk result (out.new ≡ after out.old (spec.numbered spec.local_line 0 names.now)) }
 {
     'names: for (place, name) in names.iter().enumerate() {
         put_local(out, place, name.bytes())?;
@@ -123,34 +134,34 @@ fn put_locals(out: &mut Vec<u8>, names: &[Text]) -> Result<(), NoMemory>
     Ok(())
 }
 
-fn put_local(out: &mut Vec<u8>, place: usize, name: &[u8]) -> Result<(), NoMemory>
-    ensures { OnOk result (out.new.items ≡ out.old.items ++ spec.local_line place name.now) }
+fn put_local(out: &mut Output, place: usize, name: &[u8]) -> Result<(), NoMemory>
+    ensures { OnOk result (out.new ≡ after out.old (spec.local_line place name.now)) }
 {
-    put_counted(out, b"  local", place as u64)?;
-    put(out, b" ")?;
-    put(out, name)?;
-    end_line(out)
+    out.put_counted(b"  local", place as u64)?;
+    out.put(b" ")?;
+    out.put(name)?;
+    out.end_line()
 }
 
-fn put_instructions(out: &mut Vec<u8>, code: &CodeProgram, instrs: &[Instr]) -> Result<(), NoMemory>
-    ensures { OnOk result (out.new.items ≡ out.old.items ++ spec.numbered (spec.instr_line code.now) 0 instrs.now) }
+fn put_instructions(out: &mut Output, source: &Source<'_>, instrs: &[Instr]) -> Result<(), NoMemory>
+    ensures { OnOk result (out.new ≡ after out.old (spec.numbered (spec.instr_line source.now) 0 instrs.now)) }
 {
     'instrs: for (place, instr) in instrs.iter().enumerate() {
-        put_instr_line(out, code, place, *instr)?;
+        put_instr_line(out, source, place, *instr)?;
     }
     Ok(())
 }
 
 fn put_instr_line(
-    out: &mut Vec<u8>,
-    code: &CodeProgram,
+    out: &mut Output,
+    source: &Source<'_>,
     place: usize,
     instr: Instr,
 ) -> Result<(), NoMemory>
-    ensures { OnOk result (out.new.items ≡ out.old.items ++ spec.instr_line code.now place instr) }
+    ensures { OnOk result (out.new ≡ after out.old (spec.instr_line source.now place instr)) }
 {
-    put_counted(out, b" ", place as u64)?;
-    put(out, b" ")?;
-    put_instruction(out, code, instr)?;
-    end_line(out)
+    out.put_counted(b" ", place as u64)?;
+    out.put(b" ")?;
+    put_instruction(out, source, instr)?;
+    out.end_line()
 }
