@@ -1,6 +1,6 @@
--- What a loop over a writer passes on.
-use Rattle.std.proofs.Common.{◌≡◌, ℕ, zero, suc, ◌+◌, List, [], ◌∷◌, ◌++◌, take, drop, Option, Some, None, refl, sym, ap, subst, ◌∙◌, append_assoc, arith}
-use Rattle.std.specs.Io.KnownBytes.{Appends}
+-- What a loop over an outlet passes on.
+use Rattle.std.proofs.Common.{◌≡◌, ℕ, zero, suc, ◌+◌, List, [], ◌∷◌, ◌++◌, take, drop, Option, Some, None, refl, sym, ap, ◌∙◌, append_assoc, append-nil, arith}
+use Rattle.ns_base.specs.Sink.{with_bytes}
 
 no_bytes : (n : ℕ) → take {A = ℕ} n [] ≡ []
 no_bytes zero = refl
@@ -12,14 +12,15 @@ take_two zero n xs = ap (λ j. take j xs) (omega arith)
 take_two (suc i) n [] = no_bytes (suc i + n) ∙ sym (no_bytes n)
 take_two (suc i) n (x ∷ xs) = let e : suc i + n ≡ suc (i + n) = omega arith in ap (λ j. take j (x ∷ xs)) e ∙ ap (λ ys. x ∷ ys) (take_two i n xs)
 
-more_passed : (old mid new : Option (List ℕ)) (xs ys : List ℕ) → Appends old mid xs → Appends mid new ys → Appends old new (xs ++ ys)
-more_passed None mid new xs ys a b = tt
-more_passed (Some v) None new xs ys a b = absurd a
-more_passed (Some v) (Some w) None xs ys a b = absurd b
-more_passed (Some v) (Some w) (Some z) xs ys a b = b ∙ ap (λ u. u ++ ys) a ∙ append_assoc v xs ys
+pub nothing_passed : (old : Option (List ℕ)) (bytes : List ℕ) → old ≡ with_bytes (take 0 bytes) old
+nothing_passed None bytes = refl
+nothing_passed (Some v) bytes = ap (λ u. Some u) (sym (append-nil v))
+
+more_passed : (old : Option (List ℕ)) (xs ys : List ℕ) → with_bytes ys (with_bytes xs old) ≡ with_bytes (xs ++ ys) old
+more_passed None xs ys = refl
+more_passed (Some v) xs ys = ap (λ u. Some u) (append_assoc v xs ys)
 
 -- a write took some bytes of the rest
-pub passed : (old mid new : Option (List ℕ)) (bytes rest : List ℕ) (i n j : ℕ) → rest ≡ drop i bytes → j ≡ i + n →
-    Appends old mid (take i bytes) → Appends mid new (take n rest) → Appends old new (take j bytes)
+pub passed : (old mid new : Option (List ℕ)) (bytes rest : List ℕ) (i n j : ℕ) → rest ≡ drop i bytes → j ≡ i + n → mid ≡ with_bytes (take i bytes) old → new ≡ with_bytes (take n rest) mid → new ≡ with_bytes (take j bytes) old
 passed old mid new bytes rest i n j r e a b =
-    subst (Appends old new) (ap (λ ys. take i bytes ++ take n ys) r ∙ sym (take_two i n bytes) ∙ ap (λ k. take k bytes) (sym e)) (more_passed old mid new (take i bytes) (take n rest) a b)
+    b ∙ ap (λ u. with_bytes (take n u) mid) r ∙ ap (λ u. with_bytes (take n (drop i bytes)) u) a ∙ more_passed old (take i bytes) (take n (drop i bytes)) ∙ ap (λ u. with_bytes u old) (sym (take_two i n bytes) ∙ ap (λ k. take k bytes) (sym e))

@@ -1,2 +1,5 @@
+pub mod Drive
+pub mod Line
+pub mod Standing
+pub mod Store
 pub mod Stream
-pub mod Word

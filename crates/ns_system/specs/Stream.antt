@@ -1,7 +1,7 @@
--- What a stream passes on.
-use Rattle.std.specs.Prelude.{ℕ, List, Option, take}
-use Rattle.std.specs.Io.KnownBytes.{Appends}
+-- What an outlet takes.
+use Rattle.std.specs.Prelude.{◌≡◌, ℕ, List, take, Option, Result, MatchResult}
+use Rattle.ns_base.specs.Sink.{with_bytes}
 
--- The first bytes of a piece were appended, and the others not, where the writer tells its bytes.
-abbrev pub AppendsPrefix : List ℕ → Option (List ℕ) → Option (List ℕ) → Type 0
-AppendsPrefix piece old new = (n : ℕ) × Appends old new (take n piece)
+-- A write took the bytes that it answers, from the first on, and none where it failed.
+abbrev pub Takes : {E : Type 0} → List ℕ → Result ℕ E → (old new : Option (List ℕ)) → Type 0
+Takes bytes result old new = MatchResult result (λ n. new ≡ with_bytes (take n bytes) old) (λ _. new ≡ old)

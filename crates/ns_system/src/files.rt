@@ -1,32 +1,38 @@
-//! The real files, as a shelf that tells no bytes.
+//! A drive as a shelf: what is loaded and stored is counted, and told where the drive tells it.
 
-ghost use Rattle.std.specs.Prelude.{◌≡◌, ◌≢◌, ◌⊎◌, ◌≤◌, ◌+◌, length, take, IfOk, IfSome};
+ghost use Rattle.std.specs.Prelude.{◌≡◌, ◌≢◌, ℕ, List, Err, ◌+◌, ◌≤◌, length, take, Option, option_map, IfOk, IfSome};
+ghost use Rattle.ns_base.specs.Files.{Files};
+ghost use Rattle.ns_base.specs.Shelf.{AnswersLoad};
+ghost use Rattle.ns_system.specs.Drive.{AnswersOpen, IsAbsence};
 
+use crate::drive::Drive;
+use crate::store::store;
 use ns_base::shelf::{Shelf, ShelfFault};
 use std::alloc::Global;
-use std::fs::File;
-use std::io::{self, ErrorKind, Read, Write};
+use std::io::{self, ErrorKind, Read};
 
 /// How many bytes are read at once.
 const READ_BYTES: u64 = 16_384;
 
-/// The files of the system, with how many loads found no file, how many failed, and how many
-/// stores failed.
+/// The files of a drive, with how many loads found no file, how many failed, and how many stores failed.
 #[derive(Drop)]
-pub struct Disk {
-    rt: HostRuntime,
+pub struct Disk<D> {
+    pub drive: D,
+    alloc: Global,
     pub misses: u64,
     pub faults: u64,
     pub store_faults: u64,
 }
 
-impl Disk {
-    /// The files of the system, of which no load and no store failed yet.
-    pub fn new(rt: HostRuntime) -> Disk
-        ensures { result.misses + result.faults + result.store_faults ≡ 0 }
+impl<D> Disk<D> {
+    /// The files of the drive, of which no load and no store failed yet.
+    pub fn new(alloc: Global, drive: D) -> Disk<D>
+        ensures drive { result.drive ≡ drive }
+        ensures counts { result.misses + result.faults + result.store_faults ≡ 0 }
     {
         Disk {
-            rt,
+            drive,
+            alloc,
             misses: 0,
             faults: 0,
             store_faults: 0,
@@ -34,10 +40,10 @@ impl Disk {
     }
 }
 
-impl Shelf for Disk {
-    ghost use Rattle.std.specs.Prelude.{None};
+impl<D: Drive> Shelf for Disk<D> {
+    ghost use Rattle.std.specs.Prelude.{option_map};
 
-    ghost holds = { λ _. None };
+    ghost holds = { λ s. option_map (λ kept. kept.files) (D.kept s.drive) };
 
     ghost misses = { λ s. s.misses };
 
@@ -46,7 +52,7 @@ impl Shelf for Disk {
     ghost store_faults = { λ s. s.store_faults };
 
     fn load(&mut self, alloc: Global, name: &str, most: u64) -> Result<Vec<u8>, ShelfFault> {
-        match load(&self.rt, alloc, name, most) {
+        match load(&mut self.drive, alloc, name, most) {
             Ok(bytes) => Ok(bytes),
             Err(ShelfFault::Missing) => {
                 self.misses = self.misses.saturating_add(1);
@@ -61,8 +67,9 @@ impl Shelf for Disk {
     }
 
     fn store(&mut self, name: &str, bytes: &[u8]) -> Result<(), ShelfFault> {
-        match store(&self.rt, name, bytes) {
+        match store(&mut self.drive, self.alloc, name, bytes) {
             Ok(()) => Ok(()),
+            Err(ShelfFault::Memory) => Err(ShelfFault::Memory),
             Err(_) => {
                 self.store_faults = self.store_faults.saturating_add(1);
                 Err(ShelfFault::Failed)
@@ -71,21 +78,39 @@ impl Shelf for Disk {
     }
 }
 
-/// The first `most` bytes of a file, or all where it has fewer.
-fn load(rt: &HostRuntime, alloc: Global, name: &str, most: u64) -> Result<Vec<u8>, ShelfFault>
-    ensures { IfOk result (λ bytes. length bytes.items ≤ most) }
+/// The first `most` bytes of the file of that name, or all where it has fewer.
+fn load<D: Drive>(
+    drive: &mut D,
+    alloc: Global,
+    name: &str,
+    most: u64,
+) -> Result<Vec<u8>, ShelfFault>
+    ensures kept { D.kept drive.new ≡ D.kept drive.old }
+    ensures at_most { IfOk result (λ bytes. length bytes.items ≤ most) }
+    ensures told { IfSome (option_map (λ kept. kept.files) (D.kept drive.old)) (λ files. AnswersLoad files name.now most result) }
 {
-    match File::open(rt, name) {
+    read_opened(drive.open(name), alloc, most)
+}
+
+/// What a load answers, by how the file was opened.
+fn read_opened<R: Read + Drop>(
+    opened: io::Result<R>,
+    alloc: Global,
+    most: u64,
+) -> Result<Vec<u8>, ShelfFault>
+    ensures at_most { IfOk result (λ bytes. length bytes.items ≤ most) }
+    ensures told { (files : Files) → (name : List ℕ) → AnswersOpen R.remaining files name opened → AnswersLoad files name most result }
+{
+    match opened {
         Ok(mut file) => read_first(&mut file, alloc, most),
         Err(e) => Err(opening_fault(e.kind())),
     }
 }
 
-/// A file that can't be opened isn't there where its path leads to nothing.
+/// A file that can't be opened isn't there where its name leads to nothing.
 fn opening_fault(kind: ErrorKind) -> ShelfFault
-    ensures missing { result ≡ ShelfFault.Missing → (kind ≡ ErrorKind.NotFound) ⊎ ((kind ≡ ErrorKind.NotADirectory) ⊎ (kind ≡ ErrorKind.InvalidFilename)) }
-    ensures failed { result ≢ ShelfFault.Missing →
-        (result ≡ ShelfFault.Failed) × (kind ≢ ErrorKind.NotFound) × (kind ≢ ErrorKind.NotADirectory) × (kind ≢ ErrorKind.InvalidFilename) }
+    ensures missing { result ≡ ShelfFault.Missing → IsAbsence kind }
+    ensures failed { result ≢ ShelfFault.Missing → (result ≡ ShelfFault.Failed) × (IsAbsence kind → ⊥) }
 {
     match kind {
         ErrorKind::NotFound | ErrorKind::NotADirectory | ErrorKind::InvalidFilename => {
@@ -95,11 +120,12 @@ fn opening_fault(kind: ErrorKind) -> ShelfFault
     }
 }
 
-/// The first `most` bytes that a reader gives, or all where it has fewer.
-#[tactic(auto, using(crate::proofs::Taken::nothing_taken, crate::proofs::Taken::more_taken, crate::proofs::Taken::taken_most, crate::proofs::Taken::taken_all))]
+/// The first `most` bytes that a reader gives, or all where it has fewer. A read that was interrupted is made again.
+#[tactic(auto, using(crate::proofs::Taken::nothing_taken, crate::proofs::Taken::more_taken, crate::proofs::Taken::still_taken, crate::proofs::Taken::taken_most, crate::proofs::Taken::taken_all))]
 fn read_first<R: Read>(from: &mut R, alloc: Global, most: u64) -> Result<Vec<u8>, ShelfFault>
     ensures at_most { IfOk result (λ bytes. length bytes.items ≤ most) }
     ensures first { IfOk result (λ bytes. IfSome (R.remaining from.old) (λ all. bytes.items ≡ take most all)) }
+    ensures there { result ≢ Err ShelfFault.Missing }
 {
     let mut bytes = Vec::new(alloc);
     let mut buffer = [0u8; READ_BYTES as usize];
@@ -109,22 +135,17 @@ fn read_first<R: Read>(from: &mut R, alloc: Global, most: u64) -> Result<Vec<u8>
         if want == 0 {
             return Ok(bytes);
         }
-        let n = match from.read(&mut buffer[..want]) {
-            Ok(n) => n,
+        match from.read(&mut buffer[..want]) {
+            Ok(0) => return Ok(bytes),
+            Ok(n) => {
+                if bytes.extend_from_slice(&buffer[..n]).is_err() {
+                    return Err(ShelfFault::Memory);
+                }
+                left -= n as u64;
+            }
+            Err(e) if e.kind() == ErrorKind::Interrupted => {}
             Err(_) => return Err(ShelfFault::Failed),
-        };
-        if n == 0 {
-            return Ok(bytes);
         }
-        if bytes.extend_from_slice(&buffer[..n]).is_err() {
-            return Err(ShelfFault::Memory);
-        }
-        left -= n as u64;
     }
     Err(ShelfFault::Failed)
-}
-
-fn store(rt: &HostRuntime, name: &str, bytes: &[u8]) -> io::Result<()> {
-    let mut file = File::create(rt, name)?;
-    file.write_all(bytes)
 }

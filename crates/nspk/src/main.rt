@@ -4,25 +4,19 @@
 #![tactic(auto)]
 
 mod answer;
+mod process;
 
-use answer::answer;
-use ns_base::status::Status;
-use ns_system::arguments::arguments;
 use ns_system::files::Disk;
+use ns_system::host::System;
 use ns_system::stream::Stream;
+use process::ended;
 use std::process::ExitCode;
 
 fn main(rt: HostRuntime) -> ExitCode {
     let alloc = rt.alloc();
+    let system = System::new(rt);
+    let mut disk = Disk::new(alloc, system);
     let mut out = Stream::new(rt.stdout());
     let mut err = Stream::new(rt.stderr());
-    let status = match arguments(&rt, alloc) {
-        Ok(line) => {
-            let mut disk = Disk::new(rt);
-            let words = line.words.as_slice();
-            answer(alloc, words, line.cut, &mut disk, &mut out, &mut err)
-        }
-        Err(_) => Status::Memory,
-    };
-    ExitCode::from(status.exit_code())
+    ended(alloc, &system, &mut disk, &mut out, &mut err)
 }
