@@ -1,5 +1,5 @@
 -- What the words that were read say of those that are told.
-use Rattle.std.proofs.Common.{◌≡◌, ℕ, Bool, true, false, List, [], ◌∷◌, refl, sym, ap, ◌∙◌}
+use Rattle.std.proofs.Common.{◌≡◌, ℕ, Bool, List, [], ◌∷◌, refl, sym, ap, ◌∙◌}
 use Rattle.ns_system.specs.Line.{AreWords}
 
 -- what is read of a line is decided by its words

@@ -10,5 +10,5 @@ returns-in-Ok-clause-told g c = λ told w texts a files h.
     let read = map string_bytes c.in-Ok.line.words.items in
     let r = same_words (drop 1 told) read texts c.in-Ok.line.cut false (subst (λ o. IfSome o (λ all. AreWords (drop 1 all) read c.in-Ok.line.cut)) w c.in-Ok.ensures) a in
     subst (λ words. Leaves (meaning words files) c.answer.result (g.S.Shelf.holds c.args.shelf.now) (g.S.Shelf.holds c.answer.new.shelf)
-        (g.O.Sink.written c.args.out.now) (g.O.Sink.written c.answer.new.out) (g.E.Sink.written c.args.err.now) (g.E.Sink.written c.answer.new.err))
-      (ap (map string_bytes) c.as_slice.ensures.value ∙ r.1) (c.answer.ensures.told r.0 files h)
+    (g.O.Sink.written c.args.out.now) (g.O.Sink.written c.answer.new.out) (g.E.Sink.written c.args.err.now) (g.E.Sink.written c.answer.new.err))
+    (ap (map string_bytes) c.as_slice.ensures.value ∙ r.1) (c.answer.ensures.told r.0 files h)
