@@ -5,6 +5,7 @@ ghost use Rattle.std.specs.Bool.{OnTrue, OnFalse};
 ghost use Rattle.ns_base.specs.Count.{Rose};
 ghost use Rattle.ns_base.specs.Sink.{WrotePrefix, with_bytes};
 ghost use Rattle.ns_run_outcome.specs.Outcome.{IsCut};
+ghost use Rattle.ns_run_outcome.specs.Pieces as spec;
 
 use crate::report::Report;
 use ns_base::sink::{PIECE, Sink};
@@ -37,7 +38,7 @@ fn put_all<O: Sink>(out: &mut O, bytes: &[u8]) -> bool
     let mut done = 0;
     while done < bytes.len() {
         let (_, left) = bytes.split_at(done);
-        let n = left.len().min(PIECE);
+        let n = piece_len(left.len());
         let (piece, _) = left.split_at(n);
         match out.put(piece) {
             Ok(()) => done += n,
@@ -45,4 +46,11 @@ fn put_all<O: Sink>(out: &mut O, bytes: &[u8]) -> bool
         }
     }
     true
+}
+
+/// How many bytes the next piece has, by how many are left.
+fn piece_len(left: usize) -> usize
+    ensures { result ≡ spec.piece_len left }
+{
+    left.min(PIECE)
 }
