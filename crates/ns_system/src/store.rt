@@ -92,6 +92,7 @@ fn store_followed<D: Drive>(
     match drive.followed(alloc, name) {
         Ok(path) => store_there(drive, alloc, path.as_str(), bytes),
         Err(e) if e.kind() == ErrorKind::NotFound => write_through(drive, name, bytes),
+        Err(e) if e.kind() == ErrorKind::OutOfMemory => Err(ShelfFault::Memory),
         Err(_) => Err(ShelfFault::Failed),
     }
 }
