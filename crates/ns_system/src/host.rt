@@ -5,15 +5,14 @@ ghost use Rattle.std.specs.Prelude.{None};
 use crate::arguments::Words;
 use crate::drive::Drive;
 use crate::outlet::Outlet;
-use libc::net::{POLLOUT, poll};
-use libc::types::pollfd;
 use std::alloc::Global;
 use std::env::FillError;
 use std::fs::{self, File, Metadata, OpenOptions, Permissions};
-use std::io::{self, Stderr, Stdout, Write};
-use std::os::fd::{AsRawFd, RawFd};
+use std::io::{self, Write};
 use std::path::PathBuf;
 use std::rt::Env;
+use std::thread;
+use std::time::Duration;
 
 /// The words and the files of the system.
 #[derive(Clone, Copy)]
@@ -39,7 +38,7 @@ impl Words for System {
 impl Drive for System {
     type Reader = File;
 
-    type Draft = File;
+    type Draft = Awaited<File>;
 
     ghost kept = { λ _. None };
 
@@ -61,19 +60,19 @@ impl Drive for System {
         OpenOptions::new().write(true).open(&self.rt, name).is_ok()
     }
 
-    fn begin(&mut self, name: &str) -> io::Result<File> {
-        File::create_new(&self.rt, name)
+    fn begin(&mut self, name: &str) -> io::Result<Awaited<File>> {
+        Ok(Awaited::new(self.rt, File::create_new(&self.rt, name)?))
     }
 
-    fn permit(&mut self, draft: &mut File, permissions: Permissions) -> io::Result<()> {
-        draft.set_permissions(permissions)
+    fn permit(&mut self, draft: &mut Awaited<File>, permissions: Permissions) -> io::Result<()> {
+        draft.to.set_permissions(permissions)
     }
 
-    fn sync(&mut self, draft: &mut File) -> io::Result<()> {
-        draft.sync_all()
+    fn sync(&mut self, draft: &mut Awaited<File>) -> io::Result<()> {
+        draft.to.sync_all()
     }
 
-    fn place(&mut self, _draft: File, from: &str, to: &str) -> io::Result<()> {
+    fn place(&mut self, _draft: Awaited<File>, from: &str, to: &str) -> io::Result<()> {
         fs::rename(&self.rt, from, to)
     }
 
@@ -81,55 +80,36 @@ impl Drive for System {
         let _ = fs::remove_file(&self.rt, name);
     }
 
-    fn through(&mut self, name: &str) -> io::Result<File> {
-        File::create(&self.rt, name)
+    fn through(&mut self, name: &str) -> io::Result<Awaited<File>> {
+        Ok(Awaited::new(self.rt, File::create(&self.rt, name)?))
     }
 }
 
-impl Outlet for File {
+/// How many milliseconds pass until what would block is tried again.
+const PAUSE: u64 = 1;
+
+/// A stream or a file of the system, which is written to.
+#[derive(Drop)]
+pub struct Awaited<W> {
+    rt: HostRuntime,
+    to: W,
+}
+
+impl<W> Awaited<W> {
+    /// That stream or file.
+    pub fn new(rt: HostRuntime, to: W) -> Awaited<W> {
+        Awaited { rt, to }
+    }
+}
+
+impl<W: Write> Outlet for Awaited<W> {
     ghost written = { λ _. None };
 
     fn write(&mut self, bytes: &[u8]) -> io::Result<usize> {
-        Write::write(self, bytes)
+        self.to.write(bytes)
     }
 
     fn wait(&mut self) {
-        wait_for(self.as_raw_fd());
+        thread::sleep(&self.rt, Duration::from_millis(PAUSE))
     }
-}
-
-impl Outlet for Stdout {
-    ghost written = { λ _. None };
-
-    fn write(&mut self, bytes: &[u8]) -> io::Result<usize> {
-        Write::write(self, bytes)
-    }
-
-    fn wait(&mut self) {
-        wait_for(self.as_raw_fd());
-    }
-}
-
-impl Outlet for Stderr {
-    ghost written = { λ _. None };
-
-    fn write(&mut self, bytes: &[u8]) -> io::Result<usize> {
-        Write::write(self, bytes)
-    }
-
-    fn wait(&mut self) {
-        wait_for(self.as_raw_fd());
-    }
-}
-
-/// Waits until the descriptor may take bytes, or can take no more.
-fn wait_for(descriptor: RawFd) {
-    poll(
-        &mut [pollfd {
-            fd: descriptor,
-            events: POLLOUT,
-            revents: 0,
-        }],
-        -1,
-    );
 }

@@ -7,7 +7,7 @@ mod answer;
 mod process;
 
 use ns_system::files::Disk;
-use ns_system::host::System;
+use ns_system::host::{Awaited, System};
 use ns_system::stream::Stream;
 use process::ended;
 use std::process::ExitCode;
@@ -16,7 +16,7 @@ fn main(rt: HostRuntime) -> ExitCode {
     let alloc = rt.alloc();
     let system = System::new(rt);
     let mut disk = Disk::new(alloc, system);
-    let mut out = Stream::new(rt.stdout());
-    let mut err = Stream::new(rt.stderr());
+    let mut out = Stream::new(Awaited::new(rt, rt.stdout()));
+    let mut err = Stream::new(Awaited::new(rt, rt.stderr()));
     ended(alloc, &system, &mut disk, &mut out, &mut err)
 }
