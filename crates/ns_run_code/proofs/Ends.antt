@@ -3,22 +3,22 @@ use Rattle.std.proofs.Common.{◌≡◌, ℕ, List, Some, true, refl, sym, ap, s
 use Rattle.ns_base.specs.declared.limits.Limits.{Limits}
 use Rattle.ns_code.specs.declared.program.CodeProgram.{CodeProgram}
 use Rattle.ns_machine_moves.specs.Falling.{run_left}
-use Rattle.ns_machine.specs.Machine.{MachineView}
-use Rattle.ns_machine.specs.Turning.{Ran as HasRunTo}
 use Rattle.ns_machine_moves.specs.Beginning.{NewIsValid, StartKeepsValid}
 use Rattle.ns_machine_moves.specs.Stated.{MovesAdd, StaysStill}
 use Rattle.ns_machine_moves.specs.Move.{moves}
-use Rattle.ns_machine_moves.specs.Starts.{new_machine, started}
+use Rattle.ns_machine_moves.specs.Starts.{new_machine}
 use Rattle.ns_machine_moves.specs.State.{State, Unbegun, Going, Pends, Ended, Stuck, ending_of}
 use Rattle.ns_machine_moves.specs.Turn.{is_still}
 use Rattle.ns_machine_moves.specs.Valid.{Valid}
 use Rattle.ns_world.specs.declared.ending.Ending.{Ending}
 use Rattle.ns_run_code.specs.Laws.{ComesToItsEnd, CodeEnds}
-use Rattle.ns_run_code.specs.Machine.{begins_with, rested, end_of, told_at, machine_run}
+use Rattle.ns_run_code.specs.Machine.{begins_with, rested, end_of, told_at}
+use Rattle.ns_run_code.specs.Resting.{ValidComesToRest}
 use Rattle.ns_run_code.specs.Run.{granted}
 use Rattle.ns_run_code.specs.Running.{told_of}
 use Rattle.ns_run_code.proofs.Begun.{is_begun, moves_begun, started_begun}
-use Rattle.ns_run_code.proofs.Resting.{Known, one_rest, rests}
+use Rattle.ns_run_code.proofs.AtRest.{ended_still}
+use Rattle.ns_run_code.proofs.Resting.{one_rest}
 
 -- a run that is still has ended, where something was begun and the state is valid
 ended : (code : CodeProgram) (state rest : State) → moves code (run_left code state) state ≡ rested code state → rested code state ≡ rest
@@ -30,21 +30,14 @@ ended code state (Ended ending phase p) moved e valid still begun =
     record { ending = ending; phase = phase; progress = p; is = e; moved = moved }
 ended code state (Stuck p) moved e valid still begun = absurd valid
 
-pub code_ends : (code : CodeProgram) → Known code granted → NewIsValid code granted → StartKeepsValid code granted → CodeEnds code
-code_ends code known new start limits arguments can =
+pub code_ends : (code : CodeProgram) → ValidComesToRest code granted → NewIsValid code granted → StartKeepsValid code granted
+    → CodeEnds code
+code_ends code rests new start limits arguments can =
     let first = new_machine code limits granted arguments in
     let state = begins_with code limits arguments in
-    let rest = rests code granted known state (start first (new limits arguments can.sound can.fits can.range)) in
+    let rest = rests state (start first (new limits arguments can.sound can.fits can.range)) in
     let begun = subst (λ (s : State). is_begun s ≡ true) rest.moved (moves_begun code (run_left code state) state (started_begun code first)) in
     ended code state (rested code state) rest.moved refl rest.valid rest.still begun
-
--- a state with an end is still
-ended_still : (state : State) (ending : Ending) → ending_of state ≡ Some ending → is_still state ≡ true
-ended_still (Unbegun arguments p) ending e = absurd (cc)
-ended_still (Going phase frames p) ending e = absurd (cc)
-ended_still (Pends phase pending frames p) ending e = absurd (cc)
-ended_still (Ended other phase p) ending e = refl
-ended_still (Stuck p) ending e = absurd (cc)
 
 -- What is told of a state with an end, to which moves have led, is told of where the run comes to rest.
 pub told_is : (code : CodeProgram) → ((s : State) → MovesAdd code s) → ((s : State) → StaysStill code s) →
@@ -55,16 +48,3 @@ told_is code add stay state new count ending ends is e =
     let same : new ≡ rested code state =
     one_rest code add stay count (run_left code state) state new (rested code state) is ends.moved (ended_still new ending e) rest in
     ap (λ o. told_of code new (end_of o)) (sym e) ∙ ap (told_at code) same
-
--- What is told of a new machine that has run is told of the run of its code.
-pub run_is : (code : CodeProgram) → ((s : State) → MovesAdd code s) → ((s : State) → StaysStill code s) →
-    (limits : Limits) (arguments : List (List ℕ))
-    → (old new : MachineView) (ending : Ending) → ComesToItsEnd code (begins_with code limits arguments)
-    → old ≡ record { code = code; grants = granted; state = new_machine code limits granted arguments } → new ≡ record old { state = new.state }
-    → HasRunTo old.code (started old.code old.state) ending new.state → told_of new.code new.state ending ≡ machine_run code limits arguments
-run_is code add stay limits arguments old new ending ends fresh rest ran =
-    let state = begins_with code limits arguments in
-    let same : new.code ≡ code = ap (λ (m : MachineView). m.code) rest ∙ ap (λ (m : MachineView). m.code) fresh in
-    let moved : moves code ran.count state ≡ new.state =
-    ap (λ (m : MachineView). moves m.code ran.count (started m.code m.state)) (sym fresh) ∙ ran.is in
-    ap (λ (c : CodeProgram). told_of c new.state ending) same ∙ told_is code add stay state new.state ran.count ending ends moved ran.ends

@@ -1,4 +1,5 @@
 pub mod Resting
+pub mod AtRest
 pub mod Begun
 pub mod Ends
 pub mod Meant

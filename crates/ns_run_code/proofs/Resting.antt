@@ -12,6 +12,7 @@ use Rattle.ns_machine_moves.specs.Valid.{Valid}
 use Rattle.ns_machine_moves.specs.Doubling.{times, until}
 use Rattle.ns_machine_moves.specs.laws.Doubling.{leads}
 use Rattle.ns_run_code.specs.Machine.{rested}
+use Rattle.ns_run_code.specs.Resting.{ValidComesToRest, MovesKeepRest, StillIsRested}
 
 -- What is known of moves.
 pub record Known (code : CodeProgram) (grants : Grants) : Type 0 where
@@ -105,13 +106,8 @@ module _ (code : CodeProgram) (grants : Grants) (known : Known code grants) wher
       by_still true e came = e
       by_still false e came = stopped came.count (few_moves came.count s (rested code s) valid came.is e) came.stops
 
-  -- A run comes to rest, and there it is after as many moves as are left to it.
-  pub record Rests (s : State) : Type 0 where
-    pub still : is_still (rested code s) ≡ true
-    pub valid : Valid code grants (rested code s)
-    pub moved : moves code (run_left code s) s ≡ rested code s
-
-  pub rests : (s : State) → Valid code grants s → Rests s
+  -- a run comes to rest, and there it is after as many moves as are left to it
+  pub rests : ValidComesToRest code grants
   rests s valid =
       let came = came_to_rest code (power_left code (world_of s).limits) s in
       let still = still_rested s valid in
@@ -120,3 +116,16 @@ module _ (code : CodeProgram) (grants : Grants) (known : Known code grants) wher
         valid = subst (Valid code grants) came.is (known.keeps came.count s valid);
         moved = one_rest code known.add known.stay (run_left code s) came.count s _ _ refl came.is (still_after s valid) still;
       }
+
+  -- moves don't change where it comes to rest
+  pub rest_stays : MovesKeepRest code grants
+  rest_stays count s valid =
+      let later = rests (moves code count s) (known.keeps count s valid) in
+      let here = rests s valid in
+      let left = run_left code (moves code count s) in
+      one_rest code known.add known.stay (count + left) (run_left code s) s (rested code (moves code count s)) (rested code s)
+      (known.add s count left ∙ later.moved) here.moved later.still here.still
+
+  -- a state that moves no more is where it comes to rest
+  pub still_rests : StillIsRested code grants
+  still_rests s valid still = sym ((rests s valid).moved) ∙ known.stay s (run_left code s) still

@@ -1,9 +1,7 @@
 -- What is said of the runs of code by the laws about them.
 use Rattle.std.specs.Prelude.{◌≡◌, ℕ, List}
 use Rattle.ns_base.specs.declared.limits.Limits.{Limits}
-use Rattle.ns_base.specs.Limits.{InRange}
 use Rattle.ns_code.specs.declared.program.CodeProgram.{CodeProgram}
-use Rattle.ns_code.specs.Fits.{Fits}
 use Rattle.ns_machine_moves.specs.Falling.{run_left}
 use Rattle.ns_gen_code.specs.Code.{code_of}
 use Rattle.ns_link.specs.Stated.{MayRun}
@@ -11,18 +9,12 @@ use Rattle.ns_resolved.specs.Program.{Meant}
 use Rattle.ns_machine_moves.specs.Move.{moves}
 use Rattle.ns_machine_moves.specs.State.{Phase, State, Ended}
 use Rattle.ns_actions.specs.Control.{Progress}
-use Rattle.ns_verify.specs.Verify.{IsSound}
 use Rattle.ns_world.specs.declared.ending.Ending.{Ending}
 use Rattle.ns_run_code.specs.Machine.{begins_with, rested, machine_run}
+use Rattle.ns_run_code.specs.Resting.{IsRunnable}
 use Rattle.ns_run_code.specs.Run.{meant_run}
 
 -- ---- runs end
-
--- Code that is admitted, and limits in their ranges.
-pub record IsRunnable (code : CodeProgram) (limits : Limits) : Type 0 where
-  pub sound : IsSound code
-  pub fits : Fits code
-  pub range : InRange limits
 
 -- Where a run comes to rest it has ended; and it has after as many moves as it can make at most.
 pub record ComesToItsEnd (code : CodeProgram) (state : State) : Type 0 where

@@ -1,6 +1,7 @@
 pub mod Run
 pub mod Running
 pub mod Machine
+pub mod Resting
 pub mod Laws
 pub mod Build
 pub mod Exec

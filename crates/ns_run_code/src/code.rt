@@ -1,15 +1,15 @@
 //! The run of admitted code: a machine from its start to its end, and what is told of it.
 
-ghost use Rattle.std.specs.Prelude.{◌≡◌, Some, IfOk};
+ghost use Rattle.std.specs.Prelude.{◌≡◌, IfOk};
 ghost use Rattle.ns_base.specs.Limits.{InRange};
-ghost use Rattle.ns_run_code.specs.Machine.{machine_run};
+ghost use Rattle.ns_run_code.specs.Machine.{begins_with, rested, told_at, machine_run};
+ghost use Rattle.ns_run_code.specs.Run.{granted};
 ghost use Rattle.ns_run_code.specs.Running.{HasAnEnd, IsRunStatus, told_of};
 ghost use Rattle.ns_model.specs.Whole as whole;
-ghost use Rattle.ns_machine_moves.specs.State.{ending_of, world_of};
+ghost use Rattle.ns_machine_moves.specs.State.{world_of};
 ghost use Rattle.ns_machine_report.specs.Ending.{IsLiveEnding};
-ghost use Rattle.ns_world.specs.declared.ending.Ending.{Ending as AnyEnding};
 
-use crate::laws::code_comes_to_its_end;
+use crate::laws::runs_end_at_rest;
 use crate::run::Ran;
 use ns_base::limits::Limits;
 use ns_base::no_memory::NoMemory;
@@ -17,7 +17,6 @@ use ns_base::status::Status;
 use ns_base::text::Text;
 use ns_facets::row::Grants;
 use ns_machine::machine::Machine;
-use ns_machine_moves::laws::{ended_runs_stay, moves_add};
 use ns_verify::verify::Verified;
 use ns_world::ending::Ending;
 use std::alloc::Global;
@@ -41,20 +40,38 @@ pub fn run_code(
     requires { InRange limits }
     ensures { IfOk result (λ ran. ran ≡ machine_run code limits arguments.now) }
 {
-    code_comes_to_its_end();
-    moves_add();
-    ended_runs_stay();
-    let _admitted = code.code();
-    let mut machine = Machine::new(alloc, code, limits, GRANTED, arguments)?;
-    machine.run();
+    let machine = rested_machine(alloc, code, limits, arguments)?;
     let ran = finished(alloc, &machine)?;
     Ok(ran)
 }
 
+/// A machine of code with the console, the kernel and mirrors, within these limits and with these arguments, where its run
+/// has ended.
+pub fn rested_machine(
+    alloc: Global,
+    code: Verified,
+    limits: Limits,
+    arguments: &[Text],
+) -> Result<Machine, NoMemory>
+    requires { InRange limits }
+    ensures machine { IfOk result (λ machine. machine ≡ record {
+      code = code;
+      grants = granted;
+      state = rested code (begins_with code limits arguments.now);
+    }) }
+    ensures ended { IfOk result (λ machine. HasAnEnd machine.state) }
+{
+    runs_end_at_rest();
+    let _admitted = code.code();
+    let mut machine = Machine::new(alloc, code, limits, GRANTED, arguments)?;
+    machine.run();
+    Ok(machine)
+}
+
 /// What is told of a machine whose run has ended.
-fn finished(alloc: Global, machine: &Machine) -> Result<Ran, NoMemory>
+pub fn finished(alloc: Global, machine: &Machine) -> Result<Ran, NoMemory>
     requires { HasAnEnd machine.now.state }
-    ensures { (ending : AnyEnding) → ending_of machine.now.state ≡ Some ending → IfOk result (λ ran. ran ≡ told_of machine.now.code machine.now.state ending) }
+    ensures { IfOk result (λ ran. ran ≡ told_at machine.now.code machine.now.state) }
 {
     match machine.ending() {
         Some(ending) => told(alloc, machine, ending),
