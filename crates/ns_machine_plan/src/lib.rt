@@ -4,11 +4,12 @@
 #![tactic(auto)]
 
 mod index;
+pub mod kept_step;
 pub mod laws;
 mod making;
 mod members;
 mod outers;
-mod packed;
+pub mod packed;
 mod packed_steps;
 pub mod plan;
 mod privates;
@@ -16,4 +17,4 @@ pub mod row;
 mod spelled;
 pub mod step;
 mod steps;
-mod tables;
+pub mod tables;

@@ -1,10 +1,12 @@
 //! Steps in eight bytes each, since code may have millions of them. What doesn't fit stands in a table.
 
-use crate::step::{Member, SpelledRow};
+use crate::step::Member;
 use ns_base::selector::Sel;
 use ns_find::found::Sending;
+use ns_kernel::parts::{IntRow, KMethod};
 
-/// A step in eight bytes. An integer of more than 32 bits and a send have their number in a table.
+/// A step in eight bytes. An integer of more than 32 bits and a send have their number in a table. A send to a value is told apart
+/// by what its selector spells, a row of Integer or a method of Boolean, so that the machine needs to look for neither.
 #[derive(Clone, Copy)]
 pub enum Packed {
     PushNil,
@@ -23,6 +25,8 @@ pub enum Packed {
     Pop,
     Pick(u8),
     Send(u32),
+    SendInteger { row: IntRow, send: u32 },
+    SendBoolean { method: KMethod, send: u32 },
     SendPrivate(u32),
     SendSuper(u32),
     InitSuper { argc: u8, place: u32 },
@@ -37,14 +41,13 @@ pub enum Packed {
 
 const _: () = prove!(size_of::<Packed>() == 8);
 
-/// What the step of a send to a value has.
+/// What the step of a send to a value has beside what its selector spells.
 #[derive(Clone, Copy)]
 pub struct ValueSend {
     pub sel: Sel,
     pub place: u32,
     pub argc: u8,
     pub kind: Sending,
-    pub row: Option<SpelledRow>,
 }
 
 /// What the step of a private send has.

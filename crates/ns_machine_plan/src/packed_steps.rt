@@ -3,7 +3,9 @@
 ghost use Rattle.std.specs.Prelude.{◌≡◌, ◌+◌, ◌<◌, [], ◌∷◌, ◌++◌, length, OnOk, OnErr};
 ghost use Rattle.std.specs.List.{slice_index_or};
 ghost use Rattle.ns_machine_plan.specs.declared.step.Step.TheVariants.{PushNil};
+ghost use Rattle.ns_machine_plan.specs.Packed.{EntryIsThere, step_in};
 
+use crate::kept_step::KeptStep;
 use crate::packed::Packed;
 use crate::step::Step;
 use crate::tables::Tables;
@@ -60,11 +62,14 @@ impl PackedSteps {
 
     /// The step so many behind an entry.
     #[inline(always)]
-    pub fn at(&self, entry: usize, next: u32) -> Step
+    pub fn at(&self, entry: usize, next: u32) -> KeptStep<'_>
         requires { entry + next < length self.now }
-        ensures { result ≡ slice_index_or self.now (entry + next) PushNil }
+        ensures there { EntryIsThere result.tables.now result.packed.now }
+        ensures step { step_in result ≡ slice_index_or self.now (entry + next) PushNil }
     {
-        let packed = self.packed.as_slice()[entry + next as usize];
-        self.tables.unpack(packed)
+        KeptStep {
+            packed: &self.packed.as_slice()[entry + next as usize],
+            tables: &self.tables,
+        }
     }
 }

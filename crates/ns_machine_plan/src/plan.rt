@@ -4,10 +4,12 @@ ghost use Rattle.std.specs.Prelude.{◌≡◌, ◌<◌, length, IfOk};
 ghost use Rattle.ns_code.specs.declared.program.CodeProgram.{CodeProgram};
 ghost use Rattle.ns_code.specs.Selector.{selector_arity, own_number};
 ghost use Rattle.ns_machine_plan.specs.Plan.{IsPlanOf, HasStep, IsStepAt};
+ghost use Rattle.ns_machine_plan.specs.Packed.{EntryIsThere, step_in};
 ghost use Rattle.ns_machine_plan.specs.Rows.{entry_of, IsRowOf};
 ghost use Rattle.ns_machine_plan.specs.Steps.{places_of};
 ghost use Rattle.ns_actions.specs.Bodies.{greatest_of};
 
+use crate::kept_step::{KeptStep, step_in};
 use crate::making::Draft;
 use crate::members::Privates;
 use crate::packed_steps::PackedSteps;
@@ -78,16 +80,17 @@ impl Plan {
         ensures { IsStepAt code.now body next result }
     {
         let entry = self.row(code, body).entry;
-        self.step_from(code, body, entry, next)
+        step_in(self.kept_from(code, body, entry, next))
     }
 
-    /// The same, from where the steps of the body begin.
+    /// The same as it is kept, from where the steps of the body begin.
     #[inline(always)]
-    pub fn step_from(&self, code: &CodeProgram, body: u32, entry: usize, next: u32) -> Step
+    pub fn kept_from(&self, code: &CodeProgram, body: u32, entry: usize, next: u32) -> KeptStep<'_>
         requires plan { IsPlanOf code.now self.now }
         requires there { HasStep code.now body next }
         requires entry { entry ≡ entry_of code.now body }
-        ensures { IsStepAt code.now body next result }
+        ensures there { EntryIsThere result.tables.now result.packed.now }
+        ensures step { IsStepAt code.now body next (step_in result) }
     {
         let _code = code;
         let _body = body;

@@ -2,11 +2,12 @@
 
 ghost use Rattle.std.specs.Prelude.{◌≡◌, ◌<◌, [], ◌∷◌, ◌++◌, length, map, IfOk, OnErr};
 ghost use Rattle.std.specs.List.{slice_index_or};
+ghost use Rattle.ns_machine_plan.specs.declared.packed.Packed.TheVariants as packed;
 ghost use Rattle.ns_machine_plan.specs.declared.step.Step.TheVariants.{PushNil, PushInt};
 ghost use Rattle.ns_machine_plan.specs.Packed as spec;
 
 use crate::packed::{Packed, PrivateSend, SuperSend, ValueSend};
-use crate::step::Step;
+use crate::step::{SpelledRow, Step};
 use ns_base::no_memory::NoMemory;
 use std::alloc::Global;
 
@@ -58,13 +59,15 @@ impl Tables {
                 kind,
                 place,
                 row,
-            } => self.pack_send(ValueSend {
-                sel,
-                place,
-                argc,
-                kind,
+            } => self.pack_send(
+                ValueSend {
+                    sel,
+                    place,
+                    argc,
+                    kind,
+                },
                 row,
-            }),
+            ),
             Step::SendPrivate {
                 level,
                 sel,
@@ -92,38 +95,80 @@ impl Tables {
 
     /// The step that a packed one stands for.
     #[inline(always)]
-    pub fn unpack(&self, packed: Packed) -> Step
-        requires { spec.EntryIsThere self.now packed }
-        ensures { result ≡ spec.unpacked self.now packed }
+    pub fn unpack(&self, packed: &Packed) -> Step
+        requires { spec.EntryIsThere self.now packed.now }
+        ensures { result ≡ spec.unpacked self.now packed.now }
     {
         match packed {
             Packed::PushNil => Step::PushNil,
             Packed::PushTrue => Step::PushTrue,
             Packed::PushFalse => Step::PushFalse,
-            Packed::PushShort(number) => Step::PushInt(i64::from(number)),
-            Packed::PushLong(at) => integer_at(self.integers.as_slice(), at),
-            Packed::PushSym(sel) => Step::PushSym(sel),
-            Packed::PushText(text) => Step::PushText(text),
+            Packed::PushShort(number) => Step::PushInt(i64::from(*number)),
+            Packed::PushLong(at) => Step::PushInt(self.integer(*at)),
+            Packed::PushSym(sel) => Step::PushSym(*sel),
+            Packed::PushText(text) => Step::PushText(*text),
             Packed::PushSelf => Step::PushSelf,
-            Packed::PushOuter(level) => Step::PushOuter(level),
-            Packed::PushLocal { hops, index } => Step::PushLocal { hops, index },
-            Packed::StoreLocal { hops, index } => Step::StoreLocal { hops, index },
-            Packed::PushBlock(block) => Step::PushBlock(block),
-            Packed::MakeArray(count) => Step::MakeArray(count),
+            Packed::PushOuter(level) => Step::PushOuter(*level),
+            Packed::PushLocal { hops, index } => Step::PushLocal {
+                hops: *hops,
+                index: *index,
+            },
+            Packed::StoreLocal { hops, index } => Step::StoreLocal {
+                hops: *hops,
+                index: *index,
+            },
+            Packed::PushBlock(block) => Step::PushBlock(*block),
+            Packed::MakeArray(count) => Step::MakeArray(*count),
             Packed::Pop => Step::Pop,
-            Packed::Pick(number) => Step::Pick(number),
-            Packed::Send(at) => send_at(self.sends.as_slice(), at),
-            Packed::SendPrivate(at) => private_at(self.privates.as_slice(), at),
-            Packed::SendSuper(at) => super_at(self.supers.as_slice(), at),
-            Packed::InitSuper { argc, place } => Step::InitSuper { argc, place },
-            Packed::StoreSlot(slot) => Step::StoreSlot(slot),
+            Packed::Pick(number) => Step::Pick(*number),
+            Packed::Send(at) => value_step(self.send(*at), None),
+            Packed::SendInteger { row, send } => {
+                value_step(self.send(*send), Some(SpelledRow::Integer(*row)))
+            }
+            Packed::SendBoolean { method, send } => {
+                value_step(self.send(*send), Some(SpelledRow::Boolean(*method)))
+            }
+            Packed::SendPrivate(at) => private_step(self.private(*at)),
+            Packed::SendSuper(at) => super_at(self.supers.as_slice(), *at),
+            Packed::InitSuper { argc, place } => Step::InitSuper {
+                argc: *argc,
+                place: *place,
+            },
+            Packed::StoreSlot(slot) => Step::StoreSlot(*slot),
             Packed::Return => Step::Return,
             Packed::ReturnSelf => Step::ReturnSelf,
             Packed::ReturnHome => Step::ReturnHome,
-            Packed::Jump(target) => Step::Jump(target),
-            Packed::JumpFalse(target) => Step::JumpFalse(target),
-            Packed::JumpTrue(target) => Step::JumpTrue(target),
+            Packed::Jump(target) => Step::Jump(*target),
+            Packed::JumpFalse(target) => Step::JumpFalse(*target),
+            Packed::JumpTrue(target) => Step::JumpTrue(*target),
         }
+    }
+
+    /// The long integer of that number.
+    #[inline(always)]
+    pub fn integer(&self, at: u32) -> i64
+        requires { spec.EntryIsThere self.now (packed.PushLong at) }
+        ensures { spec.unpacked self.now (packed.PushLong at) ≡ PushInt result }
+    {
+        self.integers.as_slice()[at as usize]
+    }
+
+    /// The send to a value of that number.
+    #[inline(always)]
+    pub fn send(&self, at: u32) -> &ValueSend
+        requires { spec.EntryIsThere self.now (packed.Send at) }
+        ensures { spec.SendIsAt self.now at result.now }
+    {
+        &self.sends.as_slice()[at as usize]
+    }
+
+    /// The private send of that number.
+    #[inline(always)]
+    pub fn private(&self, at: u32) -> &PrivateSend
+        requires { spec.EntryIsThere self.now (packed.SendPrivate at) }
+        ensures { spec.unpacked self.now (packed.SendPrivate at) ≡ spec.private_send result.now }
+    {
+        &self.privates.as_slice()[at as usize]
     }
 
     /// An integer, which fits where it has 32 bits.
@@ -146,13 +191,13 @@ impl Tables {
         Ok(Packed::PushLong(at))
     }
 
-    /// A send to a value, in its table.
-    fn pack_send(&mut self, send: ValueSend) -> Result<Packed, NoMemory>
+    /// A send to a value, in its table, told apart by what its selector spells.
+    fn pack_send(&mut self, send: ValueSend, row: Option<SpelledRow>) -> Result<Packed, NoMemory>
         ensures keeps { spec.StandsForSame self.old self.new }
-        ensures packed { IfOk result (spec.StandsFor self.new (spec.value_send send)) }
+        ensures packed { IfOk result (spec.StandsFor self.new (spec.value_send row send)) }
     {
         let at = put(&mut self.sends, send)?;
-        Ok(Packed::Send(at))
+        Ok(packed_send(at, row))
     }
 
     /// A private send, in its table.
@@ -187,38 +232,36 @@ fn put<T: Copy>(table: &mut Vec<T>, entry: T) -> Result<u32, NoMemory>
     Ok(number)
 }
 
-/// The step of an integer in a table.
-#[inline(always)]
-fn integer_at(integers: &[i64], at: u32) -> Step
-    requires { at < length integers.now }
-    ensures { result ≡ slice_index_or (map PushInt integers.now) at PushNil }
+/// The packed step of a send to a value of that number, by what its selector spells.
+fn packed_send(send: u32, row: Option<SpelledRow>) -> Packed
+    ensures { result ≡ spec.packed_send send row }
 {
-    Step::PushInt(integers[at as usize])
+    match row {
+        Some(SpelledRow::Integer(row)) => Packed::SendInteger { row, send },
+        Some(SpelledRow::Boolean(method)) => Packed::SendBoolean { method, send },
+        None => Packed::Send(send),
+    }
 }
 
-/// The step of a send to a value in a table.
+/// The step of a send to a value, with what its selector spells.
 #[inline(always)]
-fn send_at(sends: &[ValueSend], at: u32) -> Step
-    requires { at < length sends.now }
-    ensures { result ≡ slice_index_or (map spec.value_send sends.now) at PushNil }
+fn value_step(send: &ValueSend, row: Option<SpelledRow>) -> Step
+    ensures { result ≡ spec.value_send row send.now }
 {
-    let send = &sends[at as usize];
     Step::Send {
         sel: send.sel,
         argc: send.argc,
         kind: send.kind,
         place: send.place,
-        row: send.row,
+        row,
     }
 }
 
-/// The step of a private send in a table.
+/// The step of a private send.
 #[inline(always)]
-fn private_at(sends: &[PrivateSend], at: u32) -> Step
-    requires { at < length sends.now }
-    ensures { result ≡ slice_index_or (map spec.private_send sends.now) at PushNil }
+fn private_step(send: &PrivateSend) -> Step
+    ensures { result ≡ spec.private_send send.now }
 {
-    let send = &sends[at as usize];
     Step::SendPrivate {
         level: send.level,
         sel: send.sel,

@@ -2,9 +2,9 @@
 //! registers alone come back, and whether the body that runs goes straight on.
 
 ghost use Rattle.std.specs.Prelude.{◌≡◌, ◌+◌, slice_get};
-ghost use Rattle.ns_code.specs.declared.instruction.Instr.TheVariants as instr;
 ghost use Rattle.ns_world.specs.Starts.{start_of};
 ghost use Rattle.ns_find.specs.Find.{found_from};
+ghost use Rattle.ns_machine_plan.specs.Steps.{send_instr};
 ghost use Rattle.ns_machine_core.specs.Doing.{CanDo};
 ghost use Rattle.ns_machine_core.specs.Tried.{LeadsOrChangesNothing};
 ghost use Rattle.ns_machine_sends.specs.Operands.{SendsOperands};
@@ -28,43 +28,27 @@ use ns_machine_frames::registers::Registers;
 use ns_machine_sends::sent::Sent;
 use ns_world::value::Value;
 
-/// Sends to a value, whose public members alone it reaches.
+/// Sends to a value, from its own start or from inside.
 #[inline(always)]
-#[tactic(auto, using(ns_machine_sends::specs::laws::Received::send_operands))]
+#[tactic(auto, using(crate::proofs::Received::kind_operands))]
 pub fn send(
     code: &CodeProgram,
     core: &mut Core,
     at: Registers,
     sel: Sel,
     argc: u8,
+    kind: Sending,
     place: u32,
 ) -> Led
-    requires { CanDo code.now core.old at (instr.Send sel argc) }
-    ensures { LeadsOrChangesNothing code.now (instr.Send sel argc) (slice_get core.old.places place) core.old at core.new result }
+    requires { CanDo code.now core.old at (send_instr kind sel argc) }
+    ensures { LeadsOrChangesNothing code.now (send_instr kind sel argc) (slice_get core.old.places place) core.old at core.new result }
 {
     operands_are_taken();
-    send_operands(code, core, at, sel, argc, place, Sending::Plain)
-}
-
-/// Sends to a value, whose protected members it reaches too.
-#[inline(always)]
-#[tactic(auto, using(ns_machine_sends::specs::laws::Received::inner_operands))]
-pub fn send_inner(
-    code: &CodeProgram,
-    core: &mut Core,
-    at: Registers,
-    sel: Sel,
-    argc: u8,
-    place: u32,
-) -> Led
-    requires { CanDo code.now core.old at (instr.SendInner sel argc) }
-    ensures { LeadsOrChangesNothing code.now (instr.SendInner sel argc) (slice_get core.old.places place) core.old at core.new result }
-{
-    operands_are_taken();
-    send_operands(code, core, at, sel, argc, place, Sending::Inner)
+    send_operands(code, core, at, sel, argc, place, kind)
 }
 
 /// Sends so many topmost operands to the value below them.
+#[inline(always)]
 fn send_operands(
     code: &CodeProgram,
     core: &mut Core,

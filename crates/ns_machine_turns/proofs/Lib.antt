@@ -6,3 +6,4 @@ pub mod Along
 pub mod Passed
 pub mod Untouched
 pub mod Rowed
+pub mod Looped

@@ -1,7 +1,6 @@
--- The row of a send in the body that runs, and what was tried by it.
-use Rattle.std.proofs.Common.{◌≡◌, List, [], ◌∷◌, take, refl, Option, Some, None}
+-- The row of a send in the body that runs, and where it leads.
+use Rattle.std.proofs.Common.{◌≡◌, ℕ, List, [], ◌∷◌, take, refl, sym, subst, ◌∙◌, Option, Some, None}
 use Rattle.std.specs.Prelude.{slice_get, IsSome}
-use Rattle.ns_base.specs.declared.place.Place.{Place as SourcePlace}
 use Rattle.ns_code.specs.declared.body.BodyCode.{BodyCode}
 use Rattle.ns_code.specs.declared.program.CodeProgram.{CodeProgram}
 use Rattle.ns_code.specs.declared.instruction.Instr.{Instr}
@@ -10,14 +9,19 @@ use Rattle.ns_machine_frames.specs.declared.frame.Frame.TheVariants.{Running, Lo
 use Rattle.ns_machine_frames.specs.declared.frame.RunningFrame.{RunningFrame}
 use Rattle.ns_machine_frames.specs.declared.registers.Registers.{Registers}
 use Rattle.ns_machine_frames.specs.Standing.{standing, at_next}
+use Rattle.ns_machine_plan.specs.declared.packed.Packed.{Packed}
+use Rattle.ns_machine_plan.specs.declared.packed.ValueSend.{ValueSend}
+use Rattle.ns_machine_plan.specs.declared.step.SpelledRow.{SpelledRow}
 use Rattle.ns_machine_plan.specs.declared.step.Step.{Step}
+use Rattle.ns_machine_plan.specs.declared.tables.Tables.{Tables}
+use Rattle.ns_machine_core.specs.declared.led.Led.{Led}
 use Rattle.ns_machine_core.specs.declared.state.Core.{Core}
 use Rattle.ns_machine_core.specs.Shown.{progress_in}
 use Rattle.ns_machine_core.specs.Doing.{Finds, CanDo}
-use Rattle.ns_machine_core.specs.Tried.{led_charged}
-use Rattle.ns_machine_plan.specs.Steps.{HasItsMember}
-use Rattle.ns_machine_quick.specs.Booleans.{LeadsOrNothing}
-use Rattle.ns_machine_quick.specs.Integers.{DoesOrNothing}
+use Rattle.ns_machine_core.specs.Tried.{LeadsOrChangesNothing}
+use Rattle.ns_machine_plan.specs.Packed.{unpacked, send_at, value_send, SendIsAt}
+use Rattle.ns_machine_plan.specs.Spelled.{spelled_by}
+use Rattle.ns_machine_plan.specs.Steps.{HasItsMember, instr_of, place_of, send_instr}
 use Rattle.ns_machine_turns.specs.Above.{HasMemberAbove}
 
 -- A body runs, and the step has its member there.
@@ -42,8 +46,26 @@ body_above code core at instr step can above =
     by_frames (Running frame ∷ frames) finds above =
         by_body frame (slice_get code.bodies frame.activation.body) refl finds.fits.there (λ b is. above frame frames b refl is)
 
--- What was tried by a row leads straight on with one step charged, or nothing has changed.
-pub nothing_charged : (code : CodeProgram) (i : Instr) (place : Option SourcePlace) (old : Core) (at : Registers) (new : Core) (done : Option Registers)
-    → DoesOrNothing code i place old at new done → LeadsOrNothing code i place old at new (led_charged done)
-nothing_charged code i place old at new (Some to) does = does
-nothing_charged code i place old at new None same = same
+-- ---- a send to a value, as it is kept
+
+module _ (code : CodeProgram) (core : Core) (at : Registers) (tables : Tables) (packed : Packed) (row : Option SpelledRow) (number : ℕ) (send : ValueSend)
+    (is : unpacked tables packed ≡ send_at tables row number) (there : SendIsAt tables number send) where
+  send_is : unpacked tables packed ≡ value_send row send
+  send_is = is ∙ there row
+
+  -- it can be done,
+  pub can_send : CanDo code core at (instr_of (unpacked tables packed)) → CanDo code core at (send_instr send.kind send.sel send.argc)
+  can_send can = subst (λ (step : Step). CanDo code core at (instr_of step)) send_is can
+
+  -- has the row that its selector spells,
+  pub row_spelled : CanDo code core at (instr_of (unpacked tables packed)) → HasMemberAbove code core.stack.frames.items (unpacked tables packed)
+      → spelled_by code send.sel ≡ row
+  row_spelled can above =
+      let it = body_above code core at (instr_of (unpacked tables packed)) (unpacked tables packed) can above in
+      sym (subst (λ (step : Step). HasItsMember code it.body step) send_is it.has)
+
+  -- and leads where its step does.
+  pub send_leads : (new : Core) (led : Led) → LeadsOrChangesNothing code (send_instr send.kind send.sel send.argc) (slice_get core.places send.place) core at new led
+      → LeadsOrChangesNothing code (instr_of (unpacked tables packed)) (place_of core.places (unpacked tables packed)) core at new led
+  send_leads new led leads =
+      subst (λ (step : Step). LeadsOrChangesNothing code (instr_of step) (place_of core.places step) core at new led) (sym send_is) leads

@@ -4,3 +4,4 @@ pub mod Turning
 pub mod Resending
 pub mod Quickly
 pub mod Above
+pub mod Looping

@@ -1,17 +1,22 @@
 //! Moves of a method of the kernel that is topmost: its next action, and with it that of the block which it evaluates.
 
-ghost use Rattle.std.specs.Prelude.{◌≤◌};
-ghost use Rattle.ns_machine_core.specs.declared.state.Next.TheVariants as next;
+ghost use Rattle.std.specs.Prelude.{◌≡◌, ◌∷◌, ◌≤◌};
+ghost use Rattle.ns_machine_frames.specs.declared.frame.Frame.TheVariants.{Looping};
+ghost use Rattle.ns_machine_frames.specs.Standing.{below};
+ghost use Rattle.ns_machine_core.specs.declared.state.Next.TheVariants.{On};
 ghost use Rattle.ns_machine_returns.specs.Acting.{IsLooping};
+ghost use Rattle.ns_machine_turns.specs.Looping.{LoopsBy};
 ghost use Rattle.ns_machine_turns.specs.Turning.{RunsBy, HasGone};
 
 use crate::laws::moves_go_along;
 use ns_act::methods::Waited;
 use ns_code::program::CodeProgram;
+use ns_kernel::parts::KMethod;
 use ns_machine_core::own::OwnSends;
 use ns_machine_core::state::{Core, Next};
-use ns_machine_frames::frame::Pending;
+use ns_machine_frames::frame::{LoopingFrame, Pending};
 use ns_machine_frames::registers::Registers;
+use ns_machine_frames::stack::Stack;
 use ns_machine_plan::plan::Plan;
 use ns_machine_returns::acting::{ask, end_method, looping, prepare};
 use ns_machine_returns::laws::topmost_methods_can_act;
@@ -19,49 +24,101 @@ use ns_machine_sends::sent::Sent;
 use ns_machine_sends::waiting::evaluate_at_once;
 
 /// Does the next action of the method of the kernel that is topmost, and evaluates its block at once where a step is left: the
-/// evaluation waits in between, but isn't written. It stands in code of its own, in which all that it calls is united.
+/// evaluation waits in between, but isn't written. It stands in code of its own, in which all that it calls is united, once for
+/// each method: what another method asks for isn't read then. The registers are handed over one by one, so that they needn't
+/// stand in memory before any step.
 #[inline(never)]
+#[tactic(auto, using(crate::proofs::Looped::loops_by))]
 pub fn act_along(
+    plan: &Plan,
+    code: &CodeProgram,
+    core: &mut Core,
+    next: u32,
+    top: u32,
+    base: u32,
+    left: u64,
+    own: OwnSends,
+) -> Next
+    requires runs { RunsBy code.now plan.now own core.old (On (record { next = next; top = top; base = base })) }
+    requires loops { IsLooping core.old.stack.frames.items }
+    requires some { 1 ≤ left }
+    ensures { HasGone code.now plan.now own left core.old (On (record { next = next; top = top; base = base })) core.new result }
+{
+    let at = Registers { next, top, base };
+    match looping(&core.stack).method {
+        KMethod::And => act_as(plan, code, core, at, left, own, KMethod::And),
+        KMethod::Or => act_as(plan, code, core, at, left, own, KMethod::Or),
+        KMethod::IfTrue => act_as(plan, code, core, at, left, own, KMethod::IfTrue),
+        KMethod::IfFalse => act_as(plan, code, core, at, left, own, KMethod::IfFalse),
+        KMethod::IfTrueIfFalse => {
+            act_as(plan, code, core, at, left, own, KMethod::IfTrueIfFalse)
+        }
+        KMethod::IfFalseIfTrue => {
+            act_as(plan, code, core, at, left, own, KMethod::IfFalseIfTrue)
+        }
+        KMethod::WhileTrue => act_as(plan, code, core, at, left, own, KMethod::WhileTrue),
+        KMethod::WhileFalse => act_as(plan, code, core, at, left, own, KMethod::WhileFalse),
+        KMethod::ToDo => act_as(plan, code, core, at, left, own, KMethod::ToDo),
+        KMethod::TimesRepeat => act_as(plan, code, core, at, left, own, KMethod::TimesRepeat),
+        KMethod::Do => act_as(plan, code, core, at, left, own, KMethod::Do),
+    }
+}
+
+/// The same of that method, which is topmost.
+#[inline(always)]
+fn act_as(
     plan: &Plan,
     code: &CodeProgram,
     core: &mut Core,
     at: Registers,
     left: u64,
     own: OwnSends,
+    method: KMethod,
 ) -> Next
-    requires runs { RunsBy code.now plan.now own core.old (next.On at) }
-    requires loops { IsLooping core.old.stack.frames.items }
+    requires runs { RunsBy code.now plan.now own core.old (On at) }
+    requires loops { LoopsBy method core.old.stack.frames.items }
     requires some { 1 ≤ left }
-    ensures { HasGone code.now plan.now own left core.old (next.On at) core.new result }
+    ensures { HasGone code.now plan.now own left core.old (On at) core.new result }
 {
     moves_go_along();
     topmost_methods_can_act();
     let _plan = plan;
     let begun = core.run.world.counters().steps;
-    let method = looping(&core.stack);
-    match ask(code, core, at, method) {
+    let frame = looping_by(&core.stack, method);
+    match ask(code, core, at, frame) {
         Waited::Evaluates {
             block,
             argument,
             state,
         } => {
-            let above = prepare(code, core, at, method, block, argument, state);
+            let above = prepare(code, core, at, frame, block, argument, state);
             if left <= core.run.world.counters().steps - begun {
                 core.waiting = Pending::Evaluating {
                     block,
-                    site: method.site,
-                    floor: method.floor,
-                    first: method.floor,
+                    site: frame.site,
+                    floor: frame.floor,
+                    first: frame.floor,
                 };
                 return Next::Waits(above);
             }
             let sent = Sent {
-                site: method.site,
-                floor: method.floor,
-                first: method.floor,
+                site: frame.site,
+                floor: frame.floor,
+                first: frame.floor,
             };
             evaluate_at_once(code, core, above, sent, block)
         }
-        Waited::Ends(answer) => end_method(code, core, at, own, method, answer),
+        Waited::Ends(answer) => end_method(code, core, at, own, frame, answer),
     }
+}
+
+/// The frame of that method of the kernel, which is topmost.
+#[inline(always)]
+#[tactic(auto, using(crate::proofs::Looped::by_loops, crate::proofs::Looped::looping_by))]
+fn looping_by(stack: &Stack, method: KMethod) -> LoopingFrame
+    requires { LoopsBy method stack.now.frames.items }
+    ensures { stack.now.frames.items ≡ Looping result ∷ below stack.now.frames.items }
+{
+    let frame = looping(stack);
+    LoopingFrame { method, ..frame }
 }

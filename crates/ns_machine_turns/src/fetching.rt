@@ -1,6 +1,8 @@
 //! The next step of the body that runs.
 
 ghost use Rattle.std.specs.Prelude.{◌≡◌};
+ghost use Rattle.ns_machine_plan.specs.Packed as kept;
+ghost use Rattle.ns_machine_plan.specs.Packed.{EntryIsThere};
 ghost use Rattle.ns_machine_plan.specs.Rows.{entry_of};
 ghost use Rattle.ns_machine_core.specs.declared.state.Next.TheVariants as next;
 ghost use Rattle.ns_machine_core.specs.Straight.{TopRunsBody};
@@ -10,6 +12,7 @@ use ns_code::program::CodeProgram;
 use ns_machine_core::laws::valid_runs_have_a_next_step;
 use ns_machine_core::state::Core;
 use ns_machine_frames::registers::Registers;
+use ns_machine_plan::kept_step::{KeptStep, step_in};
 use ns_machine_plan::laws::running_bodies_have_steps;
 use ns_machine_plan::plan::Plan;
 use ns_machine_plan::step::Step;
@@ -24,27 +27,28 @@ pub fn fetch(plan: &Plan, code: &CodeProgram, core: &Core, at: Registers, body: 
 {
     running_bodies_have_steps();
     let entry = plan.row(code, body).entry;
-    fetch_from(plan, code, core, at, body, entry)
+    step_in(fetch_from(plan, code, core, at, body, entry))
 }
 
-/// The same, from where the steps of that body begin among those of all.
+/// The same as it is kept, from where the steps of that body begin among those of all.
 #[inline(always)]
-pub fn fetch_from(
-    plan: &Plan,
+pub fn fetch_from<'a>(
+    plan: &'a Plan,
     code: &CodeProgram,
     core: &Core,
     at: Registers,
     body: u32,
     entry: usize,
-) -> Step
+) -> KeptStep<'a>
     requires prepared { IsPrepared code.now plan.now core.now.places }
     requires can { IsPreparedToRun code.now core.now (next.On at) }
     requires runs { TopRunsBody body core.now.stack.frames.items }
     requires entry { entry ≡ entry_of code.now body }
-    ensures { IsAhead code.now core.now at body result }
+    ensures there { EntryIsThere result.tables.now result.packed.now }
+    ensures ahead { IsAhead code.now core.now at body (kept.step_in result) }
 {
     valid_runs_have_a_next_step();
     running_bodies_have_steps();
     let _core = core;
-    plan.step_from(code, body, entry, at.next)
+    plan.kept_from(code, body, entry, at.next)
 }

@@ -224,7 +224,7 @@ fn go_apart(
 {
     moves_go_along();
     match *core.stack.topmost() {
-        Frame::Looping(_) => act_along(plan, code, core, at, left, own),
+        Frame::Looping(_) => act_along(plan, code, core, at.next, at.top, at.base, left, own),
         Frame::Running(_) => run_apart(plan, code, core, at, left, own),
     }
 }

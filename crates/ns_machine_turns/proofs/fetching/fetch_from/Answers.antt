@@ -1,16 +1,17 @@
+use Rattle.ns_machine_plan.specs.Packed.{step_in}
 use Rattle.ns_machine_turns.proofs.Fetched.{body_has_step, body_has_next, is_ahead}
 use Rattle.ns_machine_turns.proofs.fetching.fetch_from.Goals as goal
 
-pub step_from-requires-clause-there : goal.step_from-requires-clause-there
-step_from-requires-clause-there c =
+pub kept_from-requires-clause-there : goal.kept_from-requires-clause-there
+kept_from-requires-clause-there c =
     body_has_step c.args.code.now c.requires.can.grants c.args.core.now c.args.at c.args.body c.requires.can.ready.valid c.requires.runs
     (c.running_bodies_have_steps.ensures c.args.code.now)
 
-pub returns : goal.returns
-returns c =
-    is_ahead c.args.code.now c.args.plan.now c.args.core.now c.args.at c.args.body c.step_from.result c.requires.prepared
+pub returns-clause-ahead : goal.returns-clause-ahead
+returns-clause-ahead c =
+    is_ahead c.args.code.now c.args.plan.now c.args.core.now c.args.at c.args.body (step_in c.kept_from.result) c.requires.prepared
     (body_has_next c.args.code.now c.requires.can.grants c.args.core.now c.args.at c.args.body c.requires.can.ready.valid c.requires.runs
     (c.valid_runs_have_a_next_step.ensures c.args.code.now c.requires.can.grants))
     (body_has_step c.args.code.now c.requires.can.grants c.args.core.now c.args.at c.args.body c.requires.can.ready.valid c.requires.runs
     (c.running_bodies_have_steps.ensures c.args.code.now))
-    c.step_from.ensures
+    c.kept_from.ensures.step

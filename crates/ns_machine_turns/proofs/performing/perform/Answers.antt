@@ -1,9 +1,12 @@
-use Rattle.std.proofs.Common.{None, refl, rules, w64, SFits, subst, to_z-of_z}
+use Rattle.std.proofs.Common.{Some, None, refl, rules, w32, w64, SFits, ap, subst, to_z-of_z, ◌∙◌}
 use Rattle.ns_code.specs.declared.instruction.Instr.TheVariants as instr
 use Rattle.ns_machine_core.specs.laws.Straight.{plain_straight, tried_straight, tried_on}
+use Rattle.ns_machine_plan.specs.declared.step.SpelledRow.TheVariants.{Integer, Boolean}
 use Rattle.ns_machine_plan.specs.declared.step.Step.{Step}
-use Rattle.ns_machine_plan.specs.Steps.{HasItsMember, instr_of}
-use Rattle.ns_machine_turns.proofs.Rowed.{body_above}
+use Rattle.ns_machine_plan.specs.laws.Spelled.{integer_spelled, boolean_spelled}
+use Rattle.ns_machine_plan.specs.Packed.{unpacked}
+use Rattle.ns_machine_plan.specs.Steps.{HasItsMember}
+use Rattle.ns_machine_turns.proofs.Rowed.{can_send, row_spelled, send_leads}
 use Rattle.ns_machine_turns.proofs.performing.perform.Goals as goal
 
 -- ---- plain steps, which lead straight on
@@ -23,12 +26,20 @@ returns-in-PushFalse c =
     rw c.in-PushFalse.is
     (plain_straight c.args.code.now instr.PushFalse None c.args.core.now c.push_false.new.core c.args.at c.push_false.result refl (c.push_false.ensures None))
 
-pub returns-in-PushInt : goal.returns-in-PushInt
-returns-in-PushInt c =
-    let fits : SFits w64 c.in-PushInt.number = search rules in
-    rw c.in-PushInt.is
-    (plain_straight c.args.code.now (instr.PushInt c.in-PushInt.number) None c.args.core.now c.push_int.new.core c.args.at c.push_int.result refl
-    (rw (to_z-of_z fits) at (c.push_int.ensures None)))
+pub returns-in-PushShort : goal.returns-in-PushShort
+returns-in-PushShort c =
+    let short : SFits w32 c.in-PushShort.number = search rules in
+    let fits : SFits w64 c.in-PushShort.number = search rules in
+    rw c.in-PushShort.is
+    (plain_straight c.args.code.now (instr.PushInt c.in-PushShort.number) None c.args.core.now c.push_int.new.core c.args.at c.push_int.result refl
+    (rw (c.from.ensures, to_z-of_z short, to_z-of_z fits) at (c.push_int.ensures None)))
+
+pub returns-in-PushLong : goal.returns-in-PushLong
+returns-in-PushLong c =
+    let fits : SFits w64 c.integer.result = search rules in
+    rw (c.in-PushLong.is, c.integer.ensures)
+    (plain_straight c.args.code.now (instr.PushInt c.integer.result) None c.args.core.now c.push_int-in-PushLong.new.core c.args.at c.push_int-in-PushLong.result refl
+    (rw (to_z-of_z fits) at (c.push_int-in-PushLong.ensures None)))
 
 pub returns-in-PushSym : goal.returns-in-PushSym
 returns-in-PushSym c =
@@ -104,17 +115,59 @@ returns-in-ReturnHome c =
     rw (c.in-ReturnHome.is, c.led_on-in-ReturnHome.ensures)
     (tried_on c.args.code.now instr.ReturnHome None c.args.core.now c.args.at c.return_home.new.core c.return_home.result (c.return_home.ensures None))
 
-pub send_private-requires-clause-member : goal.send_private-requires-clause-member
-send_private-requires-clause-member c frame others e b there =
-    subst (λ (s : Step). HasItsMember c.args.code.now b s) c.in-SendPrivate.is (c.requires.member frame others b e there)
+-- by what is found
 
-pub send_as-requires-clause-row : goal.send_as-requires-clause-row
-send_as-requires-clause-row c =
-    let above = body_above c.args.code.now c.args.core.now c.args.at (instr_of c.args.step) c.args.step c.requires.can c.requires.member in
-    subst (λ (s : Step). HasItsMember c.args.code.now above.body s) c.in-Send.is above.has
+pub send_found-requires : goal.send_found-requires
+send_found-requires c =
+    can_send c.args.code.now c.args.core.now c.args.at c.args.step.tables.now c.args.step.packed.now None c.in-Send.send c.send.result.now
+    (ap (unpacked c.args.step.tables.now) c.in-Send.is) c.send.ensures c.requires.can
 
 pub returns-in-Send : goal.returns-in-Send
-returns-in-Send c = rw c.in-Send.is c.send_as.ensures
+returns-in-Send c =
+    send_leads c.args.code.now c.args.core.now c.args.at c.args.step.tables.now c.args.step.packed.now None c.in-Send.send c.send.result.now
+    (ap (unpacked c.args.step.tables.now) c.in-Send.is) c.send.ensures c.send_found.new.core c.send_found.result c.send_found.ensures
 
-pub returns-in-SendPrivate : goal.returns-in-SendPrivate
-returns-in-SendPrivate c = rw c.in-SendPrivate.is c.send_private.ensures
+-- by a row of Integer
+
+pub send_to_integer-requires-clause-can : goal.send_to_integer-requires-clause-can
+send_to_integer-requires-clause-can c =
+    can_send c.args.code.now c.args.core.now c.args.at c.args.step.tables.now c.args.step.packed.now (Some (Integer c.in-SendInteger.row)) c.in-SendInteger.send
+    c.send-in-SendInteger.result.now (ap (unpacked c.args.step.tables.now) c.in-SendInteger.is) c.send-in-SendInteger.ensures c.requires.can
+
+pub send_to_integer-requires-clause-row : goal.send_to_integer-requires-clause-row
+send_to_integer-requires-clause-row c =
+    integer_spelled c.args.code.now c.send-in-SendInteger.result.now.sel c.in-SendInteger.row
+    (row_spelled c.args.code.now c.args.core.now c.args.at c.args.step.tables.now c.args.step.packed.now (Some (Integer c.in-SendInteger.row)) c.in-SendInteger.send
+    c.send-in-SendInteger.result.now (ap (unpacked c.args.step.tables.now) c.in-SendInteger.is) c.send-in-SendInteger.ensures c.requires.can c.requires.member)
+
+pub returns-in-SendInteger : goal.returns-in-SendInteger
+returns-in-SendInteger c =
+    send_leads c.args.code.now c.args.core.now c.args.at c.args.step.tables.now c.args.step.packed.now (Some (Integer c.in-SendInteger.row)) c.in-SendInteger.send
+    c.send-in-SendInteger.result.now (ap (unpacked c.args.step.tables.now) c.in-SendInteger.is) c.send-in-SendInteger.ensures c.send_to_integer.new.core
+    c.send_to_integer.result c.send_to_integer.ensures
+
+-- by a method of Boolean
+
+pub send_to_boolean-requires-clause-can : goal.send_to_boolean-requires-clause-can
+send_to_boolean-requires-clause-can c =
+    can_send c.args.code.now c.args.core.now c.args.at c.args.step.tables.now c.args.step.packed.now (Some (Boolean c.in-SendBoolean.method)) c.in-SendBoolean.send
+    c.send-in-SendBoolean.result.now (ap (unpacked c.args.step.tables.now) c.in-SendBoolean.is) c.send-in-SendBoolean.ensures c.requires.can
+
+pub send_to_boolean-requires-clause-method : goal.send_to_boolean-requires-clause-method
+send_to_boolean-requires-clause-method c =
+    boolean_spelled c.args.code.now c.send-in-SendBoolean.result.now.sel c.in-SendBoolean.method
+    (row_spelled c.args.code.now c.args.core.now c.args.at c.args.step.tables.now c.args.step.packed.now (Some (Boolean c.in-SendBoolean.method)) c.in-SendBoolean.send
+    c.send-in-SendBoolean.result.now (ap (unpacked c.args.step.tables.now) c.in-SendBoolean.is) c.send-in-SendBoolean.ensures c.requires.can c.requires.member)
+
+pub returns-in-SendBoolean : goal.returns-in-SendBoolean
+returns-in-SendBoolean c =
+    send_leads c.args.code.now c.args.core.now c.args.at c.args.step.tables.now c.args.step.packed.now (Some (Boolean c.in-SendBoolean.method)) c.in-SendBoolean.send
+    c.send-in-SendBoolean.result.now (ap (unpacked c.args.step.tables.now) c.in-SendBoolean.is) c.send-in-SendBoolean.ensures c.send_to_boolean.new.core
+    c.send_to_boolean.result c.send_to_boolean.ensures
+
+-- to a private member
+
+pub send_around-requires-clause-member : goal.send_around-requires-clause-member
+send_around-requires-clause-member c frame others e b there =
+    subst (λ (s : Step). HasItsMember c.args.code.now b s) (ap (unpacked c.args.step.tables.now) c.in-SendPrivate.is ∙ c.private.ensures)
+    (c.requires.member frame others b e there)

@@ -4,12 +4,12 @@ use Rattle.ns_machine_core.specs.declared.state.Next.TheVariants.{On, Waits}
 use Rattle.ns_machine_returns.specs.Acting.{awaiting}
 use Rattle.ns_machine_turns.specs.Turning.{HasGone}
 use Rattle.ns_machine_turns.proofs.Along.{none_gone}
-use Rattle.ns_machine_turns.proofs.acting.act_along.Goals as goal
+use Rattle.ns_machine_turns.proofs.acting.act_as.Goals as goal
 
 pub ask-requires-clause-can : goal.ask-requires-clause-can
 ask-requires-clause-can c =
-    c.topmost_methods_can_act.ensures c.args.code.now c.requires.runs.can.grants c.args.core.now c.args.at c.looping-method.result c.requires.runs.can.ready
-    c.looping-method.ensures
+    c.topmost_methods_can_act.ensures c.args.code.now c.requires.runs.can.grants c.args.core.now c.args.at c.looping_by-frame.result c.requires.runs.can.ready
+    c.looping_by-frame.ensures
 
 pub prepare-above-requires : goal.prepare-above-requires
 prepare-above-requires c = (c.args.core.now, c.in-Evaluates.ensures)
@@ -17,9 +17,9 @@ prepare-above-requires c = (c.args.core.now, c.in-Evaluates.ensures)
 pub overflow_sub-counters : goal.overflow_sub-counters
 overflow_sub-counters c =
     let gone : HasGone c.args.code.now c.args.plan.now c.args.own c.args.left c.args.core.now (On c.args.at)
-    (awaiting c.looping-method.result c.in-Evaluates.block c.prepare-above.new.core) (Waits c.prepare-above.result) =
+    (awaiting c.looping_by-frame.result c.in-Evaluates.block c.prepare-above.new.core) (Waits c.prepare-above.result) =
     c.moves_go_along.ensures c.args.code.now c.args.plan.now c.args.own c.args.left c.args.core.now c.args.core.now
-    (awaiting c.looping-method.result c.in-Evaluates.block c.prepare-above.new.core) (On c.args.at) (On c.args.at) (Waits c.prepare-above.result)
+    (awaiting c.looping_by-frame.result c.in-Evaluates.block c.prepare-above.new.core) (On c.args.at) (On c.args.at) (Waits c.prepare-above.result)
     (none_gone c.args.code.now c.args.plan.now c.args.own c.args.left c.args.core.now (On c.args.at) c.requires.runs) refl refl
     (let some = c.requires.some in omega (arith, some)) (c.prepare-above.ensures.moves c.args.core.now c.in-Evaluates.ensures) in
     let on = gone.along.onward in
@@ -30,16 +30,16 @@ overflow_sub-counters c =
 pub returns-then-left-counters : goal.returns-then-left-counters
 returns-then-left-counters c =
     c.moves_go_along.ensures c.args.code.now c.args.plan.now c.args.own c.args.left c.args.core.now c.args.core.now
-    (awaiting c.looping-method.result c.in-Evaluates.block c.prepare-above.new.core) (On c.args.at) (On c.args.at) (Waits c.prepare-above.result)
+    (awaiting c.looping_by-frame.result c.in-Evaluates.block c.prepare-above.new.core) (On c.args.at) (On c.args.at) (Waits c.prepare-above.result)
     (none_gone c.args.code.now c.args.plan.now c.args.own c.args.left c.args.core.now (On c.args.at) c.requires.runs) refl refl
     (let some = c.requires.some in omega (arith, some)) (c.prepare-above.ensures.moves c.args.core.now c.in-Evaluates.ensures)
 
 pub evaluate_at_once-requires-clause-waits : goal.evaluate_at_once-requires-clause-waits
 evaluate_at_once-requires-clause-waits c =
     let gone : HasGone c.args.code.now c.args.plan.now c.args.own c.args.left c.args.core.now (On c.args.at)
-    (awaiting c.looping-method.result c.in-Evaluates.block c.prepare-above.new.core) (Waits c.prepare-above.result) =
+    (awaiting c.looping_by-frame.result c.in-Evaluates.block c.prepare-above.new.core) (Waits c.prepare-above.result) =
     c.moves_go_along.ensures c.args.code.now c.args.plan.now c.args.own c.args.left c.args.core.now c.args.core.now
-    (awaiting c.looping-method.result c.in-Evaluates.block c.prepare-above.new.core) (On c.args.at) (On c.args.at) (Waits c.prepare-above.result)
+    (awaiting c.looping_by-frame.result c.in-Evaluates.block c.prepare-above.new.core) (On c.args.at) (On c.args.at) (Waits c.prepare-above.result)
     (none_gone c.args.code.now c.args.plan.now c.args.own c.args.left c.args.core.now (On c.args.at) c.requires.runs) refl refl
     (let some = c.requires.some in omega (arith, some)) (c.prepare-above.ensures.moves c.args.core.now c.in-Evaluates.ensures) in
     (gone.along.runs.can.grants, record { is = refl; ready = gone.along.runs.can.ready })
@@ -47,15 +47,15 @@ evaluate_at_once-requires-clause-waits c =
 pub returns-else-left-counters : goal.returns-else-left-counters
 returns-else-left-counters c =
     let gone : HasGone c.args.code.now c.args.plan.now c.args.own c.args.left c.args.core.now (On c.args.at)
-    (awaiting c.looping-method.result c.in-Evaluates.block c.prepare-above.new.core) (Waits c.prepare-above.result) =
+    (awaiting c.looping_by-frame.result c.in-Evaluates.block c.prepare-above.new.core) (Waits c.prepare-above.result) =
     c.moves_go_along.ensures c.args.code.now c.args.plan.now c.args.own c.args.left c.args.core.now c.args.core.now
-    (awaiting c.looping-method.result c.in-Evaluates.block c.prepare-above.new.core) (On c.args.at) (On c.args.at) (Waits c.prepare-above.result)
+    (awaiting c.looping_by-frame.result c.in-Evaluates.block c.prepare-above.new.core) (On c.args.at) (On c.args.at) (Waits c.prepare-above.result)
     (none_gone c.args.code.now c.args.plan.now c.args.own c.args.left c.args.core.now (On c.args.at) c.requires.runs) refl refl
     (let some = c.requires.some in omega (arith, some)) (c.prepare-above.ensures.moves c.args.core.now c.in-Evaluates.ensures) in
     let begun = ap (λ (used : Counters). used.steps) c.counters-begun.ensures in
     let counted = ap (λ (used : Counters). used.steps) c.counters.ensures in
     c.moves_go_along.ensures c.args.code.now c.args.plan.now c.args.own c.args.left c.args.core.now
-    (awaiting c.looping-method.result c.in-Evaluates.block c.prepare-above.new.core) c.evaluate_at_once.new.core (On c.args.at)
+    (awaiting c.looping_by-frame.result c.in-Evaluates.block c.prepare-above.new.core) c.evaluate_at_once.new.core (On c.args.at)
     (Waits c.prepare-above.result) c.evaluate_at_once.result gone.along refl refl (omega (arith, begun, counted, c.if-left-counters.false))
     c.evaluate_at_once.ensures
 
