@@ -1,7 +1,7 @@
 //! The audit of a module: whether its code ever sends certain selectors, and if so, where first.
 //! `specs/Audit.antt` says what is answered, `specs/Stated.antt` what a yes promises of every run, and `specs/Image.antt`
-//! what the command makes of an image.
-//! Stands between image, verify, machine and ns_run.
+//! what is told of the bytes of an image.
+//! Stands on image, verify and the machine's moves; a host calls it.
 #![tactic(auto)]
 
 pub mod answer;
