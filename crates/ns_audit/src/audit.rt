@@ -1,6 +1,6 @@
 //! The audit of a module: the first of its instructions that sends a denied selector, or `perform:with:`.
 
-ghost use Rattle.std.specs.Prelude.{◌≡◌, ◌≤◌, Some, IfOk, length};
+ghost use Rattle.std.specs.Prelude.{◌≡◌, ◌≤◌, Some, length};
 ghost use Rattle.ns_audit.specs.Audit as spec;
 ghost use Rattle.ns_audit.specs.Module.{IsTopLevel};
 ghost use Rattle.ns_audit.specs.Stated.{AnswerIsThere, NeverSends};
@@ -11,101 +11,89 @@ ghost use Rattle.ns_verify.specs.Counts.{HasFewParts};
 use crate::answer::Audit;
 use crate::laws::{others_are_there, yes_is_kept};
 use crate::module::{is_inside, put_tops};
-use ns_base::no_memory::NoMemory;
 use ns_base::selector::Sel;
 use ns_code::body::BodyCode;
 use ns_code::instruction::Instr;
+use ns_code::instructions::Instructions;
 use ns_code::program::CodeProgram;
 use ns_verify::verify::Verified;
-use std::alloc::Global;
 
 /// The most classes of a program.
 const MOST_CLASSES: usize = 4_096;
 
 /// The audit of the module of a top-level class, for these denied selectors: where it answers yes, no run of the code ever
-/// sends one of them from the module, whatever a host begins. The instructions of one body at a time are held in memory.
-pub fn audit(alloc: Global, code: &Verified, class: u32, denied: &[Sel]) -> Result<Audit, NoMemory>
+/// sends one of them from the module, whatever a host begins. It takes no memory.
+pub fn audit(code: &Verified, class: u32, denied: &[Sel]) -> Audit
     requires top { IsTopLevel code.now class }
-    ensures is { IfOk result (λ audit. audit ≡ spec.audited code.now class denied.now) }
-    ensures yes { IfOk result (λ audit. audit ≡ Yes → NeverSends code.now class denied.now) }
-    ensures there { IfOk result (λ audit. AnswerIsThere code.now class denied.now audit) }
+    ensures is { result ≡ spec.audited code.now class denied.now }
+    ensures yes { result ≡ Yes → NeverSends code.now class denied.now }
+    ensures there { AnswerIsThere code.now class denied.now result }
 {
     yes_is_kept();
     others_are_there();
-    audit_code(alloc, code.code(), class, denied)
+    audit_code(code.code(), class, denied)
 }
 
 /// The audit of code that fits its fields.
-fn audit_code(
-    alloc: Global,
-    code: &CodeProgram,
-    class: u32,
-    denied: &[Sel],
-) -> Result<Audit, NoMemory>
+fn audit_code(code: &CodeProgram, class: u32, denied: &[Sel]) -> Audit
     requires { Fits code.now }
-    ensures { IfOk result (λ audit. audit ≡ spec.audited code.now class denied.now) }
+    ensures { result ≡ spec.audited code.now class denied.now }
 {
     let mut room = [0; MOST_CLASSES];
     let classes = code.classes.as_slice();
     put_tops(&mut room, classes);
-    match told_from(alloc, code, denied, &room[..classes.len()], class)? {
-        Some(audit) => Ok(audit),
-        None => Ok(Audit::Yes),
+    match told_from(code, denied, &room[..classes.len()], class) {
+        Some(audit) => audit,
+        None => Audit::Yes,
     }
 }
 
 /// The first answer that the bodies of a module ask for, by the top-level class around each class.
-fn told_from(
-    alloc: Global,
-    code: &CodeProgram,
-    denied: &[Sel],
-    tops: &[u32],
-    top: u32,
-) -> Result<Option<Audit>, NoMemory>
+fn told_from(code: &CodeProgram, denied: &[Sel], tops: &[u32], top: u32) -> Option<Audit>
     requires { HasFewParts code.now }
-    ensures { IfOk result (λ audit. audit ≡ spec.told_from code.now denied.now tops.now top 0 code.now.bodies) }
+    ensures { result ≡ spec.told_from code.now denied.now tops.now top 0 code.now.bodies }
 {
     let mut number: u32 = 0;
     'bodies: for body in code.bodies.as_slice() {
         let inside = is_inside(tops, top, body.class);
-        match told_of_body(alloc, code, denied, inside, number, body)? {
-            Some(audit) => return Ok(Some(audit)),
+        match told_of_body(code, denied, inside, number, body) {
+            Some(audit) => return Some(audit),
             None => number += 1,
         }
     }
-    Ok(None)
+    None
 }
 
 /// The first answer that a body asks for, where it is of the module.
 fn told_of_body(
-    alloc: Global,
     code: &CodeProgram,
     denied: &[Sel],
     inside: bool,
     number: u32,
     body: &BodyCode,
-) -> Result<Option<Audit>, NoMemory>
+) -> Option<Audit>
     requires few { length body.now.instrs ≤ 65536 }
-    ensures { IfOk result (λ audit. audit ≡ spec.told_of_body code.now denied.now inside number body.now) }
+    ensures { result ≡ spec.told_of_body code.now denied.now inside number body.now }
 {
     if !inside {
-        return Ok(None);
+        return None;
     }
-    let instrs = body.instrs.to_vec(alloc)?;
-    Ok(told_in(code, denied, number, instrs.as_slice()))
+    told_in(code, denied, number, &body.instrs)
 }
 
 /// The first answer that the instructions of a body ask for.
-fn told_in(code: &CodeProgram, denied: &[Sel], body: u32, instrs: &[Instr]) -> Option<Audit>
+fn told_in(code: &CodeProgram, denied: &[Sel], body: u32, instrs: &Instructions) -> Option<Audit>
     requires few { length instrs.now ≤ 65536 }
     ensures { result ≡ spec.told_in code.now denied.now body 0 instrs.now }
 {
+    let mut left = instrs.left();
     let mut at: u32 = 0;
-    'instrs: for instr in instrs {
-        match told_of(code, denied, body, at, sent_by(*instr)) {
+    'instrs: while let Some((instr, rest)) = left.split_first() {
+        match told_of(code, denied, body, at, sent_by(instr)) {
             Some(audit) => return Some(audit),
             None => at += 1,
         }
+        left = rest;
     }
     None
 }

@@ -162,7 +162,7 @@ fn audit_class(
     ensures { IfOk result (λ told. spec.of_class code.now denied.now (Some class) ≡ spec.answers told.line told.status) }
 {
     let denied = denied_in(alloc, code.code(), denied)?;
-    let answer = audit(alloc, code, class, denied.as_slice())?;
+    let answer = audit(code, class, denied.as_slice());
     let line = answer_line(alloc, code.code(), answer)?;
     Ok(AuditTold {
         line: Text::from_vec(line),
@@ -214,7 +214,7 @@ fn answer_line(alloc: Global, code: &CodeProgram, answer: Audit) -> Result<Vec<u
 fn sends_line(alloc: Global, code: &CodeProgram, body: u32, at: u32) -> Result<Vec<u8>, NoMemory>
     ensures { IfOk result (λ line. line.items ≡ spec.answer_line code.now (Sends body at)) }
 {
-    let sent = sent_by_instr(alloc, code, body, at)?;
+    let sent = sent_by_instr(code, body, at);
     let place = instruction_text(alloc, body, at)?;
     let mut line = place.into_bytes();
     line.extend_from_slice(b" sends ")?;
@@ -241,29 +241,29 @@ fn instruction_text(alloc: Global, body: u32, at: u32) -> Result<String, NoMemor
 }
 
 /// What an instruction sends, by the numbers of its body and of itself.
-fn sent_by_instr(
-    alloc: Global,
-    code: &CodeProgram,
-    body: u32,
-    at: u32,
-) -> Result<Option<Sel>, NoMemory>
-    ensures { IfOk result (λ sent. sent ≡ spec.sent_by_instr code.now body at) }
+fn sent_by_instr(code: &CodeProgram, body: u32, at: u32) -> Option<Sel>
+    ensures { result ≡ spec.sent_by_instr code.now body at }
 {
     match code.bodies.as_slice().get(body as usize) {
-        Some(body) => sent_in(alloc, body, at),
-        None => Ok(None),
+        Some(body) => sent_in(body, at),
+        None => None,
     }
 }
 
 /// What an instruction of a body sends.
-fn sent_in(alloc: Global, body: &BodyCode, at: u32) -> Result<Option<Sel>, NoMemory>
-    ensures { IfOk result (λ sent. sent ≡ option_and_then sent_by_lem (slice_get body.now.instrs at)) }
+fn sent_in(body: &BodyCode, at: u32) -> Option<Sel>
+    ensures { result ≡ option_and_then sent_by_lem (slice_get body.now.instrs at) }
 {
-    let instrs = body.instrs.to_vec(alloc)?;
-    match instrs.get(at as usize) {
-        Some(instr) => Ok(sent_by(*instr)),
-        None => Ok(None),
+    let mut left = body.instrs.left();
+    let mut before = at;
+    'instrs: while let Some((instr, rest)) = left.split_first() {
+        if before == 0 {
+            return sent_by(instr);
+        }
+        before -= 1;
+        left = rest;
     }
+    None
 }
 
 /// The text of a selector, empty where there is none.

@@ -1,6 +1,6 @@
 //! The instructions of a body, in little memory.
 
-ghost use Rattle.std.specs.Prelude.{◌≡◌, ◌++◌, [], IfOk, OnOk, length, map, option_to_list, slice_get, pos, false};
+ghost use Rattle.std.specs.Prelude.{◌≡◌, ◌++◌, ◌∷◌, [], IfOk, MatchOption, OnOk, length, map, option_to_list, slice_get, pos, false};
 ghost use Rattle.std.specs.Option.{option_map_or};
 ghost use Rattle.ns_code.specs.Instructions as spec;
 ghost use Rattle.ns_code.specs.declared.instruction.Instr.TheVariants as instr;
@@ -119,6 +119,17 @@ impl Instructions {
         is_carrier(operation_at(&self.operations, number))
     }
 
+    /// All of them as those that are left, to be gone through without memory.
+    pub fn left(&self) -> InstrsLeft<'_>
+        ensures { result ≡ self.now }
+    {
+        InstrsLeft {
+            operations: self.operations.as_slice(),
+            words: self.words.as_slice(),
+            integers: self.integers.as_slice(),
+        }
+    }
+
     /// The instructions in a vector.
     pub fn to_vec(&self, alloc: Global) -> Result<Vec<Instr>, NoMemory>
         ensures { IfOk result (λ instrs. instrs.items ≡ self.now) }
@@ -132,6 +143,48 @@ impl Instructions {
             integers = behind(has_integer(*operation), integers);
         }
         Ok(instrs)
+    }
+}
+
+/// Instructions that are left of a list, in the memory of the list. A clause sees those alone.
+#[derive(Drop)]
+pub struct InstrsLeft<'a> {
+    operations: &'a [Operation],
+    words: &'a [u32],
+    integers: &'a [i64],
+}
+
+impl<'a> Model for InstrsLeft<'a> {
+    ghost use Rattle.std.specs.Prelude.{List};
+    ghost use Rattle.ns_code.specs.declared.instruction.Instr.{Instr};
+    ghost use Rattle.ns_code.specs.Instructions.{united};
+
+    ghost Value = { List Instr };
+
+    ghost view = { λ left. united left.operations.now left.words.now left.integers.now };
+}
+
+impl<'a> InstrsLeft<'a> {
+    /// The first one, and those that are left behind it.
+    pub fn split_first(&self) -> Option<(Instr, InstrsLeft<'a>)>
+        ensures { MatchOption result (self.now ≡ []) (λ both. self.now ≡ both.0 ∷ both.1) }
+    {
+        match self.operations {
+            [operation, operations @ ..] => {
+                let instr = instr_of(
+                    *operation,
+                    first_word(self.words),
+                    first_integer(self.integers),
+                );
+                let left = InstrsLeft {
+                    operations,
+                    words: behind(has_word(*operation), self.words),
+                    integers: behind(has_integer(*operation), self.integers),
+                };
+                Some((instr, left))
+            }
+            [] => None,
+        }
     }
 }
 
