@@ -5,6 +5,12 @@ use Rattle.std.specs.Prelude.{get_or}
 use Rattle.std.specs.Fmt.{decimal}
 use Rattle.std.proofs.lemmas.Bool.{cases_lt, lt-ltb}
 use Rattle.std.proofs.lemmas.List.{append_cancel_left, length-take-le, take_all}
+use Rattle.ns_audit.specs.Audit.{audited}
+use Rattle.ns_audit.specs.Image.{answer_line, answer_status, audited_image, called_from, denied_in}
+use Rattle.ns_audit.specs.Image as audits
+use Rattle.ns_audit.specs.declared.answer.Audit.{Audit}
+use Rattle.ns_audit.specs.declared.answer.Audit.TheVariants.{Yes, Sends, Performs}
+use Rattle.ns_base.specs.Files.{Files}
 use Rattle.ns_base.specs.declared.limits.Limits.{Limits}
 use Rattle.ns_code.specs.declared.program.CodeProgram.{CodeProgram}
 use Rattle.ns_run_code.specs.Exec.{executed, of_code, of_read}
@@ -21,10 +27,11 @@ use Rattle.ns_run_outcome.specs.declared.report.Report.{Report}
 use Rattle.ns_run_outcome.specs.declared.stop.Stop.{Stop}
 use Rattle.ns_run_outcome.specs.declared.stop.Stop.TheVariants as stop
 use Rattle.ns_run.proofs.ReportLaws.{ending_plain, stop_keeps}
-use Rattle.ns_run.specs.Image.{ImageWork, Executes, Lists, of_executed, of_image_bytes, of_image_fault, of_image_file, of_image, of_listed, of_short, place_text, unsound}
+use Rattle.ns_run.specs.Meaning.{first_of, of_audit}
+use Rattle.ns_run.specs.Image.{ImageWork, Executes, Lists, Audits, of_audited, of_executed, of_image_bytes, of_image_fault, of_image_file, of_image, of_listed, of_short, place_text, unsound}
 use Rattle.ns_run.specs.Outcome.{OfSomeText}
 use Rattle.ns_base.specs.declared.no_memory.NoMemory.{NoMemory}
-use Rattle.ns_run.specs.Run.{run_report}
+use Rattle.ns_run.specs.Run.{audit_report, run_report}
 use Rattle.ns_verify.specs.Verify.{fault_of}
 use Rattle.ns_verify.specs.declared.fault.Fault.{Fault}
 use Rattle.ns_verify.specs.declared.fault.VerifyCause.{VerifyCause}
@@ -129,9 +136,34 @@ list_plain file bytes =
       | Err why ↦ image_plain file why
     ]
 
+answer_plain : (file : List ℕ) (code : CodeProgram) (answer : Audit) →
+    IsPlainFor file (audit_report (answer_line code answer) (answer_status answer))
+answer_plain file code Yes = record { ends = tt; says = λ m. cc (m.0) }
+answer_plain file code (Sends body at) = record { ends = tt; says = λ m. cc (m.0) }
+answer_plain file code (Performs body at) = record { ends = tt; says = λ m. cc (m.0) }
+
+class_plain : (file : List ℕ) (code : CodeProgram) (denied : List (List ℕ)) (class : Option ℕ) →
+    IsPlainFor file (of_audited file (audits.of_class code denied class))
+class_plain file code denied None = refused_plain file (codes "NoClass") refl
+class_plain file code denied (Some class) = answer_plain file code (audited code class (denied_in code denied))
+
+audited_plain : (file : List ℕ) (denied : List (List ℕ)) (class : List ℕ) (code : CodeProgram) (why : Option Fault) →
+    IsPlainFor file (of_audited file (audits.of_code denied class code why))
+audited_plain file denied class code (Some why) = unsound_plain file why.cause why.at
+audited_plain file denied class code None = class_plain file code denied (called_from code class 0 code.classes)
+
+pub audit_plain : (file bytes : List ℕ) (denied : List (List ℕ)) (class : List ℕ) →
+    IsPlainFor file (of_audited file (audited_image bytes denied class))
+audit_plain file bytes denied class =
+    elim (read_image bytes) as (λ r. IsPlainFor file (of_audited file (audits.of_read denied class r))) [
+      | Ok code ↦ audited_plain file denied class code (fault_of code)
+      | Err why ↦ image_plain file why
+    ]
+
 pub bytes_plain : (work : ImageWork) (file bytes : List ℕ) → IsPlainFor file (of_image_bytes work file bytes)
 bytes_plain (Executes limits arguments) file bytes = exec_plain file bytes limits arguments
 bytes_plain Lists file bytes = list_plain file bytes
+bytes_plain (Audits denied class) file bytes = audit_plain file bytes denied class
 
 pub short_plain : (work : ImageWork) (file bytes : List ℕ) → IsPlainFor file (of_short work file bytes)
 short_plain work file bytes =
@@ -177,3 +209,48 @@ one_told shown [] name files work result one e h = absurd (omega (arith, one))
 one_told shown (x ∷ []) name files work result one e h =
     subst (λ n. IfOk result (λ r. r ≡ of_image_file work (shown n) (files (shown n)))) e h
 one_told shown (x ∷ y ∷ ys) name files work result one e h = absurd (omega (arith, one))
+
+-- ---- audits
+
+-- Of two names the first is that of the image, and the other that of a class.
+pub record TwoNames {A : Type 0} (shown : A → List ℕ) (names : List A) (class : A) : Type 0 where
+  pub firsts : map shown (take 1 names) ≡ first_of (map shown names)
+  pub audits : (denied : List (List ℕ)) (texts : List (Option (List ℕ))) →
+      of_image (Audits denied (shown class)) (map shown (take 1 names)) texts ≡ of_audit denied (map shown names) texts
+
+pub two_names : {A : Type 0} (shown : A → List ℕ) (names : List A) (class : A) → length names ≡ 2 → class ≡ get_or names 1 class →
+    TwoNames shown names class
+two_names shown [] class two e = absurd (omega (arith, two))
+two_names shown (x ∷ []) class two e = absurd (omega (arith, two))
+two_names shown (x ∷ y ∷ []) class two e =
+    record {
+      firsts = refl;
+      audits = λ denied texts. ap (λ name. of_image (Audits denied (shown name)) (shown x ∷ []) texts) e;
+    }
+two_names shown (x ∷ y ∷ z ∷ zs) class two e = absurd (omega (arith, two))
+
+-- What is told of an audit over files that are told.
+pub audit_told :
+    {A : Type 0} (shown : A → List ℕ) (names : List A) (class : A) (called : List ℕ) (files : Files) (denied : List (List ℕ)) (result : Result Report Stop) →
+    length names ≡ 2 → class ≡ get_or names 1 class → called ≡ shown class
+    → IfOk result (λ r. r ≡ of_image (Audits denied called) (map shown (take 1 names)) (map files (map shown (take 1 names)))) → IfOk result (λ r. r ≡ of_audit denied (map shown names) (map files (first_of (map shown names))))
+audit_told shown names class called files denied result two e c h =
+    let firsts = map shown (take 1 names) in
+    let t : TwoNames shown names class = two_names shown names class two e in
+    subst (λ ns. IfOk result (λ r. r ≡ of_audit denied (map shown names) (map files ns))) t.firsts
+    (subst (λ report. IfOk result (λ r. r ≡ report)) (t.audits denied (map files firsts))
+    (subst (λ n. IfOk result (λ r. r ≡ of_image (Audits denied n) firsts (map files firsts))) c h))
+
+-- What is told of an audit over some text of the image.
+pub audit_texts :
+    {A : Type 0} (shown : A → List ℕ) (names : List A) (class : A) (called : List ℕ) (denied : List (List ℕ)) (result : Result Report Stop) →
+    length names ≡ 2 → class ≡ get_or names 1 class → called ≡ shown class
+    → OfSomeTexts (map shown (take 1 names)) (λ texts. IfOk result (λ r. r ≡ of_image (Audits denied called) (map shown (take 1 names)) texts)) → OfSomeTexts (first_of (map shown names)) (λ texts. IfOk result (λ r. r ≡ of_audit denied (map shown names) texts))
+audit_texts shown names class called denied result two e c (texts, count, h) =
+    let firsts = map shown (take 1 names) in
+    let t : TwoNames shown names class = two_names shown names class two e in (
+      texts,
+      subst (λ ns. length texts ≡ length ns) t.firsts count,
+      subst (λ report. IfOk result (λ r. r ≡ report)) (t.audits denied texts)
+          (subst (λ n. IfOk result (λ r. r ≡ of_image (Audits denied n) firsts texts)) c h),
+    )

@@ -1,5 +1,5 @@
 -- What the lines of forms say.
-use Rattle.std.proofs.Common.{◌≡◌, ◌≤◌, ℕ, List, [], ◌∷◌, None, Result, IfOk, arith, length, map, refl, sym, subst}
+use Rattle.std.proofs.Common.{◌≡◌, ◌≤◌, ℕ, List, [], ◌∷◌, Option, None, Result, IfOk, arith, length, map, refl, sym, subst}
 use Rattle.ns_base.specs.Files.{Files}
 use Rattle.ns_base.specs.declared.limits.Limits.{Limits}
 use Rattle.ns_run_outcome.specs.Report.{told}
@@ -8,15 +8,16 @@ use Rattle.ns_run_outcome.specs.declared.stop.Stop.{Stop}
 use Rattle.ns_run_outcome.specs.declared.usage.TheConstants.{HELP, VERSION}
 use Rattle.ns_run.proofs.TextLaws.{whatever_texts}
 use Rattle.ns_run.specs.Image.{Executes, of_image}
-use Rattle.ns_run.specs.Meaning.{files_of, of_files, of_line, of_session}
-use Rattle.ns_run.specs.Task.{Runs}
+use Rattle.ns_run.specs.Meaning.{behind_first, files_of, first_of, of_audit, of_building, of_files, of_line, of_session, of_texts}
+use Rattle.ns_run.specs.Task.{Runs, Tests}
 use Rattle.ns_run_words.specs.Application.{AreApplications}
 use Rattle.ns_run_words.specs.Forms.{AreFiles, AreNames, IsSpelledLine}
 use Rattle.ns_run_words.specs.declared.form.Item.TheVariants.{File, Application}
+use Rattle.ns_run_words.specs.Options.{denied_by, only_among}
 use Rattle.ns_run_words.specs.Table.{form_of}
 use Rattle.ns_run_words.specs.Words.{CommandLine, limits_of, quantum_of}
 use Rattle.ns_run_words.specs.declared.form.Verb.{Verb}
-use Rattle.ns_run_words.specs.declared.form.Verb.TheVariants.{Check, Show, Run, Build, Exec, Listing, Session, Sample, Help, Version}
+use Rattle.ns_run_words.specs.declared.form.Verb.TheVariants.{Check, Show, Run, Build, Exec, Listing, Session, Sample, Audit, Test, Help, Version}
 use Rattle.ns_session_files.specs.Answer.{OfSomeTexts}
 
 -- The command works on files.
@@ -29,6 +30,8 @@ TakesFiles Exec = Unit {0}
 TakesFiles Listing = Unit {0}
 TakesFiles Session = ⊥
 TakesFiles Sample = ⊥
+TakesFiles Audit = ⊥
+TakesFiles Test = Unit {0}
 TakesFiles Help = ⊥
 TakesFiles Version = ⊥
 
@@ -45,6 +48,8 @@ within Exec t = (omega arith, omega arith, refl)
 within Listing t = (omega arith, omega arith, refl)
 within Session t = absurd t
 within Sample t = absurd t
+within Audit t = absurd t
+within Test t = (omega arith, omega arith, refl)
 within Help t = absurd t
 within Version t = absurd t
 
@@ -89,6 +94,32 @@ pub run_told : (line : CommandLine) (limits : Limits) (files : Files) (result : 
 run_told line limits files result e l h =
     subst (λ v. IfOk result (λ r. r ≡ of_line v line (map files (files_of v line.names)))) (sym e)
     (subst (λ l. IfOk result (λ r. r ≡ of_files (Runs l line.arguments None) line.names line.given.lib files)) l h)
+
+pub build_told : (line : CommandLine) (files : Files) (result : Result Report Stop) → line.verb ≡ Build
+    → IfOk result (λ r. r ≡ of_building line.given.lib line.names (map files (behind_first line.names)))
+    → IfOk result (λ r. r ≡ of_line line.verb line (map files (files_of line.verb line.names)))
+build_told line files result e h = subst (λ v. IfOk result (λ r. r ≡ of_line v line (map files (files_of v line.names)))) (sym e) h
+
+pub audit_told : (line : CommandLine) (files : Files) (result : Result Report Stop) → line.verb ≡ Audit
+    → IfOk result (λ r. r ≡ of_audit (denied_by line.options) line.names (map files (first_of line.names)))
+    → IfOk result (λ r. r ≡ of_line line.verb line (map files (files_of line.verb line.names)))
+audit_told line files result e h = subst (λ v. IfOk result (λ r. r ≡ of_line v line (map files (files_of v line.names)))) (sym e) h
+
+pub tests_told : (line : CommandLine) (limits : Limits) (only : Option (List ℕ)) (files : Files) (result : Result Report Stop) →
+    line.verb ≡ Test → limits ≡ limits_of line.given → only ≡ only_among line.options
+    → IfOk result (λ r. r ≡ of_files (Tests limits line.given.reverse only) line.names line.given.lib files) → IfOk result (λ r. r ≡ of_line line.verb line (map files (files_of line.verb line.names)))
+tests_told line limits only files result e l o h =
+    subst (λ v. IfOk result (λ r. r ≡ of_line v line (map files (files_of v line.names)))) (sym e)
+    (subst (λ o. IfOk result (λ r. r ≡ of_files (Tests (limits_of line.given) line.given.reverse o) line.names line.given.lib files)) o
+    (subst (λ l. IfOk result (λ r. r ≡ of_files (Tests l line.given.reverse only) line.names line.given.lib files)) l h))
+
+pub tests_texts : (line : CommandLine) (limits : Limits) (only : Option (List ℕ)) (result : Result Report Stop) →
+    line.verb ≡ Test → limits ≡ limits_of line.given → only ≡ only_among line.options
+    → OfSomeTexts line.names (λ texts. IfOk result (λ r. r ≡ of_texts (Tests limits line.given.reverse only) line.names line.given.lib texts)) → OfSomeTexts (files_of line.verb line.names) (λ texts. IfOk result (λ r. r ≡ of_line line.verb line texts))
+tests_texts line limits only result e l o h =
+    subst (λ v. OfSomeTexts (files_of v line.names) (λ texts. IfOk result (λ r. r ≡ of_line v line texts))) (sym e)
+    (subst (λ o. OfSomeTexts line.names (λ texts. IfOk result (λ r. r ≡ of_texts (Tests (limits_of line.given) line.given.reverse o) line.names line.given.lib texts))) o
+    (subst (λ l. OfSomeTexts line.names (λ texts. IfOk result (λ r. r ≡ of_texts (Tests l line.given.reverse only) line.names line.given.lib texts))) l h))
 
 pub exec_told : (line : CommandLine) (limits : Limits) (files : Files) (result : Result Report Stop) → line.verb ≡ Exec →
     limits ≡ limits_of line.given

@@ -1,6 +1,6 @@
 -- What tells one report from another.
-use Rattle.std.proofs.Common.{◌≡◌, ℕ, List, [], ◌∷◌, ◌++◌, take, Bool, true, false, Option, Some, None, Result, Ok, Err, refl, sym, ap, subst, ◌∙◌, codes, IfOk, MatchResult, append_assoc, reverse}
-use Rattle.std.specs.Prelude.{IsSomeAnd, slice_get}
+use Rattle.std.proofs.Common.{◌≡◌, ℕ, nat_eq, cond, List, [], ◌∷◌, ◌++◌, take, Bool, true, false, Option, Some, None, Result, Ok, Err, refl, sym, ap, subst, ◌∙◌, codes, IfOk, MatchResult, append_assoc, reverse}
+use Rattle.std.specs.Prelude.{IsSomeAnd, slice_get, ◌&&◌}
 use Rattle.std.specs.Bool.{OnTrue}
 use Rattle.std.specs.Fmt.{decimal}
 use Rattle.std.specs.Str.{bytes_eq}
@@ -18,12 +18,14 @@ use Rattle.ns_run_outcome.specs.Report.{many_name, refused_file, refused_text, s
 use Rattle.ns_run_outcome.specs.declared.report.Report.{Report}
 use Rattle.ns_run_outcome.specs.declared.stop.Stop.{Stop}
 use Rattle.ns_run_outcome.specs.declared.stop.Stop.TheVariants as stop
-use Rattle.ns_run.specs.Meaning.{files_read, name_of, of_build, of_built, of_check, of_run, of_show, of_sized, of_units}
+use Rattle.ns_run.specs.Meaning.{files_read, name_of, of_build, of_built, of_check, of_run, of_show, of_sized, of_tests, of_units}
 use Rattle.ns_run.specs.Run.{run_report}
+use Rattle.ns_run.specs.Tests.{tests_report}
 use Rattle.ns_run_code.specs.Build.{Built, built_of, image, image_too_large, too_large}
 use Rattle.ns_run.specs.Outcome.{NamesMissing, TellsMissing}
+use Rattle.ns_run_code.specs.Machine.{end_of, told_at}
 use Rattle.ns_run_code.specs.Run.{granted, meant_run}
-use Rattle.ns_run.specs.Task.{Task, Checks, Shows, Builds, Runs}
+use Rattle.ns_run.specs.Task.{Task, Checks, Shows, Builds, Runs, Tests}
 use Rattle.ns_gen_code.specs.Code.{code_of}
 use Rattle.ns_gen_code.specs.Sizes.{size_fault}
 use Rattle.ns_gen_code.specs.declared.size.SizeKind.{SizeKind}
@@ -37,6 +39,16 @@ use Rattle.ns_static_rules.specs.declared.fault.Many.TheVariants as many
 use Rattle.ns_static_rules.specs.declared.fault.Placed.{Placed}
 use Rattle.ns_static_rules.specs.declared.fault.StaticCause.{StaticCause}
 use Rattle.ns_static_rules.specs.declared.fault.StaticCause.TheVariants as static
+use Rattle.ns_code.specs.declared.class.ClassCode.{ClassCode}
+use Rattle.ns_code.specs.declared.program.CodeProgram.{CodeProgram}
+use Rattle.ns_base.specs.declared.selector.Sel.{Sel}
+use Rattle.ns_machine_moves.specs.State.{State, ending_of}
+use Rattle.ns_machine_moves.specs.State as states
+use Rattle.ns_test.specs.Opening.{opened, tests_class, tests_of}
+use Rattle.ns_test.specs.Source.{sized_tested}
+use Rattle.ns_test.specs.Tests.{asked_for, has_tested, of_asked, of_class, of_ending, reported, stopped_at}
+use Rattle.ns_test.specs.Written.{written}
+use Rattle.ns_test.specs.declared.report.TestReport.{TestReport}
 use Rattle.ns_tree.specs.Plain as p
 use Rattle.ns_run_words.specs.Words.{LineReading}
 use Rattle.ns_world.specs.declared.ending.Ending.{Ending}
@@ -155,6 +167,50 @@ run_plain names limits arguments classes files trees places None =
     sized_plain limits arguments classes (meant_of files trees places) (size_fault (code_of (meant_of files trees places)))
 run_plain names limits arguments classes files trees places (Some fault) = check_plain names (Some fault)
 
+-- The report of tests with these counts.
+tested_plain : (file : List ℕ) (tests : TestReport) → IsPlain (tests_report file (has_tested tests))
+tested_plain file tests =
+    elim (nat_eq tests.failed 0 && nat_eq tests.errors 0) as (λ b. IsPlain (record { out = written tests; err = []; status = cond b Done ProgramError; stored = None })) [
+      | true ↦ record { ends = tt; says = λ name m. cc (m.0) }
+      | false ↦ record { ends = tt; says = λ name m. cc (m.0) }
+    ]
+
+asked_plain : (file : List ℕ) (code : CodeProgram) (limits : Limits) (tests : Option (List Sel)) →
+    IsPlain (tests_report file (of_asked code limits tests))
+asked_plain file code limits None = file_plain file (codes "NoTest") (λ front. refl)
+asked_plain file code limits (Some tests) = tested_plain file (reported code limits tests)
+
+class_plain :
+    (file : List ℕ) (code : CodeProgram) (limits : Limits) (reversed : Bool) (only : Option (List ℕ)) (class : Option ClassCode) →
+    IsPlain (tests_report file (of_class code limits reversed only class))
+class_plain file code limits reversed only None = file_plain file (codes "NotTests") (λ front. refl)
+class_plain file code limits reversed only (Some class) = asked_plain file code limits (asked_for code reversed only (tests_of code class))
+
+stopped_plain : (file : List ℕ) (code : CodeProgram) (state : State) → IsPlain (tests_report file (stopped_at (told_at code state)))
+stopped_plain file code state = ending_plain (tests_report file (stopped_at (told_at code state))) (end_of (ending_of state)) refl
+
+opened_plain :
+    (file : List ℕ) (code : CodeProgram) (limits : Limits) (reversed : Bool) (only : Option (List ℕ)) (state : State) (e : Ending) →
+    IsPlain (tests_report file (of_ending code limits reversed only state e))
+opened_plain file code limits reversed only state (ending.Done value) =
+    class_plain file code limits reversed only (tests_class code (states.world_of state).cells value)
+opened_plain file code limits reversed only state (ending.Error error) = stopped_plain file code state
+opened_plain file code limits reversed only state (ending.Limit limit) = stopped_plain file code state
+
+sized_tests_plain : (file : List ℕ) (limits : Limits) (reversed : Bool) (only : Option (List ℕ)) (code : CodeProgram) (kind : Option SizeKind) →
+    IsPlain (tests_report file (sized_tested code limits reversed only kind))
+sized_tests_plain file limits reversed only code None =
+    opened_plain file code limits reversed only (opened code limits) (end_of (ending_of (opened code limits)))
+sized_tests_plain file limits reversed only code (Some kind) = file_plain (codes "nspk") (size_name kind) (size_ends kind)
+
+pub tests_plain :
+    (names : List (List ℕ)) (limits : Limits) (reversed : Bool) (only : Option (List ℕ)) (files : List (List ℕ)) (trees : List p.SourceUnit) (places : List (List Place)) (least : Option Placed) →
+    IsPlain (of_tests names limits reversed only files trees places least)
+tests_plain names limits reversed only files trees places None =
+    let code = code_of (meant_of files trees places) in
+    sized_tests_plain (name_of names 0) limits reversed only code (size_fault code)
+tests_plain names limits reversed only files trees places (Some fault) = check_plain names (Some fault)
+
 pub built_plain : (name : List ℕ) (made : Built) → IsPlain (of_built name made)
 built_plain name (image bytes) = record { ends = tt; says = λ file m. cc (m.0) }
 built_plain name (too_large kind) = file_plain (codes "nspk") (size_name kind) (size_ends kind)
@@ -173,6 +229,7 @@ units_plain Checks names files trees places = check_plain names _
 units_plain Shows names files trees places = show_plain trees
 units_plain (Builds name) names files trees places = build_plain names name files trees places _
 units_plain (Runs limits arguments classes) names files trees places = run_plain names limits arguments classes files trees places _
+units_plain (Tests limits reversed only) names files trees places = tests_plain names limits reversed only files trees places _
 
 -- ---- how a command ends
 

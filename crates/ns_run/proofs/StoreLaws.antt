@@ -2,6 +2,7 @@
 use Rattle.std.proofs.Common.{◌≡◌, ℕ, List, [], ◌∷◌, length, map, nat_lt, cond, Bool, true, false, Option, Some, None, codes, refl, ap, ◌∙◌}
 use Rattle.ns_base.specs.declared.limits.Limits.{Limits}
 use Rattle.ns_base.specs.declared.place.Place.{Place}
+use Rattle.ns_audit.specs.Image.{AuditedImage, audited_image, answers, no_class, unadmitted, unread}
 use Rattle.ns_run_code.specs.Exec.{Executed, executed, has_run, refused_code, refused_image}
 use Rattle.ns_run_code.specs.Listing.{ListedCode, listed, lines, unlisted}
 use Rattle.ns_gen_code.specs.Code.{code_of}
@@ -25,15 +26,19 @@ use Rattle.ns_run_outcome.specs.Report.{refused_file}
 use Rattle.ns_run_outcome.specs.declared.report.Report.{Report}
 use Rattle.ns_static_rules.specs.Least.{faults, least}
 use Rattle.ns_static_rules.specs.declared.fault.Placed.{Placed}
-use Rattle.ns_run.specs.Image.{ImageWork, Executes, Lists, of_executed, of_image, of_image_bytes, of_image_fault, of_listed, of_short, unsound}
-use Rattle.ns_run.specs.Meaning.{name_of, of_cause, of_check, of_fault, of_joint, of_line, of_loading, of_reading, of_refusal, of_run, of_sample, of_show, of_sized, of_texts, of_units}
+use Rattle.ns_run.specs.Image.{ImageWork, Executes, Lists, Audits, of_audited, of_executed, of_image, of_image_bytes, of_image_fault, of_listed, of_short, unsound}
+use Rattle.ns_run.specs.Meaning.{name_of, of_cause, of_check, of_fault, of_joint, of_audit, of_line, of_loading, of_reading, of_refusal, of_run, of_sample, of_show, of_sized, of_tests, of_texts, of_units}
 use Rattle.ns_run.specs.Outcome.{IsNoBuild, OverTexts, StoresNothing}
-use Rattle.ns_run.specs.Task.{Task, Checks, Shows, Builds, Runs}
+use Rattle.ns_run.specs.Tests.{tests_report}
+use Rattle.ns_run.specs.Task.{Task, Checks, Shows, Builds, Runs, Tests}
+use Rattle.ns_test.specs.Source.{source_tested}
+use Rattle.ns_test.specs.Tests.{Tested, has_no_code, has_not_opened, has_tested, no_test, not_tests}
 use Rattle.ns_tree.specs.Plain as p
 use Rattle.ns_verify.specs.declared.fault.VerifyCause.{VerifyCause}
 use Rattle.ns_verify.specs.declared.fault.Where.{Where}
 use Rattle.ns_verify.specs.declared.fault.Where.TheVariants as where_at
 use Rattle.ns_run_words.specs.Application.{asked_of}
+use Rattle.ns_run_words.specs.Options.{denied_by, only_among}
 use Rattle.ns_run_words.specs.Words.{CommandLine, LineReading, says, bad, limits_of, nothing_given, quantum_of, reading_of, sample_number}
 use Rattle.ns_run_words.specs.declared.form.Verb.{Verb}
 use Rattle.ns_run_words.specs.declared.form.Verb.TheVariants as verb
@@ -63,12 +68,26 @@ run_keeps names limits arguments classes files trees places None =
     sized_keeps limits arguments classes (meant_of files trees places) (size_fault (code_of (meant_of files trees places)))
 run_keeps names limits arguments classes files trees places (Some why) = refl
 
+tested_keeps : (file : List ℕ) (tests : Tested) → KeepsNone (tests_report file tests)
+tested_keeps file (has_no_code kind) = refl
+tested_keeps file (has_not_opened line status) = refl
+tested_keeps file not_tests = refl
+tested_keeps file no_test = refl
+tested_keeps file (has_tested tests) = refl
+
+tests_keep : (names : List (List ℕ)) (limits : Limits) (reversed : Bool) (only : Option (List ℕ)) (files : List (List ℕ)) (trees : List p.SourceUnit) (places : List (List Place)) (why : Option Placed)
+    → KeepsNone (of_tests names limits reversed only files trees places why)
+tests_keep names limits reversed only files trees places None =
+    tested_keeps (name_of names 0) (source_tested (meant_of files trees places) limits reversed only)
+tests_keep names limits reversed only files trees places (Some why) = refl
+
 -- The task isn't the one that stores an image.
 abbrev pub IsNoBuilding : Task → Type 0
 IsNoBuilding Checks = Unit {0}
 IsNoBuilding Shows = Unit {0}
 IsNoBuilding (Builds name) = ⊥
 IsNoBuilding (Runs limits arguments classes) = Unit {0}
+IsNoBuilding (Tests limits reversed only) = Unit {0}
 
 units_keep : (t : Task) (names files : List (List ℕ)) (trees : List p.SourceUnit) (places : List (List Place)) → IsNoBuilding t →
     KeepsNone (of_units t names files trees places)
@@ -77,6 +96,8 @@ units_keep Shows names files trees places i = show_keeps trees
 units_keep (Builds name) names files trees places i = absurd i
 units_keep (Runs limits arguments classes) names files trees places i =
     run_keeps names limits arguments classes files trees places (least (faults trees places))
+units_keep (Tests limits reversed only) names files trees places i =
+    tests_keep names limits reversed only files trees places (least (faults trees places))
 
 cause_keeps : (file : List ℕ) (why : LoadCause) → KeepsNone (of_cause file why)
 cause_keeps file cause.Missing = refl
@@ -124,9 +145,16 @@ listed_keeps : (file : List ℕ) (done : ListedCode) → KeepsNone (of_listed fi
 listed_keeps file (unlisted why) = image_keeps_none file why
 listed_keeps file (lines text) = refl
 
+audited_keeps : (file : List ℕ) (done : AuditedImage) → KeepsNone (of_audited file done)
+audited_keeps file (unread why) = image_keeps_none file why
+audited_keeps file (unadmitted why at) = unsound_keeps file why at
+audited_keeps file no_class = refl
+audited_keeps file (answers line status) = refl
+
 bytes_keep : (work : ImageWork) (file bytes : List ℕ) → KeepsNone (of_image_bytes work file bytes)
 bytes_keep (Executes limits arguments) file bytes = executed_keeps file (executed bytes limits arguments)
 bytes_keep Lists file bytes = listed_keeps file (listed bytes)
+bytes_keep (Audits denied class) file bytes = audited_keeps file (audited_image bytes denied class)
 
 short_keeps : (work : ImageWork) (file bytes : List ℕ) → KeepsNone (of_short work file bytes)
 short_keeps work file bytes =
@@ -140,6 +168,11 @@ image_keeps work [] texts = refl
 image_keeps work (name ∷ names) [] = refl
 image_keeps work (name ∷ names) (None ∷ texts) = refl
 image_keeps work (name ∷ names) (Some bytes ∷ texts) = short_keeps work name bytes
+
+audit_keeps : (denied names : List (List ℕ)) (texts : List (Option (List ℕ))) → KeepsNone (of_audit denied names texts)
+audit_keeps denied [] texts = refl
+audit_keeps denied (name ∷ []) texts = refl
+audit_keeps denied (name ∷ class ∷ names) texts = image_keeps (Audits denied class) (name ∷ []) texts
 
 -- ---- sessions
 
@@ -164,6 +197,9 @@ line_keeps verb.Listing line texts i = image_keeps Lists line.names texts
 line_keeps verb.Session line texts i =
     session_keeps (joint line.given.lib (limits_of line.given) (quantum_of line.given) (map asked_of line.names) texts)
 line_keeps verb.Sample line texts i = sample_keeps (sample_number line.names)
+line_keeps verb.Audit line texts i = audit_keeps (denied_by line.options) line.names texts
+line_keeps verb.Test line texts i =
+    texts_keep (Tests (limits_of line.given) line.given.reverse (only_among line.options)) line.names line.given.lib texts tt
 line_keeps verb.Help line texts i = refl
 line_keeps verb.Version line texts i = refl
 

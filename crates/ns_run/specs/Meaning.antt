@@ -24,16 +24,19 @@ use Rattle.ns_run_outcome.specs.declared.report.Report.{Report}
 use Rattle.ns_run_outcome.specs.declared.usage.TheConstants.{HELP, VERSION}
 use Rattle.ns_print.specs.Printed.{printed}
 use Rattle.ns_run_code.specs.Run.{meant_run}
-use Rattle.ns_run.specs.Image.{Executes, Lists, of_image}
+use Rattle.ns_run.specs.Image.{Executes, Lists, Audits, of_image}
 use Rattle.ns_run.specs.Run.{run_report, told_jointly}
-use Rattle.ns_run.specs.Task.{Task, Checks, Shows, Builds, Runs}
+use Rattle.ns_run.specs.Task.{Task, Checks, Shows, Builds, Runs, Tests}
+use Rattle.ns_run.specs.Tests.{tests_report}
 use Rattle.ns_static_rules.specs.Least.{faults, least}
 use Rattle.ns_static_rules.specs.declared.fault.Placed.{Placed}
+use Rattle.ns_test.specs.Source.{source_tested}
 use Rattle.ns_tree.specs.Flat.{flat}
 use Rattle.ns_tree.specs.Plain as p
+use Rattle.ns_run_words.specs.Options.{denied_by, only_among}
 use Rattle.ns_run_words.specs.Words.{CommandLine, LineReading, says, bad, limits_of, nothing_given, quantum_of, reading_of, sample_number}
 use Rattle.ns_run_words.specs.declared.form.Verb.{Verb}
-use Rattle.ns_run_words.specs.declared.form.Verb.TheVariants.{Check, Show, Run, Build, Exec, Listing, Session, Sample, Help, Version}
+use Rattle.ns_run_words.specs.declared.form.Verb.TheVariants.{Check, Show, Run, Build, Exec, Listing, Session, Sample, Audit, Test, Help, Version}
 
 abbrev pub name_from : Option (List ℕ) → List ℕ
 name_from (Some name) = name
@@ -68,6 +71,13 @@ abbrev pub of_run : List (List ℕ) → Limits → List (List ℕ) → Option �
 of_run names limits arguments classes files trees places None = of_meant limits arguments classes (meant_of files trees places)
 of_run names limits arguments classes files trees places (Some fault) = of_check names (Some fault)
 
+-- the tests of units of files of these names, of which this is the least static fault
+abbrev pub of_tests : List (List ℕ) → Limits → Bool → Option (List ℕ) → List (List ℕ) → List p.SourceUnit → List (List Place) →
+    Option Placed → Report
+of_tests names limits reversed only files trees places None =
+    tests_report (name_of names 0) (source_tested (meant_of files trees places) limits reversed only)
+of_tests names limits reversed only files trees places (Some fault) = of_check names (Some fault)
+
 -- An image is stored under its name; one that would be too large is refused, as a size of the program is.
 abbrev pub of_built : List ℕ → Built → Report
 of_built name (image bytes) = stores name bytes
@@ -86,6 +96,8 @@ of_units Shows names files trees places = of_show trees
 of_units (Builds name) names files trees places = of_build names name files trees places (least (faults trees places))
 of_units (Runs limits arguments classes) names files trees places =
     of_run names limits arguments classes files trees places (least (faults trees places))
+of_units (Tests limits reversed only) names files trees places =
+    of_tests names limits reversed only files trees places (least (faults trees places))
 
 -- the refusal of a file (none that is told fails to be read)
 abbrev pub of_cause : List ℕ → LoadCause → Report
@@ -138,6 +150,12 @@ of_session lib limits quantum words texts = of_joint (joint_of lib limits quantu
 abbrev pub session_over : Files → Bool → Limits → ℕ → List (List ℕ) → Report
 session_over files lib limits quantum words = of_session lib limits quantum words (map files (files_named words))
 
+-- the audit of an image, behind whose name that of a class stands in a line
+abbrev pub of_audit : List (List ℕ) → List (List ℕ) → List (Option (List ℕ)) → Report
+of_audit denied [] texts = bad_word 1
+of_audit denied (name ∷ []) texts = bad_word 1
+of_audit denied (name ∷ class ∷ names) texts = of_image (Audits denied class) (name ∷ []) texts
+
 -- what the command of a line writes over these texts of its files, and its status
 abbrev pub of_line : Verb → CommandLine → List (Option (List ℕ)) → Report
 of_line Check line texts = of_texts Checks line.names line.given.lib texts
@@ -148,6 +166,9 @@ of_line Exec line texts = of_image (Executes (limits_of line.given) line.argumen
 of_line Listing line texts = of_image Lists line.names texts
 of_line Session line texts = of_session line.given.lib (limits_of line.given) (quantum_of line.given) line.names texts
 of_line Sample line texts = of_sample (sample_number line.names)
+of_line Audit line texts = of_audit (denied_by line.options) line.names texts
+of_line Test line texts =
+    of_texts (Tests (limits_of line.given) line.given.reverse (only_among line.options)) line.names line.given.lib texts
 of_line Help line texts = told HELP.now
 of_line Version line texts = told VERSION.now
 
@@ -161,7 +182,13 @@ abbrev pub behind_first : List (List ℕ) → List (List ℕ)
 behind_first [] = []
 behind_first (name ∷ names) = names
 
--- the files that a command reads: those that it names, or that its applications name, but for the one that `build` stores
+-- the first name
+abbrev pub first_of : List (List ℕ) → List (List ℕ)
+first_of [] = []
+first_of (name ∷ names) = name ∷ []
+
+-- the files that a command reads: those that it names, or that its applications name, but for the one that `build` stores,
+-- and the class that `audit` names
 abbrev pub files_of : Verb → List (List ℕ) → List (List ℕ)
 files_of Check names = names
 files_of Show names = names
@@ -171,6 +198,8 @@ files_of Exec names = names
 files_of Listing names = names
 files_of Session names = files_named names
 files_of Sample names = []
+files_of Audit names = first_of names
+files_of Test names = names
 files_of Help names = []
 files_of Version names = []
 

@@ -23,6 +23,8 @@ IsNoBuild verb.Exec = Unit {0}
 IsNoBuild verb.Listing = Unit {0}
 IsNoBuild verb.Session = Unit {0}
 IsNoBuild verb.Sample = Unit {0}
+IsNoBuild verb.Audit = Unit {0}
+IsNoBuild verb.Test = Unit {0}
 IsNoBuild verb.Help = Unit {0}
 IsNoBuild verb.Version = Unit {0}
 

@@ -1,17 +1,19 @@
 -- What is done with a program, apart from where its words lie.
-use Rattle.std.specs.Prelude.{ℕ, List, Option, map, string_bytes}
+use Rattle.std.specs.Prelude.{ℕ, Bool, List, Option, option_map, map, string_bytes}
 use Rattle.ns_base.specs.Limits.{InRange}
 use Rattle.ns_base.specs.declared.limits.Limits.{Limits}
 use Rattle.ns_run.specs.declared.task.Task as tasks
-use Rattle.ns_run.specs.declared.task.Task.TheVariants.{Check, Show, Build, Run}
+use Rattle.ns_run.specs.declared.task.Task.TheVariants.{Check, Show, Build, Run, Test}
 
 -- A program is checked, the canonical source of its first file is told, its image is stored under a name, or it is run
--- within limits, with arguments; where its classes are counted, their number and the steps are told too.
+-- within limits, with arguments; where its classes are counted, their number and the steps are told too. Or its tests are run
+-- within limits: all of them, in the order of the text or in the reverse one, or the one of a name.
 pub data Task : Type 0 where
   Checks : Task
   Shows : Task
   Builds : (image : List ℕ) → Task
   Runs : (limits : Limits) (arguments : List (List ℕ)) (classes : Option ℕ) → Task
+  Tests : (limits : Limits) (reversed : Bool) (only : Option (List ℕ)) → Task
 
 -- the task that the code's stands for
 abbrev pub task_of : tasks.Task → Task
@@ -19,6 +21,7 @@ task_of Check = Checks
 task_of Show = Shows
 task_of (Build image) = Builds image.now
 task_of (Run limits arguments classes) = Runs limits (map string_bytes arguments.now) classes
+task_of (Test limits reversed only) = Tests limits reversed (option_map (λ name. name.now) only)
 
 -- The limits of a run are in their ranges.
 abbrev pub RunsInRange : Task → Type 0
@@ -26,3 +29,4 @@ RunsInRange Checks = Unit {0}
 RunsInRange Shows = Unit {0}
 RunsInRange (Builds image) = Unit {0}
 RunsInRange (Runs limits arguments classes) = InRange limits
+RunsInRange (Tests limits reversed only) = InRange limits

@@ -20,6 +20,7 @@ ghost use Rattle.ns_run_words.specs.Forms.{AreFiles};
 use crate::build::on_build;
 use crate::run::on_run;
 use crate::task::Task;
+use crate::testing::on_tests;
 use ns_base::no_memory::NoMemory;
 use ns_base::place::Place;
 use ns_base::shelf::Shelf;
@@ -148,6 +149,11 @@ fn on_program(
             arguments,
             classes,
         } => on_run(alloc, names, limits, arguments, classes, program),
+        Task::Test {
+            limits,
+            reversed,
+            only,
+        } => on_tests(alloc, names, limits, reversed, only, program),
     }
 }
 

@@ -9,12 +9,16 @@ ghost use Rattle.ns_run_code.specs.Exec.{executed};
 ghost use Rattle.ns_run_code.specs.Listing.{listed};
 ghost use Rattle.ns_image.specs.declared.fault.ImageFault.{ImageFault};
 ghost use Rattle.ns_run_outcome.specs.Outcome.{IsEnding, IsMissing};
+ghost use Rattle.ns_audit.specs.Image.{audited_image};
 ghost use Rattle.ns_run.specs.Image as spec;
 ghost use Rattle.ns_run.specs.Outcome.{OfSomeText};
+ghost use Rattle.ns_run.specs.Run.{audit_report as audit_report_lem};
 ghost use Rattle.ns_run.specs.Stated.{ReportsTold};
+ghost use Rattle.ns_run_words.specs.Options.{denied_by};
 
 use crate::run::run_report;
 use crate::task::ImageTask;
+use ns_audit::image::{AuditFault, AuditTold, audit_image};
 use ns_base::limits::Limits;
 use ns_base::no_memory::NoMemory;
 use ns_base::shelf::{Shelf, ShelfFault};
@@ -26,6 +30,7 @@ use ns_run_code::listing::{ListFault, listing_of};
 use ns_run_outcome::cause::verify_name;
 use ns_run_outcome::report::{Report, refused_file, told};
 use ns_run_outcome::stop::{Stop, or_stop};
+use ns_run_words::options::denied_texts;
 use ns_verify::fault::{VerifyCause, Where};
 use std::alloc::Global;
 
@@ -72,6 +77,7 @@ fn on_bytes(
     match task {
         ImageTask::Exec { limits, arguments } => on_exec(alloc, limits, arguments, name, bytes),
         ImageTask::Listing => on_listing(alloc, name, bytes),
+        ImageTask::Audit { options, class } => on_audit(alloc, options, class, name, bytes),
     }
 }
 
@@ -116,6 +122,51 @@ fn on_listing(alloc: Global, name: &str, bytes: &[u8]) -> Result<Report, NoMemor
         Ok(text) => Ok(told(alloc, Text::from_vec(text))),
         Err(ListFault::Image(fault)) => refused_image(alloc, name, fault),
         Err(ListFault::Memory) => Err(NoMemory),
+    }
+}
+
+/// The report of the audit of an image.
+fn on_audit(
+    alloc: Global,
+    options: &[String],
+    class: &str,
+    name: &str,
+    bytes: &[u8],
+) -> Result<Report, NoMemory>
+    ensures { IfOk result (λ r. r ≡ spec.of_audited name.now (audited_image bytes.now (denied_by (map string_bytes options.now)) class.now)) }
+{
+    let denied = denied_texts(alloc, options)?;
+    audited_texts(alloc, denied.as_slice(), class, name, bytes)
+}
+
+fn audited_texts(
+    alloc: Global,
+    denied: &[Text],
+    class: &str,
+    name: &str,
+    bytes: &[u8],
+) -> Result<Report, NoMemory>
+    ensures { IfOk result (λ r. r ≡ spec.of_audited name.now (audited_image bytes.now denied.now class.now)) }
+{
+    match audit_image(alloc, bytes, denied, class.as_bytes()) {
+        Ok(told) => Ok(audit_report(alloc, told)),
+        Err(AuditFault::Image(fault)) => refused_image(alloc, name, fault),
+        Err(AuditFault::Unsound { cause, at }) => unsound(alloc, name, cause, at),
+        Err(AuditFault::NoClass) => refused_file(alloc, name, "NoClass"),
+        Err(AuditFault::Memory) => Err(NoMemory),
+    }
+}
+
+/// The report of an audit.
+fn audit_report(alloc: Global, told: AuditTold) -> Report
+    ensures { result ≡ audit_report_lem told.line told.status }
+{
+    let AuditTold { line, status } = told;
+    Report {
+        out: line,
+        err: Text::from_vec(Vec::new(alloc)),
+        status,
+        stored: None,
     }
 }
 

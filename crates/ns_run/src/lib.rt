@@ -10,4 +10,5 @@ mod run;
 mod sample;
 mod session;
 pub mod task;
+mod testing;
 pub mod top;

@@ -20,6 +20,13 @@ pub enum Task<'a> {
         arguments: &'a [String],
         classes: Option<u32>,
     },
+    /// Its tests are run within these limits, each alone: all in the order of the text, or in the
+    /// reverse one, or the one of this name.
+    Test {
+        limits: Limits,
+        reversed: bool,
+        only: Option<&'a [u8]>,
+    },
 }
 
 /// What is done with an image.
@@ -32,4 +39,9 @@ pub enum ImageTask<'a> {
     },
     /// Its code is listed.
     Listing,
+    /// The module of the class of this name is audited for the selectors that these options deny.
+    Audit {
+        options: &'a [String],
+        class: &'a str,
+    },
 }

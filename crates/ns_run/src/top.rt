@@ -13,6 +13,7 @@ ghost use Rattle.ns_run.specs.Outcome.{HasAFile, NamesMissing, OverTexts, Stores
 ghost use Rattle.ns_run.specs.Stated.{MissingIsCounted, ReportsTexts, ReportsTold, UnreadIsThere};
 ghost use Rattle.ns_run_words.specs.Forms.{AreFiles, IsSpelledLine};
 ghost use Rattle.ns_run_words.specs.Line.{line_seen};
+ghost use Rattle.ns_run_words.specs.Options.{denied_by};
 ghost use Rattle.ns_run_words.specs.Words.{LineReading, first_bad, limits_of, quantum_of, reading_of};
 
 use crate::files::on_files;
@@ -30,6 +31,7 @@ use ns_run_outcome::report::{Report, bad_word, told_text};
 use ns_run_outcome::stop::{Stop, or_stop};
 use ns_run_outcome::usage::{HELP, VERSION};
 use ns_run_words::form::Verb;
+use ns_run_words::options::only_among;
 use ns_run_words::words::{BadWord, Line, first_bad, sample_number, words};
 use std::alloc::Global;
 
@@ -165,6 +167,7 @@ fn on_line<S: Shelf>(alloc: Global, line: Line<'_>, shelf: &mut S) -> Result<Rep
     let Line {
         verb,
         given,
+        options,
         names,
         arguments,
     } = line;
@@ -195,6 +198,16 @@ fn on_line<S: Shelf>(alloc: Global, line: Line<'_>, shelf: &mut S) -> Result<Rep
             Some(n) => on_sample(alloc, n),
             None => or_stop(bad_word(alloc, 1)),
         },
+        Verb::Audit => on_audit(alloc, options, names, shelf),
+        Verb::Test => {
+            let limits = given.limits();
+            let task = Task::Test {
+                limits,
+                reversed: given.reverse,
+                only: only_among(options),
+            };
+            on_files(alloc, task, given.lib, names, shelf)
+        }
         Verb::Help => or_stop(told_text(alloc, HELP)),
         Verb::Version => or_stop(told_text(alloc, VERSION)),
     }
@@ -240,4 +253,31 @@ fn on_first<S: Shelf>(
     ensures missing { MissingIsCounted (map string_bytes names.now) result (S.misses shelf.old) (S.misses shelf.new) }
 {
     on_image(alloc, task, names[0].as_str(), shelf)
+}
+
+/// The report of the audit of the image that is the first of two names, of which the other is that of a class.
+fn on_audit<S: Shelf>(
+    alloc: Global,
+    options: &[String],
+    names: &[String],
+    shelf: &mut S,
+) -> Result<Report, Stop>
+    requires two { length names.now ≡ 2 }
+    ensures told { ReportsTold (S.holds shelf.old) (λ files. spec.of_audit (denied_by (map string_bytes options.now)) (map string_bytes names.now)
+        (map files (spec.first_of (map string_bytes names.now)))) result }
+    ensures texts { ReportsTexts (spec.first_of (map string_bytes names.now))
+        (spec.of_audit (denied_by (map string_bytes options.now)) (map string_bytes names.now)) result }
+    ensures ending { IfOk result (λ r. IsEnding r.status) }
+    ensures only_read { OnlyRead S.holds S.misses S.faults S.store_faults shelf.old shelf.new }
+    ensures read_fault { IsErrOf result Stop.ReadFault → Rose (S.faults shelf.old) (S.faults shelf.new) }
+    ensures read_fault_there { UnreadIsThere (S.holds shelf.old) (spec.first_of (map string_bytes names.now)) result }
+    ensures missing { MissingIsCounted (spec.first_of (map string_bytes names.now)) result (S.misses shelf.old) (S.misses shelf.new) }
+{
+    let class = names[1].as_str();
+    on_first(
+        alloc,
+        ImageTask::Audit { options, class },
+        &names[..1],
+        shelf,
+    )
 }

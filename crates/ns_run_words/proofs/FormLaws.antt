@@ -7,11 +7,11 @@ use Rattle.ns_run_words.specs.Forms.{AreArguments, AreNames, IsForm}
 use Rattle.ns_run_words.specs.Table.{form_of, word_of}
 use Rattle.ns_run_words.specs.Words.{CommandLine, Options, Names, Arguments, bad, says, nothing_given, option_or, part_or, read_from, reading_of, with_name, with_option}
 use Rattle.ns_run_words.specs.declared.form.Verb.{Verb}
-use Rattle.ns_run_words.specs.declared.form.Verb.TheVariants.{Check, Show, Run, Build, Exec, Listing, Session, Sample, Help, Version}
+use Rattle.ns_run_words.specs.declared.form.Verb.TheVariants.{Check, Show, Run, Build, Exec, Listing, Session, Sample, Audit, Test, Help, Version}
 use Rattle.ns_run_words.specs.declared.words.Given.{Given}
 
 -- The first word of a form names its command.
-pub word_is_read : (verb : Verb) (words : List (List ℕ)) → reading_of (word_of verb ∷ words) ≡ read_from verb (Options nothing_given) 1 words
+pub word_is_read : (verb : Verb) (words : List (List ℕ)) → reading_of (word_of verb ∷ words) ≡ read_from verb (Options nothing_given []) 1 words
 word_is_read Check words = refl
 word_is_read Show words = refl
 word_is_read Run words = refl
@@ -20,12 +20,16 @@ word_is_read Exec words = refl
 word_is_read Listing words = refl
 word_is_read Session words = refl
 word_is_read Sample words = refl
+word_is_read Audit words = refl
+word_is_read Test words = refl
 word_is_read Help words = refl
 word_is_read Version words = refl
 
 -- Where no option follows, names follow.
-pub behind_options : (verb : Verb) (given : Given) (w : List ℕ) (words : List (List ℕ)) (k : ℕ) → with_option (form_of verb) given w ≡ None → read_from verb (Options given) k (w ∷ words) ≡ read_from verb (Names given []) k (w ∷ words)
-behind_options verb given w words k h = ap (λ o. part_or (bad k) (λ part. read_from verb part (k + 1) words) (option_or (with_name (form_of verb) given [] w) o)) h
+pub behind_options : (verb : Verb) (given : Given) (options : List (List ℕ)) (w : List ℕ) (words : List (List ℕ)) (k : ℕ) → with_option (form_of verb) given w ≡ None
+    → read_from verb (Options given options) k (w ∷ words) ≡ read_from verb (Names given options []) k (w ∷ words)
+behind_options verb given options w words k h =
+    ap (λ o. part_or (bad k) (λ part. read_from verb part (k + 1) words) (option_or (with_name (form_of verb) given options [] w) (options ++ w ∷ []) o)) h
 
 -- What stands behind the names is nothing, or `--` and arguments of which the form takes so many.
 abbrev pub IsLast : Option ℕ → List (List ℕ) → List (List ℕ) → Type 0
@@ -37,38 +41,40 @@ is_last None last arguments a = inl a
 is_last (Some m) last arguments (inl a) = inl a
 is_last (Some m) last arguments (inr a) = inr (m, refl, a.0, a.1)
 
-pub last_read : (verb : Verb) (given : Given) (names last arguments : List (List ℕ)) (k : ℕ) → (form_of verb).least ≤ length names → IsLast (form_of verb).arguments last arguments
-    → read_from verb (Names given names) k last ≡ says (record { verb = verb; given = given; names = names; arguments = arguments })
-last_read verb given names last arguments k e (inl (l, a)) =
+pub last_read : (verb : Verb) (given : Given) (options names last arguments : List (List ℕ)) (k : ℕ) → (form_of verb).least ≤ length names → IsLast (form_of verb).arguments last arguments
+    → read_from verb (Names given options names) k last ≡ says (record { verb = verb; given = given; options = options; names = names; arguments = arguments })
+last_read verb given options names last arguments k e (inl (l, a)) =
     let enough : nat_le (form_of verb).least (length names) ≡ true = grind (arith, nat_tests) in
     rw (l, a, enough) refl
-last_read verb given names last arguments k e (inr (m, s, l, few)) =
+last_read verb given options names last arguments k e (inr (m, s, l, few)) =
     let enough : nat_le (form_of verb).least (length names) ≡ true = grind (arith, nat_tests) in
-    ap (read_from verb (Names given names) k) l
+    ap (read_from verb (Names given options names) k) l
     ∙ dashes enough
-    ∙ arguments_read verb given names [] arguments (k + 1) m s e (omega (arith, few))
+    ∙ arguments_read verb given options names [] arguments (k + 1) m s e (omega (arith, few))
   where
-    dashes : nat_le (form_of verb).least (length names) ≡ true → read_from verb (Names given names) k (codes "--" ∷ arguments) ≡ read_from verb (Arguments given names []) (k + 1) arguments
+    dashes : nat_le (form_of verb).least (length names) ≡ true → read_from verb (Names given options names) k (codes "--" ∷ arguments) ≡ read_from verb (Arguments given options names []) (k + 1) arguments
     dashes enough = rw (dashes_are_no_item (form_of verb).item, enough, s) refl
 
-pub names_behind_options : (verb : Verb) (given : Given) (names last arguments : List (List ℕ)) (k : ℕ) → AreNames (form_of verb).item names → IsLast (form_of verb).arguments last arguments
-    → read_from verb (Options given) k (names ++ last) ≡ read_from verb (Names given []) k (names ++ last)
-names_behind_options verb given [] last arguments k a (inl (l, s)) = ap (read_from verb (Options given) k) l ∙ sym (ap (read_from verb (Names given []) k) l)
-names_behind_options verb given [] last arguments k a (inr (m, s, l, few)) =
-    ap (read_from verb (Options given) k) l
-    ∙ behind_options verb given (codes "--") arguments k (dashes_are_no_option (form_of verb) given)
-    ∙ sym (ap (read_from verb (Names given []) k) l)
-names_behind_options verb given (w ∷ ws) last arguments k a s = behind_options verb given w (ws ++ last) k (name_is_no_option (form_of verb) given w a.0)
+pub names_behind_options : (verb : Verb) (given : Given) (options names last arguments : List (List ℕ)) (k : ℕ) → AreNames (form_of verb).item names → IsLast (form_of verb).arguments last arguments
+    → read_from verb (Options given options) k (names ++ last) ≡ read_from verb (Names given options []) k (names ++ last)
+names_behind_options verb given options [] last arguments k a (inl (l, s)) =
+    ap (read_from verb (Options given options) k) l ∙ sym (ap (read_from verb (Names given options []) k) l)
+names_behind_options verb given options [] last arguments k a (inr (m, s, l, few)) =
+    ap (read_from verb (Options given options) k) l
+    ∙ behind_options verb given options (codes "--") arguments k (dashes_are_no_option (form_of verb) given)
+    ∙ sym (ap (read_from verb (Names given options []) k) l)
+names_behind_options verb given options (w ∷ ws) last arguments k a s =
+    behind_options verb given options w (ws ++ last) k (name_is_no_option (form_of verb) given w a.0)
 
 -- The words of a form are read as what they spell.
 pub form_is_read : (words : List (List ℕ)) (line : CommandLine) → IsForm words line → reading_of words ≡ says line
 form_is_read words line f =
     let last : IsLast (form_of line.verb).arguments f.last line.arguments = is_last (form_of line.verb).arguments f.last line.arguments f.ends in
-    let k : ℕ = 1 + length f.options in
+    let k : ℕ = 1 + length line.options in
     ap reading_of f.spelled
-    ∙ word_is_read line.verb (f.options ++ line.names ++ f.last)
-    ∙ ap (read_from line.verb (Options nothing_given) 1) (append_assoc f.options line.names f.last)
-    ∙ options_read line.verb nothing_given line.given f.options (line.names ++ f.last) 1 f.given
-    ∙ names_behind_options line.verb line.given line.names f.last line.arguments k f.named last
-    ∙ names_read line.verb line.given [] line.names f.last k f.named (omega (arith, f.few))
-    ∙ last_read line.verb line.given line.names f.last line.arguments (k + length line.names) f.enough last
+    ∙ word_is_read line.verb (line.options ++ line.names ++ f.last)
+    ∙ ap (read_from line.verb (Options nothing_given []) 1) (append_assoc line.options line.names f.last)
+    ∙ options_read line.verb nothing_given line.given [] line.options (line.names ++ f.last) 1 f.given
+    ∙ names_behind_options line.verb line.given line.options line.names f.last line.arguments k f.named last
+    ∙ names_read line.verb line.given line.options [] line.names f.last k f.needed f.named (omega (arith, f.few))
+    ∙ last_read line.verb line.given line.options line.names f.last line.arguments (k + length line.names) f.enough last

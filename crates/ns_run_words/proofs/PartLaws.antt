@@ -9,8 +9,9 @@ use Rattle.ns_base.specs.declared.limits.Limits.{Limits}
 use Rattle.ns_run_words.specs.Application.{is_application}
 use Rattle.ns_run_words.specs.FileName.{is_file_name}
 use Rattle.ns_run_words.specs.Forms.{AreNames, all_given}
+use Rattle.ns_run_words.specs.Options.{denial_where, tests_where, value_behind, with_denied, with_only}
 use Rattle.ns_run_words.specs.Table.{form_of}
-use Rattle.ns_run_words.specs.Words.{Options, Names, Arguments, bad, says, given_or, is_item, limit_where, number_given, number_of, option_or, part_or, quantum_where, read_from, with_cells, with_depth, with_limit, with_name, with_option, with_out, with_quantum, with_steps}
+use Rattle.ns_run_words.specs.Words.{Options, Names, Arguments, bad, says, given_or, has_needed, is_item, limit_where, number_given, number_of, option_or, part_or, quantum_where, read_from, with_cells, with_depth, with_limit, with_name, with_option, with_out, with_quantum, with_steps}
 use Rattle.ns_run_words.specs.declared.form.Form.{Form}
 use Rattle.ns_run_words.specs.declared.form.Item.{Item}
 use Rattle.ns_run_words.specs.declared.form.Item.TheVariants.{File, Number, Application}
@@ -23,9 +24,12 @@ pub no_number : (name : List ℕ) (greatest : ℕ) (before : Option ℕ) (word :
 no_number name greatest (Some n) word e = refl
 no_number name greatest None word e = rw e refl
 
--- The word begins with the front of no option.
+-- The word begins with the front of no option, and is none.
 abbrev pub BeginsOtherwise : List ℕ → Type 0
 BeginsOtherwise word = (c : ℕ) (name : List ℕ) → bytes_eq (take (length (45 ∷ 45 ∷ c ∷ name)) word) (45 ∷ 45 ∷ c ∷ name) ≡ false
+
+abbrev pub IsOther : List ℕ → Type 0
+IsOther word = (c : ℕ) (name : List ℕ) → bytes_eq word (45 ∷ 45 ∷ c ∷ name) ≡ false
 
 pub no_limit : (greatest : Limits) (given : Given) (word : List ℕ) → BeginsOtherwise word → with_limit greatest given word ≡ None
 no_limit greatest given word e =
@@ -44,9 +48,25 @@ pub no_quantum : (takes : Bool) (given : Given) (word : List ℕ) → BeginsOthe
 no_quantum true given word e = ap (with_quantum given) (no_number (codes "--quantum=") 1000000 given.quantum word (e 113 (codes "uantum=")))
 no_quantum false given word e = refl
 
-pub no_option : (form : Form) (given : Given) (word : List ℕ) → bytes_eq word (codes "--lib") ≡ false → BeginsOtherwise word → with_option form given word ≡ None
-no_option form given word e n =
-    rw e (ap (λ o. given_or o (limit_where form.greatest given word)) (no_quantum form.quantum given word n) ∙ no_limit_where form.greatest given word n)
+pub no_value : (name word : List ℕ) → bytes_eq (take (length name) word) name ≡ false → value_behind name word ≡ None
+no_value name word e = rw e refl
+
+pub no_test : (takes : Bool) (given : Given) (word : List ℕ) → IsOther word → BeginsOtherwise word → tests_where takes given word ≡ None
+no_test false given word o n = refl
+no_test true given word o n =
+    rw (o 114 (codes "everse")) (ap (with_only given) (no_value (codes "--only=") word (n 111 (codes "nly="))))
+
+pub no_denial : (takes : Bool) (given : Given) (word : List ℕ) → BeginsOtherwise word → denial_where takes given word ≡ None
+no_denial false given word n = refl
+no_denial true given word n = ap (with_denied given) (no_value (codes "--deny=") word (n 100 (codes "eny=")))
+
+pub no_option : (form : Form) (given : Given) (word : List ℕ) → IsOther word → BeginsOtherwise word → with_option form given word ≡ None
+no_option form given word o n =
+    rw (o 108 (codes "ib"))
+    (ap (λ q. given_or q (given_or (tests_where form.tests given word) (given_or (denial_where form.denies given word) (limit_where form.greatest given word)))) (no_quantum form.quantum given word n)
+    ∙ ap (λ q. given_or q (given_or (denial_where form.denies given word) (limit_where form.greatest given word))) (no_test form.tests given word o n)
+    ∙ ap (λ q. given_or q (limit_where form.greatest given word)) (no_denial form.denies given word n)
+    ∙ no_limit_where form.greatest given word n)
 
 -- A name has no dash in front.
 pub no_dash : (b : ℕ) (bs : List ℕ) → is_file_name (b ∷ bs) ≡ true → nat_eq b 45 ≡ false
@@ -92,7 +112,7 @@ pub name_is_no_option : (form : Form) (given : Given) (word : List ℕ) → is_i
 name_is_no_option form given [] h = some_item form.item h
 name_is_no_option form given (b ∷ bs) h =
     let e : nat_eq b 45 ≡ false = no_dash_of_item form.item b bs h in
-    no_option form given (b ∷ bs) (rw e refl) (λ c name. rw e refl)
+    no_option form given (b ∷ bs) (λ c name. rw e refl) (λ c name. rw e refl)
 
 -- `--` is no name.
 pub dashes_are_no_item : (item : Item) → is_item item (codes "--") ≡ false
@@ -101,7 +121,7 @@ dashes_are_no_item (Number greatest) = refl
 dashes_are_no_item Application = refl
 
 pub dashes_are_no_option : (form : Form) (given : Given) → with_option form given (codes "--") ≡ None
-dashes_are_no_option form given = no_option form given (codes "--") refl (λ c name. refl)
+dashes_are_no_option form given = no_option form given (codes "--") (λ c name. refl) (λ c name. refl)
 
 -- ---- options
 
@@ -113,19 +133,23 @@ all_given_append form given last (w ∷ ws) more h =
       | Some next ↦ λ k. all_given_append form next last ws more k
     ] h
 
-pub options_read : (verb : Verb) (given last : Given) (options words : List (List ℕ)) (k : ℕ) → all_given (form_of verb) given options ≡ Some last
-    → read_from verb (Options given) k (options ++ words) ≡ read_from verb (Options last) (k + length options) words
-options_read verb given last [] words k h =
+pub options_read : (verb : Verb) (given last : Given) (before options words : List (List ℕ)) (k : ℕ) → all_given (form_of verb) given options ≡ Some last
+    → read_from verb (Options given before) k (options ++ words) ≡ read_from verb (Options last (before ++ options)) (k + length options) words
+options_read verb given last before [] words k h =
     let e : given ≡ last = cc (h) in
     let n : k ≡ k + 0 = omega arith in
-    ap (λ g. read_from verb (Options g) k words) e ∙ ap (λ j. read_from verb (Options last) j words) n
-options_read verb given last (w ∷ ws) words k h =
+    ap (λ g. read_from verb (Options g before) k words) e
+    ∙ ap (λ b. read_from verb (Options last b) k words) (sym (append-nil before))
+    ∙ ap (λ j. read_from verb (Options last (before ++ [])) j words) n
+options_read verb given last before (w ∷ ws) words k h =
     elim (with_option (form_of verb) given w) as (λ o. option_and_then (λ g. all_given (form_of verb) g ws) o ≡ Some last
-    → part_or (bad k) (λ part. read_from verb part (k + 1) (ws ++ words)) (option_or (with_name (form_of verb) given [] w) o) ≡ read_from verb (Options last) (k + length (w ∷ ws)) words) [
+    → part_or (bad k) (λ part. read_from verb part (k + 1) (ws ++ words)) (option_or (with_name (form_of verb) given before [] w) (before ++ w ∷ []) o) ≡ read_from verb (Options last (before ++ w ∷ ws)) (k + length (w ∷ ws)) words) [
       | None ↦ λ q. absurd (cc (q))
       | Some next ↦ λ q.
           let n : k + 1 + length ws ≡ k + length (w ∷ ws) = omega arith in
-          options_read verb next last ws words (k + 1) q ∙ ap (λ j. read_from verb (Options last) j words) n
+          options_read verb next last (before ++ w ∷ []) ws words (k + 1) q
+          ∙ ap (λ b. read_from verb (Options last b) (k + 1 + length ws) words) (append_assoc before (w ∷ []) ws)
+          ∙ ap (λ j. read_from verb (Options last (before ++ w ∷ ws)) j words) n
     ] h
 
 -- ---- names
@@ -138,55 +162,55 @@ pub names_append : (item : Item) (names : List (List ℕ)) (w : List ℕ) → Ar
 names_append item [] w a e = (e, tt)
 names_append item (n ∷ ns) w a e = (a.0, names_append item ns w a.1 e)
 
-pub names_read : (verb : Verb) (given : Given) (before names words : List (List ℕ)) (k : ℕ) → AreNames (form_of verb).item names → length before + length names ≤ (form_of verb).most
-    → read_from verb (Names given before) k (names ++ words) ≡ read_from verb (Names given (before ++ names)) (k + length names) words
-names_read verb given before [] words k a l =
+pub names_read : (verb : Verb) (given : Given) (options before names words : List (List ℕ)) (k : ℕ) → has_needed (form_of verb) given ≡ true → AreNames (form_of verb).item names → length before + length names ≤ (form_of verb).most
+    → read_from verb (Names given options before) k (names ++ words) ≡ read_from verb (Names given options (before ++ names)) (k + length names) words
+names_read verb given options before [] words k d a l =
     let n : k ≡ k + 0 = omega arith in
-    ap (λ b. read_from verb (Names given b) k words) (sym (append-nil before)) ∙ ap (λ j. read_from verb (Names given (before ++ [])) j words) n
-names_read verb given before (w ∷ ws) words k a l =
+    ap (λ b. read_from verb (Names given options b) k words) (sym (append-nil before)) ∙ ap (λ j. read_from verb (Names given options (before ++ [])) j words) n
+names_read verb given options before (w ∷ ws) words k d a l =
     let room : nat_lt (length before) (form_of verb).most ≡ true = grind (arith, nat_tests) in
     let n : k + 1 + length ws ≡ k + length (w ∷ ws) = omega arith in
     let size : length (before ++ w ∷ []) + length ws ≤ (form_of verb).most = omega (arith, length_one before w) in
     first room
-    ∙ names_read verb given (before ++ w ∷ []) ws words (k + 1) a.1 size
-    ∙ ap (λ b. read_from verb (Names given b) (k + 1 + length ws) words) (append_assoc before (w ∷ []) ws)
-    ∙ ap (λ j. read_from verb (Names given (before ++ w ∷ ws)) j words) n
+    ∙ names_read verb given options (before ++ w ∷ []) ws words (k + 1) d a.1 size
+    ∙ ap (λ b. read_from verb (Names given options b) (k + 1 + length ws) words) (append_assoc before (w ∷ []) ws)
+    ∙ ap (λ j. read_from verb (Names given options (before ++ w ∷ ws)) j words) n
   where
-    first : nat_lt (length before) (form_of verb).most ≡ true → read_from verb (Names given before) k (w ∷ ws ++ words) ≡ read_from verb (Names given (before ++ w ∷ [])) (k + 1) (ws ++ words)
-    first r = rw (a.0, r) refl
+    first : nat_lt (length before) (form_of verb).most ≡ true → read_from verb (Names given options before) k (w ∷ ws ++ words) ≡ read_from verb (Names given options (before ++ w ∷ [])) (k + 1) (ws ++ words)
+    first r = rw (a.0, r, d) refl
 
 -- ---- arguments
 
-pub arguments_read : (verb : Verb) (given : Given) (names before words : List (List ℕ)) (k m : ℕ) → (form_of verb).arguments ≡ Some m → (form_of verb).least ≤ length names → length before + length words ≤ m
-    → read_from verb (Arguments given names before) k words ≡ says (record { verb = verb; given = given; names = names; arguments = before ++ words })
-arguments_read verb given names before [] k m a e l =
+pub arguments_read : (verb : Verb) (given : Given) (options names before words : List (List ℕ)) (k m : ℕ) → (form_of verb).arguments ≡ Some m → (form_of verb).least ≤ length names → length before + length words ≤ m
+    → read_from verb (Arguments given options names before) k words ≡ says (record { verb = verb; given = given; options = options; names = names; arguments = before ++ words })
+arguments_read verb given options names before [] k m a e l =
     let enough : nat_le (form_of verb).least (length names) ≡ true = grind (arith, nat_tests) in
-    rw enough (ap (λ b. says (record { verb = verb; given = given; names = names; arguments = b })) (sym (append-nil before)))
-arguments_read verb given names before (w ∷ ws) k m a e l =
+    rw enough (ap (λ b. says (record { verb = verb; given = given; options = options; names = names; arguments = b })) (sym (append-nil before)))
+arguments_read verb given options names before (w ∷ ws) k m a e l =
     let room : nat_lt (length before) m ≡ true = grind (arith, nat_tests) in
     let size : length (before ++ w ∷ []) + length ws ≤ m = omega (arith, length_one before w) in
     first room
-    ∙ arguments_read verb given names (before ++ w ∷ []) ws (k + 1) m a e size
-    ∙ ap (λ b. says (record { verb = verb; given = given; names = names; arguments = b })) (append_assoc before (w ∷ []) ws)
+    ∙ arguments_read verb given options names (before ++ w ∷ []) ws (k + 1) m a e size
+    ∙ ap (λ b. says (record { verb = verb; given = given; options = options; names = names; arguments = b })) (append_assoc before (w ∷ []) ws)
   where
-    first : nat_lt (length before) m ≡ true → read_from verb (Arguments given names before) k (w ∷ ws) ≡ read_from verb (Arguments given names (before ++ w ∷ [])) (k + 1) ws
+    first : nat_lt (length before) m ≡ true → read_from verb (Arguments given options names before) k (w ∷ ws) ≡ read_from verb (Arguments given options names (before ++ w ∷ [])) (k + 1) ws
     first r = rw (a, r) refl
 
 -- The first argument that is too many is a bad word.
-pub arguments_past : (verb : Verb) (given : Given) (names before words : List (List ℕ)) (k m : ℕ) → (form_of verb).arguments ≡ Some m → length before ≤ m → m < length before + length words
-    → (j : ℕ) → j + length before ≡ k + m → read_from verb (Arguments given names before) k words ≡ bad j
-arguments_past verb given names before [] k m a b l j e = absurd (omega (arith, b, l))
-arguments_past verb given names before (w ∷ ws) k m a b l j e =
-    by (λ lt. arguments_past verb given names (before ++ w ∷ []) ws (k + 1) m a (omega (arith, lt, length_one before w)) (omega (arith, l, length_one before w)) j (omega (arith, e, length_one before w)))
+pub arguments_past : (verb : Verb) (given : Given) (options names before words : List (List ℕ)) (k m : ℕ) → (form_of verb).arguments ≡ Some m → length before ≤ m → m < length before + length words
+    → (j : ℕ) → j + length before ≡ k + m → read_from verb (Arguments given options names before) k words ≡ bad j
+arguments_past verb given options names before [] k m a b l j e = absurd (omega (arith, b, l))
+arguments_past verb given options names before (w ∷ ws) k m a b l j e =
+    by (λ lt. arguments_past verb given options names (before ++ w ∷ []) ws (k + 1) m a (omega (arith, lt, length_one before w)) (omega (arith, l, length_one before w)) j (omega (arith, e, length_one before w)))
     (nat_lt (length before) m) refl
   where
-    first : nat_lt (length before) m ≡ true → read_from verb (Arguments given names before) k (w ∷ ws) ≡ read_from verb (Arguments given names (before ++ w ∷ [])) (k + 1) ws
+    first : nat_lt (length before) m ≡ true → read_from verb (Arguments given options names before) k (w ∷ ws) ≡ read_from verb (Arguments given options names (before ++ w ∷ [])) (k + 1) ws
     first r = rw (a, r) refl
 
-    none : nat_lt (length before) m ≡ false → read_from verb (Arguments given names before) k (w ∷ ws) ≡ bad k
+    none : nat_lt (length before) m ≡ false → read_from verb (Arguments given options names before) k (w ∷ ws) ≡ bad k
     none r = rw (a, r) refl
 
-    by : (length before < m → read_from verb (Arguments given names (before ++ w ∷ [])) (k + 1) ws ≡ bad j) → (q : Bool) → nat_lt (length before) m ≡ q → read_from verb (Arguments given names before) k (w ∷ ws) ≡ bad j
+    by : (length before < m → read_from verb (Arguments given options names (before ++ w ∷ [])) (k + 1) ws ≡ bad j) → (q : Bool) → nat_lt (length before) m ≡ q → read_from verb (Arguments given options names before) k (w ∷ ws) ≡ bad j
     by more true r =
         let lt : length before < m = grind (arith, nat_tests, r) in first r ∙ more lt
     by more false r =

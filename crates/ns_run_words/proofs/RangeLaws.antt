@@ -1,5 +1,5 @@
 -- The limits that options give are in their ranges.
-use Rattle.std.specs.Prelude.{◌≡◌, ℕ, ◌&&◌, nat_le, List, [], ◌∷◌, Bool, true, false, Option, Some, None, cond, codes, drop, length, option_and_then, refl, take}
+use Rattle.std.specs.Prelude.{◌≡◌, ℕ, ◌+◌, ◌&&◌, nat_le, nat_lt, List, [], ◌∷◌, Bool, true, false, Option, Some, None, cond, codes, drop, length, option_and_then, refl, take}
 use Rattle.std.proofs.Common.{◌≤◌, arith, subst}
 use Rattle.std.proofs.lemmas.Bool.Decides.{nat_tests}
 use Rattle.std.specs.Option.{unwrap_or}
@@ -7,11 +7,13 @@ use Rattle.std.specs.Str.{bytes_eq}
 use Rattle.ns_base.specs.Limits.{InRange, IsFrom1To}
 use Rattle.ns_base.specs.declared.limits.Limits.{Limits}
 use Rattle.ns_run_words.specs.Forms.{IsForm, all_given}
+use Rattle.ns_base.specs.Spelling.{is_identifier, is_selector}
+use Rattle.ns_run_words.specs.Options.{denial_where, tests_where, value_behind, with_denied, with_only, with_reverse}
 use Rattle.ns_run_words.specs.Table.{form_of}
 use Rattle.ns_run_words.specs.Words.{CommandLine, begins_bad, in_range, limits_of, nothing_given, number_given, number_of, value_from, given_or, limit_where, quantum_of, quantum_where, with_cells, with_depth, with_lib, with_limit, with_option, with_out, with_quantum, with_steps}
 use Rattle.ns_run_words.specs.declared.form.Form.{Form}
 use Rattle.ns_run_words.specs.declared.form.Verb.{Verb}
-use Rattle.ns_run_words.specs.declared.form.Verb.TheVariants.{Check, Show, Run, Build, Exec, Listing, Session, Sample, Help, Version}
+use Rattle.ns_run_words.specs.declared.form.Verb.TheVariants.{Check, Show, Run, Build, Exec, Listing, Session, Sample, Audit, Test, Help, Version}
 use Rattle.ns_run_words.specs.declared.words.Given.{Given}
 
 -- The number, where there is one, is from 1 to the greatest.
@@ -107,19 +109,66 @@ one_within (Some given) other f g = f
 
 pub lib_within : (given : Given) → AreWithin given → IsFine (with_lib given)
 lib_within given a =
-    elim given.lib as (λ q. IsFine (cond q None (Some (record { steps = given.steps; cells = given.cells; depth = given.depth; out = given.out; quantum = given.quantum; lib = true })))) [
+    elim given.lib as (λ q. IsFine (cond q None (Some (record given { lib = true })))) [
       | true ↦ tt
       | false ↦ record { steps = a.steps; cells = a.cells; depth = a.depth; out = a.out; quantum = a.quantum }
     ]
 
+-- Options of tests and denials give no numbers of these.
+pub reverse_within : (given : Given) → AreWithin given → IsFine (with_reverse given)
+reverse_within given a =
+    elim given.reverse as (λ q. IsFine (cond q None (Some (record given { reverse = true })))) [
+      | true ↦ tt
+      | false ↦ record { steps = a.steps; cells = a.cells; depth = a.depth; out = a.out; quantum = a.quantum }
+    ]
+
+pub only_within : (given : Given) (name : Option (List ℕ)) → AreWithin given → IsFine (with_only given name)
+only_within given None a = tt
+only_within given (Some name) a =
+    elim given.only as (λ q. IsFine (cond q None (cond (is_identifier name) (Some (record given { only = true })) None))) [
+      | true ↦ tt
+      | false ↦ elim (is_identifier name) as (λ q. IsFine (cond q (Some (record given { only = true })) None)) [
+        | true ↦ record { steps = a.steps; cells = a.cells; depth = a.depth; out = a.out; quantum = a.quantum }
+        | false ↦ tt
+      ]
+    ]
+
+pub tests_within : (takes : Bool) (given : Given) (word : List ℕ) → AreWithin given → IsFine (tests_where takes given word)
+tests_within false given word a = tt
+tests_within true given word a =
+    elim (bytes_eq word (codes "--reverse")) as (λ q. IsFine (cond q (with_reverse given) (with_only given (value_behind (codes "--only=") word)))) [
+      | true ↦ reverse_within given a
+      | false ↦ only_within given (value_behind (codes "--only=") word) a
+    ]
+
+pub denied_within : (given : Given) (text : Option (List ℕ)) → AreWithin given → IsFine (with_denied given text)
+denied_within given None a = tt
+denied_within given (Some text) a =
+    elim (is_selector text) as (λ q. IsFine (cond q (cond (nat_lt given.denied 16) (Some (record given { denied = given.denied + 1 })) None) None)) [
+      | false ↦ tt
+      | true ↦ elim (nat_lt given.denied 16) as (λ q. IsFine (cond q (Some (record given { denied = given.denied + 1 })) None)) [
+        | true ↦ record { steps = a.steps; cells = a.cells; depth = a.depth; out = a.out; quantum = a.quantum }
+        | false ↦ tt
+      ]
+    ]
+
+pub denial_within : (takes : Bool) (given : Given) (word : List ℕ) → AreWithin given → IsFine (denial_where takes given word)
+denial_within false given word a = tt
+denial_within true given word a = denied_within given (value_behind (codes "--deny=") word) a
+
 pub option_within : (form : Form) (given : Given) (word : List ℕ) → IsSmall form.greatest → AreWithin given → IsFine (with_option form given word)
 option_within form given word s a =
-    elim (bytes_eq word (codes "--lib")) as (λ q. IsFine (cond q (cond form.lib (with_lib given) None) (given_or (quantum_where form.quantum given word) (limit_where form.greatest given word)))) [
+    elim (bytes_eq word (codes "--lib")) as (λ q. IsFine (cond q (cond form.lib (with_lib given) None)
+    (given_or (quantum_where form.quantum given word)
+    (given_or (tests_where form.tests given word) (given_or (denial_where form.denies given word) (limit_where form.greatest given word)))))) [
       | true ↦ elim form.lib as (λ q. IsFine (cond q (with_lib given) None)) [
         | true ↦ lib_within given a
         | false ↦ tt
       ]
-      | false ↦ one_within _ _ (quantum_within form.quantum given word a) (where_within form.greatest given word s a)
+      | false ↦
+          one_within _ _ (quantum_within form.quantum given word a)
+          (one_within _ _ (tests_within form.tests given word a)
+          (one_within _ _ (denial_within form.denies given word a) (where_within form.greatest given word s a)))
     ]
 
 pub all_within : (form : Form) (given last : Given) (options : List (List ℕ)) → IsSmall form.greatest → AreWithin given → all_given form given options ≡ Some last → AreWithin last
@@ -143,12 +192,14 @@ forms_small Exec = ((omega arith, omega arith), (omega arith, omega arith), (ome
 forms_small Listing = tt
 forms_small Session = ((omega arith, omega arith), (omega arith, omega arith), (omega arith, omega arith), (omega arith, omega arith))
 forms_small Sample = tt
+forms_small Audit = tt
+forms_small Test = ((omega arith, omega arith), (omega arith, omega arith), (omega arith, omega arith), (omega arith, omega arith))
 forms_small Help = tt
 forms_small Version = tt
 
 -- What the options of a form give is within its ranges.
 pub form_within : (words : List (List ℕ)) (line : CommandLine) → IsForm words line → AreWithin line.given
-form_within words line f = all_within (form_of line.verb) nothing_given line.given f.options (forms_small line.verb) nothing_within f.given
+form_within words line f = all_within (form_of line.verb) nothing_given line.given line.options (forms_small line.verb) nothing_within f.given
 
 -- The steps of a turn are some.
 pub form_turns : (words : List (List ℕ)) (line : CommandLine) → IsForm words line → 1 ≤ quantum_of line.given

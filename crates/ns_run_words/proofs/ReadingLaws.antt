@@ -1,5 +1,5 @@
 -- What is read of words is what they spell, or tells the first bad word.
-use Rattle.std.specs.Prelude.{◌≡◌, ℕ, ◌&&◌, nat_le, nat_lt, length, List, [], ◌∷◌, ◌++◌, true, false, Option, Some, None, cond, codes, take, refl}
+use Rattle.std.specs.Prelude.{◌≡◌, ℕ, ◌⊎◌, ◌&&◌, nat_le, nat_lt, length, List, [], ◌∷◌, ◌++◌, Bool, true, false, Option, Some, None, cond, codes, take, refl}
 use Rattle.std.proofs.Common.{◌≤◌, ◌+◌, ◌-◌, zero, suc, arith, ap, sym, ◌∙◌, subst, inl, inr, append_assoc}
 use Rattle.std.proofs.Math.Seq.{take-append-add}
 use Rattle.std.proofs.lemmas.Bool.Decides.{nat_tests}
@@ -10,21 +10,21 @@ use Rattle.ns_run_words.proofs.FormLaws.{form_is_read, word_is_read}
 use Rattle.ns_run_words.proofs.PartLaws.{all_given_append, length_one, names_append}
 use Rattle.ns_run_words.specs.Forms.{AreArguments, AreNames, Begins, IsForm, IsReadingOf, all_given}
 use Rattle.ns_run_words.specs.Table.{form_of, verb_of, word_of}
-use Rattle.ns_run_words.specs.Words.{CommandLine, ReadSoFar, Options, Names, Arguments, LineReading, bad, bad_of, says, arguments_behind, first_bad, has_room, is_item, line_of, names_read, nothing_given, option_or, part_or, read_from, reading_of, with_argument, with_dashes, with_name, with_option, with_word}
+use Rattle.ns_run_words.specs.Words.{CommandLine, ReadSoFar, Options, Names, Arguments, LineReading, bad, bad_of, says, arguments_behind, first_bad, has_needed, has_room, is_item, line_of, names_read, nothing_given, option_or, part_or, read_from, reading_of, with_argument, with_dashes, with_name, with_option, with_word}
 use Rattle.ns_run_words.specs.declared.form.Form.{Form}
 use Rattle.ns_run_words.specs.declared.form.Item.{Item}
 use Rattle.ns_run_words.specs.declared.form.Item.TheVariants.{File, Number, Application}
 use Rattle.ns_run_words.specs.declared.form.Verb.{Verb}
-use Rattle.ns_run_words.specs.declared.form.Verb.TheVariants.{Check, Show, Run, Build, Exec, Listing, Session, Sample, Help, Version}
+use Rattle.ns_run_words.specs.declared.form.Verb.TheVariants.{Check, Show, Run, Build, Exec, Listing, Session, Sample, Audit, Test, Help, Version}
 use Rattle.ns_run_words.specs.declared.words.Given.{Given}
 
 -- ---- what was read so far
 
--- Options that give this, and names of which the form takes so many.
-pub record AreNamed (form : Form) (words : List (List ℕ)) (given : Given) (names : List (List ℕ)) : Type 0 where
-  pub options : List (List ℕ)
+-- Options that give this, and names of which the form takes so many, behind options that it needs.
+pub record AreNamed (form : Form) (words : List (List ℕ)) (given : Given) (options names : List (List ℕ)) : Type 0 where
   pub spelled : words ≡ options ++ names
   pub gives : all_given form nothing_given options ≡ Some given
+  pub needed : names ≡ [] ⊎ (has_needed form given ≡ true)
   pub named : AreNames form.item names
   pub few : length names ≤ form.most
 
@@ -34,91 +34,103 @@ TakesArguments form names arguments = (m : ℕ) × (form.arguments ≡ Some m) �
 
 -- The words spell what was read, and the form can go on behind them.
 abbrev pub IsPart : Form → List (List ℕ) → ReadSoFar → Type 0
-IsPart form words (Options given) = all_given form nothing_given words ≡ Some given
-IsPart form words (Names given names) = AreNamed form words given names
-IsPart form words (Arguments given names arguments) =
-    (front : List (List ℕ)) × (words ≡ front ++ codes "--" ∷ arguments) × AreNamed form front given names × TakesArguments form names arguments
+IsPart form words (Options given options) = (words ≡ options) × (all_given form nothing_given words ≡ Some given)
+IsPart form words (Names given options names) = AreNamed form words given options names
+IsPart form words (Arguments given options names arguments) =
+    (front : List (List ℕ)) × (words ≡ front ++ codes "--" ∷ arguments) × AreNamed form front given options names × TakesArguments form names arguments
 
 -- ---- one word more
 
-pub argument_more : (form : Form) (words : List (List ℕ)) (given : Given) (names arguments : List (List ℕ)) (w : List ℕ) (next : ReadSoFar) → IsPart form words (Arguments given names arguments)
-    → with_argument form given names arguments w ≡ Some next → IsPart form (words ++ w ∷ []) next
-argument_more form words given names arguments w next (front, s, n, (m, a, e, l)) h =
-    elim (has_room form.arguments (length arguments)) as (λ q. has_room form.arguments (length arguments) ≡ q → cond q (Some (Arguments given names (arguments ++ w ∷ []))) None ≡ Some next → IsPart form (words ++ w ∷ []) next) [
+pub argument_more : (form : Form) (words : List (List ℕ)) (given : Given) (options names arguments : List (List ℕ)) (w : List ℕ) (next : ReadSoFar) → IsPart form words (Arguments given options names arguments)
+    → with_argument form given options names arguments w ≡ Some next → IsPart form (words ++ w ∷ []) next
+argument_more form words given options names arguments w next (front, s, n, (m, a, e, l)) h =
+    elim (has_room form.arguments (length arguments)) as (λ q. has_room form.arguments (length arguments) ≡ q → cond q (Some (Arguments given options names (arguments ++ w ∷ []))) None ≡ Some next → IsPart form (words ++ w ∷ []) next) [
       | false ↦ λ r k. absurd (cc (k))
       | true ↦ λ r k.
           let room : nat_lt (length arguments) m ≡ true = sym (ap (λ o. has_room o (length arguments)) a) ∙ r in
           let few : length (arguments ++ w ∷ []) ≤ m = grind (arith, nat_tests, room, length_one arguments w) in
-          let is : Arguments given names (arguments ++ w ∷ []) ≡ next = cc (k) in
+          let is : Arguments given options names (arguments ++ w ∷ []) ≡ next = cc (k) in
           subst (IsPart form (words ++ w ∷ [])) is (front, ap (λ x. x ++ w ∷ []) s ∙ append_assoc front (codes "--" ∷ arguments) (w ∷ []), n, (m, a, e, few))
     ] refl h
 
-pub dashes_more : (form : Form) (words : List (List ℕ)) (given : Given) (names : List (List ℕ)) (w : List ℕ) (next : ReadSoFar) → AreNamed form words given names
-    → with_dashes given names (arguments_behind form (length names) w) ≡ Some next → IsPart form (words ++ w ∷ []) next
-dashes_more form words given names w next n h =
-    elim (bytes_eq w (codes "--")) as (λ q. bytes_eq w (codes "--") ≡ q → with_dashes given names (cond (q && nat_le form.least (length names)) form.arguments None) ≡ Some next → IsPart form (words ++ w ∷ []) next) [
+pub dashes_more : (form : Form) (words : List (List ℕ)) (given : Given) (options names : List (List ℕ)) (w : List ℕ) (next : ReadSoFar) → AreNamed form words given options names
+    → with_dashes given options names (arguments_behind form (length names) w) ≡ Some next → IsPart form (words ++ w ∷ []) next
+dashes_more form words given options names w next n h =
+    elim (bytes_eq w (codes "--")) as (λ q. bytes_eq w (codes "--") ≡ q → with_dashes given options names (cond (q && nat_le form.least (length names)) form.arguments None) ≡ Some next → IsPart form (words ++ w ∷ []) next) [
       | false ↦ λ e k. absurd (cc (k))
       | true ↦ λ e k.
           let dashes : w ≡ codes "--" = (bytes_eq-Decides w (codes "--")).0 e in
           enough dashes k
     ] refl h
   where
-    taken : (o : Option ℕ) → w ≡ codes "--" → form.least ≤ length names → form.arguments ≡ o → with_dashes given names o ≡ Some next → IsPart form (words ++ w ∷ []) next
+    taken : (o : Option ℕ) → w ≡ codes "--" → form.least ≤ length names → form.arguments ≡ o → with_dashes given options names o ≡ Some next → IsPart form (words ++ w ∷ []) next
     taken None e l a k = absurd (cc (k))
     taken (Some m) e l a k =
-        let is : Arguments given names [] ≡ next = cc (k) in
+        let is : Arguments given options names [] ≡ next = cc (k) in
         subst (IsPart form (words ++ w ∷ [])) is (words, ap (λ v. words ++ v ∷ []) e, n, (m, a, l, omega arith))
 
-    enough : w ≡ codes "--" → with_dashes given names (cond (nat_le form.least (length names)) form.arguments None) ≡ Some next → IsPart form (words ++ w ∷ []) next
+    enough : w ≡ codes "--" → with_dashes given options names (cond (nat_le form.least (length names)) form.arguments None) ≡ Some next → IsPart form (words ++ w ∷ []) next
     enough e k =
-        elim (nat_le form.least (length names)) as (λ q. nat_le form.least (length names) ≡ q → with_dashes given names (cond q form.arguments None) ≡ Some next → IsPart form (words ++ w ∷ []) next) [
+        elim (nat_le form.least (length names)) as (λ q. nat_le form.least (length names) ≡ q → with_dashes given options names (cond q form.arguments None) ≡ Some next → IsPart form (words ++ w ∷ []) next) [
           | false ↦ λ r j. absurd (cc (j))
           | true ↦ λ r j.
               let l : form.least ≤ length names = grind (arith, nat_tests, r) in taken form.arguments e l refl j
         ] refl k
 
-pub name_more : (form : Form) (words : List (List ℕ)) (given : Given) (names : List (List ℕ)) (w : List ℕ) (next : ReadSoFar) → AreNamed form words given names
-    → with_name form given names w ≡ Some next → IsPart form (words ++ w ∷ []) next
-name_more form words given names w next n h =
+pub name_more : (form : Form) (words : List (List ℕ)) (given : Given) (options names : List (List ℕ)) (w : List ℕ) (next : ReadSoFar) → AreNamed form words given options names
+    → with_name form given options names w ≡ Some next → IsPart form (words ++ w ∷ []) next
+name_more form words given options names w next n h =
     elim (is_item form.item w) as (λ q. is_item form.item w ≡ q
-    → cond (q && nat_lt (length names) form.most) (Some (Names given (names ++ w ∷ []))) (with_dashes given names (arguments_behind form (length names) w)) ≡ Some next → IsPart form (words ++ w ∷ []) next) [
-      | false ↦ λ e k. dashes_more form words given names w next n k
+    → cond (q && nat_lt (length names) form.most && has_needed form given) (Some (Names given options (names ++ w ∷ []))) other ≡ Some next → IsPart form (words ++ w ∷ []) next) [
+      | false ↦ λ e k. dashes_more form words given options names w next n k
       | true ↦ λ e k. room e k
     ] refl h
   where
-    room : is_item form.item w ≡ true → cond (nat_lt (length names) form.most) (Some (Names given (names ++ w ∷ []))) (with_dashes given names (arguments_behind form (length names) w)) ≡ Some next → IsPart form (words ++ w ∷ []) next
-    room e k =
-        elim (nat_lt (length names) form.most) as (λ q. nat_lt (length names) form.most ≡ q
-        → cond q (Some (Names given (names ++ w ∷ []))) (with_dashes given names (arguments_behind form (length names) w)) ≡ Some next → IsPart form (words ++ w ∷ []) next) [
-          | false ↦ λ r j. dashes_more form words given names w next n j
-          | true ↦ λ r j.
+    other : Option ReadSoFar
+    other = with_dashes given options names (arguments_behind form (length names) w)
+
+    needed : is_item form.item w ≡ true → nat_lt (length names) form.most ≡ true → cond (has_needed form given) (Some (Names given options (names ++ w ∷ []))) other ≡ Some next → IsPart form (words ++ w ∷ []) next
+    needed e r k =
+        elim (has_needed form given) as (λ q. has_needed form given ≡ q → cond q (Some (Names given options (names ++ w ∷ []))) other ≡ Some next → IsPart form (words ++ w ∷ []) next) [
+          | false ↦ λ d j. dashes_more form words given options names w next n j
+          | true ↦ λ d j.
               let few : length (names ++ w ∷ []) ≤ form.most = grind (arith, nat_tests, r, length_one names w) in
-              let is : Names given (names ++ w ∷ []) ≡ next = cc (j) in
-              let all : AreNamed form (words ++ w ∷ []) given (names ++ w ∷ []) =
-              record { options = n.options; spelled = ap (λ x. x ++ w ∷ []) n.spelled ∙ append_assoc n.options names (w ∷ []); gives = n.gives; named = names_append form.item names w n.named e; few = few }
+              let is : Names given options (names ++ w ∷ []) ≡ next = cc (j) in
+              let all : AreNamed form (words ++ w ∷ []) given options (names ++ w ∷ []) =
+              record { spelled = ap (λ x. x ++ w ∷ []) n.spelled ∙ append_assoc options names (w ∷ []); gives = n.gives; needed = inr d; named = names_append form.item names w n.named e; few = few }
               in
               subst (IsPart form (words ++ w ∷ [])) is all
         ] refl k
 
--- Options alone are options and no names.
-pub no_names : (form : Form) (words : List (List ℕ)) (given : Given) → IsPart form words (Options given) → AreNamed form words given []
-no_names form words given o = record { options = words; spelled = sym (append-nil words); gives = o; named = tt; few = omega arith }
+    room : is_item form.item w ≡ true → cond (nat_lt (length names) form.most && has_needed form given) (Some (Names given options (names ++ w ∷ []))) other ≡ Some next → IsPart form (words ++ w ∷ []) next
+    room e k =
+        elim (nat_lt (length names) form.most) as (λ q. nat_lt (length names) form.most ≡ q
+        → cond (q && has_needed form given) (Some (Names given options (names ++ w ∷ []))) other ≡ Some next → IsPart form (words ++ w ∷ []) next) [
+          | false ↦ λ r j. dashes_more form words given options names w next n j
+          | true ↦ λ r j. needed e r j
+        ] refl k
 
-pub option_more : (form : Form) (words : List (List ℕ)) (given : Given) (w : List ℕ) (next : ReadSoFar) → IsPart form words (Options given) → with_word form (Options given) w ≡ Some next → IsPart form (words ++ w ∷ []) next
-option_more form words given w next o h =
-    elim (with_option form given w) as (λ g. with_option form given w ≡ g → option_or (with_name form given [] w) g ≡ Some next → IsPart form (words ++ w ∷ []) next) [
-      | None ↦ λ e k. name_more form words given [] w next (no_names form words given o) k
+-- Options alone are options and no names.
+pub no_names : (form : Form) (words : List (List ℕ)) (given : Given) (options : List (List ℕ)) → IsPart form words (Options given options) → AreNamed form words given options []
+no_names form words given options (e, o) =
+    record { spelled = e ∙ sym (append-nil options); gives = subst (λ x. all_given form nothing_given x ≡ Some given) e o; needed = inl refl; named = tt; few = omega arith }
+
+pub option_more : (form : Form) (words : List (List ℕ)) (given : Given) (options : List (List ℕ)) (w : List ℕ) (next : ReadSoFar) → IsPart form words (Options given options) → with_word form (Options given options) w ≡ Some next
+    → IsPart form (words ++ w ∷ []) next
+option_more form words given options w next o h =
+    elim (with_option form given w) as (λ g. with_option form given w ≡ g → option_or (with_name form given options [] w) (options ++ w ∷ []) g ≡ Some next → IsPart form (words ++ w ∷ []) next) [
+      | None ↦ λ e k. name_more form words given options [] w next (no_names form words given options o) k
       | Some more ↦ λ e k.
-          let is : Options more ≡ next = cc (k) in
+          let is : Options more (options ++ w ∷ []) ≡ next = cc (k) in
           let one : all_given form given (w ∷ []) ≡ Some more = rw e refl in
-          subst (IsPart form (words ++ w ∷ [])) is (all_given_append form nothing_given given words (w ∷ []) o ∙ one)
+          subst (IsPart form (words ++ w ∷ [])) is (ap (λ x. x ++ w ∷ []) o.0, all_given_append form nothing_given given words (w ∷ []) o.1 ∙ one)
     ] refl h
 
 -- The words of a part, with a word more with which the form can go on.
 pub part_more : (form : Form) (words : List (List ℕ)) (part : ReadSoFar) (w : List ℕ) (next : ReadSoFar) → IsPart form words part → with_word form part w ≡ Some next → IsPart form (words ++ w ∷ []) next
-part_more form words (Options given) w next p h = option_more form words given w next p h
-part_more form words (Names given names) w next p h = name_more form words given names w next p h
-part_more form words (Arguments given names arguments) w next p h = argument_more form words given names arguments w next p h
+part_more form words (Options given options) w next p h = option_more form words given options w next p h
+part_more form words (Names given options names) w next p h = name_more form words given options names w next p h
+part_more form words (Arguments given options names arguments) w next p h = argument_more form words given options names arguments w next p h
 
 -- ---- what a part begins
 
@@ -146,6 +158,8 @@ fill_item Exec = refl
 fill_item Listing = refl
 fill_item Session = refl
 fill_item Sample = refl
+fill_item Audit = refl
+fill_item Test = refl
 fill_item Help = refl
 fill_item Version = refl
 
@@ -166,6 +180,8 @@ least_is_less Exec = omega arith
 least_is_less Listing = omega arith
 least_is_less Session = omega arith
 least_is_less Sample = omega arith
+least_is_less Audit = omega arith
+least_is_less Test = omega arith
 least_is_less Help = omega arith
 least_is_less Version = omega arith
 
@@ -176,21 +192,40 @@ no_arguments (Some m) = inl (refl, refl)
 pub some_arguments : (most : Option ℕ) (m : ℕ) (arguments : List (List ℕ)) → most ≡ Some m → length arguments ≤ m → AreArguments most (codes "--" ∷ arguments) arguments
 some_arguments most m arguments e l = subst (λ o. AreArguments o (codes "--" ∷ arguments) arguments) (sym e) (inr (refl, l))
 
--- Names, and as many more as the form needs.
-pub named_begin : (verb : Verb) (words : List (List ℕ)) (given : Given) (names : List (List ℕ)) → AreNamed (form_of verb) words given names → Begins (word_of verb ∷ words)
-named_begin verb words given names n =
+-- A form that needs an option needs a name too: so with names enough the option is there.
+pub enough_needs : (verb : Verb) (given : Given) (names : List (List ℕ)) → names ≡ [] ⊎ (has_needed (form_of verb) given ≡ true) → (form_of verb).least ≤ length names → has_needed (form_of verb) given ≡ true
+enough_needs verb given names (inr d) l = d
+enough_needs verb given names (inl e) l = none verb (subst (λ x. (form_of verb).least ≤ length x) e l)
+  where
+    none : (verb : Verb) → (form_of verb).least ≤ 0 → has_needed (form_of verb) given ≡ true
+    none Check m = refl
+    none Show m = refl
+    none Run m = refl
+    none Build m = refl
+    none Exec m = refl
+    none Listing m = refl
+    none Session m = refl
+    none Sample m = refl
+    none Audit m = absurd (omega (arith, m))
+    none Test m = refl
+    none Help m = refl
+    none Version m = refl
+
+-- Names behind the options that the form needs, and as many more as it needs.
+pub filled_begin : (verb : Verb) (words : List (List ℕ)) (given : Given) (options names : List (List ℕ)) → AreNamed (form_of verb) words given options names → has_needed (form_of verb) given ≡ true → Begins (word_of verb ∷ words)
+filled_begin verb words given options names n d =
     let more : List (List ℕ) = fill (form_of verb).item ((form_of verb).least - length names) in
     let size : length (names ++ more) ≡ length names + ((form_of verb).least - length names) = length-append names more ∙ ap (λ j. length names + j) (fill_length (form_of verb).item ((form_of verb).least - length names)) in
-    let spelled : words ++ more ≡ n.options ++ (names ++ more) ++ [] =
-    ap (λ x. x ++ more) n.spelled ∙ append_assoc n.options names more ∙ sym (append-nil (n.options ++ (names ++ more)))
+    let spelled : words ++ more ≡ options ++ (names ++ more) ++ [] =
+    ap (λ x. x ++ more) n.spelled ∙ append_assoc options names more ∙ sym (append-nil (options ++ (names ++ more)))
     in (
       more,
-      record { verb = verb; given = given; names = names ++ more; arguments = [] },
+      record { verb = verb; given = given; options = options; names = names ++ more; arguments = [] },
       record {
-        options = n.options;
         last = [];
         spelled = ap (λ x. word_of verb ∷ x) spelled;
         given = n.gives;
+        needed = d;
         enough = omega (arith, size);
         few = omega (arith, size, n.few, least_is_less verb);
         named = both_named (form_of verb).item names more n.named (fill_named (form_of verb).item ((form_of verb).least - length names) (fill_item verb));
@@ -198,31 +233,118 @@ named_begin verb words given names n =
       },
     )
 
+-- A form that needs an option takes this one, where it has none yet.
+abbrev pub denial : List ℕ
+denial = codes "--deny=a"
+
+pub denial_given : (verb : Verb) (given : Given) → has_needed (form_of verb) given ≡ false → with_option (form_of verb) given denial ≡ Some (record given { denied = given.denied + 1 })
+denial_given Check given h = absurd (cc (h))
+denial_given Show given h = absurd (cc (h))
+denial_given Run given h = absurd (cc (h))
+denial_given Build given h = absurd (cc (h))
+denial_given Exec given h = absurd (cc (h))
+denial_given Listing given h = absurd (cc (h))
+denial_given Session given h = absurd (cc (h))
+denial_given Sample given h = absurd (cc (h))
+denial_given Audit given h =
+    let few : nat_lt given.denied 16 ≡ true = grind (arith, nat_tests, h) in rw few refl
+denial_given Test given h = absurd (cc (h))
+denial_given Help given h = absurd (cc (h))
+denial_given Version given h = absurd (cc (h))
+
+pub denial_serves : (verb : Verb) (given : Given) → has_needed (form_of verb) (record given { denied = given.denied + 1 }) ≡ true
+denial_serves Check given = refl
+denial_serves Show given = refl
+denial_serves Run given = refl
+denial_serves Build given = refl
+denial_serves Exec given = refl
+denial_serves Listing given = refl
+denial_serves Session given = refl
+denial_serves Sample given = refl
+denial_serves Audit given = grind (arith, nat_tests)
+denial_serves Test given = refl
+denial_serves Help given = refl
+denial_serves Version given = refl
+
+-- What begins a form with a word more begins one.
+pub fewer_begin : (words : List (List ℕ)) (w : List ℕ) → Begins (words ++ w ∷ []) → Begins words
+fewer_begin words w (more, line, f) = (w ∷ more, line, subst (λ x. IsForm x line) (append_assoc words (w ∷ []) more) f)
+
+pub denied_begin : (verb : Verb) (words : List (List ℕ)) (given : Given) (options names : List (List ℕ)) → AreNamed (form_of verb) words given options names → names ≡ [] → has_needed (form_of verb) given ≡ false → Begins (word_of verb ∷ words)
+denied_begin verb words given options names n none h =
+    let next : Given = record given { denied = given.denied + 1 } in
+    let one : all_given (form_of verb) given (denial ∷ []) ≡ Some next = rw (denial_given verb given h) refl in
+    let named : AreNamed (form_of verb) (words ++ denial ∷ []) next (options ++ denial ∷ []) [] =
+    record {
+      spelled = ap (λ x. x ++ denial ∷ []) (n.spelled ∙ ap (λ x. options ++ x) none ∙ append-nil options) ∙ sym (append-nil (options ++ denial ∷ []));
+      gives = all_given_append (form_of verb) nothing_given given options (denial ∷ []) n.gives ∙ one;
+      needed = inl refl;
+      named = tt;
+      few = omega arith;
+    }
+    in
+    fewer_begin (word_of verb ∷ words) denial (filled_begin verb (words ++ denial ∷ []) next (options ++ denial ∷ []) [] named (denial_serves verb given))
+
+pub named_begin : (verb : Verb) (words : List (List ℕ)) (given : Given) (options names : List (List ℕ)) → AreNamed (form_of verb) words given options names → Begins (word_of verb ∷ words)
+named_begin verb words given options names n = by (has_needed (form_of verb) given) refl n.needed
+  where
+    by : (q : Bool) → has_needed (form_of verb) given ≡ q → names ≡ [] ⊎ (has_needed (form_of verb) given ≡ true) → Begins (word_of verb ∷ words)
+    by true e d = filled_begin verb words given options names n e
+    by false e (inl none) = denied_begin verb words given options names n none e
+    by false e (inr d) = absurd (cc (e, d))
+
 pub part_begins : (verb : Verb) (words : List (List ℕ)) (part : ReadSoFar) → IsPart (form_of verb) words part → Begins (word_of verb ∷ words)
-part_begins verb words (Options given) p = named_begin verb words given [] (no_names (form_of verb) words given p)
-part_begins verb words (Names given names) p = named_begin verb words given names p
-part_begins verb words (Arguments given names arguments) (front, s, n, (m, a, e, l)) =
-    let spelled : words ++ [] ≡ n.options ++ names ++ codes "--" ∷ arguments =
+part_begins verb words (Options given options) p = named_begin verb words given options [] (no_names (form_of verb) words given options p)
+part_begins verb words (Names given options names) p = named_begin verb words given options names p
+part_begins verb words (Arguments given options names arguments) (front, s, n, (m, a, e, l)) =
+    let spelled : words ++ [] ≡ options ++ names ++ codes "--" ∷ arguments =
     append-nil words ∙ s ∙ ap (λ x. x ++ codes "--" ∷ arguments) n.spelled
     in (
       [],
-      record { verb = verb; given = given; names = names; arguments = arguments },
-      record { options = n.options; last = codes "--" ∷ arguments; spelled = ap (λ x. word_of verb ∷ x) spelled; given = n.gives; enough = e; few = n.few; named = n.named; ends = some_arguments (form_of verb).arguments m arguments a l },
+      record { verb = verb; given = given; options = options; names = names; arguments = arguments },
+      record {
+        last = codes "--" ∷ arguments;
+        spelled = ap (λ x. word_of verb ∷ x) spelled;
+        given = n.gives;
+        needed = enough_needs verb given names n.needed e;
+        enough = e;
+        few = n.few;
+        named = n.named;
+        ends = some_arguments (form_of verb).arguments m arguments a l;
+      },
     )
 
 -- Where there are names enough, the words are a form.
-pub named_form : (verb : Verb) (words : List (List ℕ)) (given : Given) (names : List (List ℕ)) → AreNamed (form_of verb) words given names → (form_of verb).least ≤ length names
-    → IsForm (word_of verb ∷ words) (record { verb = verb; given = given; names = names; arguments = [] })
-named_form verb words given names n l =
-    let spelled : words ≡ n.options ++ names ++ [] = n.spelled ∙ sym (append-nil (n.options ++ names)) in
-    record { options = n.options; last = []; spelled = ap (λ x. word_of verb ∷ x) spelled; given = n.gives; enough = l; few = n.few; named = n.named; ends = no_arguments (form_of verb).arguments }
+pub named_form : (verb : Verb) (words : List (List ℕ)) (given : Given) (options names : List (List ℕ)) → AreNamed (form_of verb) words given options names → (form_of verb).least ≤ length names
+    → IsForm (word_of verb ∷ words) (record { verb = verb; given = given; options = options; names = names; arguments = [] })
+named_form verb words given options names n l =
+    let spelled : words ≡ options ++ names ++ [] = n.spelled ∙ sym (append-nil (options ++ names)) in
+    record {
+      last = [];
+      spelled = ap (λ x. word_of verb ∷ x) spelled;
+      given = n.gives;
+      needed = enough_needs verb given names n.needed l;
+      enough = l;
+      few = n.few;
+      named = n.named;
+      ends = no_arguments (form_of verb).arguments;
+    }
 
 pub part_form : (verb : Verb) (words : List (List ℕ)) (part : ReadSoFar) → IsPart (form_of verb) words part → (form_of verb).least ≤ length (names_read part) → IsForm (word_of verb ∷ words) (line_of verb part)
-part_form verb words (Options given) p l = named_form verb words given [] (no_names (form_of verb) words given p) l
-part_form verb words (Names given names) p l = named_form verb words given names p l
-part_form verb words (Arguments given names arguments) (front, s, n, (m, a, e, few)) l =
-    let spelled : words ≡ n.options ++ names ++ codes "--" ∷ arguments = s ∙ ap (λ x. x ++ codes "--" ∷ arguments) n.spelled in
-    record { options = n.options; last = codes "--" ∷ arguments; spelled = ap (λ x. word_of verb ∷ x) spelled; given = n.gives; enough = e; few = n.few; named = n.named; ends = some_arguments (form_of verb).arguments m arguments a few }
+part_form verb words (Options given options) p l = named_form verb words given options [] (no_names (form_of verb) words given options p) l
+part_form verb words (Names given options names) p l = named_form verb words given options names p l
+part_form verb words (Arguments given options names arguments) (front, s, n, (m, a, e, few)) l =
+    let spelled : words ≡ options ++ names ++ codes "--" ∷ arguments = s ∙ ap (λ x. x ++ codes "--" ∷ arguments) n.spelled in
+    record {
+      last = codes "--" ∷ arguments;
+      spelled = ap (λ x. word_of verb ∷ x) spelled;
+      given = n.gives;
+      needed = enough_needs verb given names n.needed e;
+      enough = e;
+      few = n.few;
+      named = n.named;
+      ends = some_arguments (form_of verb).arguments m arguments a few;
+    }
 
 -- ---- the first bad word
 
@@ -295,9 +417,11 @@ by_verb w P some none =
     test (codes "list") _ _ (some Listing) λ f.
     test (codes "session") _ _ (some Session) λ j.
     test (codes "sample") _ _ (some Sample) λ g.
+    test (codes "audit") _ _ (some Audit) λ k.
+    test (codes "test") _ _ (some Test) λ l.
     test (codes "--help") _ _ (some Help) λ h.
     test (codes "--version") _ _ (some Version) λ i.
-    none (all a b c d e f j g h i)
+    none (all a b c d e f j g k l h i)
   where
     test : (text : List ℕ) (x y : Option Verb) → (w ≡ text → P x) → (bytes_eq w text ≡ false → P y) → P (cond (bytes_eq w text) x y)
     test text x y f g =
@@ -306,34 +430,36 @@ by_verb w P some none =
           | false ↦ g
         ] refl
 
-    all : bytes_eq w (codes "check") ≡ false → bytes_eq w (codes "show") ≡ false → bytes_eq w (codes "run") ≡ false → bytes_eq w (codes "build") ≡ false → bytes_eq w (codes "exec") ≡ false → bytes_eq w (codes "list") ≡ false → bytes_eq w (codes "session") ≡ false → bytes_eq w (codes "sample") ≡ false → bytes_eq w (codes "--help") ≡ false → bytes_eq w (codes "--version") ≡ false → (verb : Verb) → w ≡ word_of verb → ⊥
-    all a b c d e f j g h i Check is = apart w (codes "check") a is
-    all a b c d e f j g h i Show is = apart w (codes "show") b is
-    all a b c d e f j g h i Run is = apart w (codes "run") c is
-    all a b c d e f j g h i Build is = apart w (codes "build") d is
-    all a b c d e f j g h i Exec is = apart w (codes "exec") e is
-    all a b c d e f j g h i Listing is = apart w (codes "list") f is
-    all a b c d e f j g h i Session is = apart w (codes "session") j is
-    all a b c d e f j g h i Sample is = apart w (codes "sample") g is
-    all a b c d e f j g h i Help is = apart w (codes "--help") h is
-    all a b c d e f j g h i Version is = apart w (codes "--version") i is
+    all : bytes_eq w (codes "check") ≡ false → bytes_eq w (codes "show") ≡ false → bytes_eq w (codes "run") ≡ false → bytes_eq w (codes "build") ≡ false → bytes_eq w (codes "exec") ≡ false → bytes_eq w (codes "list") ≡ false → bytes_eq w (codes "session") ≡ false → bytes_eq w (codes "sample") ≡ false → bytes_eq w (codes "audit") ≡ false → bytes_eq w (codes "test") ≡ false → bytes_eq w (codes "--help") ≡ false → bytes_eq w (codes "--version") ≡ false → (verb : Verb) → w ≡ word_of verb → ⊥
+    all a b c d e f j g k l h i Check is = apart w (codes "check") a is
+    all a b c d e f j g k l h i Show is = apart w (codes "show") b is
+    all a b c d e f j g k l h i Run is = apart w (codes "run") c is
+    all a b c d e f j g k l h i Build is = apart w (codes "build") d is
+    all a b c d e f j g k l h i Exec is = apart w (codes "exec") e is
+    all a b c d e f j g k l h i Listing is = apart w (codes "list") f is
+    all a b c d e f j g k l h i Session is = apart w (codes "session") j is
+    all a b c d e f j g k l h i Sample is = apart w (codes "sample") g is
+    all a b c d e f j g k l h i Audit is = apart w (codes "audit") k is
+    all a b c d e f j g k l h i Test is = apart w (codes "test") l is
+    all a b c d e f j g k l h i Help is = apart w (codes "--help") h is
+    all a b c d e f j g k l h i Version is = apart w (codes "--version") i is
 
 pub begins_nothing : Begins []
-begins_nothing = let b : Begins (word_of Help ∷ []) = part_begins Help [] (Options nothing_given) refl in (word_of Help ∷ b.0, b.1, b.2)
+begins_nothing = let b : Begins (word_of Help ∷ []) = part_begins Help [] (Options nothing_given []) (refl, refl) in (word_of Help ∷ b.0, b.1, b.2)
 
 pub after_first : (w : List ℕ) (words : List (List ℕ)) → IsReadingOf (w ∷ words) (reading_of (w ∷ words))
 after_first w words = by_verb w (λ o. IsReadingOf (w ∷ words) (after words o)) known unknown
   where
     after : List (List ℕ) → Option Verb → LineReading
     after rest None = bad 0
-    after rest (Some verb) = read_from verb (Options nothing_given) 1 rest
+    after rest (Some verb) = read_from verb (Options nothing_given []) 1 rest
 
-    known : (verb : Verb) → w ≡ word_of verb → IsReadingOf (w ∷ words) (read_from verb (Options nothing_given) 1 words)
+    known : (verb : Verb) → w ≡ word_of verb → IsReadingOf (w ∷ words) (read_from verb (Options nothing_given []) 1 words)
     known verb e =
         let at : 1 ≡ 1 + length {A = List ℕ} [] = omega arith in
-        let on : ReadsOn verb [] (Options nothing_given) = λ rest. word_is_read verb rest ∙ ap (λ k. read_from verb (Options nothing_given) k rest) at in
-        subst (λ v. IsReadingOf (v ∷ words) (read_from verb (Options nothing_given) 1 words)) (sym e)
-        (subst (λ k. IsReadingOf (word_of verb ∷ words) (read_from verb (Options nothing_given) k words)) (sym at) (reading_from verb [] words (Options nothing_given) refl on))
+        let on : ReadsOn verb [] (Options nothing_given []) = λ rest. word_is_read verb rest ∙ ap (λ k. read_from verb (Options nothing_given []) k rest) at in
+        subst (λ v. IsReadingOf (v ∷ words) (read_from verb (Options nothing_given []) 1 words)) (sym e)
+        (subst (λ k. IsReadingOf (word_of verb ∷ words) (read_from verb (Options nothing_given []) k words)) (sym at) (reading_from verb [] words (Options nothing_given []) (refl, refl) on))
 
     first : (more : List (List ℕ)) (line : CommandLine) → IsForm (w ∷ more) line → w ≡ word_of line.verb
     first more line f = cc (f.spelled)

@@ -1,7 +1,7 @@
 -- The forms of a command line as relations, apart from how words are read.
 use Rattle.std.specs.Prelude.{◌≡◌, ◌⊎◌, ℕ, ◌+◌, ◌<◌, ◌≤◌, List, [], ◌∷◌, ◌++◌, Option, Some, None, true, option_and_then, codes, take, length}
 use Rattle.ns_run_words.specs.Table.{form_of, word_of}
-use Rattle.ns_run_words.specs.Words.{CommandLine, LineReading, says, bad, is_item, nothing_given, with_option}
+use Rattle.ns_run_words.specs.Words.{CommandLine, LineReading, says, bad, has_needed, is_item, nothing_given, with_option}
 use Rattle.ns_run_words.specs.declared.form.Form.{Form}
 use Rattle.ns_run_words.specs.declared.form.Item.{Item}
 use Rattle.ns_run_words.specs.declared.form.Item.TheVariants.{File}
@@ -16,7 +16,7 @@ AreNames item (word ∷ words) = (is_item item word ≡ true) × AreNames item w
 abbrev pub AreFiles : List (List ℕ) → Type 0
 AreFiles words = (1 ≤ length words) × (length words ≤ 16) × AreNames File words
 
--- what these words give beside what was given, each of them an option that the form takes and that wasn't given before
+-- what these words give beside what was given, each of them an option that the form takes behind those before it
 abbrev pub all_given : Form → Given → List (List ℕ) → Option Given
 all_given form given [] = Some given
 all_given form given (word ∷ words) = option_and_then (λ more. all_given form more words) (with_option form given word)
@@ -29,10 +29,10 @@ AreArguments (Some most) words arguments =
 
 -- The words are the first word of a command, options in any order, names, and arguments, as its form takes them.
 pub record IsForm (words : List (List ℕ)) (line : CommandLine) : Type 0 where
-  pub options : List (List ℕ)
   pub last : List (List ℕ)
-  pub spelled : words ≡ word_of line.verb ∷ options ++ line.names ++ last
-  pub given : all_given (form_of line.verb) nothing_given options ≡ Some line.given
+  pub spelled : words ≡ word_of line.verb ∷ line.options ++ line.names ++ last
+  pub given : all_given (form_of line.verb) nothing_given line.options ≡ Some line.given
+  pub needed : has_needed (form_of line.verb) line.given ≡ true
   pub enough : (form_of line.verb).least ≤ length line.names
   pub few : length line.names ≤ (form_of line.verb).most
   pub named : AreNames (form_of line.verb).item line.names

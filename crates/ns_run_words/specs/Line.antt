@@ -8,7 +8,14 @@ use Rattle.ns_run_words.specs.declared.words.BadWord.{BadWord}
 
 -- the line of the code
 abbrev pub line_seen : lines.Line → CommandLine
-line_seen line = record { verb = line.verb; given = line.given; names = map string_bytes line.names.now; arguments = map string_bytes line.arguments.now }
+line_seen line =
+    record {
+      verb = line.verb;
+      given = line.given;
+      options = map string_bytes line.options.now;
+      names = map string_bytes line.names.now;
+      arguments = map string_bytes line.arguments.now;
+    }
 
 -- what the code's answer stands for
 abbrev pub seen : Result lines.Line BadWord → LineReading

@@ -6,6 +6,7 @@ use Rattle.ns_base.specs.Spelling.{is_digit}
 use Rattle.ns_base.specs.declared.limits.Limits.{Limits}
 use Rattle.ns_run_words.specs.Application.{is_application}
 use Rattle.ns_run_words.specs.FileName.{is_file_name}
+use Rattle.ns_run_words.specs.Options.{denial_where, tests_where}
 use Rattle.ns_run_words.specs.Table.{form_of, verb_of}
 use Rattle.ns_run_words.specs.declared.form.Form.{Form}
 use Rattle.ns_run_words.specs.declared.form.Item.{Item}
@@ -13,10 +14,11 @@ use Rattle.ns_run_words.specs.declared.form.Item.TheVariants.{File, Number, Appl
 use Rattle.ns_run_words.specs.declared.form.Verb.{Verb}
 use Rattle.ns_run_words.specs.declared.words.Given.{Given}
 
--- What a command line says: its command, what its options give, the names and the arguments.
+-- What a command line says: its command, what its options give, these options, the names and the arguments.
 pub record CommandLine : Type 0 where
   pub verb : Verb
   pub given : Given
+  pub options : List (List ℕ)
   pub names : List (List ℕ)
   pub arguments : List (List ℕ)
 
@@ -27,9 +29,9 @@ pub data LineReading : Type 0 where
 
 -- What was read so far behind the first word: options; or also names; or also `--` and arguments.
 pub data ReadSoFar : Type 0 where
-  Options : (given : Given) → ReadSoFar
-  Names : (given : Given) (names : List (List ℕ)) → ReadSoFar
-  Arguments : (given : Given) (names arguments : List (List ℕ)) → ReadSoFar
+  Options : (given : Given) (options : List (List ℕ)) → ReadSoFar
+  Names : (given : Given) (options names : List (List ℕ)) → ReadSoFar
+  Arguments : (given : Given) (options names arguments : List (List ℕ)) → ReadSoFar
 
 -- ---- numbers
 
@@ -55,7 +57,18 @@ number_of greatest text = if begins_bad text then None else option_and_then (in_
 
 -- no option
 abbrev pub nothing_given : Given
-nothing_given = record { steps = None; cells = None; depth = None; out = None; quantum = None; lib = false }
+nothing_given =
+    record {
+      steps = None;
+      cells = None;
+      depth = None;
+      out = None;
+      quantum = None;
+      lib = false;
+      reverse = false;
+      only = false;
+      denied = 0;
+    }
 
 -- the number that a word gives which begins with an option's name, where that option wasn't given before
 abbrev pub number_given : List ℕ → ℕ → Option ℕ → List ℕ → Option ℕ
@@ -64,9 +77,7 @@ number_given name greatest None word =
     if bytes_eq (take (length name) word) name then number_of greatest (drop (length name) word) else None
 
 abbrev pub with_lib : Given → Option Given
-with_lib given =
-    if given.lib then None
-    else Some (record { steps = given.steps; cells = given.cells; depth = given.depth; out = given.out; quantum = given.quantum; lib = true })
+with_lib given = if given.lib then None else Some (record given { lib = true })
 
 abbrev pub with_out : Given → Option ℕ → Option Given
 with_out given None = None
@@ -110,11 +121,17 @@ abbrev pub given_or : Option Given → Option Given → Option Given
 given_or (Some given) other = Some given
 given_or None other = other
 
--- what is given with one word more: an option that the form takes, and that wasn't given before
+-- what is given with one word more: an option that the form takes, and that wasn't given before, or one more denial
 abbrev pub with_option : Form → Given → List ℕ → Option Given
 with_option form given word =
     if bytes_eq word (codes "--lib") then (if form.lib then with_lib given else None)
-    else given_or (quantum_where form.quantum given word) (limit_where form.greatest given word)
+    else given_or (quantum_where form.quantum given word)
+    (given_or (tests_where form.tests given word)
+    (given_or (denial_where form.denies given word) (limit_where form.greatest given word)))
+
+-- whether the options are there without which the form takes no name
+abbrev pub has_needed : Form → Given → Bool
+has_needed form given = if form.denies then nat_lt 0 given.denied else true
 
 -- the limits that are given, and the defaults of the others
 abbrev pub limits_of : Given → Limits
@@ -144,56 +161,64 @@ has_room None count = false
 has_room (Some most) count = nat_lt count most
 
 -- what is read with an argument more
-abbrev pub with_argument : Form → Given → List (List ℕ) → List (List ℕ) → List ℕ → Option ReadSoFar
-with_argument form given names arguments word =
-    if has_room form.arguments (length arguments) then Some (Arguments given names (arguments ++ word ∷ [])) else None
+abbrev pub with_argument : Form → Given → List (List ℕ) → List (List ℕ) → List (List ℕ) → List ℕ → Option ReadSoFar
+with_argument form given options names arguments word =
+    if has_room form.arguments (length arguments) then Some (Arguments given options names (arguments ++ word ∷ [])) else None
 
 -- how many arguments may stand behind the word, where it is `--` and the form takes it behind so many names
 abbrev pub arguments_behind : Form → ℕ → List ℕ → Option ℕ
 arguments_behind form count word = if bytes_eq word (codes "--") && nat_le form.least count then form.arguments else None
 
 -- what is read with `--` behind the names, where so many arguments may stand behind it
-abbrev pub with_dashes : Given → List (List ℕ) → Option ℕ → Option ReadSoFar
-with_dashes given names None = None
-with_dashes given names (Some most) = Some (Arguments given names [])
+abbrev pub with_dashes : Given → List (List ℕ) → List (List ℕ) → Option ℕ → Option ReadSoFar
+with_dashes given options names None = None
+with_dashes given options names (Some most) = Some (Arguments given options names [])
 
 -- what is read with a word more behind names: another name, or `--`
-abbrev pub with_name : Form → Given → List (List ℕ) → List ℕ → Option ReadSoFar
-with_name form given names word =
-    if is_item form.item word && nat_lt (length names) form.most then Some (Names given (names ++ word ∷ []))
-    else with_dashes given names (arguments_behind form (length names) word)
+abbrev pub with_name : Form → Given → List (List ℕ) → List (List ℕ) → List ℕ → Option ReadSoFar
+with_name form given options names word =
+    if is_item form.item word && nat_lt (length names) form.most && has_needed form given
+    then Some (Names given options (names ++ word ∷ []))
+    else with_dashes given options names (arguments_behind form (length names) word)
 
 -- an option more, or else the other
-abbrev pub option_or : Option ReadSoFar → Option Given → Option ReadSoFar
-option_or other None = other
-option_or other (Some given) = Some (Options given)
+abbrev pub option_or : Option ReadSoFar → List (List ℕ) → Option Given → Option ReadSoFar
+option_or other options None = other
+option_or other options (Some given) = Some (Options given options)
 
 -- what is read with a word more, where a form can go on so
 abbrev pub with_word : Form → ReadSoFar → List ℕ → Option ReadSoFar
-with_word form (Options given) word = option_or (with_name form given [] word) (with_option form given word)
-with_word form (Names given names) word = with_name form given names word
-with_word form (Arguments given names arguments) word = with_argument form given names arguments word
+with_word form (Options given options) word =
+    option_or (with_name form given options [] word) (options ++ word ∷ []) (with_option form given word)
+with_word form (Names given options names) word = with_name form given options names word
+with_word form (Arguments given options names arguments) word = with_argument form given options names arguments word
 
 -- ---- all words
 
 abbrev pub given_of : ReadSoFar → Given
-given_of (Options given) = given
-given_of (Names given names) = given
-given_of (Arguments given names arguments) = given
+given_of (Options given options) = given
+given_of (Names given options names) = given
+given_of (Arguments given options names arguments) = given
+
+abbrev pub options_read : ReadSoFar → List (List ℕ)
+options_read (Options given options) = options
+options_read (Names given options names) = options
+options_read (Arguments given options names arguments) = options
 
 abbrev pub names_read : ReadSoFar → List (List ℕ)
-names_read (Options given) = []
-names_read (Names given names) = names
-names_read (Arguments given names arguments) = names
+names_read (Options given options) = []
+names_read (Names given options names) = names
+names_read (Arguments given options names arguments) = names
 
 abbrev pub arguments_read : ReadSoFar → List (List ℕ)
-arguments_read (Options given) = []
-arguments_read (Names given names) = []
-arguments_read (Arguments given names arguments) = arguments
+arguments_read (Options given options) = []
+arguments_read (Names given options names) = []
+arguments_read (Arguments given options names arguments) = arguments
 
 -- what all words say, of which this was read
 abbrev pub line_of : Verb → ReadSoFar → CommandLine
-line_of verb part = record { verb = verb; given = given_of part; names = names_read part; arguments = arguments_read part }
+line_of verb part =
+    record { verb = verb; given = given_of part; options = options_read part; names = names_read part; arguments = arguments_read part }
 
 -- what the words are read as that end here, where the next would be number k
 abbrev pub ended : Verb → ℕ → ReadSoFar → LineReading
@@ -211,7 +236,7 @@ read_from verb part k (word ∷ words) =
 
 abbrev pub after_verb : List (List ℕ) → Option Verb → LineReading
 after_verb words None = bad 0
-after_verb words (Some verb) = read_from verb (Options nothing_given) 1 words
+after_verb words (Some verb) = read_from verb (Options nothing_given []) 1 words
 
 -- what the words say, or the first bad word
 abbrev pub reading_of : List (List ℕ) → LineReading

@@ -1,6 +1,6 @@
 //! The forms of a command line as data: a line of the table for each command.
 
-ghost use Rattle.std.specs.Prelude.{◌≡◌, false, None};
+ghost use Rattle.std.specs.Prelude.{◌≡◌};
 ghost use Rattle.ns_run_words.specs.Table as spec;
 
 use ns_base::limits::Limits;
@@ -24,6 +24,10 @@ pub enum Verb {
     Session,
     /// Runs the sample of a number.
     Sample,
+    /// Says whether the code of a module in an image ever sends certain selectors.
+    Audit,
+    /// Runs the tests of a program.
+    Test,
     /// Tells how the program is used.
     Help,
     /// Tells the version of the program.
@@ -41,8 +45,8 @@ pub enum Item {
     Application,
 }
 
-/// What may stand behind the first word: options, in any order and each at most once; then names;
-/// then `--` and arguments.
+/// What may stand behind the first word: options, in any order and each at most once, but for denials; then
+/// names; then `--` and arguments.
 #[derive(Clone, Copy)]
 pub struct Form {
     /// The greatest limits that can be given, as `--steps=N` and so on, where they can.
@@ -51,6 +55,10 @@ pub struct Form {
     pub quantum: bool,
     /// Whether `--lib` can be given.
     pub lib: bool,
+    /// Whether `--reverse` and `--only=NAME` can be given.
+    pub tests: bool,
+    /// Whether `--deny=SELECTOR` is to be given, from once to 16 times.
+    pub denies: bool,
     /// What each name is.
     pub item: Item,
     /// The fewest names.
@@ -106,6 +114,17 @@ pub fn form_of(verb: Verb) -> Form
             item: Item::Number(1_000),
             ..names(1, 1)
         },
+        // The image, and the name of a class.
+        Verb::Audit => Form {
+            denies: true,
+            ..names(2, 2)
+        },
+        Verb::Test => Form {
+            greatest: Some(Limits::GREATEST),
+            lib: true,
+            tests: true,
+            ..names(1, 16)
+        },
         Verb::Help => names(0, 0),
         Verb::Version => names(0, 0),
     }
@@ -113,12 +132,14 @@ pub fn form_of(verb: Verb) -> Form
 
 /// The form of names of files alone.
 fn names(least: u64, most: u64) -> Form
-    ensures { result ≡ record { greatest = None; quantum = false; lib = false; item = Item.File; least = least; most = most; arguments = None } }
+    ensures { result ≡ spec.names_alone least most }
 {
     Form {
         greatest: None,
         quantum: false,
         lib: false,
+        tests: false,
+        denies: false,
         item: Item::File,
         least,
         most,
@@ -153,6 +174,12 @@ pub fn verb_of(word: &[u8]) -> Option<Verb>
     }
     if word == b"sample".as_slice() {
         return Some(Verb::Sample);
+    }
+    if word == b"audit".as_slice() {
+        return Some(Verb::Audit);
+    }
+    if word == b"test".as_slice() {
+        return Some(Verb::Test);
     }
     if word == b"--help".as_slice() {
         return Some(Verb::Help);

@@ -6,4 +6,5 @@
 pub mod application;
 pub mod form;
 pub mod laws;
+pub mod options;
 pub mod words;

@@ -10,6 +10,7 @@ ghost use Rattle.ns_run_words.specs.Words as spec;
 
 use crate::application::application_of;
 use crate::form::{Form, Item, Verb, form_of, verb_of};
+use crate::options::{denial_where, tests_where};
 use ns_base::limits::Limits;
 use ns_base::spelling::is_digit;
 
@@ -22,6 +23,12 @@ pub struct Given {
     pub out: Option<u64>,
     pub quantum: Option<u64>,
     pub lib: bool,
+    /// Whether tests are asked for in the reverse order.
+    pub reverse: bool,
+    /// Whether one test alone is named.
+    pub only: bool,
+    /// How many selectors are denied.
+    pub denied: u64,
 }
 
 impl Given {
@@ -45,11 +52,12 @@ impl Given {
     }
 }
 
-/// What a command line says. Its names and arguments are those of the words.
+/// What a command line says. Its options, names and arguments are those of the words.
 #[derive(Drop)]
 pub struct Line<'a> {
     pub verb: Verb,
     pub given: Given,
+    pub options: &'a [String],
     pub names: &'a [String],
     pub arguments: &'a [String],
 }
@@ -75,7 +83,7 @@ fn read(words: &[String]) -> Result<Line<'_>, BadWord>
     match words {
         [] => Err(BadWord(0)),
         [first, rest @ ..] => match verb_of(first.as_bytes()) {
-            Some(verb) => after_options(verb, nothing_given(), 1, rest),
+            Some(verb) => after_options(verb, nothing_given(), 1, rest, 0),
             None => Err(BadWord(0)),
         },
     }
@@ -115,24 +123,32 @@ fn nothing_given() -> Given
         out: None,
         quantum: None,
         lib: false,
+        reverse: false,
+        only: false,
+        denied: 0,
     }
 }
 
-/// What stands behind options, of which the first word has that number.
-fn after_options(
+/// What stands behind options, which are so many of the words. The first word behind them has that
+/// number.
+fn after_options<'a>(
     verb: Verb,
     given: Given,
     number: u64,
-    words: &[String],
-) -> Result<Line<'_>, BadWord>
-    requires { number + length words.now ≤ 18446744073709551615 }
-    ensures { seen result ≡ spec.read_from verb (spec.Options given) number (map string_bytes words.now) }
+    words: &'a [String],
+    count: usize,
+) -> Result<Line<'a>, BadWord>
+    requires count { count ≤ length words.now }
+    requires number { number + length (drop count words.now) ≤ 18446744073709551615 }
+    ensures { seen result ≡ spec.read_from verb (spec.Options given (map string_bytes (take count words.now)))
+        number (map string_bytes (drop count words.now)) }
 {
-    match words {
-        [] => after_names(verb, given, number, words, 0),
-        [word, rest @ ..] => match with_option(form_of(verb), given, word.as_bytes()) {
-            Some(more) => after_options(verb, more, number + 1, rest),
-            None => after_names(verb, given, number, words, 0),
+    let (options, rest) = words.split_at(count);
+    match rest {
+        [] => after_names(verb, given, options, number, rest, 0),
+        [word, ..] => match with_option(form_of(verb), given, word.as_bytes()) {
+            Some(more) => after_options(verb, more, number + 1, words, count + 1),
+            None => after_names(verb, given, options, number, rest, 0),
         },
     }
 }
@@ -142,24 +158,29 @@ fn after_options(
 fn after_names<'a>(
     verb: Verb,
     given: Given,
+    options: &'a [String],
     number: u64,
     words: &'a [String],
     count: usize,
 ) -> Result<Line<'a>, BadWord>
     requires count { count ≤ length words.now }
     requires number { number + length (drop count words.now) ≤ 18446744073709551615 }
-    ensures { seen result ≡ spec.read_from verb (spec.Names given (map string_bytes (take count words.now))) number (map string_bytes (drop count words.now)) }
+    ensures { seen result ≡ spec.read_from verb (spec.Names given (map string_bytes options.now) (map string_bytes (take count words.now)))
+        number (map string_bytes (drop count words.now)) }
 {
     let form = form_of(verb);
     let (names, rest) = words.split_at(count);
     match rest {
-        [] => ended(verb, given, number, names),
+        [] => ended(verb, given, options, number, names),
         [word, more @ ..] => {
-            if is_item(form.item, word.as_str()) && (count as u64) < form.most {
-                return after_names(verb, given, number + 1, words, count + 1);
+            if is_item(form.item, word.as_str())
+                && (count as u64) < form.most
+                && has_needed(form, given)
+            {
+                return after_names(verb, given, options, number + 1, words, count + 1);
             }
             match arguments_behind(form, count as u64, word.as_bytes()) {
-                Some(most) => arguments(verb, given, names, most, number + 1, more),
+                Some(most) => arguments(verb, given, options, names, most, number + 1, more),
                 None => Err(BadWord(number)),
             }
         }
@@ -170,15 +191,17 @@ fn after_names<'a>(
 fn ended<'a>(
     verb: Verb,
     given: Given,
+    options: &'a [String],
     number: u64,
     names: &'a [String],
 ) -> Result<Line<'a>, BadWord>
-    ensures { seen result ≡ spec.ended verb number (spec.Names given (map string_bytes names.now)) }
+    ensures { seen result ≡ spec.ended verb number (spec.Names given (map string_bytes options.now) (map string_bytes names.now)) }
 {
     if form_of(verb).least <= names.len() as u64 {
         Ok(Line {
             verb,
             given,
+            options,
             names,
             arguments: &[],
         })
@@ -204,6 +227,7 @@ fn arguments_behind(form: Form, count: u64, word: &[u8]) -> Option<u64>
 fn arguments<'a>(
     verb: Verb,
     given: Given,
+    options: &'a [String],
     names: &'a [String],
     most: u64,
     number: u64,
@@ -212,7 +236,8 @@ fn arguments<'a>(
     requires most { (form_of_lem verb).arguments ≡ Some most }
     requires enough { nat_le (form_of_lem verb).least (length names.now) ≡ true }
     requires number { number + length words.now ≤ 18446744073709551615 }
-    ensures { seen result ≡ spec.read_from verb (spec.Arguments given (map string_bytes names.now) []) number (map string_bytes words.now) }
+    ensures { seen result ≡ spec.read_from verb (spec.Arguments given (map string_bytes options.now) (map string_bytes names.now) [])
+        number (map string_bytes words.now) }
 {
     if most < words.len() as u64 {
         return Err(BadWord(number + most));
@@ -220,9 +245,17 @@ fn arguments<'a>(
     Ok(Line {
         verb,
         given,
+        options,
         names,
         arguments: words,
     })
+}
+
+/// Whether the options are there without which the form takes no name.
+fn has_needed(form: Form, given: Given) -> bool
+    ensures { result ≡ spec.has_needed form given }
+{
+    !form.denies || 0 < given.denied
 }
 
 /// Whether a word can be such a name.
@@ -243,19 +276,24 @@ pub fn is_file_name(word: &[u8]) -> bool
     !word.is_empty() && word[0] != b'-' && word.len() <= 4_294_967_295
 }
 
-/// What is given with one word more: an option that the form takes, and that was not given before.
+/// What is given with one word more: an option that the form takes, and that was not given before, or one more denial.
 fn with_option(form: Form, given: Given, word: &[u8]) -> Option<Given>
     requires { IfSome form.greatest InRange }
     ensures { result ≡ spec.with_option form given word.now }
 {
     if word == b"--lib".as_slice() {
-        if form.lib { with_lib(given) } else { None }
-    } else {
-        match quantum_where(form.quantum, given, word) {
-            Some(more) => Some(more),
-            None => limit_where(form.greatest, given, word),
-        }
+        return if form.lib { with_lib(given) } else { None };
     }
+    if let Some(more) = quantum_where(form.quantum, given, word) {
+        return Some(more);
+    }
+    if let Some(more) = tests_where(form.tests, given, word) {
+        return Some(more);
+    }
+    if let Some(more) = denial_where(form.denies, given, word) {
+        return Some(more);
+    }
+    limit_where(form.greatest, given, word)
 }
 
 fn with_lib(given: Given) -> Option<Given>

@@ -1,6 +1,7 @@
 use Rattle.std.proofs.Common.{Err, IfOk, ap, map, string_bytes, subst, sym, ◌≡◌}
 use Rattle.std.proofs.lemmas.Result.{IfOk-weaker}
-use Rattle.ns_run_outcome.specs.Outcome.{IsMissing}
+use Rattle.ns_run_outcome.specs.Outcome.{IsEnding, IsMissing}
+use Rattle.ns_run_outcome.specs.declared.report.Report.{Report}
 use Rattle.ns_run.proofs.FaultLaws.{fault_says}
 use Rattle.ns_run.proofs.ReportLaws.{stop_keeps, units_plain}
 use Rattle.ns_run.proofs.TextLaws.{refusal_of_texts, units_of_texts}
@@ -8,6 +9,12 @@ use Rattle.ns_run.proofs.files.on_texts.Goals as goal
 use Rattle.ns_run.specs.Meaning.{of_fault}
 use Rattle.ns_run.specs.Task.{task_of}
 use Rattle.ns_tree.specs.PlainOf.{unit_of}
+
+pub returns-in-Ok-clause-ending : goal.returns-in-Ok-clause-ending
+returns-in-Ok-clause-ending g c =
+    stop_keeps c.on_program.result c.or_stop.result _ c.or_stop.ensures
+    (IfOk-weaker c.on_program.result _ _
+    (λ r h. subst (λ (report : Report). IsEnding report.status) (sym h) (units_plain (task_of c.args.task) (map string_bytes c.args.names.now) c.in-Ok.program.files (map unit_of c.in-Ok.program.units) c.in-Ok.program.marks).ends) c.on_program.ensures)
 
 pub returns-in-Ok-clause-missing : goal.returns-in-Ok-clause-missing
 returns-in-Ok-clause-missing g c =

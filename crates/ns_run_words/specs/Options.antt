@@ -1,0 +1,50 @@
+-- The options of tests and of audits (this profile).
+use Rattle.std.specs.Prelude.{ℕ, ◌+◌, nat_lt, List, [], ◌∷◌, Bool, true, Option, Some, None, take, drop, length, codes, if◌then◌else◌}
+use Rattle.std.specs.Option.{option_or}
+use Rattle.std.specs.Str.{bytes_eq}
+use Rattle.ns_base.specs.Spelling.{is_identifier, is_selector}
+use Rattle.ns_run_words.specs.declared.words.Given.{Given}
+
+-- what stands behind the name of an option, in a word that begins with it
+abbrev pub value_behind : List ℕ → List ℕ → Option (List ℕ)
+value_behind name word = if bytes_eq (take (length name) word) name then Some (drop (length name) word) else None
+
+-- ---- tests
+
+-- what is given with a word more that asks for the reverse order
+abbrev pub with_reverse : Given → Option Given
+with_reverse given = if given.reverse then None else Some (record given { reverse = true })
+
+-- what is given with a word more that names the one test
+abbrev pub with_only : Given → Option (List ℕ) → Option Given
+with_only given None = None
+with_only given (Some name) = if given.only then None else (if is_identifier name then Some (record given { only = true }) else None)
+
+-- what is given with a word more that is an option of tests
+abbrev pub tests_where : Bool → Given → List ℕ → Option Given
+tests_where takes given word =
+    if takes
+    then (if bytes_eq word (codes "--reverse") then with_reverse given else with_only given (value_behind (codes "--only=") word))
+    else None
+
+-- the one test that options name, if they name one
+abbrev pub only_among : List (List ℕ) → Option (List ℕ)
+only_among [] = None
+only_among (option ∷ options) = option_or (value_behind (codes "--only=") option) (only_among options)
+
+-- ---- audits
+
+-- what is given with a word more that denies a selector, as at most 16 do
+abbrev pub with_denied : Given → Option (List ℕ) → Option Given
+with_denied given None = None
+with_denied given (Some text) =
+    if is_selector text then (if nat_lt given.denied 16 then Some (record given { denied = given.denied + 1 }) else None) else None
+
+-- what is given with a word more that is a denial
+abbrev pub denial_where : Bool → Given → List ℕ → Option Given
+denial_where takes given word = if takes then with_denied given (value_behind (codes "--deny=") word) else None
+
+-- the selectors that options deny, each of which is a denial
+abbrev pub denied_by : List (List ℕ) → List (List ℕ)
+denied_by [] = []
+denied_by (option ∷ options) = drop (length (codes "--deny=")) option ∷ denied_by options

@@ -1,0 +1,130 @@
+//! The options of tests and of audits.
+
+ghost use Rattle.std.specs.Prelude.{◌≡◌, IfOk, Some, codes, drop, length, map, option_map, string_bytes};
+ghost use Rattle.ns_run_words.specs.Options as spec;
+
+use crate::words::Given;
+use ns_base::no_memory::NoMemory;
+use ns_base::spelled::{is_identifier, is_selector};
+use ns_base::text::Text;
+use std::alloc::Global;
+
+/// What is given with a word more that is an option of tests, where the form takes these.
+pub fn tests_where(takes: bool, given: Given, word: &[u8]) -> Option<Given>
+    ensures { result ≡ spec.tests_where takes given word.now }
+{
+    if !takes {
+        return None;
+    }
+    if word == b"--reverse".as_slice() {
+        return with_reverse(given);
+    }
+    match value_behind(b"--only=", word) {
+        Some(name) => with_only(given, name),
+        None => None,
+    }
+}
+
+fn with_reverse(given: Given) -> Option<Given>
+    ensures { result ≡ spec.with_reverse given }
+{
+    if given.reverse {
+        None
+    } else {
+        Some(Given {
+            reverse: true,
+            ..given
+        })
+    }
+}
+
+/// What is given with the name of the one test, where none was named before.
+fn with_only(given: Given, name: &[u8]) -> Option<Given>
+    ensures { result ≡ spec.with_only given (Some name.now) }
+{
+    if given.only {
+        return None;
+    }
+    if is_identifier(name) {
+        Some(Given {
+            only: true,
+            ..given
+        })
+    } else {
+        None
+    }
+}
+
+/// What is given with a word more that is a denial, where the form takes these.
+pub fn denial_where(takes: bool, given: Given, word: &[u8]) -> Option<Given>
+    ensures { result ≡ spec.denial_where takes given word.now }
+{
+    if !takes {
+        return None;
+    }
+    match value_behind(b"--deny=", word) {
+        Some(text) => with_denied(given, text),
+        None => None,
+    }
+}
+
+/// What is given with one more denied selector, of at most 16.
+fn with_denied(given: Given, text: &[u8]) -> Option<Given>
+    ensures { result ≡ spec.with_denied given (Some text.now) }
+{
+    if is_selector(text) && given.denied < 16 {
+        Some(Given {
+            denied: given.denied + 1,
+            ..given
+        })
+    } else {
+        None
+    }
+}
+
+/// The one test that options name, if they name one.
+pub fn only_among(options: &[String]) -> Option<&[u8]>
+    ensures { option_map (λ name. name.now) result ≡ spec.only_among (map string_bytes options.now) }
+{
+    'options: for option in options {
+        let name = value_behind(b"--only=", option.as_bytes());
+        if name.is_some() {
+            return name;
+        }
+    }
+    None
+}
+
+/// The selectors that options deny, each of which is a denial.
+pub fn denied_texts(alloc: Global, options: &[String]) -> Result<Vec<Text>, NoMemory>
+    ensures { IfOk result (λ denied. denied.items ≡ spec.denied_by (map string_bytes options.now)) }
+{
+    let mut denied = Vec::with_capacity(alloc, options.len())?;
+    'options: for option in options {
+        denied.push(denied_text(alloc, option.as_bytes())?)?;
+    }
+    Ok(denied)
+}
+
+/// What stands behind the name of the option of a denial.
+fn denied_text(alloc: Global, option: &[u8]) -> Result<Text, NoMemory>
+    ensures { IfOk result (λ text. text ≡ drop (length (codes "--deny=")) option.now) }
+{
+    let name = b"--deny=".len();
+    if option.len() < name {
+        return Text::of(alloc, b"");
+    }
+    let (_, text) = option.split_at(name);
+    Text::of(alloc, text)
+}
+
+/// What stands behind the name of an option, in a word that begins with it.
+fn value_behind<'a>(name: &[u8], word: &'a [u8]) -> Option<&'a [u8]>
+    ensures { option_map (λ value. value.now) result ≡ spec.value_behind name.now word.now }
+{
+    if word.len() < name.len() {
+        return None;
+    }
+    let (front, value) = word.split_at(name.len());
+    if front == name { Some(value) } else { None }
+}

@@ -1,0 +1,7 @@
+pub mod Counts
+pub mod Names
+pub mod Numbers
+pub mod Asked
+pub mod SentOn
+pub mod Opened
+pub mod Examples

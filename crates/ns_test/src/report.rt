@@ -1,0 +1,48 @@
+//! What is told of the tests of a program.
+
+ghost use Rattle.std.specs.Prelude.{◌≡◌};
+
+use ns_base::no_memory::NoMemory;
+use ns_base::status::Status;
+use ns_base::text::Text;
+use ns_gen_code::size::SizeKind;
+
+/// How a test went: it answered a value other than false, it answered false, or it didn't come to its end.
+#[derive(Clone, Copy)]
+pub enum Verdict {
+    Passed,
+    Failed,
+    Erred,
+}
+
+/// The lines of the tests, one for each, how many there are, and how many of each kind.
+#[derive(Drop)]
+pub struct TestReport {
+    pub lines: Text,
+    pub tests: usize,
+    pub passed: usize,
+    pub failed: usize,
+    pub errors: usize,
+}
+
+/// Why there is no report: a size of the program's code passes its limit, which only `test_source` answers; the opening ended in
+/// an error or a limit, of which its report line tells; it answered no class of tests; no test has the name that was asked for; or
+/// no memory was found.
+#[derive(Drop)]
+pub enum TestFault {
+    TooLarge(SizeKind),
+    Opening { line: Text, status: Status },
+    NotTests,
+    NoTest,
+    Memory,
+}
+
+impl From<NoMemory> for TestFault {
+    ghost use Rattle.ns_test.specs.declared.report.TestFault.TheVariants.{Memory};
+
+    ghost from_gives = { λ _ e. e ≡ Memory };
+
+    fn from(_error: NoMemory) -> TestFault {
+        TestFault::Memory
+    }
+}

@@ -1,0 +1,40 @@
+//! What the command `test` writes of a report, and its status.
+
+ghost use Rattle.std.specs.Prelude.{◌≡◌, IfOk};
+ghost use Rattle.ns_test.specs.Written as spec;
+
+use crate::report::TestReport;
+use ns_base::no_memory::NoMemory;
+use ns_base::status::Status;
+use ns_base::text::Text;
+use std::alloc::Global;
+
+/// The lines of the tests, and the one that counts them.
+pub fn written(alloc: Global, report: TestReport) -> Result<Text, NoMemory>
+    ensures { IfOk result (λ text. text ≡ spec.written report) }
+{
+    let TestReport {
+        lines,
+        tests,
+        passed,
+        failed,
+        errors,
+    } = report;
+    let counts = format!(in alloc;
+        "tests {tests} passed {passed} failed {failed} errors {errors}\n"
+    )?;
+    let mut all = lines.into_vec();
+    all.extend_from_slice(counts.as_bytes())?;
+    Ok(Text::from_vec(all))
+}
+
+/// Done where no test failed or is in error, and else an error of the program.
+pub fn report_status(report: &TestReport) -> Status
+    ensures { result ≡ spec.report_status report.now }
+{
+    if report.failed == 0 && report.errors == 0 {
+        Status::Done
+    } else {
+        Status::ProgramError
+    }
+}
