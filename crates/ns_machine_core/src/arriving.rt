@@ -50,7 +50,7 @@ pub fn begin(code: &CodeProgram, core: &mut Core, at: Registers, looping: Loopin
     core.stack.begin(at, looping)
 }
 
-/// Enters a body that was reached, on the arguments of a call where they stand.
+/// Enters a body that was reached, by its shape, on the arguments of a call where they stand.
 #[inline(always)]
 pub fn enter(
     code: &CodeProgram,
@@ -59,15 +59,17 @@ pub fn enter(
     call: Call,
     exit: Exit,
     entered: Entered,
+    shape: BodyShape,
 ) -> Registers
+    requires shape { shape ≡ spec.shape_of code.now entered.body }
     requires leaving { call.leaving ≡ leaving_of exit }
     requires can { CanEnter code.now core.old at call exit entered }
     ensures { Arrives code.now core.old at call.floor (reached_at code.now core.old call.site (arguments_of call core.old.stack at) (reached.Enters exit entered)) core.new (next.On result) }
 {
     frames_begin();
     frames_have_room();
+    let _code = code;
     let _exit = exit;
-    let shape = shape_of(code, entered.body);
     core.stack.enter_body(at, call, entered, shape)
 }
 

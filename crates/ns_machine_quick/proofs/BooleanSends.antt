@@ -48,7 +48,7 @@ use Rattle.ns_machine_quick.specs.Booleans.{where_true, where_false, answer_at_o
 use Rattle.ns_machine_quick.specs.Looping.{CanLoop}
 use Rattle.ns_machine_quick.specs.Rows.{FindsRow}
 use Rattle.ns_machine_quick.proofs.IntegerSends.{class_finds}
-use Rattle.ns_machine_quick.proofs.Opened.{depth_fits}
+use Rattle.ns_machine_sends.specs.laws.Opened.{depth_fits}
 use Rattle.ns_machine_quick.proofs.Valued.{row_looked_up}
 
 -- ---- what is found

@@ -1,17 +1,16 @@
 -- Sends that find a method or a slot, by the quick way.
-use Rattle.std.specs.Prelude.{◌≡◌, ℕ, ◌+◌, ◌-◌, ◌<◌, ◌≤◌, List, ◌∷◌, Option, Some, None, slice_get}
+use Rattle.std.specs.Prelude.{◌≡◌, ℕ, List, ◌∷◌, Option, Some, None, slice_get}
 use Rattle.ns_base.specs.declared.selector.Sel.{Sel}
 use Rattle.ns_code.specs.declared.body.BodyCode.{BodyCode}
 use Rattle.ns_code.specs.declared.program.CodeProgram.{CodeProgram}
 use Rattle.ns_world.specs.declared.value.Value.{Value}
-use Rattle.ns_world.specs.Heap.{heap_size, word_of_object}
+use Rattle.ns_world.specs.Heap.{word_of_object}
 use Rattle.ns_world.specs.Starts.{start_of}
-use Rattle.ns_world.specs.World.{World, stored}
+use Rattle.ns_world.specs.World.{stored}
 use Rattle.ns_find.specs.declared.found.Found.{Found}
 use Rattle.ns_find.specs.declared.found.Found.TheVariants.{Method, Getter, Setter, Kernel}
 use Rattle.ns_find.specs.declared.found.Sending.{Sending}
 use Rattle.ns_find.specs.Find.{found_from}
-use Rattle.ns_actions.specs.Bodies.{locals_of, parameters_of}
 use Rattle.ns_actions.specs.Control.{Control, gives, in_world}
 use Rattle.ns_actions.specs.Sends.{Listed, ToPrivate, found_at, first_of, method_entered}
 use Rattle.ns_act.specs.declared.running.Running.{Running as RunningCode}
@@ -33,11 +32,6 @@ use Rattle.ns_machine_core.specs.Tried.{OnlyLookupsChanged}
 use Rattle.ns_machine_sends.specs.declared.sent.Sent.{Sent}
 use Rattle.ns_machine_sends.specs.Going.{arguments_in}
 use Rattle.ns_machine_sends.specs.Sending.{sent_at, Sends}
-
--- The limits of a world leave room for the frame of a body with so many arguments, and for its environment.
-pub record HasRoomFor (world : World) (code : CodeProgram) (body count : ℕ) : Type 0 where
-  pub depth : world.depth < world.limits.depth
-  pub cells : heap_size world.cells + (1 + (count + (locals_of code body - parameters_of code body))) ≤ world.limits.cells
 
 -- where a method begins with the arguments of a send, whose step is charged
 abbrev pub begun_at : CodeProgram → Core → Registers → Sent → Value → ℕ → ℕ → Control

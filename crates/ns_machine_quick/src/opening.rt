@@ -1,28 +1,30 @@
 //! Sends that find a method whose frame and environment fit, by the quick way: registers alone come back.
 
-ghost use Rattle.std.specs.Prelude.{length, Decides};
+ghost use Rattle.std.specs.Prelude.{◌≡◌, length};
+ghost use Rattle.ns_machine_core.specs.Arriving as spec;
 ghost use Rattle.ns_machine_core.specs.declared.state.Next.TheVariants as next;
 ghost use Rattle.ns_machine_sends.specs.Going.{arguments_in, ControlGoesOn};
+ghost use Rattle.ns_machine_sends.specs.Opening.{HasRoomFor};
 ghost use Rattle.ns_machine_sends.specs.Sending.{CanSend, Sends};
 ghost use Rattle.ns_machine_quick.specs.Given.{SendsOrNot};
-ghost use Rattle.ns_machine_quick.specs.Opening.{HasRoomFor, FindsMethod, begun_at};
+ghost use Rattle.ns_machine_quick.specs.Opening.{FindsMethod, begun_at};
 
 use ns_act::laws::a_send_is_its_step_and_its_answer;
-use ns_act::running::own_locals;
-use ns_act::sends::enter_method;
-use ns_actions::control::Reached;
+use ns_actions::control::Exit;
 use ns_actions::laws::{
     actions_spend_exactly, sends_keep_lawful, sites_stay, what_is_handed_on_fits,
 };
 use ns_code::program::CodeProgram;
 use ns_find::found::Sending;
+use ns_machine_core::arriving::shape_of;
 use ns_machine_core::state::Core;
+use ns_machine_frames::calls::BodyShape;
 use ns_machine_frames::registers::Registers;
-use ns_machine_sends::entering::enter_reached;
+use ns_machine_sends::entering::enter_shaped;
+use ns_machine_sends::opening::{has_room, open_method};
 use ns_machine_sends::sent::Sent;
 use ns_world::lawful::charging_keeps_lawful;
 use ns_world::value::Value;
-use ns_world::world::World;
 
 /// Sends to a value that finds a method, where a step is left and the limits leave room for its body.
 #[inline(always)]
@@ -46,24 +48,14 @@ pub fn send_method(
     what_is_handed_on_fits();
     actions_spend_exactly();
     sites_stay();
-    if !has_room(&core.run.world, code, body, at.top - sent.first) {
+    let shape = shape_of(code, body);
+    if !has_room(&core.run.world, shape, at.top - sent.first) {
         return None;
     }
     match core.run.world.step() {
-        Ok(()) => Some(begin(code, core, at, sent, receiver, body, holder)),
+        Ok(()) => Some(begin(code, core, at, sent, receiver, body, holder, shape)),
         Err(_) => None,
     }
-}
-
-/// Whether the limits leave room for the frame and the environment of a body with so many arguments.
-#[inline(always)]
-pub fn has_room(world: &World, code: &CodeProgram, body: u32, count: u32) -> bool
-    ensures { Decides result (HasRoomFor world.now.world code.now body count) }
-{
-    let used = world.counters();
-    let limits = world.limits();
-    let cells = 1 + u64::from(count) + u64::from(own_locals(code, body));
-    used.depth < limits.depth && cells <= limits.cells.saturating_sub(used.cells)
 }
 
 /// Begins a method, whose step is charged.
@@ -76,15 +68,23 @@ pub fn begin(
     receiver: Value,
     body: u32,
     holder: u32,
+    shape: BodyShape,
 ) -> Registers
+    requires shape { shape ≡ spec.shape_of code.now body }
     requires can { CanSend code.now core.old at sent receiver }
-    requires room { HasRoomFor core.old.run.world.world code.now body (length (arguments_in core.old at sent)) }
+    requires room { HasRoomFor core.old.run.world.world shape (length (arguments_in core.old at sent)) }
     requires goes { ControlGoesOn code.now (length core.old.stack.frames.items) (begun_at code.now core.old at sent receiver body holder) }
     ensures { Sends code.now core.old at sent.floor (begun_at code.now core.old at sent receiver body holder) core.new (next.On result) }
 {
     let arguments = core.stack.from(at, sent.first);
-    match enter_method(&mut core.run, code, body, holder, receiver, arguments) {
-        Reached::Enters { exit, entered } => enter_reached(code, core, at, sent, exit, entered),
-        _ => unreachable!(),
-    }
+    let entered = open_method(
+        &mut core.run,
+        code,
+        body,
+        holder,
+        receiver,
+        arguments,
+        shape,
+    );
+    enter_shaped(code, core, at, sent, Exit::Method, entered, shape)
 }

@@ -18,7 +18,7 @@ ghost use Rattle.ns_machine_core.specs.Tried.{LeadsOrChangesNothing};
 ghost use Rattle.ns_machine_sends.specs.Sending.{CanSend};
 ghost use Rattle.ns_machine_quick.specs.Opening.{FindsAround, AroundOrNot, AroundCharges, AroundLeads, IsMemberAbove, IsMemberAt};
 
-use crate::opening::{begin, has_room};
+use crate::opening::begin;
 use crate::slots::{get, set};
 use ns_act::enclosing::{Surrounding, enclosing};
 use ns_act::laws::a_send_is_its_step_and_its_answer;
@@ -32,6 +32,7 @@ use ns_base::selector::Sel;
 use ns_classes::layout::word;
 use ns_code::program::CodeProgram;
 use ns_find::found::Found;
+use ns_machine_core::arriving::shape_of;
 use ns_machine_core::led::{Led, led_charged, led_on};
 use ns_machine_core::settling::{running, running_code};
 use ns_machine_core::state::Core;
@@ -40,6 +41,7 @@ use ns_machine_frames::laws::operands_are_taken;
 use ns_machine_frames::registers::Registers;
 use ns_machine_plan::laws::members_are_found;
 use ns_machine_plan::step::Member;
+use ns_machine_sends::opening::has_room;
 use ns_machine_sends::sent::Sent;
 use ns_world::lawful::charging_keeps_lawful;
 use ns_world::value::Value;
@@ -193,11 +195,12 @@ fn begin_around(
     sites_stay();
     let _running = running;
     let _level = level;
-    if !has_room(&core.run.world, code, body, at.top - sent.first) {
+    let shape = shape_of(code, body);
+    if !has_room(&core.run.world, shape, at.top - sent.first) {
         return None;
     }
     match core.run.world.step() {
-        Ok(()) => Some(begin(code, core, at, sent, receiver, body, holder)),
+        Ok(()) => Some(begin(code, core, at, sent, receiver, body, holder, shape)),
         Err(_) => None,
     }
 }

@@ -41,7 +41,7 @@ use Rattle.ns_machine_core.specs.Doing.{IsSettled}
 use Rattle.ns_machine_core.specs.Standing.{HasStandingFrames}
 use Rattle.ns_machine_core.specs.Ready.{MakesMove}
 use Rattle.ns_machine_returns.specs.Handing.{CanTake, GivesLive}
-use Rattle.ns_machine_returns.specs.Acting.{CanAct, Awaits, IsAsked, awaiting}
+use Rattle.ns_machine_returns.specs.Acting.{CanAct, Awaits, IsAsked, IsTopmost, awaiting}
 use Rattle.ns_machine_returns.proofs.Left.{over, IsLeft, left_stays, left_takes}
 use Rattle.ns_machine_core.specs.laws.Worlds.{in_other}
 use Rattle.ns_machine_core.specs.laws.Kept.{stays_on, rooms_stay}
@@ -142,6 +142,11 @@ pub count_is : (looping : LoopingFrame) (state : KState) (frames : List Frame) �
 count_is looping state frames top waits =
     ap (with_count state.count) top
     ∙ (ap (λ (s : KState). Looping (record looping { state = s }) ∷ below frames) (sym waits) ∙ sym (ap (in_state state) top))
+
+-- and so it is the same method's still
+pub topmost_still : (looping : LoopingFrame) (state : KState) (frames : List Frame) → frames ≡ Looping looping ∷ below frames
+    → IsTopmost looping (in_state state frames)
+topmost_still looping state frames top = subst (λ (all : List Frame). IsTopmost looping (in_state state all)) (sym top) (refl, refl)
 
 -- ---- asked by itself
 

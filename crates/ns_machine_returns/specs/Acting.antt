@@ -42,6 +42,12 @@ IsLooping [] = ⊥
 IsLooping (Running frame ∷ frames) = ⊥
 IsLooping (Looping frame ∷ frames) = Unit {0}
 
+-- The topmost frame is that of a method of the kernel, with the site and the floor of this one.
+abbrev pub IsTopmost : LoopingFrame → List Frame → Type 0
+IsTopmost looping [] = ⊥
+IsTopmost looping (Running frame ∷ frames) = ⊥
+IsTopmost looping (Looping frame ∷ frames) = (frame.site ≡ looping.site) × (frame.floor ≡ looping.floor)
+
 -- A method of the kernel, which is topmost, can do its next action.
 pub record CanAct (code : CodeProgram) (core : Core) (at : Registers) : Type 0 where
   pub stands : HasStandingFrames code core at

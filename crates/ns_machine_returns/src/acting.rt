@@ -10,7 +10,7 @@ ghost use Rattle.ns_machine_core.specs.declared.state.Core.{Core as AnyCore};
 ghost use Rattle.ns_machine_core.specs.declared.state.Next.TheVariants as next;
 ghost use Rattle.ns_machine_core.specs.Own.{AreOwn};
 ghost use Rattle.ns_machine_core.specs.Ready.{MakesMove};
-ghost use Rattle.ns_machine_returns.specs.Acting.{IsLooping, CanAct, IsAsked, awaiting};
+ghost use Rattle.ns_machine_returns.specs.Acting.{IsLooping, IsTopmost, CanAct, IsAsked, awaiting};
 
 use crate::handing::bring;
 use ns_act::methods::{Waited, method_next};
@@ -82,6 +82,7 @@ pub fn prepare(
     requires { (first : AnyCore) × IsAsked code.now first at looping core.old (waited.Evaluates block argument state) }
     ensures moves { (first : AnyCore) → IsAsked code.now first at looping core.old (waited.Evaluates block argument state)
         → MakesMove code.now first (next.On at) (awaiting looping block core.new) (next.Waits result) }
+    ensures top { IsTopmost looping core.new.stack.frames.items }
     ensures place { looping.floor < length core.new.stack.values.items }
 {
     frames_have_room();

@@ -11,3 +11,4 @@ pub mod Selves
 pub mod Evaluated
 pub mod Awaited
 pub mod Resent
+pub mod AtOnce

@@ -3,4 +3,6 @@ pub mod Kept
 pub mod Sending
 pub mod Operands
 pub mod Waiting
+pub mod Opening
+pub mod Blocks
 pub mod laws

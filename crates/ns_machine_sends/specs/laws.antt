@@ -5,3 +5,4 @@ pub mod Looked
 pub mod Operands
 pub mod Received
 pub mod Selves
+pub mod Opened

@@ -7,6 +7,7 @@ ghost use Rattle.ns_actions.specs.Bodies.{has_environment};
 ghost use Rattle.ns_actions.specs.Shown.{passed};
 ghost use Rattle.ns_act.specs.Plain.{IsOwnGiven};
 ghost use Rattle.ns_machine_core.specs.declared.state.Next.TheVariants as next;
+ghost use Rattle.ns_machine_core.specs.Arriving as spec;
 ghost use Rattle.ns_machine_core.specs.Arriving.{Arrives};
 ghost use Rattle.ns_machine_sends.specs.Going.{arguments_in, control_at, ControlGoesOn, IsLeft, TakesNone, ArgumentsStand};
 ghost use Rattle.ns_machine_sends.specs.Kept.{kept_control};
@@ -18,13 +19,12 @@ use ns_code::program::CodeProgram;
 use ns_machine_core::arriving::{enter, shape_of};
 use ns_machine_core::laws::what_is_reached_can_be_entered;
 use ns_machine_core::state::Core;
-use ns_machine_frames::calls::{Call, leaving_of};
+use ns_machine_frames::calls::{BodyShape, Call, leaving_of};
 use ns_machine_frames::laws::frames_have_room;
 use ns_machine_frames::registers::Registers;
 
 /// Enters a body on its arguments where they stand.
 #[inline(always)]
-#[tactic(auto, using(crate::proofs::Entered::may_enter))]
 pub fn enter_on_arguments(
     code: &CodeProgram,
     core: &mut Core,
@@ -38,6 +38,28 @@ pub fn enter_on_arguments(
     requires taken { ArgumentsStand core.old exit entered.given (arguments_in core.old at sent) }
     ensures { Arrives code.now core.old at sent.floor (control_at code.now core.old at sent (reached.Enters exit entered)) core.new (next.On result) }
 {
+    let shape = shape_of(code, entered.body);
+    enter_shaped(code, core, at, sent, exit, entered, shape)
+}
+
+/// The same by the shape of the body, where that was read before.
+#[inline(always)]
+#[tactic(auto, using(crate::proofs::Entered::may_enter))]
+pub fn enter_shaped(
+    code: &CodeProgram,
+    core: &mut Core,
+    at: Registers,
+    sent: Sent,
+    exit: Exit,
+    entered: Entered,
+    shape: BodyShape,
+) -> Registers
+    requires shape { shape ≡ spec.shape_of code.now entered.body }
+    requires left { IsLeft code.now core.old at sent }
+    requires goes { ControlGoesOn code.now (length core.old.stack.frames.items) (control_at code.now core.old at sent (reached.Enters exit entered)) }
+    requires taken { ArgumentsStand core.old exit entered.given (arguments_in core.old at sent) }
+    ensures { Arrives code.now core.old at sent.floor (control_at code.now core.old at sent (reached.Enters exit entered)) core.new (next.On result) }
+{
     what_is_reached_can_be_entered();
     let call = Call {
         leaving: leaving_of(exit),
@@ -45,7 +67,7 @@ pub fn enter_on_arguments(
         floor: sent.floor,
         first: sent.first,
     };
-    enter(code, core, at, call, exit, entered)
+    enter(code, core, at, call, exit, entered, shape)
 }
 
 /// Enters a body on none of the arguments.

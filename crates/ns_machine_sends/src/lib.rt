@@ -5,11 +5,13 @@
 
 pub mod around;
 mod arriving;
+pub mod blocks;
 mod ending;
 pub mod entering;
 mod evaluating;
 mod going;
 pub mod led;
+pub mod opening;
 pub mod placing;
 pub mod resending;
 mod sending;

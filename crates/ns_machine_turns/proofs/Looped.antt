@@ -1,11 +1,24 @@
 -- The method of the kernel whose frame is topmost.
-use Rattle.std.proofs.Common.{◌≡◌, List, [], ◌∷◌, subst, sym}
+use Rattle.std.proofs.Common.{◌≡◌, ◌<◌, ℕ, List, [], ◌∷◌, length, refl, subst, sym}
+use Rattle.ns_code.specs.declared.program.CodeProgram.{CodeProgram}
 use Rattle.ns_kernel.specs.declared.parts.KMethod.{KMethod}
+use Rattle.ns_world.specs.declared.value.Value.{Value}
+use Rattle.ns_world.specs.declared.value.Value.TheVariants.{Ref}
 use Rattle.ns_machine_frames.specs.declared.frame.Frame.{Frame}
 use Rattle.ns_machine_frames.specs.declared.frame.Frame.TheVariants.{Running, Looping}
 use Rattle.ns_machine_frames.specs.declared.frame.LoopingFrame.{LoopingFrame}
-use Rattle.ns_machine_returns.specs.Acting.{IsLooping}
-use Rattle.ns_machine_turns.specs.Looping.{LoopsBy}
+use Rattle.ns_machine_frames.specs.declared.registers.Registers.{Registers}
+use Rattle.ns_machine_plan.specs.declared.plan.Plan.{Plan}
+use Rattle.ns_machine_core.specs.declared.own.OwnSends.{OwnSends}
+use Rattle.ns_machine_core.specs.declared.state.Core.{Core}
+use Rattle.ns_machine_core.specs.declared.state.Next.{Next}
+use Rattle.ns_machine_core.specs.declared.state.Next.TheVariants.{Waits}
+use Rattle.ns_machine_core.specs.Ready.{MakesMove}
+use Rattle.ns_machine_returns.specs.Acting.{IsLooping, IsTopmost, awaiting}
+use Rattle.ns_machine_sends.specs.declared.sent.Sent.{Sent}
+use Rattle.ns_machine_sends.specs.Waiting.{BlockWaits, with_block}
+use Rattle.ns_machine_turns.specs.Looping.{BlockStands, LoopsBy, sent_by}
+use Rattle.ns_machine_turns.specs.Turning.{GoesAlong}
 
 -- It is the method of that frame,
 pub loops_by : (frames others : List Frame) (frame : LoopingFrame) (method : KMethod) → frames ≡ Looping frame ∷ others → frame.method ≡ method → LoopsBy method frames
@@ -24,3 +37,41 @@ looping_by frames others frame method top loops = on (subst (LoopsBy method) top
   where
     on : frame.method ≡ method → frames ≡ Looping (record frame { method = method }) ∷ others
     on is = subst (λ (m : KMethod). frames ≡ Looping (record frame { method = m }) ∷ others) is top
+
+-- ---- where it waits for a block
+
+-- A frame with the site and the floor of that method is a method's,
+pub topmost_loops : (looping : LoopingFrame) (frames : List Frame) → IsTopmost looping frames → IsLooping frames
+topmost_loops looping [] is = absurd is
+topmost_loops looping (Running frame ∷ frames) is = absurd is
+topmost_loops looping (Looping frame ∷ frames) is = tt
+
+-- which evaluates as that one does.
+pub topmost_sends : (looping frame : LoopingFrame) (frames others : List Frame) → frames ≡ Looping frame ∷ others → IsTopmost looping frames
+    → sent_by looping ≡ sent_by frame
+topmost_sends looping frame frames others top is = on (subst (IsTopmost looping) top is)
+  where
+    on : IsTopmost looping (Looping frame ∷ others) → sent_by looping ≡ sent_by frame
+    on same = rw (sym same.0, sym same.1) refl
+
+module _ (code : CodeProgram) (core : Core) (at : Registers) (looping frame : LoopingFrame) (cell : ℕ) (stands : BlockStands code core at looping cell)
+    (same : sent_by looping ≡ sent_by frame) where
+  -- Its evaluation waits on the values of the frame that is there, with a place for its value,
+  pub frame_waits : BlockWaits code stands.grants (with_block (sent_by frame) (Ref cell) core) at (sent_by frame) (Ref cell)
+  frame_waits = subst (λ (s : Sent). BlockWaits code stands.grants (with_block s (Ref cell) core) at s (Ref cell)) same stands.waits
+
+  pub frame_place : frame.floor < length core.stack.values.items
+  frame_place = subst (λ (s : Sent). s.floor < length core.stack.values.items) same stands.place
+
+  -- and a move from there is one from where the method waits.
+  pub frame_moves : (new : Core) (next : Next) → MakesMove code (with_block (sent_by frame) (Ref cell) core) (Waits at) new next
+      → MakesMove code (awaiting looping (Ref cell) core) (Waits at) new next
+  frame_moves new next is = subst (λ (s : Sent). MakesMove code (with_block s (Ref cell) core) (Waits at) new next) (sym same) is
+
+-- It waits for a block where the run has gone on to there.
+pub block_stands : (code : CodeProgram) (plan : Plan) (sends : OwnSends) (left : ℕ) (old : Core) (from : Next) (core : Core)
+    (at : Registers) (looping : LoopingFrame) (block : Value) (cell : ℕ) → block ≡ Ref cell → GoesAlong code plan sends left old from (awaiting looping block core) (Waits at) → IsTopmost looping core.stack.frames.items
+    → looping.floor < length core.stack.values.items → BlockStands code core at looping cell
+block_stands code plan sends left old from core at looping block cell is along top place =
+    let here = subst (λ (v : Value). GoesAlong code plan sends left old from (awaiting looping v core) (Waits at)) is along in
+    record { grants = here.runs.can.grants; top = top; waits = record { is = refl; ready = here.runs.can.ready }; place = place }

@@ -1,11 +1,31 @@
 -- The method of the kernel that is topmost.
-use Rattle.std.specs.Prelude.{◌≡◌, List, [], ◌∷◌}
+use Rattle.std.specs.Prelude.{◌≡◌, ◌<◌, ℕ, List, [], ◌∷◌, length}
+use Rattle.ns_code.specs.declared.program.CodeProgram.{CodeProgram}
+use Rattle.ns_facets.specs.declared.row.Grants.{Grants}
 use Rattle.ns_kernel.specs.declared.parts.KMethod.{KMethod}
+use Rattle.ns_world.specs.declared.value.Value.TheVariants.{Ref}
 use Rattle.ns_machine_frames.specs.declared.frame.Frame.{Frame}
 use Rattle.ns_machine_frames.specs.declared.frame.Frame.TheVariants.{Running, Looping}
+use Rattle.ns_machine_frames.specs.declared.frame.LoopingFrame.{LoopingFrame}
+use Rattle.ns_machine_frames.specs.declared.registers.Registers.{Registers}
+use Rattle.ns_machine_core.specs.declared.state.Core.{Core}
+use Rattle.ns_machine_returns.specs.Acting.{IsTopmost, awaiting}
+use Rattle.ns_machine_sends.specs.declared.sent.Sent.{Sent}
+use Rattle.ns_machine_sends.specs.Waiting.{BlockWaits}
 
 -- The topmost frame is one of that method of the kernel.
 abbrev pub LoopsBy : KMethod → List Frame → Type 0
 LoopsBy method [] = ⊥
 LoopsBy method (Running frame ∷ frames) = ⊥
 LoopsBy method (Looping frame ∷ frames) = frame.method ≡ method
+
+-- the evaluation of a block by a method of the kernel, on the values from its floor on
+abbrev pub sent_by : LoopingFrame → Sent
+sent_by looping = record { site = looping.site; floor = looping.floor; first = looping.floor }
+
+-- The topmost method of the kernel waits for the block of that cell, and has a place for its value.
+pub record BlockStands (code : CodeProgram) (core : Core) (at : Registers) (looping : LoopingFrame) (cell : ℕ) : Type 0 where
+  pub grants : Grants
+  pub top : IsTopmost looping core.stack.frames.items
+  pub waits : BlockWaits code grants (awaiting looping (Ref cell) core) at (sent_by looping) (Ref cell)
+  pub place : looping.floor < length core.stack.values.items

@@ -3,9 +3,11 @@
 ghost use Rattle.std.specs.Prelude.{◌≡◌, ◌∷◌, ◌≤◌};
 ghost use Rattle.ns_machine_frames.specs.declared.frame.Frame.TheVariants.{Looping};
 ghost use Rattle.ns_machine_frames.specs.Standing.{below};
-ghost use Rattle.ns_machine_core.specs.declared.state.Next.TheVariants.{On};
-ghost use Rattle.ns_machine_returns.specs.Acting.{IsLooping};
-ghost use Rattle.ns_machine_turns.specs.Looping.{LoopsBy};
+ghost use Rattle.ns_world.specs.declared.value.Value.TheVariants.{Ref};
+ghost use Rattle.ns_machine_core.specs.declared.state.Next.TheVariants.{On, Waits};
+ghost use Rattle.ns_machine_core.specs.Ready.{MakesMove};
+ghost use Rattle.ns_machine_returns.specs.Acting.{IsLooping, awaiting};
+ghost use Rattle.ns_machine_turns.specs.Looping.{BlockStands, LoopsBy};
 ghost use Rattle.ns_machine_turns.specs.Turning.{RunsBy, HasGone};
 
 use crate::laws::moves_go_along;
@@ -20,8 +22,10 @@ use ns_machine_frames::stack::Stack;
 use ns_machine_plan::plan::Plan;
 use ns_machine_returns::acting::{ask, end_method, looping, prepare};
 use ns_machine_returns::laws::topmost_methods_can_act;
+use ns_machine_sends::blocks::enter_at_once;
 use ns_machine_sends::sent::Sent;
 use ns_machine_sends::waiting::evaluate_at_once;
+use ns_world::value::Value;
 
 /// Does the next action of the method of the kernel that is topmost, and evaluates its block at once where a step is left: the
 /// evaluation waits in between, but isn't written. It stands in code of its own, in which all that it calls is united, once for
@@ -93,22 +97,59 @@ fn act_as(
         } => {
             let above = prepare(code, core, at, frame, block, argument, state);
             if left <= core.run.world.counters().steps - begun {
-                core.waiting = Pending::Evaluating {
-                    block,
-                    site: frame.site,
-                    floor: frame.floor,
-                    first: frame.floor,
-                };
-                return Next::Waits(above);
+                return let_wait(core, above, frame, block);
             }
-            let sent = Sent {
-                site: frame.site,
-                floor: frame.floor,
-                first: frame.floor,
-            };
-            evaluate_at_once(code, core, above, sent, block)
+            match block {
+                Value::Ref(cell) => {
+                    evaluate_apart(code, core, above.next, above.top, above.base, cell)
+                }
+                _ => let_wait(core, above, frame, block),
+            }
         }
         Waited::Ends(answer) => end_method(code, core, at, own, frame, answer),
+    }
+}
+
+/// Lets the evaluation of a block wait, on the values from the floor of that method of the kernel on.
+#[inline(always)]
+fn let_wait(core: &mut Core, at: Registers, frame: LoopingFrame, block: Value) -> Next
+    ensures waits { core.new ≡ awaiting frame block core.old }
+    ensures at { result ≡ Waits at }
+{
+    core.waiting = Pending::Evaluating {
+        block,
+        site: frame.site,
+        floor: frame.floor,
+        first: frame.floor,
+    };
+    Next::Waits(at)
+}
+
+/// Evaluates the block of that cell, for which the topmost method of the kernel waits, at once: nothing that waits is written. It
+/// stands in code of its own for all such methods, and the site is read from the topmost frame.
+#[inline(never)]
+fn evaluate_apart(
+    code: &CodeProgram,
+    core: &mut Core,
+    next: u32,
+    top: u32,
+    base: u32,
+    cell: u32,
+) -> Next
+    requires { (looping : LoopingFrame) × BlockStands code.now core.old (record { next = next; top = top; base = base }) looping cell }
+    ensures { (looping : LoopingFrame) → BlockStands code.now core.old (record { next = next; top = top; base = base }) looping cell
+        → MakesMove code.now (awaiting looping (Ref cell) core.old) (Waits (record { next = next; top = top; base = base })) core.new result }
+{
+    let at = Registers { next, top, base };
+    let frame = looping(&core.stack);
+    let sent = Sent {
+        site: frame.site,
+        floor: frame.floor,
+        first: frame.floor,
+    };
+    match enter_at_once(code, core, at, sent, cell) {
+        Some(to) => Next::On(to),
+        None => evaluate_at_once(code, core, at, sent, Value::Ref(cell)),
     }
 }
 

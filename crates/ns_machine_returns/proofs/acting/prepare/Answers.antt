@@ -4,7 +4,8 @@ use Rattle.ns_actions.specs.Blocks.{listed}
 use Rattle.ns_act.specs.declared.methods.Waited.TheVariants.{Evaluates}
 use Rattle.ns_machine_frames.specs.declared.frame.Frame.{Frame}
 use Rattle.ns_machine_frames.specs.Row.{ValueRow, FrameRow}
-use Rattle.ns_machine_returns.proofs.Acted.{asked_fits, asked_top, asked_waits, count_is, prepared}
+use Rattle.ns_machine_returns.specs.Acting.{IsTopmost}
+use Rattle.ns_machine_returns.proofs.Acted.{asked_fits, asked_top, asked_waits, count_is, prepared, topmost_still}
 use Rattle.ns_machine_returns.proofs.acting.prepare.Goals as goal
 
 pub make_room-requires-clause-room : goal.make_room-requires-clause-room
@@ -38,3 +39,13 @@ returns-clause-moves c = λ first asked.
       };
       top = pushed.top;
     })
+
+pub returns-clause-top : goal.returns-clause-top
+returns-clause-top c =
+    let fits : SFits w64 c.args.state.count = search rules in
+    let top = asked_top c.args.code.now c.requires.0 c.args.at c.args.looping c.args.core.now (Evaluates c.args.block c.args.argument c.args.state) c.requires.1 in
+    subst (IsTopmost c.args.looping)
+    (sym (ap (λ (row : FrameRow). row.items) (c.push_argument.ensures.frames ∙ (c.make_room.ensures.frames ∙ (rw (to_z-of_z fits) at (c.set_count.ensures.frames))))
+    ∙ count_is c.args.looping c.args.state c.args.core.now.stack.frames.items top
+    (asked_waits c.args.code.now c.requires.0 c.args.at c.args.looping c.args.core.now c.args.block c.args.argument c.args.state c.requires.1)))
+    (topmost_still c.args.looping c.args.state c.args.core.now.stack.frames.items top)
