@@ -19,7 +19,11 @@ use std::alloc::Global;
 pub fn expr(sets: Vec<Named>, first: KeyExpr, more: Vec<(u32, Message)>) -> Expr
     ensures { expr_of result ≡ p.expr_with sets.items (key_expr_of first) (cascade_of more.items) }
 {
-    Expr { sets, first, more }
+    Expr {
+        sets: fitted(sets),
+        first,
+        more: fitted(more),
+    }
 }
 
 /// A binary message.
@@ -33,7 +37,7 @@ pub fn binary(name: Named, argument: UnExpr) -> Message
 pub fn keywords(keys: Vec<(Named, BinExpr)>) -> Message
     ensures { message_of result ≡ p.keywords (keys_of keys.items) }
 {
-    Message::Keys(keys)
+    Message::Keys(fitted(keys))
 }
 
 /// A receiver, and the keys of the message to it, if there are any.
@@ -42,7 +46,7 @@ pub fn sent(receiver: BinExpr, keys: Vec<(Named, BinExpr)>) -> KeyExpr
 {
     KeyExpr {
         receiver: Some(receiver),
-        keys,
+        keys: fitted(keys),
     }
 }
 
@@ -52,7 +56,7 @@ pub fn implicit(keys: Vec<(Named, BinExpr)>) -> KeyExpr
 {
     KeyExpr {
         receiver: None,
-        keys,
+        keys: fitted(keys),
     }
 }
 
@@ -60,14 +64,21 @@ pub fn implicit(keys: Vec<(Named, BinExpr)>) -> KeyExpr
 pub fn bin(first: UnExpr, more: Vec<(Named, UnExpr)>) -> BinExpr
     ensures { bin_of result ≡ p.bin_with (un_of first) (opers_of more.items) }
 {
-    BinExpr { first, more }
+    BinExpr {
+        first,
+        more: fitted(more),
+    }
 }
 
 /// A primary and unary messages to it.
 pub fn un(at: u32, primary: Primary, names: Vec<Named>) -> UnExpr
     ensures { un_of result ≡ p.un_with at (primary_of primary) names.items }
 {
-    UnExpr { at, primary, names }
+    UnExpr {
+        at,
+        primary,
+        names: fitted(names),
+    }
 }
 
 /// An expression in parentheses.
@@ -88,7 +99,10 @@ pub fn block_literal(alloc: Global, block: Block) -> Result<Primary, NoMemory>
 pub fn tuple(items: Vec<Expr>, stop: bool) -> Primary
     ensures { primary_of result ≡ p.tuple (exprs_of items.items) stop }
 {
-    Primary::Tuple { items, stop }
+    Primary::Tuple {
+        items: fitted(items),
+        stop,
+    }
 }
 
 /// A block: parameters, locals, statements.
@@ -96,8 +110,8 @@ pub fn block(params: Vec<Named>, slots: Option<Vec<Slot>>, body: Statements) -> 
     ensures { block_of result ≡ p.block_with params.items (bars_of slots) (statements_of body) }
 {
     Block {
-        params,
-        slots,
+        params: fitted(params),
+        slots: fitted_bars(slots),
         body,
     }
 }
@@ -127,7 +141,10 @@ pub fn mutable(value: Expr) -> SlotInit
 pub fn statements(list: Vec<Statement>, stop: bool) -> Statements
     ensures { statements_of result ≡ p.statements_with (statement_list_of list.items) stop }
 {
-    Statements { list, stop }
+    Statements {
+        list: fitted(list),
+        stop,
+    }
 }
 
 /// A statement.
@@ -141,7 +158,10 @@ pub fn statement(caret: Option<u32>, expr: Expr) -> Statement
 pub fn pattern(parts: Vec<Named>, params: Vec<Named>) -> Pattern
     ensures { pattern_of result ≡ p.pattern_with parts.items params.items }
 {
-    Pattern { parts, params }
+    Pattern {
+        parts: fitted(parts),
+        params: fitted(params),
+    }
 }
 
 /// A superclass clause.
@@ -161,7 +181,7 @@ pub fn method(pattern: Pattern, slots: Option<Vec<Slot>>, body: Statements) -> M
 {
     Method {
         pattern,
-        slots,
+        slots: fitted_bars(slots),
         body,
     }
 }
@@ -183,7 +203,7 @@ pub fn class(
         name,
         factory,
         clause,
-        slots,
+        slots: fitted_bars(slots),
         body,
         side,
         class_side,
@@ -194,7 +214,10 @@ pub fn class(
 pub fn side(members: Vec<Member>, tail: Vec<Text>) -> Side
     ensures { side_of result ≡ p.side_with (members_of members.items) tail.items }
 {
-    Side { members, tail }
+    Side {
+        members: fitted(members),
+        tail: fitted(tail),
+    }
 }
 
 /// A member.
@@ -202,7 +225,7 @@ pub fn member(categories: Vec<Text>, access: Option<Access>, what: What) -> Memb
     ensures { member_of result ≡ p.member_with categories.items access (what_of what) }
 {
     Member {
-        categories,
+        categories: fitted(categories),
         access,
         what,
     }
@@ -230,5 +253,25 @@ pub fn unit(marker: bool, category: Option<Text>, class: Class) -> Unit
         marker,
         category,
         class,
+    }
+}
+
+/// The same list in memory of its own size. A list that grows takes room for four items at once, and most
+/// of a source's lists have one or none.
+fn fitted<T>(list: Vec<T>) -> Vec<T>
+    ensures { result.items ≡ list.items }
+{
+    let mut list = list;
+    list.shrink_to_fit();
+    list
+}
+
+/// The same slots in memory of their own size.
+fn fitted_bars(slots: Option<Vec<Slot>>) -> Option<Vec<Slot>>
+    ensures { bars_of result ≡ bars_of slots }
+{
+    match slots {
+        Some(list) => Some(fitted(list)),
+        None => None,
     }
 }
