@@ -11,8 +11,8 @@ use Rattle.ns_code.specs.LocalNames.{numbered_names}
 use Rattle.ns_image.specs.Bytes as b
 use Rattle.ns_image.specs.Read.{Reader, times}
 use Rattle.ns_image.specs.Reading as r
-use Rattle.ns_image.proofs.Format.{Step, Any, Format, done, field, good_field, refit, rewrite, mapped}
-use Rattle.ns_image.proofs.Fields.{byte_format, half_format, word_format, byte_up_to_format, reference_format, flag_format, times_format}
+use Rattle.ns_image.specs.laws.Format.{Step, Any, Format, done, field, good_field, refit, rewrite, mapped}
+use Rattle.ns_image.specs.laws.Fields.{byte_format, half_format, word_format, byte_up_to_format, reference_format, flag_format, times_format}
 use Rattle.ns_image.proofs.Records.{up_to_format}
 use Rattle.ns_image.proofs.Texts.{local_name_format}
 use Rattle.ns_image.proofs.Instructions.{instr_format}

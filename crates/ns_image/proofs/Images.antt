@@ -2,9 +2,9 @@
 use Rattle.std.proofs.Common.{◌≡◌, ℕ, Bool, true, false, cond, eqb, List, [], ◌∷◌, ◌++◌, length, drop, All, Ok, Err, refl, sym, ap, ◌∙◌, arith, ◌⊎◌, inl, inr}
 use Rattle.std.specs.Prelude.{nat_eq, Result, IfOk}
 use Rattle.std.specs.List.{starts_with}
-use Rattle.std.proofs.lemmas.Bool.{eqb-true, cases_lt}
+use Rattle.std.proofs.lemmas.Bool.{eqb-true}
 use Rattle.std.proofs.lemmas.Bool.Decides.{Decides-eqb}
-use Rattle.std.proofs.lemmas.List.{append-nil, get_or_past}
+use Rattle.std.proofs.lemmas.List.{append-nil}
 use Rattle.std.proofs.lemmas.Slice.Eq.{starts_is}
 use Rattle.ns_code.specs.declared.program.CodeProgram.{CodeProgram}
 use Rattle.ns_code.specs.Fits.{Fits, IsByte}
@@ -15,8 +15,8 @@ use Rattle.ns_image.specs.Bytes as b
 use Rattle.ns_image.specs.Read.{Outcome, got, truncated, bad, half}
 use Rattle.ns_image.specs.Reading.{read_image, versioned, answer, ended, program, old_program}
 use Rattle.ns_image.specs.Reads.{ReadingAnswers}
-use Rattle.ns_image.proofs.Format.{IsBytes, IsBytes-drop}
-use Rattle.ns_image.proofs.Fields.{half_format}
+use Rattle.ns_image.specs.laws.Format.{IsBytes, IsBytes-drop}
+use Rattle.ns_image.specs.laws.Fields.{all_bytes, half_format}
 use Rattle.ns_image.proofs.Programs.{program_format, old_program_format, old_fits, old_parts}
 
 -- ---- what was written is read again
@@ -89,13 +89,6 @@ versioned_read size bytes behind (got version mid) code fits parts is e =
                 new_read bytes mid code t.2 at (answer_ok size (program mid) code two.1)
             | inr none ↦ absurd (cc (none.1))
           ]
-    ]
-
-all_bytes : (bytes : List ℕ) → All IsByte bytes → IsBytes bytes
-all_bytes bytes all i =
-    elim (cases_lt i (length bytes)) [
-      | inl lt ↦ all i 0 lt
-      | inr le ↦ rw (get_or_past bytes i 0 le) (omega arith)
     ]
 
 read_bytes : (bytes : List ℕ) (code : CodeProgram) → IsBytes bytes → read_image bytes ≡ Ok code → Fits code × IsImage bytes code

@@ -8,8 +8,8 @@ use Rattle.ns_code.specs.Fits.{IsByte, IsWord, InstrFits}
 use Rattle.ns_image.specs.Bytes as b
 use Rattle.ns_image.specs.Read.{got, Reader, and_then, given, pair, byte}
 use Rattle.ns_image.specs.Reading.{Operands, none, operands, operands_of, instructions, behind, instr, selector}
-use Rattle.ns_image.proofs.Format.{IsBytes, Format, bind_got, pair_format}
-use Rattle.ns_image.proofs.Fields.{byte_format, half_format, word_format, long_format}
+use Rattle.ns_image.specs.laws.Format.{IsBytes, Format, bind_got, pair_format}
+use Rattle.ns_image.specs.laws.Fields.{byte_format, half_format, word_format, long_format}
 use Rattle.ns_image.proofs.Records.{selector_format}
 
 -- 26 is the last code.

@@ -1,8 +1,6 @@
 pub mod Loop
 pub mod Instructions
 pub mod Numbered
-pub mod Format
-pub mod Fields
 pub mod Records
 pub mod Texts
 pub mod Places

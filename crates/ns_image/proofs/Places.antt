@@ -14,8 +14,8 @@ use Rattle.ns_code.specs.Fits.{IsWord}
 use Rattle.ns_code.specs.Instructions.{carries_place}
 use Rattle.ns_image.specs.Bytes as b
 use Rattle.ns_image.specs.Reading as r
-use Rattle.ns_image.proofs.Format.{Step, Any, Format, done, field, refit, checks}
-use Rattle.ns_image.proofs.Fields.{word_format, chained_format, AllGood}
+use Rattle.ns_image.specs.laws.Format.{Step, Any, Format, done, field, refit, checks}
+use Rattle.ns_image.specs.laws.Fields.{word_format, chained_format, AllGood}
 use Rattle.ns_image.proofs.Texts.{both, together}
 
 -- ---- instructions that carry a place

@@ -8,7 +8,7 @@ use Rattle.ns_code.specs.declared.body.BodyCode.{BodyCode}
 use Rattle.ns_code.specs.Fits.{Fits, BodyFits, PlaceFits, IsWord, IsShort, IsFileName, IsLocalName, ClassFits}
 use Rattle.ns_image.specs.Bytes as b
 use Rattle.ns_image.specs.Reading as r
-use Rattle.ns_image.proofs.Format.{Step, Any, Format, done, field, good_field, refit}
+use Rattle.ns_image.specs.laws.Format.{Step, Any, Format, done, field, good_field, refit}
 use Rattle.ns_image.proofs.Records.{up_to_format, class_format}
 use Rattle.ns_image.proofs.Texts.{file_name_format, AreNames, names_format, texts_format}
 use Rattle.ns_image.proofs.Numbered.{length-numbered_names, numbered_names_fit}

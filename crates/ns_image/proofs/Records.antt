@@ -9,8 +9,8 @@ use Rattle.ns_code.specs.Fits.{IsByte, IsHalf, IsWord, IsAccess, SlotFits, Neste
 use Rattle.ns_image.specs.Bytes as b
 use Rattle.ns_image.specs.Read.{Reader}
 use Rattle.ns_image.specs.Reading as r
-use Rattle.ns_image.proofs.Format.{Step, Any, Format, done, field, refit, rewrite, mapped}
-use Rattle.ns_image.proofs.Fields.{byte_format, half_format, word_format, byte_up_to_format, word_up_to_format, reference_format, flag_format, times_format}
+use Rattle.ns_image.specs.laws.Format.{Step, Any, Format, done, field, refit, rewrite, mapped}
+use Rattle.ns_image.specs.laws.Fields.{byte_format, half_format, word_format, byte_up_to_format, word_up_to_format, reference_format, flag_format, times_format}
 
 abbrev sel_of : ℕ → Sel
 sel_of n = record { 0 = n }

@@ -14,8 +14,8 @@ use Rattle.ns_base.specs.Spelling.{is_selector}
 use Rattle.ns_code.specs.Fits.{IsWord, IsShort, IsFileName, IsName, IsLocalName}
 use Rattle.ns_image.specs.Bytes as b
 use Rattle.ns_image.specs.Reading as r
-use Rattle.ns_image.proofs.Format.{Step, Any, Format, field, refit, checks}
-use Rattle.ns_image.proofs.Fields.{word_format, word_up_to_format, text_format, chained_format, times_format, AllGood}
+use Rattle.ns_image.specs.laws.Format.{Step, Any, Format, field, refit, checks}
+use Rattle.ns_image.specs.laws.Fields.{word_format, word_up_to_format, text_format, chained_format, times_format, AllGood}
 
 pub both : (p q : Bool) → (p && q) ≡ true → (p ≡ true) × (q ≡ true)
 both true q e = (refl, e)

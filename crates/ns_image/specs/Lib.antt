@@ -3,3 +3,4 @@ pub mod Read
 pub mod Reads
 pub mod Reading
 pub mod Fault
+pub mod laws

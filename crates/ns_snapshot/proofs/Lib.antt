@@ -1,0 +1,11 @@
+pub mod Variants
+pub mod Numbers
+pub mod Plain
+pub mod Values
+pub mod Parts
+pub mod Cells
+pub mod Frames
+pub mod States
+pub mod Snapshots
+pub mod Wholes
+pub mod Examples
