@@ -1,5 +1,6 @@
 -- What is said of sessions, of schedules and of applications that don't share the board.
 use Rattle.std.specs.Prelude.{◌≡◌, ◌<◌, ◌≤◌, ℕ, List, [], ◌∷◌, ◌++◌, Some, None, length, slice_get, Bool, true, false}
+use Rattle.ns_code.specs.declared.program.CodeProgram.{CodeProgram}
 use Rattle.ns_resolved.specs.Program.{Meant}
 use Rattle.ns_resolved.specs.Tables.{tables}
 use Rattle.ns_gen_code.specs.Code.{code_of}
@@ -10,7 +11,7 @@ use Rattle.ns_machine_moves.specs.Move.{moves}
 use Rattle.ns_machine_moves.specs.Turn.{Turns, is_still}
 use Rattle.ns_link.specs.Stated.{HasFirst, IsOnTheWay}
 use Rattle.ns_session.specs.Member.{Application, MayStart, start_of, IsAlone, TurnOf}
-use Rattle.ns_session.specs.Reached.{StateIsReached, left_for}
+use Rattle.ns_session.specs.Reached.{HasBegun, StateIsReached, left_for}
 use Rattle.ns_session.specs.Session.{SessionView, Pair, Plays, added}
 use Rattle.ns_session.specs.Play.{opened, Played, given}
 
@@ -64,6 +65,10 @@ abbrev pub TurnsReach : Application → Type 0
 TurnsReach application =
     (granted : Bool) (steps : ℕ) (old : State) (shared : Board) (new : State) (left : Board) → TurnOf granted application.code steps old shared new left
     → StateIsReached application old → StateIsReached application new
+
+-- A run that has begun stays so, in whatever moves.
+abbrev pub BegunStays : CodeProgram → Type 0
+BegunStays code = (count : ℕ) (state : State) → HasBegun state → HasBegun (moves code count state)
 
 -- A turn of at least one step of a run that hasn't ended leaves less to do.
 abbrev pub TurnsLower : Application → Type 0

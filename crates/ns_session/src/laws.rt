@@ -1,10 +1,11 @@
 //! Laws of sessions. Each function does nothing but name the laws that it rests on, and its contract is the law.
 
+ghost use Rattle.ns_code.specs.declared.program.CodeProgram.{CodeProgram};
 ghost use Rattle.ns_resolved.specs.Program.{Meant};
 ghost use Rattle.ns_session.specs.Member.{Application};
 ghost use Rattle.ns_session.specs.Session.{Pair};
 ghost use Rattle.ns_session.specs.Laws.{StartsAlone, TurnsStayAlone, AloneLeads, LongTurnsRest, SourceLeads};
-ghost use Rattle.ns_session.specs.Laws.{StartsReached, TurnsReach, TurnsLower, AddingPlays, TurnsPlay, EqualStepsAgree};
+ghost use Rattle.ns_session.specs.Laws.{StartsReached, TurnsReach, BegunStays, TurnsLower, AddingPlays, TurnsPlay, EqualStepsAgree};
 
 /// An application begins where its run on its own begins.
 pub fn applications_start_alone()
@@ -63,6 +64,11 @@ pub fn applications_stay_in_reach()
     ns_machine_moves::valid_world::swaps_keep_valid();
     ns_machine_moves::valid_frames::moves_keep_valid();
 }
+
+/// A run that has begun stays so.
+pub fn begun_runs_stay_begun()
+    ensures { (code : CodeProgram) → BegunStays code }
+{}
 
 /// There each turn of at least one step uses up steps or ends the run.
 pub fn turns_use_steps_up()

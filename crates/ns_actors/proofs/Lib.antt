@@ -1,0 +1,16 @@
+pub mod Premises
+pub mod Lists
+pub mod Others
+pub mod Boxes
+pub mod Held
+pub mod Good
+pub mod Turning
+pub mod Standing
+pub mod Begins
+pub mod Stands
+pub mod Growing
+pub mod Kept
+pub mod Views
+pub mod Rounding
+pub mod Short
+pub mod Examples
