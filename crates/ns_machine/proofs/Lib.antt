@@ -1,5 +1,6 @@
 pub mod Fresh
 pub mod Opening
+pub mod Placed
 pub mod Waited
 pub mod Standing
 pub mod Running

@@ -1,5 +1,5 @@
 -- The place of the superclass message, found along the steps of its body.
-use Rattle.std.proofs.Common.{◌≡◌, ℕ, ◌+◌, ◌<◌, ◌≤◌, List, [], ◌∷◌, length, get_or, refl, ap, sym, ◌∙◌, arith, Option, Some, None, slice_get}
+use Rattle.std.proofs.Common.{◌≡◌, ℕ, ◌+◌, ◌<◌, ◌≤◌, List, [], ◌∷◌, length, get_or, refl, ap, sym, subst, ◌∙◌, arith, Option, Some, None, slice_get}
 use Rattle.std.proofs.lemmas.Option.{same_Some, slice_get_past, slice_get-get_or}
 use Rattle.std.proofs.lemmas.List.{drop_all}
 use Rattle.std.specs.Option.{option_map_or}
@@ -15,6 +15,7 @@ use Rattle.ns_machine_plan.specs.Plan.{IsStepAt}
 use Rattle.ns_machine_plan.specs.Steps.{instr_of, place_of, places_of, no_place}
 use Rattle.ns_machine_plan.specs.laws.Steps.{steps_count}
 use Rattle.ns_machine.specs.Opening.{super_number}
+use Rattle.ns_machine.specs.Places.{BeginsWithPlaces}
 
 -- a step that is another is passed over
 passed_over : (places : List SourcePlace) (later : Option SourcePlace) (step : Step) → super_number step ≡ None
@@ -35,11 +36,21 @@ pub on_over : (code : CodeProgram) (body next : ℕ) (step : Step) → IsStepAt 
 on_over code body next step is none =
     ap super_place is.shown ∙ passed_over (places_of code) (super_place (steps_from code body (next + 1))) step none
 
-pub found_here : (code : CodeProgram) (body next : ℕ) (step : Step) (number : ℕ) → IsStepAt code body next step →
-    super_number step ≡ Some number
-    → super_place (steps_from code body next) ≡ slice_get (places_of code) number
-found_here code body next step number is found =
-    ap super_place is.shown ∙ is_found (places_of code) (super_place (steps_from code body (next + 1))) number step found
+-- its place is the same among more places
+place_among : (code : CodeProgram) (places : List SourcePlace) (body next : ℕ) (step : Step) → BeginsWithPlaces code places →
+    IsStepAt code body next step
+    → place_of places step ≡ place_of (places_of code) step
+place_among code places body next step begins is =
+    ap (λ (all : List SourcePlace). place_of all step) begins.is ∙ is.longer begins.more begins.few
+
+pub found_here : (code : CodeProgram) (places : List SourcePlace) (body next : ℕ) (step : Step) (number : ℕ) → BeginsWithPlaces code places →
+    IsStepAt code body next step → super_number step ≡ Some number
+    → super_place (steps_from code body next) ≡ slice_get places number
+found_here code places body next step number begins is found =
+    let later = super_place (steps_from code body (next + 1)) in
+    ap super_place is.shown
+    ∙ (ap (λ (place : Option SourcePlace). super_place_or (instr_of step) place later) (sym (place_among code places body next step begins is))
+    ∙ is_found places later number step found)
 
 -- behind them all there is none
 pub none_behind : (code : CodeProgram) (body : ℕ) → super_place (steps_from code body (length (steps_of code body))) ≡ None
@@ -59,5 +70,6 @@ no_body code body none =
     ap (λ (o : Option BodyCode). super_place (option_map_or (λ (b : BodyCode). placed b.places 0 b.instrs) o ((ReturnSelf, None) ∷ []))) none
 
 -- the number of no place names none
-pub no_place_is : (places : List SourcePlace) → length places ≤ no_place → slice_get places no_place ≡ None
-no_place_is places few = slice_get_past places no_place few
+pub none_there : (code : CodeProgram) (places : List SourcePlace) → BeginsWithPlaces code places → slice_get places no_place ≡ None
+none_there code places begins =
+    slice_get_past places no_place (subst (λ (all : List SourcePlace). length all ≤ no_place) (sym begins.is) begins.few)

@@ -22,7 +22,7 @@ use Rattle.ns_machine_core.specs.declared.state.Phase.TheVariants.{Start, Hosted
 use Rattle.ns_world.specs.declared.ending.Ending.{Ending}
 use Rattle.ns_world.specs.declared.ending.Ending.TheVariants.{Limit}
 use Rattle.ns_world.specs.declared.ending.LimitKind.TheVariants.{Cells}
-use Rattle.std.proofs.Common.{Option, None, Bool, if◌then◌else◌, ◌≤◌, length, append-nil}
+use Rattle.std.proofs.Common.{Option, None, Bool, if◌then◌else◌, length}
 use Rattle.ns_machine_core.specs.Ready.{MachineIsReady}
 use Rattle.ns_machine_turns.specs.Turning.{RunsBy}
 use Rattle.ns_base.specs.declared.selector.Sel.{Sel}
@@ -31,15 +31,16 @@ use Rattle.ns_machine_moves.specs.State as state
 use Rattle.ns_machine_moves.specs.State.{Sending, Pends, world_of}
 use Rattle.ns_machine_moves.specs.Starts.{begun}
 use Rattle.ns_machine_moves.specs.Beginning.{MayBegin, HostKeepsValid}
-use Rattle.ns_machine_plan.specs.Steps.{places_of, no_place}
+use Rattle.ns_machine_plan.specs.Steps.{no_place}
 use Rattle.ns_machine_core.specs.declared.state.Next.{Next}
 use Rattle.ns_machine_core.specs.Shown.{shown}
-use Rattle.ns_machine.proofs.Opening.{no_place_is}
+use Rattle.ns_machine.proofs.Opening.{none_there}
 use Rattle.ns_machine.specs.Waiting.{HostSendWaits}
 use Rattle.ns_machine.specs.declared.stage.Stage.{Stage}
 use Rattle.ns_machine.specs.declared.stage.Stage.TheVariants as stage
 use Rattle.ns_machine.specs.Machine.{stage_shown, stage_after, StandIn, IsMachine}
 use Rattle.ns_machine.specs.Fresh.{IsFresh}
+use Rattle.ns_machine.specs.Places.{HasPlaces}
 use Rattle.std.specs.List.{slice_get}
 use Rattle.ns_base.specs.declared.place.Place.{Place as SourcePlace}
 use Rattle.ns_facets.specs.declared.board.Board.{Board}
@@ -144,6 +145,11 @@ swapped_machine code grants plan core own stage board keeps is = record {
 abbrev pub with_phase : Core → KeptPhase → Core
 with_phase core phase = record core { phase = phase }
 
+-- the places that it keeps stay
+places_stay : (code : CodeProgram) (old new : Core) → KeepsRooms old new → HasPlaces code old.run.world.world.limits.depth old.places
+    → HasPlaces code new.run.world.world.limits.depth new.places
+places_stay code old new stays is = rw (stays.world.limits, stays.places) is
+
 -- a machine in which a send waits, which is a valid state
 waiting_machine : (code : CodeProgram) (grants : Grants) (plan : Plan) (old new : Core) (phase : KeptPhase) (own : OwnSends) (before after : Stage)
     → IsMachine code grants plan old own before → Valid code grants (stage_shown code new after) → StandIn code new after → new.run ≡ old.run
@@ -154,7 +160,7 @@ waiting_machine code grants plan old new phase own before after is valid stand r
   stand = stand;
   kept = subst (λ (r : Run). All (PlaceIsRight r.world.world.cells code) r.memo) (sym run) is.kept;
   prepared = is.prepared;
-  places = stays.places ∙ is.places;
+  places = places_stay code (with_phase old phase) new stays is.places;
   sends = record {
     package_using = is.sends.package_using;
     main_args = is.sends.main_args;
@@ -171,7 +177,7 @@ pub host_shown : (code : CodeProgram) (grants : Grants) (plan : Plan) (core new 
 host_shown code grants plan core new own stage next receiver sel arguments is may waits =
     let before = stage_shown code core stage in
     let none : slice_get core.places no_place ≡ None =
-    ap (λ (places : List SourcePlace). slice_get places no_place) is.places ∙ no_place_is (places_of code) is.prepared.few in
+    none_there code core.places is.places.begins in
     waits.state
     ∙ (ap (λ (place : Option SourcePlace).
     Pends state.Hosted (Sending receiver sel arguments (site_at core.run.world.world.cells place receiver sel)) [] (progress_in core)) none
@@ -202,9 +208,9 @@ pub machine_runs : (code : CodeProgram) (grants : Grants) (plan : Plan) (core : 
 machine_runs code grants plan core own next is = record {
   prepared = record {
     of_code = is.prepared;
-    more = [];
-    begins = is.places ∙ sym (append-nil (places_of code));
-    few = subst (λ (places : List SourcePlace). length places ≤ no_place) (sym (append-nil (places_of code))) is.prepared.few;
+    more = is.places.begins.more;
+    begins = is.places.begins.is;
+    few = is.places.begins.few;
   };
   own = is.sends;
   can = record { grants = grants; ready = machine_ready code grants plan core own next is };
@@ -219,7 +225,7 @@ machine_on code grants plan old new own from next is ready stays = record {
   stand = ready.stand;
   kept = ready.kept;
   prepared = is.prepared;
-  places = stays.places ∙ is.places;
+  places = places_stay code old new stays is.places;
   sends = record {
     package_using = is.sends.package_using;
     main_args = is.sends.main_args;

@@ -57,13 +57,10 @@ send_waits code core stack at receiver sel site place arguments site_is none lai
   stand = (
     none_standing code stack at at.top none laid (omega arith),
     record {
-      below = record {
-        order = omega arith;
-        low = omega arith;
-        reach = omega arith;
-        stands = none_standing code stack at 0 none laid (omega arith);
-      };
-      named = ap (λ (s : KeptSite). s.sel) site_is;
+      order = omega arith;
+      low = omega arith;
+      reach = omega arith;
+      stands = none_standing code stack at 0 none laid (omega arith);
     },
   );
   run = refl;

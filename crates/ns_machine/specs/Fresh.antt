@@ -6,11 +6,11 @@ use Rattle.ns_world.specs.declared.ending.Ending.TheVariants.{Limit}
 use Rattle.ns_world.specs.declared.ending.LimitKind.TheVariants.{Cells}
 use Rattle.ns_find.specs.Memo.{IsEmpty}
 use Rattle.ns_actions.specs.Start.{nothing_done}
-use Rattle.ns_machine_plan.specs.Steps.{places_of}
 use Rattle.ns_machine_core.specs.declared.state.Core.{Core}
 use Rattle.ns_machine_core.specs.declared.state.Phase.TheVariants.{Start}
 use Rattle.ns_machine_core.specs.Shown.{progress_in}
 use Rattle.ns_machine_core.specs.Standing.{HasRooms}
+use Rattle.ns_machine.specs.Places.{HasPlaces}
 
 -- Nothing was done and no lookup is kept, but memory was taken for all that a run can need. A start ends the run only by the
 -- limit on cells.
@@ -20,4 +20,4 @@ pub record IsFresh (code : CodeProgram) (limits : Limits) (core : Core) : Type 0
   pub ending : core.ending ≡ Limit Cells
   pub rooms : HasRooms code core
   pub memo : All IsEmpty core.run.memo
-  pub places : core.places ≡ places_of code
+  pub places : HasPlaces code core.run.world.world.limits.depth core.places

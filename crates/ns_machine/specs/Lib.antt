@@ -1,6 +1,7 @@
 pub mod Machine
 pub mod Fresh
 pub mod Opening
+pub mod Places
 pub mod Waiting
 pub mod Turned
 pub mod Turning

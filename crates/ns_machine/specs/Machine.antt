@@ -7,7 +7,6 @@ use Rattle.ns_machine_moves.specs.State.{State, Unbegun}
 use Rattle.ns_machine_moves.specs.Valid.{Valid}
 use Rattle.ns_machine_plan.specs.declared.plan.Plan.{Plan}
 use Rattle.ns_machine_plan.specs.Plan.{IsPlanOf}
-use Rattle.ns_machine_plan.specs.Steps.{places_of}
 use Rattle.ns_machine_core.specs.declared.state.Core.{Core}
 use Rattle.ns_machine_core.specs.declared.state.Next.TheVariants as next
 use Rattle.ns_machine_core.specs.declared.own.OwnSends.{OwnSends}
@@ -15,6 +14,7 @@ use Rattle.ns_machine_core.specs.Own.{AreOwn}
 use Rattle.ns_machine_core.specs.Shown.{progress_in, shown}
 use Rattle.ns_machine_core.specs.Standing.{HasRooms, StandAt, KeepsRightIn}
 use Rattle.ns_machine.specs.declared.stage.Stage.{Stage}
+use Rattle.ns_machine.specs.Places.{HasPlaces}
 use Rattle.ns_machine.specs.declared.stage.Stage.TheVariants as stage
 
 -- a machine: its code, the facets that its run is granted, and where the run stands
@@ -46,5 +46,5 @@ pub record IsMachine (code : CodeProgram) (grants : Grants) (plan : Plan) (core 
   pub stand : StandIn code core stage
   pub kept : KeepsRightIn code core core
   pub prepared : IsPlanOf code plan
-  pub places : core.places ≡ places_of code
+  pub places : HasPlaces code core.run.world.world.limits.depth core.places
   pub sends : AreOwn code core.places own

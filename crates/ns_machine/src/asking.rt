@@ -35,7 +35,8 @@ impl Machine {
         ensures none { IsNone result → self.new ≡ self.old }
         ensures ran { IfSome result (λ ending.
             Ran self.old.code (begun receiver (named self.old.code name.now) arguments.now self.old.state) ending self.new.state) }
-        ensures reach { IsSome result → StaysInReach (begun receiver (named self.old.code name.now) arguments.now self.old.state) self.new.state }
+        ensures reach { IsSome result → StaysInReach (begun receiver (named self.old.code name.now) arguments.now
+            self.old.state) self.new.state }
         ensures alike { IsSome result → (grants : Grants) →
             ComesToTheSame self.old.code grants receiver (named self.old.code name.now) arguments.now self.old.state self.new.state }
         ensures live { IfSome result (λ ending. IsLiveEnding (world_of self.new.state).cells self.old.code ending) }

@@ -1,16 +1,15 @@
 //! The memory that a machine takes when it is made, after which its run takes none.
 
-ghost use Rattle.std.specs.Prelude.{◌≡◌, ◌≤◌, ◌*◌, ◌+◌, IfOk};
+ghost use Rattle.std.specs.Prelude.{◌≡◌, ◌≤◌, ◌*◌, ◌+◌, ◌++◌, length, replicate, IfOk};
 ghost use Rattle.ns_base.specs.Limits.{InRange};
 ghost use Rattle.ns_world.specs.World.{empty_world};
 ghost use Rattle.ns_machine_plan.specs.Plan.{IsPlanOf};
-ghost use Rattle.ns_machine_plan.specs.Steps.{places_of};
 ghost use Rattle.ns_machine_core.specs.Standing.{most_arguments};
 ghost use Rattle.ns_actions.specs.Bodies.{greatest_of};
 ghost use Rattle.ns_machine.specs.Fresh.{IsFresh};
+ghost use Rattle.ns_machine.specs.Places.{HasPlaces, spare_place};
 
 use ns_act::run::Run;
-use ns_base::items::Items;
 use ns_base::limits::Limits;
 use ns_base::no_memory::NoMemory;
 use ns_base::place::Place;
@@ -19,6 +18,7 @@ use ns_code::program::CodeProgram;
 use ns_code::selector::text_arity;
 use ns_facets::board::Board;
 use ns_find::memo::Memo;
+use ns_machine_core::places::Places;
 use ns_machine_core::state::{Core, Phase};
 use ns_machine_frames::arguments::Arguments;
 use ns_machine_frames::frame::Pending;
@@ -34,8 +34,15 @@ const ARGUMENTS: usize = 255;
 /// The most arguments that a selector takes which the machine sends by itself.
 const OWN_ARGUMENTS: usize = 2;
 
-/// The most arguments that can be numbered.
+/// The most arguments, or places, that can be numbered.
 const MOST: usize = 4_294_967_295;
+
+/// What stands in the list of places where no site has its place yet.
+const SPARE: Place = Place {
+    file: 0,
+    line: 0,
+    col: 0,
+};
 
 /// The memory of a run in which nothing was done. Where it ends at once, its start has passed the limit on cells.
 pub fn memory_for(
@@ -52,7 +59,7 @@ pub fn memory_for(
     let stack = stack_for(alloc, code, plan, limits.depth)?;
     let arguments = arguments_for(alloc, code.names.as_slice())?;
     let memo = Memo::new(alloc)?;
-    let places = places_for(alloc, code, plan)?;
+    let places = places_for(alloc, code, plan, limits.depth)?;
     Ok(Core {
         run: Run {
             world,
@@ -118,11 +125,35 @@ fn most_arguments(names: &[Text]) -> usize
     most.max(OWN_ARGUMENTS)
 }
 
-/// The places of the code, which sites name by their numbers.
-fn places_for(alloc: Global, code: &CodeProgram, plan: &Plan) -> Result<Items<Place>, NoMemory>
-    requires { IsPlanOf code.now plan.now }
-    ensures { IfOk result (λ places. places ≡ places_of code.now) }
+/// The places of the code, which sites name by their numbers, and behind them one for each frame and one for what waits.
+fn places_for(
+    alloc: Global,
+    code: &CodeProgram,
+    plan: &Plan,
+    depth: u64,
+) -> Result<Places, NoMemory>
+    requires depth { depth ≤ 100000 }
+    requires plan { IsPlanOf code.now plan.now }
+    ensures { IfOk result (λ places. HasPlaces code.now depth places) }
 {
     let _code = code;
-    Ok(Items::from_vec(Vec::from_slice(alloc, plan.places())?))
+    let of_code = plan.places();
+    let more = depth as usize + 1;
+    if MOST - more < of_code.len() {
+        return Err(NoMemory);
+    }
+    Ok(Places::from_vec(places_with(alloc, of_code, more)?))
+}
+
+/// These places, and so many behind them that are of no site yet.
+fn places_with(alloc: Global, places: &[Place], more: usize) -> Result<Vec<Place>, NoMemory>
+    requires { length places.now + more ≤ 4294967295 }
+    ensures { IfOk result (λ all. all.items ≡ places.now ++ replicate more spare_place) }
+{
+    let mut all = Vec::with_capacity(alloc, places.len() + more)?;
+    all.extend_from_slice(places)?;
+    'spare: for _ in 0..more {
+        all.push(SPARE)?;
+    }
+    Ok(all)
 }

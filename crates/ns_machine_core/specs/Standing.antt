@@ -6,8 +6,6 @@ use Rattle.ns_find.specs.Memo.{PlaceIsRight}
 use Rattle.ns_act.specs.Room.{HasCellRoom, SameRest}
 use Rattle.ns_machine_frames.specs.declared.registers.Registers.{Registers}
 use Rattle.ns_machine_frames.specs.declared.stack.Stack.{Stack}
-use Rattle.ns_base.specs.declared.selector.Sel.{Sel}
-use Rattle.ns_machine_frames.specs.declared.frame.KeptSite.{KeptSite}
 use Rattle.ns_machine_frames.specs.declared.frame.Pending.{Pending}
 use Rattle.ns_machine_frames.specs.declared.frame.Pending.TheVariants as pending
 use Rattle.ns_machine_frames.specs.Stack.{IsLaid, with_top}
@@ -49,16 +47,11 @@ pub record ArgumentsWait (code : CodeProgram) (stack : Stack) (at : Registers) (
   pub reach : first ≤ bound (greatest_of code.bodies) stack.frames.items
   pub stands : AreStanding code stack (with_top floor at)
 
--- So it is up to the floor of a send, whose arguments stand elsewhere and whose site has its selector.
-pub record SendWaits (code : CodeProgram) (stack : Stack) (at : Registers) (site : KeptSite) (sel : Sel) (floor : ℕ) : Type 0 where
-  pub below : ArgumentsWait code stack at floor floor
-  pub named : site.sel ≡ sel
-
 -- What stands where a send or an evaluation waits; arguments that are kept, or stand in an array, are not among the values in use.
 abbrev pub Wait : CodeProgram → Pending → Stack → Registers → Type 0
 Wait code pending.Nothing stack at = Unit {0}
-Wait code (pending.Sending receiver sel site floor) stack at = SendWaits code stack at site sel floor
-Wait code (pending.Performing receiver sel array site floor) stack at = SendWaits code stack at site sel floor
+Wait code (pending.Sending receiver sel site floor) stack at = ArgumentsWait code stack at floor floor
+Wait code (pending.Performing receiver sel array site floor) stack at = ArgumentsWait code stack at floor floor
 Wait code (pending.Evaluating block site floor first) stack at = ArgumentsWait code stack at floor first
 Wait code (pending.EvaluatingKept block site floor) stack at = ArgumentsWait code stack at floor floor
 

@@ -44,7 +44,8 @@ pub fn shape_of(code: &CodeProgram, body: u32) -> BodyShape
 #[inline(always)]
 pub fn begin(code: &CodeProgram, core: &mut Core, at: Registers, looping: LoopingFrame) -> Registers
     requires { CanBegin code.now core.old at looping.floor looping.floor }
-    ensures { Arrives code.now core.old at looping.floor (reached_at code.now core.old looping.site [] (reached.Begins looping.method looping.state)) core.new (next.On result) }
+    ensures { Arrives code.now core.old at looping.floor (reached_at code.now core.old looping.site []
+        (reached.Begins looping.method looping.state)) core.new (next.On result) }
 {
     let _code = code;
     core.stack.begin(at, looping)
@@ -64,7 +65,8 @@ pub fn enter(
     requires shape { shape ≡ spec.shape_of code.now entered.body }
     requires leaving { call.leaving ≡ leaving_of exit }
     requires can { CanEnter code.now core.old at call exit entered }
-    ensures { Arrives code.now core.old at call.floor (reached_at code.now core.old call.site (arguments_of call core.old.stack at) (reached.Enters exit entered)) core.new (next.On result) }
+    ensures { Arrives code.now core.old at call.floor (reached_at code.now core.old call.site (arguments_of call core.old.stack at)
+        (reached.Enters exit entered)) core.new (next.On result) }
 {
     frames_begin();
     frames_have_room();
@@ -87,7 +89,8 @@ pub fn wait_for_block(
 ) -> Next
     requires stands { AreStanding code.now core.old.stack at }
     requires waits { ArgumentsWait code.now core.old.stack at floor first }
-    ensures { Arrives code.now core.old at floor (reached_at code.now core.old site (drop first (in_use core.old.stack at)) (reached.Evaluates block Listed)) core.new result }
+    ensures { Arrives code.now core.old at floor (reached_at code.now core.old site (drop first (in_use core.old.stack at))
+        (reached.Evaluates block Listed)) core.new result }
 {
     let _code = code;
     core.waiting = Pending::Evaluating {
@@ -112,7 +115,8 @@ pub fn wait_for_block_kept(
 ) -> Next
     requires stands { AreStanding code.now core.old.stack at }
     requires waits { ArgumentsWait code.now core.old.stack at floor floor }
-    ensures { Arrives code.now core.old at floor (reached_at code.now core.old site core.old.arguments.items (reached.Evaluates block Listed)) core.new result }
+    ensures { Arrives code.now core.old at floor (reached_at code.now core.old site core.old.arguments.items
+        (reached.Evaluates block Listed)) core.new result }
 {
     let _code = code;
     core.waiting = Pending::EvaluatingKept { block, site, floor };

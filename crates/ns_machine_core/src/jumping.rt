@@ -6,10 +6,9 @@ ghost use Rattle.ns_code.specs.declared.instruction.Instr.TheVariants as instr;
 ghost use Rattle.ns_machine_core.specs.Doing.{CanDo, IsDone, IsRunning};
 ghost use Rattle.ns_machine_core.specs.Jumping.{CanJump, Jumps, EndsWithoutBoolean};
 
+use crate::places::Places;
 use crate::settling::{ending_at, running};
 use crate::state::{Core, Next};
-use ns_base::items::Items;
-use ns_base::place::Place;
 use ns_code::program::CodeProgram;
 use ns_machine_frames::registers::Registers;
 use ns_machine_frames::stack::Stack;
@@ -40,7 +39,7 @@ fn take(code: &CodeProgram, core: &mut Core, at: Registers, target: u32) -> Next
 }
 
 /// How a run ends at a jump that finds no boolean.
-fn no_boolean(stack: &Stack, places: &Items<Place>) -> Ending
+fn no_boolean(stack: &Stack, places: &Places) -> Ending
     requires { IsRunning stack.now.frames.items }
     ensures { EndsWithoutBoolean places.now stack.now.frames.items result }
 {

@@ -14,6 +14,7 @@ pub mod locals;
 pub mod making;
 pub mod on_top;
 pub mod own;
+pub mod places;
 pub mod pushing;
 pub mod settling;
 pub mod state;

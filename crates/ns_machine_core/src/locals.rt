@@ -67,7 +67,8 @@ fn local(
 ) -> Value
     requires there { LocalIsThere code.now stack.now at world.now.world.cells here hops index }
     requires top { top.environment ≡ bodies.has_environment code.now here.body }
-    ensures { (site : Site) → result ≡ bodies.local_at world.now.world.cells code.now (activation_at site here) (locals_in (stood stack.now at)) hops index }
+    ensures { (site : Site) → result ≡ bodies.local_at world.now.world.cells code.now (activation_at site here)
+        (locals_in (stood stack.now at)) hops index }
 {
     if stands_beside(code, here, top, hops) {
         return stack.local(at, u32::from(index));

@@ -8,11 +8,10 @@ ghost use Rattle.ns_machine_frames.specs.View.{site_shown};
 ghost use Rattle.ns_machine_core.specs.Doing.{IsRunning, running_of, Pushed, IsSettled};
 ghost use Rattle.ns_machine_core.specs.Standing.{AreStanding};
 
+use crate::places::Places;
 use crate::state::{Core, Next};
 use ns_act::running::Running;
 use ns_actions::control::Answer;
-use ns_base::items::Items;
-use ns_base::place::Place;
 use ns_code::program::CodeProgram;
 use ns_machine_frames::frame::{Activation, Frame, KeptSite, RunningFrame};
 use ns_machine_frames::registers::Registers;
@@ -59,13 +58,13 @@ pub fn push(code: &CodeProgram, core: &mut Core, at: Registers, value: Value) ->
 }
 
 /// The end of a run by a fault at a site.
-pub fn ending_at(places: &Items<Place>, site: KeptSite, fault: Fault) -> Ending
+pub fn ending_at(places: &Places, site: KeptSite, fault: Fault) -> Ending
     ensures { result ≡ fault_ending fault (site_shown places.now site) }
 {
     match fault {
         Fault::Kind(kind) => Ending::Error(RunError {
             kind,
-            place: places.as_slice().get(site.place as usize).copied(),
+            place: places.get(site.place),
             class: site.class,
             sel: site.sel,
         }),

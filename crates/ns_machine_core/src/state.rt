@@ -1,8 +1,7 @@
 //! What a machine keeps of a run beside its registers, and where an instruction leads.
 
+use crate::places::Places;
 use ns_act::run::Run;
-use ns_base::items::Items;
-use ns_base::place::Place;
 use ns_machine_frames::arguments::Arguments;
 use ns_machine_frames::frame::Pending;
 use ns_machine_frames::registers::Registers;
@@ -26,7 +25,7 @@ pub enum Phase {
 pub struct Core {
     pub run: Run,
     pub stack: Stack,
-    pub places: Items<Place>,
+    pub places: Places,
     pub phase: Phase,
     pub waiting: Pending,
     pub arguments: Arguments,

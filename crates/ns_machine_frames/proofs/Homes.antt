@@ -20,7 +20,7 @@ tested : (home : ℕ) (frame : Frame) (frames : List Frame) (test : Bool) → is
 tested home frame frames test is = ap (λ (b : Bool). if b then Some 1 else one_more (frames_to home frames)) is
 
 -- the frame of a number, and those below it
-at_number : (items : List Frame) (number : ℕ) (other : Frame) → number < length items
+pub at_number : (items : List Frame) (number : ℕ) (other : Frame) → number < length items
     → drop number (reverse items) ≡ get_or items (length items - 1 - number) other ∷ drop (number + 1) (reverse items)
 at_number items number other within =
     drop_more (reverse items) number other (omega (arith, within, length-reverse items))

@@ -43,7 +43,8 @@ impl Stack {
     ) -> Registers
         requires begins { FramesCanBegin self.old at call.floor }
         requires fits { FitsCall shape call entered.given self.old at }
-        ensures { IsEntered self.old at self.new result (frame_for shape call entered) (locals_for shape call entered.given self.old at) shape.height }
+        ensures { IsEntered self.old at self.new result (frame_for shape call entered)
+            (locals_for shape call entered.given self.old at) shape.height }
     {
         let activation = activation_of(entered, call.site);
         if shape.environment {
@@ -99,7 +100,8 @@ impl Stack {
     ) -> Registers
         requires begins { FramesCanBegin self.old at call.floor }
         requires fits { FitsArguments shape call self.old at }
-        ensures { IsEntered self.old at self.new result (frame_from call.first call activation shape) (locals_of call shape self.old at) shape.height }
+        ensures { IsEntered self.old at self.new result (frame_from call.first call activation shape)
+            (locals_of call shape self.old at) shape.height }
     {
         let layout = Layout {
             floor: call.floor,

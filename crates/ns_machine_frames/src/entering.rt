@@ -58,7 +58,8 @@ impl Stack {
     ) -> Registers
         requires begins { FramesCanBegin self.old at layout.floor }
         requires fits { FitsLayout layout at.top self.old.values.room }
-        ensures { IsEntered self.old at self.new result (entered_frame leaving activation layout) (locals_at self.old at layout) layout.height }
+        ensures { IsEntered self.old at self.new result (entered_frame leaving activation layout)
+            (locals_at self.old at layout) layout.height }
     {
         let operands = layout.base + layout.locals;
         self.values.fill_to(operands + layout.height);

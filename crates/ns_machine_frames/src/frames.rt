@@ -1,6 +1,6 @@
 //! The frames, of which only the topmost is changed.
 
-ghost use Rattle.std.specs.Prelude.{◌≡◌, ◌<◌, ◌≤◌, [], ◌∷◌, length, reverse, OnOk, OnErr};
+ghost use Rattle.std.specs.Prelude.{◌≡◌, ◌+◌, ◌<◌, ◌≤◌, [], ◌∷◌, length, drop, reverse, OnOk, OnErr};
 ghost use Rattle.ns_machine_frames.specs.Standing.{at_next, below};
 ghost use Rattle.ns_machine_frames.specs.Leaving.{is_home, frames_to, with_answer, with_count};
 
@@ -80,6 +80,14 @@ impl Frames {
         last(&self.items)
     }
 
+    /// The one so many below the topmost.
+    pub fn get(&self, number: u32) -> &Frame
+        requires { number < length self.now.items }
+        ensures { drop number self.now.items ≡ result.now ∷ drop (number + 1) self.now.items }
+    {
+        before_last(&self.items, number as usize)
+    }
+
     /// Puts a frame on the others.
     #[inline(always)]
     pub fn push(&mut self, frame: Frame)
@@ -148,6 +156,15 @@ fn last(items: &[Frame]) -> &Frame
     ensures { reverse items.now ≡ result.now ∷ below (reverse items.now) }
 {
     &items[items.len() - 1]
+}
+
+/// The frame so many before the last.
+#[tactic(auto, using(crate::proofs::Homes::at_number))]
+fn before_last(items: &[Frame], number: usize) -> &Frame
+    requires { number < length items.now }
+    ensures { drop number (reverse items.now) ≡ result.now ∷ drop (number + 1) (reverse items.now) }
+{
+    &items[items.len() - 1 - number]
 }
 
 /// Keeps the number of the next instruction in the last frame, where that is a body's.

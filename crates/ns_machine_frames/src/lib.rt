@@ -10,6 +10,7 @@ mod entering;
 pub mod frame;
 mod frames;
 pub mod laws;
+mod reading;
 pub mod registers;
 pub mod stack;
 mod values;

@@ -1,5 +1,5 @@
 -- What comes after the last frame.
-use Rattle.std.proofs.Common.{◌≡◌, ℕ, ◌+◌, ◌≤◌, List, [], ◌∷◌, length, take, refl, ap, sym, ◌∙◌, subst, arith, Option, slice_get}
+use Rattle.std.proofs.Common.{◌≡◌, ℕ, ◌≤◌, List, [], ◌∷◌, length, take, refl, ap, sym, ◌∙◌, subst, arith, Option, slice_get}
 use Rattle.ns_base.specs.declared.place.Place.{Place as SourcePlace}
 use Rattle.ns_base.specs.declared.selector.Sel.{Sel}
 use Rattle.ns_code.specs.declared.program.CodeProgram.{CodeProgram}
@@ -100,13 +100,10 @@ second_opens code core at bare stack own receiver arguments class owns none is_f
       let low : 0 ≤ length stack.values.items = omega arith in (
         none_stand code stack bare empty laid.filled laid.within laid.small,
         record {
-          below = record {
-            order = omega arith;
-            low = omega arith;
-            reach = omega arith;
-            stands = none_stand code stack (with_top 0 bare) empty low laid.within laid.small;
-          };
-          named = refl;
+          order = omega arith;
+          low = omega arith;
+          reach = omega arith;
+          stands = none_stand code stack (with_top 0 bare) empty low laid.within laid.small;
         },
       );
   run = refl;

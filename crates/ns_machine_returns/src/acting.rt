@@ -109,7 +109,8 @@ pub fn end_method(
 ) -> Next
     requires asked { (first : AnyCore) × IsAsked code.now first at looping core.old (waited.Ends answer) }
     requires own { AreOwn code.now core.old.places own }
-    ensures { (first : AnyCore) → IsAsked code.now first at looping core.old (waited.Ends answer) → MakesMove code.now first (next.On at) core.new result }
+    ensures { (first : AnyCore) → IsAsked code.now first at looping core.old (waited.Ends answer) →
+        MakesMove code.now first (next.On at) core.new result }
 {
     actions_keep_lawful();
     let here = core.stack.leave(at);

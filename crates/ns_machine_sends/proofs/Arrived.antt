@@ -55,13 +55,10 @@ send_waits code core at sent receiver sel array class left same = record {
   stand = (
     left.stands,
     record {
-      below = record {
-        order = let order = left.waits.order in let low = left.waits.low in omega (arith, order, low);
-        low = omega arith;
-        reach = let reach = left.waits.reach in let low = left.waits.low in omega (arith, low, reach);
-        stands = left.waits.stands;
-      };
-      named = refl;
+      order = let order = left.waits.order in let low = left.waits.low in omega (arith, order, low);
+      low = omega arith;
+      reach = let reach = left.waits.reach in let low = left.waits.low in omega (arith, low, reach);
+      stands = left.waits.stands;
     },
   );
   run = refl;

@@ -1,5 +1,6 @@
 -- Sends that waited.
 use Rattle.std.proofs.Common.{◌≡◌, ◌+◌, ℕ, List, length, ap, sym, ◌∙◌, refl, subst, arith, Option, Some, None, All}
+use Rattle.ns_base.specs.declared.selector.Sel.{Sel}
 use Rattle.ns_code.specs.declared.program.CodeProgram.{CodeProgram}
 use Rattle.ns_code.specs.Soundness.{initialiser_kind}
 use Rattle.ns_world.specs.declared.value.Value.{Value}
@@ -81,32 +82,32 @@ row_asked code core at sent receiver number left can = record {
   all_live = can.all_live;
 }
 
-row_control : (code : CodeProgram) (core : Core) (sent : Sent) (receiver : Value) (number : ℕ) (row : Row) (world : WorldView) (board : Board) (r : Reached)
+row_control : (code : CodeProgram) (core : Core) (sent : Sent) (receiver : Value) (sel : Sel) (number : ℕ) (row : Row) (world : WorldView) (board : Board) (r : Reached)
     → row ≡ row_at number
-    → CallReaches code core.arguments.items (row_reached code row sent.site.sel receiver core.arguments.items) core.run.world core.run.board r world board
-    → kept_control code (with_world core world board) sent r ≡ kept_answer code core sent receiver (answers.Row number)
-row_control code core sent receiver number row world board r same reaches =
+    → CallReaches code core.arguments.items (row_reached code row sel receiver core.arguments.items) core.run.world core.run.board r world board
+    → kept_control code (with_world core world board) sent r ≡ kept_answer code core sent receiver sel (answers.Row number)
+row_control code core sent receiver sel number row world board r same reaches =
     reaches (site_shown core.places sent.site) core.run.begun
-    ∙ ap (λ (w : Row). row_reached code w sent.site.sel receiver core.arguments.items (site_shown core.places sent.site) (progress_in core)) same
+    ∙ ap (λ (w : Row). row_reached code w sel receiver core.arguments.items (site_shown core.places sent.site) (progress_in core)) same
 
-pub row_goes : (code : CodeProgram) (core : Core) (sent : Sent) (receiver : Value) (number : ℕ) (row : Row) (world : WorldView) (board : Board) (r : Reached)
+pub row_goes : (code : CodeProgram) (core : Core) (sent : Sent) (receiver : Value) (sel : Sel) (number : ℕ) (row : Row) (world : WorldView) (board : Board) (r : Reached)
     → row ≡ row_at number
-    → CallReaches code core.arguments.items (row_reached code row sent.site.sel receiver core.arguments.items) core.run.world core.run.board r world board
-    → ControlGoesOn code (length core.stack.frames.items) (kept_answer code core sent receiver (answers.Row number))
+    → CallReaches code core.arguments.items (row_reached code row sel receiver core.arguments.items) core.run.world core.run.board r world board
+    → ControlGoesOn code (length core.stack.frames.items) (kept_answer code core sent receiver sel (answers.Row number))
     → ControlGoesOn code (length core.stack.frames.items) (kept_control code (with_world core world board) sent r)
-row_goes code core sent receiver number row world board r same reaches goes =
-    subst (λ (c : Control). ControlGoesOn code (length core.stack.frames.items) c) (sym (row_control code core sent receiver number row world board r same reaches)) goes
+row_goes code core sent receiver sel number row world board r same reaches goes =
+    subst (λ (c : Control). ControlGoesOn code (length core.stack.frames.items) c) (sym (row_control code core sent receiver sel number row world board r same reaches)) goes
 
-pub row_led : (code : CodeProgram) (core new : Core) (at : Registers) (sent : Sent) (receiver : Value) (number : ℕ) (row : Row) (world : WorldView) (board : Board) (r : Reached)
+pub row_led : (code : CodeProgram) (core new : Core) (at : Registers) (sent : Sent) (receiver : Value) (sel : Sel) (number : ℕ) (row : Row) (world : WorldView) (board : Board) (r : Reached)
     (to : Led) → row ≡ row_at number
-    → CallReaches code core.arguments.items (row_reached code row sent.site.sel receiver core.arguments.items) core.run.world core.run.board r world board
+    → CallReaches code core.arguments.items (row_reached code row sel receiver core.arguments.items) core.run.world core.run.board r world board
     → world.world.limits ≡ core.run.world.world.limits → SameRoom core.run.world world
     → LeadsKept code (with_world core world board) at sent.floor (kept_control code (with_world core world board) sent r) new to
-    → LeadsKept code core at sent.floor (kept_answer code core sent receiver (answers.Row number)) new to
-row_led code core new at sent receiver number row world board r (led.Goes n) same reaches limits room is = record {
+    → LeadsKept code core at sent.floor (kept_answer code core sent receiver sel (answers.Row number)) new to
+row_led code core new at sent receiver sel number row world board r (led.Goes n) same reaches limits room is = record {
   state = is.state
       ∙ ap (λ (c : Control). arrived code (phase_shown core.phase) c (frames_shown code core.places (stood core.stack (with_top sent.floor at))))
-      (row_control code core sent receiver number row world board r same reaches);
+      (row_control code core sent receiver sel number row world board r same reaches);
   stand = is.stand;
   memo = is.memo;
   stays = record {
@@ -120,8 +121,8 @@ row_led code core new at sent receiver number row world board r (led.Goes n) sam
     arguments = is.stays.arguments;
   };
 }
-row_led code core new at sent receiver number row world board r (led.Gives value) same reaches limits room is = record {
-  control_is = sym (row_control code core sent receiver number row world board r same reaches) ∙ is.control_is;
+row_led code core new at sent receiver sel number row world board r (led.Gives value) same reaches limits room is = record {
+  control_is = sym (row_control code core sent receiver sel number row world board r same reaches) ∙ is.control_is;
   stack = is.stack;
   phase = is.phase;
   stays = record {
@@ -139,11 +140,11 @@ row_led code core new at sent receiver number row world board r (led.Gives value
 
 -- ---- the lookup
 
-pub answer_can_on : (code : CodeProgram) (core : Core) (at : Registers) (sent : Sent) (receiver : Value) (run : Run) (member : Found) (answer : Answered)
-    → CanSendOn code core at sent receiver → FoundSuits core.run.world.world.cells receiver member → IsAnswered member core.run.world answer run.world
+pub answer_can_on : (code : CodeProgram) (core : Core) (at : Registers) (sent : Sent) (receiver : Value) (sel : Sel) (run : Run) (member : Found) (answer : Answered)
+    → CanSendOn code core at sent receiver sel → FoundSuits core.run.world.world.cells receiver member → IsAnswered member core.run.world answer run.world
     → CanAnswerKept code (record core { run = run }) receiver answer
-answer_can_on code core at sent receiver run member (answers.Comes r) can suits is = is
-answer_can_on code core at sent receiver run member (answers.Row number) can suits is = record {
+answer_can_on code core at sent receiver sel run member (answers.Comes r) can suits is = is
+answer_can_on code core at sent receiver sel run member (answers.Row number) can suits is = record {
   lawful = rw is.1 can.lawful;
   live = rw is.1 can.live;
   all_live = rw is.1 can.selector.live;
@@ -151,27 +152,27 @@ answer_can_on code core at sent receiver run member (answers.Row number) can sui
 }
 
 -- what it came to with the arguments that were handed over, which are those that are kept
-pub answer_is : (code : CodeProgram) (core : Core) (sent : Sent) (receiver : Value) (run : Run) (answer : Answered) (values : List Value)
+pub answer_is : (code : CodeProgram) (core : Core) (sent : Sent) (receiver : Value) (sel : Sel) (run : Run) (answer : Answered) (values : List Value)
     → values ≡ core.arguments.items
-    → answered_shown code sent.site.sel receiver (site_shown core.places sent.site) values answer (progress_of run)
-    ≡ answered code no_one (To receiver Plain) sent.site.sel values (site_shown core.places sent.site) (progress_in core)
-    → kept_answer code (record core { run = run }) sent receiver answer ≡ looked_on code core sent receiver
-answer_is code core sent receiver run answer values same e =
-    subst (λ (vs : List Value). answered_shown code sent.site.sel receiver (site_shown core.places sent.site) vs answer (progress_of run)
-    ≡ answered code no_one (To receiver Plain) sent.site.sel vs (site_shown core.places sent.site) (progress_in core)) same e
+    → answered_shown code sel receiver (site_shown core.places sent.site) values answer (progress_of run)
+    ≡ answered code no_one (To receiver Plain) sel values (site_shown core.places sent.site) (progress_in core)
+    → kept_answer code (record core { run = run }) sent receiver sel answer ≡ looked_on code core sent receiver sel
+answer_is code core sent receiver sel run answer values same e =
+    subst (λ (vs : List Value). answered_shown code sel receiver (site_shown core.places sent.site) vs answer (progress_of run)
+    ≡ answered code no_one (To receiver Plain) sel vs (site_shown core.places sent.site) (progress_in core)) same e
 
-pub answer_goes : (code : CodeProgram) (core : Core) (sent : Sent) (receiver : Value) (run : Run) (answer : Answered) (control : Control)
-    → kept_answer code (record core { run = run }) sent receiver answer ≡ control → ControlGoesOn code (length core.stack.frames.items) control
-    → ControlGoesOn code (length core.stack.frames.items) (kept_answer code (record core { run = run }) sent receiver answer)
-answer_goes code core sent receiver run answer control e goes =
+pub answer_goes : (code : CodeProgram) (core : Core) (sent : Sent) (receiver : Value) (sel : Sel) (run : Run) (answer : Answered) (control : Control)
+    → kept_answer code (record core { run = run }) sent receiver sel answer ≡ control → ControlGoesOn code (length core.stack.frames.items) control
+    → ControlGoesOn code (length core.stack.frames.items) (kept_answer code (record core { run = run }) sent receiver sel answer)
+answer_goes code core sent receiver sel run answer control e goes =
     subst (λ (c : Control). ControlGoesOn code (length core.stack.frames.items) c) (sym e) goes
 
-pub answer_led : (code : CodeProgram) (core new : Core) (at : Registers) (sent : Sent) (receiver : Value) (run : Run) (answer : Answered) (control : Control) (to : Led)
-    → kept_answer code (record core { run = run }) sent receiver answer ≡ control → SameRest core.run.world run.world
+pub answer_led : (code : CodeProgram) (core new : Core) (at : Registers) (sent : Sent) (receiver : Value) (sel : Sel) (run : Run) (answer : Answered) (control : Control) (to : Led)
+    → kept_answer code (record core { run = run }) sent receiver sel answer ≡ control → SameRest core.run.world run.world
     → All (PlaceIsRight core.run.world.world.cells code) run.memo
-    → LeadsKept code (record core { run = run }) at sent.floor (kept_answer code (record core { run = run }) sent receiver answer) new to
+    → LeadsKept code (record core { run = run }) at sent.floor (kept_answer code (record core { run = run }) sent receiver sel answer) new to
     → SendLeadsTo code core at sent.floor control new to
-answer_led code core new at sent receiver run answer control (led.Goes n) e rest kept is = record {
+answer_led code core new at sent receiver sel run answer control (led.Goes n) e rest kept is = record {
   state = is.state
       ∙ ap (λ (c : Control). arrived code (phase_shown core.phase) c (frames_shown code core.places (stood core.stack (with_top sent.floor at)))) e;
   stand = is.stand;
@@ -187,7 +188,7 @@ answer_led code core new at sent receiver run answer control (led.Goes n) e rest
   };
   kept = subst (λ (memo : List (Option Kept)). All (PlaceIsRight core.run.world.world.cells code) memo) (sym is.memo) kept;
 }
-answer_led code core new at sent receiver run answer control (led.Gives value) e rest kept is = record {
+answer_led code core new at sent receiver sel run answer control (led.Gives value) e rest kept is = record {
   control_is = sym e ∙ is.control_is;
   stack = is.stack;
   phase = is.phase;
@@ -207,9 +208,9 @@ answer_led code core new at sent receiver run answer control (led.Gives value) e
 -- ---- the step
 
 pub step_can_on : ((world after : World) (code : CodeProgram) → IsLawful world code → stepped world ≡ Some after → IsLawful after code)
-    → (code : CodeProgram) (core : Core) (at : Registers) (sent : Sent) (receiver : Value) (world : WorldView) → stepped core.run.world.world ≡ Some world.world
-    → SameRoom core.run.world world → CanSendOn code core at sent receiver → CanSendOn code (in_other core world) at sent receiver
-step_can_on charging code core at sent receiver world e room can = record {
+    → (code : CodeProgram) (core : Core) (at : Registers) (sent : Sent) (receiver : Value) (sel : Sel) (world : WorldView) → stepped core.run.world.world ≡ Some world.world
+    → SameRoom core.run.world world → CanSendOn code core at sent receiver sel → CanSendOn code (in_other core world) at sent receiver sel
+step_can_on charging code core at sent receiver sel world e room can = record {
   left = left_in code core at sent (record core.run { world = world }) (record { limits = ap (λ (w : World). w.limits) is; room = room }) can.left;
   lawful = charging core.run.world.world world.world code can.lawful e;
   begun = let begun = can.begun in let more = ap (λ (w : World). w.steps) is in omega (arith, begun, more);
@@ -223,43 +224,43 @@ step_can_on charging code core at sent receiver world e room can = record {
     is = step_is core.run.world.world world.world e
 
 -- such a send is its step, and what its lookup answers then
-pub on_stepped : (code : CodeProgram) (core : Core) (sent : Sent) (receiver : Value) (world : WorldView) →
+pub on_stepped : (code : CodeProgram) (core : Core) (sent : Sent) (receiver : Value) (sel : Sel) (world : WorldView) →
     stepped core.run.world.world ≡ Some world.world
-    → sent_on_at code core sent receiver ≡ looked_on code (in_other core world) sent receiver
-on_stepped code core sent receiver world e =
+    → sent_on_at code core sent receiver sel ≡ looked_on code (in_other core world) sent receiver sel
+on_stepped code core sent receiver sel world e =
     ap (λ (o : Option World). charged halts Steps o (progress_in core)
-    (answered_by code (found_from core.run.world.world.cells code (start_of core.run.world.world.cells receiver) sent.site.sel.0 Plain) sent.site.sel receiver
+    (answered_by code (found_from core.run.world.world.cells code (start_of core.run.world.world.cells receiver) sel.0 Plain) sel receiver
     core.arguments.items (site_shown core.places sent.site))) e
-    ∙ ap (λ (h : Heap). answered_by code (found_from h code (start_of h receiver) sent.site.sel.0 Plain) sent.site.sel receiver core.arguments.items
+    ∙ ap (λ (h : Heap). answered_by code (found_from h code (start_of h receiver) sel.0 Plain) sel receiver core.arguments.items
     (site_shown core.places sent.site) (in_world (progress_in core) world.world))
     (sym (ap (λ (w : World). w.cells) (step_is core.run.world.world world.world e)))
 
 pub on_goes : (code : CodeProgram) → WaitedIsLawful code → WaitedFits code → WaitedStays code → WaitedSpends code →
-    (core : Core) (at : Registers) (sent : Sent) (receiver : Value)
-    (world : WorldView) → stepped core.run.world.world ≡ Some world.world → CanSendOn code core at sent receiver
-    → ControlGoesOn code (length core.stack.frames.items) (looked_on code (in_other core world) sent receiver)
-on_goes code lawful fits stays spends core at sent receiver world e can =
+    (core : Core) (at : Registers) (sent : Sent) (receiver : Value) (sel : Sel)
+    (world : WorldView) → stepped core.run.world.world ≡ Some world.world → CanSendOn code core at sent receiver sel
+    → ControlGoesOn code (length core.stack.frames.items) (looked_on code (in_other core world) sent receiver sel)
+on_goes code lawful fits stays spends core at sent receiver sel world e can =
     let values = core.arguments.items in
     let site = site_shown core.places sent.site in
-    let after = lawful receiver sent.site.sel values site (progress_in core) can.lawful can.live can.selector in
-    subst (λ (c : Control). ControlGoesOn code (length core.stack.frames.items) c) (on_stepped code core sent receiver world e)
+    let after = lawful receiver sel values site (progress_in core) can.lawful can.live can.selector in
+    subst (λ (c : Control). ControlGoesOn code (length core.stack.frames.items) c) (on_stepped code core sent receiver sel world e)
     (record {
       own = initialiser_kind;
       lawful = after;
-      fits = fits receiver sent.site.sel values site (progress_in core) can.lawful can.live can.selector;
-      room = room_above code (length core.stack.frames.items) 1 no_home (FitsSelector core.run.world.world.cells code sent.site.sel values) (progress_in core) site
-          (sent_on_at code core sent receiver) (spends receiver sent.site.sel values site (progress_in core)) after
-          (stays receiver sent.site.sel values site (progress_in core)) can.selector can.depth;
+      fits = fits receiver sel values site (progress_in core) can.lawful can.live can.selector;
+      room = room_above code (length core.stack.frames.items) 1 no_home (FitsSelector core.run.world.world.cells code sel values) (progress_in core) site
+          (sent_on_at code core sent receiver sel) (spends receiver sel values site (progress_in core)) after
+          (stays receiver sel values site (progress_in core)) can.selector can.depth;
     })
 
-pub on_leads : (code : CodeProgram) (core new : Core) (at : Registers) (sent : Sent) (receiver : Value) (world : WorldView) (to : Led)
+pub on_leads : (code : CodeProgram) (core new : Core) (at : Registers) (sent : Sent) (receiver : Value) (sel : Sel) (world : WorldView) (to : Led)
     → stepped core.run.world.world ≡ Some world.world → SameRoom core.run.world world
-    → SendLeadsTo code (in_other core world) at sent.floor (looked_on code (in_other core world) sent receiver) new to
-    → SendLeadsTo code core at sent.floor (sent_on_at code core sent receiver) new to
-on_leads code core new at sent receiver world (led.Goes n) e room is = record {
+    → SendLeadsTo code (in_other core world) at sent.floor (looked_on code (in_other core world) sent receiver sel) new to
+    → SendLeadsTo code core at sent.floor (sent_on_at code core sent receiver sel) new to
+on_leads code core new at sent receiver sel world (led.Goes n) e room is = record {
   state = is.state
       ∙ ap (λ (c : Control). arrived code (phase_shown core.phase) c (frames_shown code core.places (stood core.stack (with_top sent.floor at))))
-      (sym (on_stepped code core sent receiver world e));
+      (sym (on_stepped code core sent receiver sel world e));
   stand = is.stand;
   stays = record {
     world = record {
@@ -273,8 +274,8 @@ on_leads code core new at sent receiver world (led.Goes n) e room is = record {
   };
   kept = subst (λ (h : Heap). All (PlaceIsRight h code) new.run.memo) (ap (λ (w : World). w.cells) (step_is core.run.world.world world.world e)) is.kept;
 }
-on_leads code core new at sent receiver world (led.Gives value) e room is = record {
-  control_is = on_stepped code core sent receiver world e ∙ is.control_is;
+on_leads code core new at sent receiver sel world (led.Gives value) e room is = record {
+  control_is = on_stepped code core sent receiver sel world e ∙ is.control_is;
   stack = is.stack;
   phase = is.phase;
   stays = record {
@@ -290,14 +291,14 @@ on_leads code core new at sent receiver world (led.Gives value) e room is = reco
   kept = subst (λ (h : Heap). All (PlaceIsRight h code) new.run.memo) (ap (λ (w : World). w.cells) (step_is core.run.world.world world.world e)) is.kept;
 }
 
-pub no_step_leads : (code : CodeProgram) (core : Core) (at : Registers) (sent : Sent) (receiver : Value) →
+pub no_step_leads : (code : CodeProgram) (core : Core) (at : Registers) (sent : Sent) (receiver : Value) (sel : Sel) →
     stepped core.run.world.world ≡ None
-    → CanSendOn code core at sent receiver
-    → SendLeadsTo code core at sent.floor (sent_on_at code core sent receiver) (record core { ending = ending.Limit Steps }) (led.Goes next.Ended)
-no_step_leads code core at sent receiver e can = record {
+    → CanSendOn code core at sent receiver sel
+    → SendLeadsTo code core at sent.floor (sent_on_at code core sent receiver sel) (record core { ending = ending.Limit Steps }) (led.Goes next.Ended)
+no_step_leads code core at sent receiver sel e can = record {
   state = ap (λ (c : Control). arrived code (phase_shown core.phase) c (frames_shown code core.places (stood core.stack (with_top sent.floor at))))
       (sym (ap (λ (o : Option World). charged halts Steps o (progress_in core)
-      (answered_by code (found_from core.run.world.world.cells code (start_of core.run.world.world.cells receiver) sent.site.sel.0 Plain) sent.site.sel receiver
+      (answered_by code (found_from core.run.world.world.cells code (start_of core.run.world.world.cells receiver) sel.0 Plain) sel receiver
       core.arguments.items (site_shown core.places sent.site))) e));
   stand = tt;
   stays = ended_stays core (ending.Limit Steps);

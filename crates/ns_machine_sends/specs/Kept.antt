@@ -1,5 +1,6 @@
 -- Arguments that are kept by the machine, and what a send or an evaluation comes to with them.
 use Rattle.std.specs.Prelude.{ℕ, List, All}
+use Rattle.ns_base.specs.declared.selector.Sel.{Sel}
 use Rattle.ns_code.specs.declared.program.CodeProgram.{CodeProgram}
 use Rattle.ns_world.specs.declared.value.Value.{Value}
 use Rattle.ns_world.specs.Lawful.{IsLawful, IsLiveValue}
@@ -25,10 +26,10 @@ keeping values core = record core { arguments = record core.arguments { items = 
 abbrev pub kept_control : CodeProgram → Core → Sent → Reached → Control
 kept_control code core sent reached = reached_at code core sent.site core.arguments.items reached
 
--- what a send of them came to, at its site
-abbrev pub kept_answer : CodeProgram → Core → Sent → Value → Answered → Control
-kept_answer code core sent receiver answer =
-    answered_shown code sent.site.sel receiver (site_shown core.places sent.site) core.arguments.items answer (progress_in core)
+-- what a send of a selector with them came to, at its site
+abbrev pub kept_answer : CodeProgram → Core → Sent → Value → Sel → Answered → Control
+kept_answer code core sent receiver sel answer =
+    answered_shown code sel receiver (site_shown core.places sent.site) core.arguments.items answer (progress_in core)
 
 -- A row of the kernel is asked with a receiver that it suits, and with live arguments.
 pub record CanAskKept (code : CodeProgram) (core : Core) (receiver : Value) (number : ℕ) : Type 0 where

@@ -1,5 +1,6 @@
 -- What waits, with room for an answer.
 use Rattle.std.specs.Prelude.{◌≡◌, ◌<◌, ◌≤◌, ℕ, List, length, IsTrue, All}
+use Rattle.ns_base.specs.declared.selector.Sel.{Sel}
 use Rattle.ns_verify.specs.Verify.{IsSound}
 use Rattle.ns_world.specs.Lawful.{IsLawful, IsLiveValue}
 use Rattle.ns_world.specs.Starts.{start_of}
@@ -81,23 +82,24 @@ abbrev pub evaluated_with : CodeProgram → Core → Sent → List Value → Val
 evaluated_with code core sent arguments block = evaluated code block arguments (site_shown core.places sent.site) (progress_in core)
 
 -- A send that waited can be made: its selector takes as many live arguments as are kept, and there is as much depth as frames.
-pub record CanSendOn (code : CodeProgram) (core : Core) (at : Registers) (sent : Sent) (receiver : Value) : Type 0 where
+-- Its site may name another selector.
+pub record CanSendOn (code : CodeProgram) (core : Core) (at : Registers) (sent : Sent) (receiver : Value) (sel : Sel) : Type 0 where
   pub left : IsLeft code core at sent
   pub lawful : IsLawful core.run.world.world code
   pub begun : core.run.begun ≤ core.run.world.world.steps
   pub kept : KeepsRightIn code core core
   pub depth : core.run.world.world.depth ≡ length core.stack.frames.items
   pub live : IsLiveValue core.run.world.world.cells code receiver
-  pub selector : FitsSelector core.run.world.world.cells code sent.site.sel core.arguments.items
+  pub selector : FitsSelector core.run.world.world.cells code sel core.arguments.items
 
 -- where it leads, with its step and after it
-abbrev pub sent_on_at : CodeProgram → Core → Sent → Value → Control
-sent_on_at code core sent receiver =
-    sent_from code receiver sent.site.sel core.arguments.items (site_shown core.places sent.site) (progress_in core)
+abbrev pub sent_on_at : CodeProgram → Core → Sent → Value → Sel → Control
+sent_on_at code core sent receiver sel =
+    sent_from code receiver sel core.arguments.items (site_shown core.places sent.site) (progress_in core)
 
-abbrev pub looked_on : CodeProgram → Core → Sent → Value → Control
-looked_on code core sent receiver =
-    answered_by code (found_from core.run.world.world.cells code (start_of core.run.world.world.cells receiver) sent.site.sel.0 Plain) sent.site.sel receiver
+abbrev pub looked_on : CodeProgram → Core → Sent → Value → Sel → Control
+looked_on code core sent receiver sel =
+    answered_by code (found_from core.run.world.world.cells code (start_of core.run.world.world.cells receiver) sel.0 Plain) sel receiver
     core.arguments.items (site_shown core.places sent.site) (progress_in core)
 
 -- A value is given that is yet to be taken; nothing but the run has changed.

@@ -106,7 +106,8 @@ fn look_above(
     requires can { CanSend code.now core.old at sent running.me }
     requires runs { FitsActivation core.old.run.world.world.cells code.now (code_of running) }
     requires own { own.0 ≡ own_number code.now DoesNotUnderstand }
-    requires goes { ControlGoesOn code.now (length core.old.stack.frames.items) (looked_up code.now core.old at sent (code_of running) ToSuper) }
+    requires goes { ControlGoesOn code.now (length core.old.stack.frames.items)
+        (looked_up code.now core.old at sent (code_of running) ToSuper) }
     ensures { Sends code.now core.old at sent.floor (looked_up code.now core.old at sent (code_of running) ToSuper) core.new result }
 {
     rows_that_are_found_suit();
@@ -179,7 +180,8 @@ fn step_around(
     requires runs { FitsActivation core.old.run.world.world.cells code.now (code_of running) }
     requires level { IsSome (declaration_at code.now running.body level) }
     requires own { own.0 ≡ own_number code.now DoesNotUnderstand }
-    ensures { Sends code.now core.old at sent.floor (sent_at code.now core.old at sent (code_of running) (ToPrivate level)) core.new result }
+    ensures { Sends code.now core.old at sent.floor (sent_at code.now core.old at sent (code_of running)
+        (ToPrivate level)) core.new result }
 {
     a_send_is_its_step_and_its_answer();
     charging_keeps_lawful();
@@ -213,8 +215,10 @@ fn look_around(
     requires runs { FitsActivation core.old.run.world.world.cells code.now (code_of running) }
     requires level { IsSome (declaration_at code.now running.body level) }
     requires own { own.0 ≡ own_number code.now DoesNotUnderstand }
-    requires goes { ControlGoesOn code.now (length core.old.stack.frames.items) (looked_up code.now core.old at sent (code_of running) (ToPrivate level)) }
-    ensures { Sends code.now core.old at sent.floor (looked_up code.now core.old at sent (code_of running) (ToPrivate level)) core.new result }
+    requires goes { ControlGoesOn code.now (length core.old.stack.frames.items)
+        (looked_up code.now core.old at sent (code_of running) (ToPrivate level)) }
+    ensures { Sends code.now core.old at sent.floor (looked_up code.now core.old at sent (code_of running)
+        (ToPrivate level)) core.new result }
 {
     rows_that_are_found_suit();
     let arguments = core.stack.from(at, sent.first);

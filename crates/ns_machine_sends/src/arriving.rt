@@ -79,7 +79,8 @@ pub fn perform(
     requires left { IsLeft code.now core.old at sent }
     requires lawful { IsLawful core.old.run.world.world code.now }
     requires live { IsLiveValue core.old.run.world.world.cells code.now receiver }
-    ensures { Arrives code.now core.old at sent.floor (control_at code.now core.old at sent (reached.Performs receiver sel array)) core.new result }
+    ensures { Arrives code.now core.old at sent.floor (control_at code.now core.old at sent
+        (reached.Performs receiver sel array)) core.new result }
 {
     let site = KeptSite {
         place: sent.site.place,

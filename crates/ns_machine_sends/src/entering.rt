@@ -34,9 +34,11 @@ pub fn enter_on_arguments(
     entered: Entered,
 ) -> Registers
     requires left { IsLeft code.now core.old at sent }
-    requires goes { ControlGoesOn code.now (length core.old.stack.frames.items) (control_at code.now core.old at sent (reached.Enters exit entered)) }
+    requires goes { ControlGoesOn code.now (length core.old.stack.frames.items) (control_at code.now core.old at sent
+        (reached.Enters exit entered)) }
     requires taken { ArgumentsStand core.old exit entered.given (arguments_in core.old at sent) }
-    ensures { Arrives code.now core.old at sent.floor (control_at code.now core.old at sent (reached.Enters exit entered)) core.new (next.On result) }
+    ensures { Arrives code.now core.old at sent.floor (control_at code.now core.old at sent
+        (reached.Enters exit entered)) core.new (next.On result) }
 {
     let shape = shape_of(code, entered.body);
     enter_shaped(code, core, at, sent, exit, entered, shape)
@@ -56,9 +58,11 @@ pub fn enter_shaped(
 ) -> Registers
     requires shape { shape ≡ spec.shape_of code.now entered.body }
     requires left { IsLeft code.now core.old at sent }
-    requires goes { ControlGoesOn code.now (length core.old.stack.frames.items) (control_at code.now core.old at sent (reached.Enters exit entered)) }
+    requires goes { ControlGoesOn code.now (length core.old.stack.frames.items) (control_at code.now core.old at sent
+        (reached.Enters exit entered)) }
     requires taken { ArgumentsStand core.old exit entered.given (arguments_in core.old at sent) }
-    ensures { Arrives code.now core.old at sent.floor (control_at code.now core.old at sent (reached.Enters exit entered)) core.new (next.On result) }
+    ensures { Arrives code.now core.old at sent.floor (control_at code.now core.old at sent
+        (reached.Enters exit entered)) core.new (next.On result) }
 {
     what_is_reached_can_be_entered();
     let call = Call {
@@ -82,9 +86,11 @@ pub fn enter_without(
     entered: Entered,
 ) -> Registers
     requires left { IsLeft code.now core.old at sent }
-    requires goes { ControlGoesOn code.now (length core.old.stack.frames.items) (control_at code.now core.old at sent (reached.Enters exit entered)) }
+    requires goes { ControlGoesOn code.now (length core.old.stack.frames.items) (control_at code.now core.old at sent
+        (reached.Enters exit entered)) }
     requires none { TakesNone entered.given exit }
-    ensures { Arrives code.now core.old at sent.floor (control_at code.now core.old at sent (reached.Enters exit entered)) core.new (next.On result) }
+    ensures { Arrives code.now core.old at sent.floor (control_at code.now core.old at sent
+        (reached.Enters exit entered)) core.new (next.On result) }
 {
     let below = Registers {
         top: sent.floor,
@@ -108,9 +114,11 @@ pub fn enter_reached(
     entered: Entered,
 ) -> Registers
     requires left { IsLeft code.now core.old at sent }
-    requires goes { ControlGoesOn code.now (length core.old.stack.frames.items) (control_at code.now core.old at sent (reached.Enters exit entered)) }
+    requires goes { ControlGoesOn code.now (length core.old.stack.frames.items) (control_at code.now core.old at sent
+        (reached.Enters exit entered)) }
     requires given { IsOwnGiven entered.given }
-    ensures { Arrives code.now core.old at sent.floor (control_at code.now core.old at sent (reached.Enters exit entered)) core.new (next.On result) }
+    ensures { Arrives code.now core.old at sent.floor (control_at code.now core.old at sent
+        (reached.Enters exit entered)) core.new (next.On result) }
 {
     match entered.given {
         Given::Listed => match exit {
@@ -132,9 +140,11 @@ pub fn enter_kept(
     entered: Entered,
 ) -> Registers
     requires left { IsLeft code.now core.old at sent }
-    requires goes { ControlGoesOn code.now (length core.old.stack.frames.items) (kept_control code.now core.old sent (reached.Enters exit entered)) }
+    requires goes { ControlGoesOn code.now (length core.old.stack.frames.items) (kept_control code.now core.old sent
+        (reached.Enters exit entered)) }
     requires given { IsOwnGiven entered.given }
-    ensures { Arrives code.now core.old at sent.floor (kept_control code.now core.old sent (reached.Enters exit entered)) core.new (next.On result) }
+    ensures { Arrives code.now core.old at sent.floor (kept_control code.now core.old sent
+        (reached.Enters exit entered)) core.new (next.On result) }
 {
     match entered.given {
         Given::Listed => match exit {
@@ -157,10 +167,12 @@ fn enter_on_kept(
     entered: Entered,
 ) -> Registers
     requires left { IsLeft code.now core.old at sent }
-    requires goes { ControlGoesOn code.now (length core.old.stack.frames.items) (kept_control code.now core.old sent (reached.Enters exit entered)) }
+    requires goes { ControlGoesOn code.now (length core.old.stack.frames.items) (kept_control code.now core.old sent
+        (reached.Enters exit entered)) }
     requires listed { entered.given ≡ given.Listed }
     requires passed { passed exit core.old.arguments.items ≡ core.old.arguments.items }
-    ensures { Arrives code.now core.old at sent.floor (kept_control code.now core.old sent (reached.Enters exit entered)) core.new (next.On result) }
+    ensures { Arrives code.now core.old at sent.floor (kept_control code.now core.old sent
+        (reached.Enters exit entered)) core.new (next.On result) }
 {
     if shape_of(code, entered.body).environment {
         return enter_bare(code, core, at, sent, exit, entered);
@@ -179,10 +191,12 @@ fn enter_bare(
     entered: Entered,
 ) -> Registers
     requires left { IsLeft code.now core.old at sent }
-    requires goes { ControlGoesOn code.now (length core.old.stack.frames.items) (kept_control code.now core.old sent (reached.Enters exit entered)) }
+    requires goes { ControlGoesOn code.now (length core.old.stack.frames.items) (kept_control code.now core.old sent
+        (reached.Enters exit entered)) }
     requires listed { entered.given ≡ given.Listed }
     requires inside { has_environment code.now entered.body ≡ true }
-    ensures { Arrives code.now core.old at sent.floor (kept_control code.now core.old sent (reached.Enters exit entered)) core.new (next.On result) }
+    ensures { Arrives code.now core.old at sent.floor (kept_control code.now core.old sent
+        (reached.Enters exit entered)) core.new (next.On result) }
 {
     let below = Registers {
         top: sent.floor,
@@ -205,11 +219,13 @@ fn enter_beside(
     entered: Entered,
 ) -> Registers
     requires left { IsLeft code.now core.old at sent }
-    requires goes { ControlGoesOn code.now (length core.old.stack.frames.items) (kept_control code.now core.old sent (reached.Enters exit entered)) }
+    requires goes { ControlGoesOn code.now (length core.old.stack.frames.items) (kept_control code.now core.old sent
+        (reached.Enters exit entered)) }
     requires listed { entered.given ≡ given.Listed }
     requires passed { passed exit core.old.arguments.items ≡ core.old.arguments.items }
     requires beside { has_environment code.now entered.body ≡ false }
-    ensures { Arrives code.now core.old at sent.floor (kept_control code.now core.old sent (reached.Enters exit entered)) core.new (next.On result) }
+    ensures { Arrives code.now core.old at sent.floor (kept_control code.now core.old sent
+        (reached.Enters exit entered)) core.new (next.On result) }
 {
     what_is_reached_can_be_entered();
     frames_have_room();

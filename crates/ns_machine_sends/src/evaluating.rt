@@ -30,9 +30,11 @@ pub fn wait_for(
     given: Given,
 ) -> Next
     requires left { IsLeft code.now core.old at sent }
-    requires goes { ControlGoesOn code.now (length core.old.stack.frames.items) (control_at code.now core.old at sent (reached.Evaluates block given)) }
+    requires goes { ControlGoesOn code.now (length core.old.stack.frames.items) (control_at code.now core.old at sent
+        (reached.Evaluates block given)) }
     requires given { IsGivenThere core.old.run.world.world.cells given }
-    ensures { Arrives code.now core.old at sent.floor (control_at code.now core.old at sent (reached.Evaluates block given)) core.new result }
+    ensures { Arrives code.now core.old at sent.floor (control_at code.now core.old at sent
+        (reached.Evaluates block given)) core.new result }
 {
     match given {
         Given::Listed => {
@@ -53,9 +55,11 @@ pub fn wait_for_kept(
     given: Given,
 ) -> Next
     requires left { IsLeft code.now core.old at sent }
-    requires goes { ControlGoesOn code.now (length core.old.stack.frames.items) (kept_control code.now core.old sent (reached.Evaluates block given)) }
+    requires goes { ControlGoesOn code.now (length core.old.stack.frames.items) (kept_control code.now core.old sent
+        (reached.Evaluates block given)) }
     requires given { IsGivenThere core.old.run.world.world.cells given }
-    ensures { Arrives code.now core.old at sent.floor (kept_control code.now core.old sent (reached.Evaluates block given)) core.new result }
+    ensures { Arrives code.now core.old at sent.floor (kept_control code.now core.old sent
+        (reached.Evaluates block given)) core.new result }
 {
     match given {
         Given::Listed => wait_kept(code, core, at, sent, block),
@@ -76,9 +80,11 @@ fn wait_with_items(
     array: u32,
 ) -> Next
     requires left { IsLeft code.now core.old at sent }
-    requires goes { ControlGoesOn code.now (length core.old.stack.frames.items) (control_at code.now core.old at sent (reached.Evaluates block (given.Items array))) }
+    requires goes { ControlGoesOn code.now (length core.old.stack.frames.items) (control_at code.now core.old at sent
+        (reached.Evaluates block (given.Items array))) }
     requires there { CellIsThere core.old.run.world.world.cells (Ref array) }
-    ensures { Arrives code.now core.old at sent.floor (control_at code.now core.old at sent (reached.Evaluates block (given.Items array))) core.new result }
+    ensures { Arrives code.now core.old at sent.floor (control_at code.now core.old at sent
+        (reached.Evaluates block (given.Items array))) core.new result }
 {
     keep_items(core, array);
     wait_kept(code, core, at, sent, block)
@@ -89,7 +95,8 @@ fn wait_with_items(
 #[tactic(auto, using(crate::proofs::Placed::floor_waits))]
 fn wait_kept(code: &CodeProgram, core: &mut Core, at: Registers, sent: Sent, block: Value) -> Next
     requires { IsLeft code.now core.old at sent }
-    ensures { Arrives code.now core.old at sent.floor (kept_control code.now core.old sent (reached.Evaluates block given.Listed)) core.new result }
+    ensures { Arrives code.now core.old at sent.floor (kept_control code.now core.old sent
+        (reached.Evaluates block given.Listed)) core.new result }
 {
     wait_for_block_kept(code, core, at, block, sent.site, sent.floor)
 }

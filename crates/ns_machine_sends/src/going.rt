@@ -52,7 +52,8 @@ fn ask(
     number: u32,
 ) -> Next
     requires left { IsLeft code.now core.old at sent }
-    requires goes { ControlGoesOn code.now (length core.old.stack.frames.items) (answered_at code.now core.old at sent receiver (answers.Row number)) }
+    requires goes { ControlGoesOn code.now (length core.old.stack.frames.items)
+        (answered_at code.now core.old at sent receiver (answers.Row number)) }
     requires can { CanAsk code.now core.old at sent receiver number }
     requires runs { IsRunning core.old.stack.frames.items }
     ensures { Leads code.now core.old at sent.floor (answered_at code.now core.old at sent receiver (answers.Row number)) core.new result }
@@ -77,7 +78,8 @@ fn ask_apart(
     row: Row,
 ) -> Next
     requires left { IsLeft code.now core.old at sent }
-    requires goes { ControlGoesOn code.now (length core.old.stack.frames.items) (answered_at code.now core.old at sent receiver (answers.Row number)) }
+    requires goes { ControlGoesOn code.now (length core.old.stack.frames.items)
+        (answered_at code.now core.old at sent receiver (answers.Row number)) }
     requires can { CanAsk code.now core.old at sent receiver number }
     requires runs { IsRunning core.old.stack.frames.items }
     requires row { row ≡ row_at number }
@@ -99,7 +101,8 @@ fn ask_row(
     row: Row,
 ) -> Next
     requires left { IsLeft code.now core.old at sent }
-    requires goes { ControlGoesOn code.now (length core.old.stack.frames.items) (answered_at code.now core.old at sent receiver (answers.Row number)) }
+    requires goes { ControlGoesOn code.now (length core.old.stack.frames.items)
+        (answered_at code.now core.old at sent receiver (answers.Row number)) }
     requires can { CanAsk code.now core.old at sent receiver number }
     requires runs { IsRunning core.old.stack.frames.items }
     requires row { row ≡ row_at number }

@@ -26,7 +26,7 @@ use ns_world::ending::Ending;
 use ns_world::lawful::charging_keeps_lawful;
 use ns_world::value::Value;
 
-/// Makes a send that waited.
+/// Makes a send of a selector that waited, whose site may name another.
 #[tactic(auto, using(crate::proofs::Resent::no_step_leads))]
 pub fn send_on(
     code: &CodeProgram,
@@ -34,16 +34,17 @@ pub fn send_on(
     at: Registers,
     sent: Sent,
     receiver: Value,
+    sel: Sel,
     own: Sel,
 ) -> Led
-    requires can { CanSendOn code.now core.old at sent receiver }
+    requires can { CanSendOn code.now core.old at sent receiver sel }
     requires own { own.0 ≡ own_number code.now DoesNotUnderstand }
-    ensures { SendLeadsTo code.now core.old at sent.floor (sent_on_at code.now core.old sent receiver) core.new result }
+    ensures { SendLeadsTo code.now core.old at sent.floor (sent_on_at code.now core.old sent receiver sel) core.new result }
 {
     charging_keeps_lawful();
     sends_that_waited_go_on();
     match core.run.world.step() {
-        Ok(()) => look_on(code, core, at, sent, receiver, own),
+        Ok(()) => look_on(code, core, at, sent, receiver, sel, own),
         Err(limit) => {
             core.ending = Ending::Limit(limit);
             Led::Goes(Next::Ended)
@@ -58,12 +59,13 @@ fn look_on(
     at: Registers,
     sent: Sent,
     receiver: Value,
+    sel: Sel,
     own: Sel,
 ) -> Led
-    requires can { CanSendOn code.now core.old at sent receiver }
+    requires can { CanSendOn code.now core.old at sent receiver sel }
     requires own { own.0 ≡ own_number code.now DoesNotUnderstand }
-    requires goes { ControlGoesOn code.now (length core.old.stack.frames.items) (looked_on code.now core.old sent receiver) }
-    ensures { SendLeadsTo code.now core.old at sent.floor (looked_on code.now core.old sent receiver) core.new result }
+    requires goes { ControlGoesOn code.now (length core.old.stack.frames.items) (looked_on code.now core.old sent receiver sel) }
+    ensures { SendLeadsTo code.now core.old at sent.floor (looked_on code.now core.old sent receiver sel) core.new result }
 {
     rows_that_are_found_suit();
     let answered = ns_act::answering::send(
@@ -72,10 +74,10 @@ fn look_on(
         own,
         receiver,
         Sending::Plain,
-        sent.site.sel,
+        sel,
         core.arguments.as_slice(),
     );
-    come_to(code, core, at, sent, receiver, answered)
+    come_to(code, core, at, sent, receiver, sel, answered)
 }
 
 /// Goes on with what a send came to.
@@ -86,16 +88,17 @@ fn come_to(
     at: Registers,
     sent: Sent,
     receiver: Value,
+    sel: Sel,
     answered: Answered,
 ) -> Led
     requires left { IsLeft code.now core.old at sent }
-    requires goes { ControlGoesOn code.now (length core.old.stack.frames.items) (kept_answer code.now core.old sent receiver answered) }
+    requires goes { ControlGoesOn code.now (length core.old.stack.frames.items) (kept_answer code.now core.old sent receiver sel answered) }
     requires can { CanAnswerKept code.now core.old receiver answered }
-    ensures { LeadsKept code.now core.old at sent.floor (kept_answer code.now core.old sent receiver answered) core.new result }
+    ensures { LeadsKept code.now core.old at sent.floor (kept_answer code.now core.old sent receiver sel answered) core.new result }
 {
     match answered {
         Answered::Comes(reached) => lead(code, core, at, sent, reached),
-        Answered::Row(number) => ask_on(code, core, at, sent, receiver, number),
+        Answered::Row(number) => ask_on(code, core, at, sent, receiver, sel, number),
     }
 }
 
@@ -107,12 +110,15 @@ fn ask_on(
     at: Registers,
     sent: Sent,
     receiver: Value,
+    sel: Sel,
     number: u32,
 ) -> Led
     requires left { IsLeft code.now core.old at sent }
-    requires goes { ControlGoesOn code.now (length core.old.stack.frames.items) (kept_answer code.now core.old sent receiver (answers.Row number)) }
+    requires goes { ControlGoesOn code.now (length core.old.stack.frames.items)
+        (kept_answer code.now core.old sent receiver sel (answers.Row number)) }
     requires can { CanAskKept code.now core.old receiver number }
-    ensures { LeadsKept code.now core.old at sent.floor (kept_answer code.now core.old sent receiver (answers.Row number)) core.new result }
+    ensures { LeadsKept code.now core.old at sent.floor
+        (kept_answer code.now core.old sent receiver sel (answers.Row number)) core.new result }
 {
     let row = row_of(number);
     let reached = row_reached(
@@ -120,7 +126,7 @@ fn ask_on(
         &mut core.run.board,
         code,
         row,
-        sent.site.sel,
+        sel,
         receiver,
         core.arguments.as_slice(),
     );

@@ -41,7 +41,8 @@ pub fn send_to(
 ) -> Next
     requires can { CanSend code.now core.old at sent receiver }
     requires own { own.0 ≡ own_number code.now DoesNotUnderstand }
-    ensures { (activation : Activation) → Sends code.now core.old at sent.floor (sent_at code.now core.old at sent activation (To receiver kind)) core.new result }
+    ensures { (activation : Activation) → Sends code.now core.old at sent.floor (sent_at code.now core.old at sent activation
+        (To receiver kind)) core.new result }
 {
     a_send_is_its_step_and_its_answer();
     charging_keeps_lawful();
@@ -72,8 +73,10 @@ fn look_up(
 ) -> Next
     requires can { CanSend code.now core.old at sent receiver }
     requires own { own.0 ≡ own_number code.now DoesNotUnderstand }
-    requires goes { (activation : Activation) → ControlGoesOn code.now (length core.old.stack.frames.items) (looked_up code.now core.old at sent activation (To receiver kind)) }
-    ensures { (activation : Activation) → Sends code.now core.old at sent.floor (looked_up code.now core.old at sent activation (To receiver kind)) core.new result }
+    requires goes { (activation : Activation) → ControlGoesOn code.now (length core.old.stack.frames.items)
+        (looked_up code.now core.old at sent activation (To receiver kind)) }
+    ensures { (activation : Activation) → Sends code.now core.old at sent.floor (looked_up code.now core.old at sent activation
+        (To receiver kind)) core.new result }
 {
     let found = found_of(&mut core.run, code, receiver, sent.site.sel, kind);
     match found {
@@ -97,9 +100,12 @@ fn do_apart(
 ) -> Next
     requires can { CanSend code.now core.old at sent receiver }
     requires own { own.0 ≡ own_number code.now DoesNotUnderstand }
-    requires goes { (activation : Activation) → ControlGoesOn code.now (length core.old.stack.frames.items) (looked_up code.now core.old at sent activation (To receiver kind)) }
-    requires found { found ≡ found_from core.old.run.world.world.cells code.now (start_of core.old.run.world.world.cells receiver) sent.site.sel.0 kind }
-    ensures { (activation : Activation) → Sends code.now core.old at sent.floor (looked_up code.now core.old at sent activation (To receiver kind)) core.new result }
+    requires goes { (activation : Activation) → ControlGoesOn code.now (length core.old.stack.frames.items)
+        (looked_up code.now core.old at sent activation (To receiver kind)) }
+    requires found { found ≡ found_from core.old.run.world.world.cells code.now
+        (start_of core.old.run.world.world.cells receiver) sent.site.sel.0 kind }
+    ensures { (activation : Activation) → Sends code.now core.old at sent.floor (looked_up code.now core.old at sent activation
+        (To receiver kind)) core.new result }
 {
     do_found(code, core, at, sent, receiver, kind, own, found)
 }
@@ -118,9 +124,12 @@ fn do_found(
 ) -> Next
     requires can { CanSend code.now core.old at sent receiver }
     requires own { own.0 ≡ own_number code.now DoesNotUnderstand }
-    requires goes { (activation : Activation) → ControlGoesOn code.now (length core.old.stack.frames.items) (looked_up code.now core.old at sent activation (To receiver kind)) }
-    requires found { found ≡ found_from core.old.run.world.world.cells code.now (start_of core.old.run.world.world.cells receiver) sent.site.sel.0 kind }
-    ensures { (activation : Activation) → Sends code.now core.old at sent.floor (looked_up code.now core.old at sent activation (To receiver kind)) core.new result }
+    requires goes { (activation : Activation) → ControlGoesOn code.now (length core.old.stack.frames.items)
+        (looked_up code.now core.old at sent activation (To receiver kind)) }
+    requires found { found ≡ found_from core.old.run.world.world.cells code.now
+        (start_of core.old.run.world.world.cells receiver) sent.site.sel.0 kind }
+    ensures { (activation : Activation) → Sends code.now core.old at sent.floor (looked_up code.now core.old at sent activation
+        (To receiver kind)) core.new result }
 {
     rows_that_are_found_suit();
     what_is_found_suits();

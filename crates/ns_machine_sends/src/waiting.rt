@@ -75,7 +75,8 @@ pub fn evaluate_kept(
 fn enter_block(code: &CodeProgram, core: &mut Core, at: Registers, sent: Sent, block: Value) -> Next
     requires left { IsLeft code.now core.old at sent }
     requires is { IsWaiting code.now core.old (arguments_in core.old at sent) block }
-    ensures { Leads code.now core.old at sent.floor (evaluated_with code.now core.old sent (arguments_in core.old at sent) block) core.new result }
+    ensures { Leads code.now core.old at sent.floor (evaluated_with code.now core.old sent
+        (arguments_in core.old at sent) block) core.new result }
 {
     sends_keep_lawful();
     what_is_handed_on_fits();

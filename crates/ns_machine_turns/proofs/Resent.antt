@@ -38,7 +38,7 @@ use Rattle.ns_machine_core.specs.declared.own.OwnSends.{OwnSends}
 use Rattle.ns_machine_core.specs.Own.{AreOwn}
 use Rattle.ns_machine_core.specs.Ready.{MachineIsReady, MakesMove}
 use Rattle.ns_machine_core.specs.Framed.{HasRoomOnTop, WaitingHasRoom, ArgumentsAreFew}
-use Rattle.ns_machine_core.specs.Standing.{AreStanding, ArgumentsWait, SendWaits, Wait}
+use Rattle.ns_machine_core.specs.Standing.{AreStanding, ArgumentsWait, Wait}
 use Rattle.ns_actions.specs.Bodies.{greatest_of}
 use Rattle.ns_machine_core.specs.laws.Kept.{rooms_stay}
 use Rattle.ns_machine_returns.specs.Handing.{CanTake, IsHanded}
@@ -52,13 +52,13 @@ use Rattle.ns_machine_turns.specs.Resending.{WaitsToSend, IsSet}
 
 -- ---- a value that is given
 
-pub given_takes : (code : CodeProgram) → WaitedIsLawful code → (old mid : Core) (at : Registers) (sent : Sent) (receiver value : Value) →
-    CanSendOn code old at sent receiver
-    → HasRoomOnTop code (stood old.stack (with_top sent.floor at)) → IsGivenOn code old (sent_on_at code old sent receiver) mid value
+pub given_takes : (code : CodeProgram) → WaitedIsLawful code → (old mid : Core) (at : Registers) (sent : Sent) (receiver : Value) (sel : Sel) (value : Value) →
+    CanSendOn code old at sent receiver sel
+    → HasRoomOnTop code (stood old.stack (with_top sent.floor at)) → IsGivenOn code old (sent_on_at code old sent receiver sel) mid value
     → CanTake code mid (with_top sent.floor at) × IsLiveValue mid.run.world.world.cells code value
-given_takes code law old mid at sent receiver value can room given =
+given_takes code law old mid at sent receiver sel value can room given =
     let whole : LawfulControl code (gives value (progress_in mid)) = subst (LawfulControl code) given.control_is
-    (law receiver sent.site.sel old.arguments.items (site_shown old.places sent.site) (progress_in old) can.lawful can.live can.selector) in (
+    (law receiver sel old.arguments.items (site_shown old.places sent.site) (progress_in old) can.lawful can.live can.selector) in (
       record {
         stands = record { rooms = rooms_stay code old mid can.left.rooms given.stays; frames = rw given.stack can.left.waits.stands };
         room = rw given.stack room;
@@ -67,15 +67,15 @@ given_takes code law old mid at sent receiver value can room given =
       whole.1,
     )
 
-pub own_stay : (code : CodeProgram) (old mid : Core) (at : Registers) (sent : Sent) (receiver value : Value) (own : OwnSends) →
+pub own_stay : (code : CodeProgram) (old mid : Core) (at : Registers) (sent : Sent) (receiver : Value) (sel : Sel) (value : Value) (own : OwnSends) →
     AreOwn code old.places own
-    → IsGivenOn code old (sent_on_at code old sent receiver) mid value → AreOwn code mid.places own
-own_stay code old mid at sent receiver value own are given = rw given.stays.places are
+    → IsGivenOn code old (sent_on_at code old sent receiver sel) mid value → AreOwn code mid.places own
+own_stay code old mid at sent receiver sel value own are given = rw given.stays.places are
 
-pub given_sends : (code : CodeProgram) (old mid new : Core) (at : Registers) (sent : Sent) (receiver value : Value) (n : Next)
-    → IsGivenOn code old (sent_on_at code old sent receiver) mid value → IsHanded code mid (with_top sent.floor at) value new n
-    → Sends code old at sent.floor (sent_on_at code old sent receiver) new n
-given_sends code old mid new at sent receiver value n given handed = record {
+pub given_sends : (code : CodeProgram) (old mid new : Core) (at : Registers) (sent : Sent) (receiver : Value) (sel : Sel) (value : Value) (n : Next)
+    → IsGivenOn code old (sent_on_at code old sent receiver sel) mid value → IsHanded code mid (with_top sent.floor at) value new n
+    → Sends code old at sent.floor (sent_on_at code old sent receiver sel) new n
+given_sends code old mid new at sent receiver sel value n given handed = record {
   state = handed.state ∙ (same ∙ sym (ap (λ (c : Control). arrived code (phase_shown old.phase) c
       (frames_shown code old.places (stood old.stack (with_top sent.floor at)))) given.control_is));
   stand = handed.stand;
@@ -118,39 +118,36 @@ move_there code core at p is =
     ap (λ (q : Pending). move code (state_shown code core.places (phase_shown core.phase) q core.arguments.items core.stack at (progress_in core))) (sym is)
 
 -- what stands below a send that waits
-pub record StandsBelow (code : CodeProgram) (core : Core) (at : Registers) (sent : Sent) (sel : Sel) : Type 0 where
+pub record StandsBelow (code : CodeProgram) (core : Core) (at : Registers) (sent : Sent) : Type 0 where
   pub stands : AreStanding code core.stack at
   pub waits : ArgumentsWait code core.stack at sent.floor sent.first
-  pub named : sent.site.sel ≡ sel
 
-stands_below : (code : CodeProgram) (core : Core) (at : Registers) (sent : Sent) (sel : Sel) → sent.first ≡ sent.floor →
+stands_below : (code : CodeProgram) (core : Core) (at : Registers) (sent : Sent) → sent.first ≡ sent.floor →
     AreStanding code core.stack at
-    → SendWaits code core.stack at sent.site sel sent.floor → StandsBelow code core at sent sel
-stands_below code core at sent sel first stands waits = record {
+    → ArgumentsWait code core.stack at sent.floor sent.floor → StandsBelow code core at sent
+stands_below code core at sent first stands waits = record {
   stands = stands;
-  waits = subst (λ (n : ℕ). ArgumentsWait code core.stack at sent.floor n) (sym first) waits.below;
-  named = waits.named;
+  waits = subst (λ (n : ℕ). ArgumentsWait code core.stack at sent.floor n) (sym first) waits;
 }
 
 pub sending_stands : (code : CodeProgram) (grants : Grants) (core : Core) (at : Registers) (sent : Sent) (receiver : Value) (sel : Sel)
     → core.waiting ≡ pending.Sending receiver sel sent.site sent.floor → sent.first ≡ sent.floor → MachineIsReady code grants core (next.Waits at)
-    → StandsBelow code core at sent sel
+    → StandsBelow code core at sent
 sending_stands code grants core at sent receiver sel is first ready =
-    stands_below code core at sent sel first ready.stand.0 (subst (λ (p : Pending). Wait code p core.stack at) is ready.stand.1)
+    stands_below code core at sent first ready.stand.0 (subst (λ (p : Pending). Wait code p core.stack at) is ready.stand.1)
 
 pub performing_stands : (code : CodeProgram) (grants : Grants) (core : Core) (at : Registers) (sent : Sent) (receiver : Value) (sel : Sel) (array : ℕ)
     → core.waiting ≡ pending.Performing receiver sel array sent.site sent.floor → sent.first ≡ sent.floor → MachineIsReady code grants core (next.Waits at)
-    → StandsBelow code core at sent sel
+    → StandsBelow code core at sent
 performing_stands code grants core at sent receiver sel array is first ready =
-    stands_below code core at sent sel first ready.stand.0 (subst (λ (p : Pending). Wait code p core.stack at) is ready.stand.1)
+    stands_below code core at sent first ready.stand.0 (subst (λ (p : Pending). Wait code p core.stack at) is ready.stand.1)
 
 pub sending_known : (code : CodeProgram) (grants : Grants) → WaitingHasRoom code grants →
     (core : Core) (at : Registers) (sent : Sent) (receiver : Value) (sel : Sel)
     → core.waiting ≡ pending.Sending receiver sel sent.site sent.floor → sent.first ≡ sent.floor → MachineIsReady code grants core (next.Waits at)
-    → WaitsToSend code core at sent receiver core.arguments.items
+    → WaitsToSend code core at sent receiver sel core.arguments.items
 sending_known code grants law core at sent receiver sel is first ready =
     let valid = valid_there code grants core at (pending.Sending receiver sel sent.site sent.floor) is ready in
-    let named = (sending_stands code grants core at sent receiver sel is first ready).named in
     record {
       sound = valid.0.world.sound;
       lawful = valid.0.world.lawful;
@@ -159,7 +156,7 @@ sending_known code grants law core at sent receiver sel is first ready =
       rooms = ready.rooms;
       depth = valid.0.depth ∙ frames_many code core at sent.floor;
       live = valid.1.1.live;
-      selector = subst (λ (s : Sel). FitsSelector core.run.world.world.cells code s core.arguments.items) (sym named) valid.1.2;
+      selector = valid.1.2;
       room = law core.places (phase_shown core.phase) (state.Sending receiver sel core.arguments.items (site_shown core.places sent.site))
           (stood core.stack (with_top sent.floor at)) (progress_in core) refl valid;
     }
@@ -167,10 +164,9 @@ sending_known code grants law core at sent receiver sel is first ready =
 pub performing_known : (code : CodeProgram) (grants : Grants) → WaitingHasRoom code grants →
     (core : Core) (at : Registers) (sent : Sent) (receiver : Value)
     (sel : Sel) (array : ℕ) → core.waiting ≡ pending.Performing receiver sel array sent.site sent.floor → sent.first ≡ sent.floor
-    → MachineIsReady code grants core (next.Waits at) → WaitsToSend code core at sent receiver (items_of core.run.world.world.cells (Ref array))
+    → MachineIsReady code grants core (next.Waits at) → WaitsToSend code core at sent receiver sel (items_of core.run.world.world.cells (Ref array))
 performing_known code grants law core at sent receiver sel array is first ready =
     let valid = valid_there code grants core at (pending.Performing receiver sel array sent.site sent.floor) is ready in
-    let named = (performing_stands code grants core at sent receiver sel array is first ready).named in
     record {
       sound = valid.0.world.sound;
       lawful = valid.0.world.lawful;
@@ -179,7 +175,7 @@ performing_known code grants law core at sent receiver sel array is first ready 
       rooms = ready.rooms;
       depth = valid.0.depth ∙ frames_many code core at sent.floor;
       live = valid.1.0;
-      selector = subst (λ (s : Sel). FitsSelector core.run.world.world.cells code s (items_of core.run.world.world.cells (Ref array))) (sym named) valid.1.2;
+      selector = valid.1.2;
       room = law core.places (phase_shown core.phase) (state.Performing receiver sel array (site_shown core.places sent.site)) (stood core.stack (with_top sent.floor at))
           (progress_in core) refl valid;
     }
@@ -193,17 +189,17 @@ array_there heap at is = cell_there (find_cell heap at) is
 
 -- there is room for as many arguments as a selector takes, and for an answer behind the caller's values
 pub items_fit : (code : CodeProgram) → ArgumentsAreFew code →
-    (core : Core) (at : Registers) (sent : Sent) (receiver : Value) (arguments : List Value)
-    → WaitsToSend code core at sent receiver arguments → length arguments ≤ core.arguments.room
-items_fit code few core at sent receiver arguments known =
+    (core : Core) (at : Registers) (sent : Sent) (receiver : Value) (sel : Sel) (arguments : List Value)
+    → WaitsToSend code core at sent receiver sel arguments → length arguments ≤ core.arguments.room
+items_fit code few core at sent receiver sel arguments known =
     let arity = known.selector.arity in
-    let most = few sent.site.sel.0 in
+    let most = few sel.0 in
     let room = known.rooms.sends in
     omega (arith, arity, most, room)
 
-pub place_fits : (code : CodeProgram) (core : Core) (at : Registers) (sent : Sent) (receiver : Value) (arguments : List Value)
-    → WaitsToSend code core at sent receiver arguments → ArgumentsWait code core.stack at sent.floor sent.first → sent.floor + 1 ≤ core.stack.values.room
-place_fits code core at sent receiver arguments known waits =
+pub place_fits : (code : CodeProgram) (core : Core) (at : Registers) (sent : Sent) (receiver : Value) (sel : Sel) (arguments : List Value)
+    → WaitsToSend code core at sent receiver sel arguments → ArgumentsWait code core.stack at sent.floor sent.first → sent.floor + 1 ≤ core.stack.values.room
+place_fits code core at sent receiver sel arguments known waits =
     let reach = waits.reach in
     let low = waits.low in
     let depth = known.depth in
@@ -248,9 +244,9 @@ performing_set code core mid at sent arguments made = record {
   };
 }
 
-module _ (code : CodeProgram) (core mid : Core) (at : Registers) (sent : Sent) (receiver : Value) (arguments : List Value)
-    (known : WaitsToSend code core at sent receiver arguments) (set : IsSet code core at sent arguments mid) where
-  pub can_send : CanSendOn code mid at sent receiver
+module _ (code : CodeProgram) (core mid : Core) (at : Registers) (sent : Sent) (receiver : Value) (sel : Sel) (arguments : List Value)
+    (known : WaitsToSend code core at sent receiver sel arguments) (set : IsSet code core at sent arguments mid) where
+  pub can_send : CanSendOn code mid at sent receiver sel
   can_send = record {
     left = record {
       sound = known.sound;
@@ -279,8 +275,8 @@ module _ (code : CodeProgram) (core mid : Core) (at : Registers) (sent : Sent) (
   pub own_set : (own : OwnSends) → AreOwn code core.places own → AreOwn code mid.places own
   own_set own are = rw set.stays.places are
 
-  pub sent_moves : (new : Core) (from n : Next) → Sends code mid at sent.floor (sent_on_at code mid sent receiver) new n
-      → arrived code (phase_shown core.phase) (sent_from code receiver sent.site.sel arguments (site_shown core.places sent.site) (progress_in core))
+  pub sent_moves : (new : Core) (from n : Next) → Sends code mid at sent.floor (sent_on_at code mid sent receiver sel) new n
+      → arrived code (phase_shown core.phase) (sent_from code receiver sel arguments (site_shown core.places sent.site) (progress_in core))
       (frames_shown code core.places (stood core.stack (with_top sent.floor at))) ≡ move code (shown code core from)
       → MakesMove code core from new n
   sent_moves new from n sends is_move = record {
@@ -299,45 +295,31 @@ module _ (code : CodeProgram) (core mid : Core) (at : Registers) (sent : Sent) (
     kept = subst (λ (run : Run). All (PlaceIsRight run.world.world.cells code) new.run.memo) set.run sends.kept;
   }
     where
-      same : arrived code (phase_shown mid.phase) (sent_on_at code mid sent receiver) (frames_shown code mid.places (stood mid.stack (with_top sent.floor at)))
-          ≡ arrived code (phase_shown core.phase) (sent_from code receiver sent.site.sel arguments (site_shown core.places sent.site) (progress_in core))
+      same : arrived code (phase_shown mid.phase) (sent_on_at code mid sent receiver sel) (frames_shown code mid.places (stood mid.stack (with_top sent.floor at)))
+          ≡ arrived code (phase_shown core.phase) (sent_from code receiver sel arguments (site_shown core.places sent.site) (progress_in core))
           (frames_shown code core.places (stood core.stack (with_top sent.floor at)))
       same = rw (set.arguments_are, set.below, set.phase, set.run, set.stays.places) refl
 
 -- ---- the moves
 
--- the move of a send that waits is that of its site's selector
-sending_move : (code : CodeProgram) (core : Core) (at : Registers) (sent : Sent) (receiver : Value) (sel : Sel) (arguments : List Value) →
-    sent.site.sel ≡ sel
-    → arrived code (phase_shown core.phase) (sent_from code receiver sent.site.sel arguments (site_shown core.places sent.site) (progress_in core))
-    (frames_shown code core.places (stood core.stack (with_top sent.floor at)))
-    ≡ arrived code (phase_shown core.phase) (sent_from code receiver sel arguments (site_shown core.places sent.site) (progress_in core))
-    (frames_shown code core.places (stood core.stack (with_top sent.floor at)))
-sending_move code core at sent receiver sel arguments named =
-    ap (λ (s : Sel). arrived code (phase_shown core.phase) (sent_from code receiver s arguments (site_shown core.places sent.site) (progress_in core))
-    (frames_shown code core.places (stood core.stack (with_top sent.floor at)))) named
-
 pub sending_moves : (code : CodeProgram) (grants : Grants) → WaitingHasRoom code grants →
     (core mid new : Core) (at : Registers) (sent : Sent) (receiver : Value) (sel : Sel)
     (n : Next) → core.waiting ≡ pending.Sending receiver sel sent.site sent.floor → sent.first ≡ sent.floor → MachineIsReady code grants core (next.Waits at)
-    → HasMadePlace code core at sent mid → Sends code mid at sent.floor (sent_on_at code mid sent receiver) new n
+    → HasMadePlace code core at sent mid → Sends code mid at sent.floor (sent_on_at code mid sent receiver sel) new n
     → MakesMove code core (next.Waits at) new n
 sending_moves code grants law core mid new at sent receiver sel n is first ready made sends =
-    sent_moves code core mid at sent receiver core.arguments.items (sending_known code grants law core at sent receiver sel is first ready)
+    sent_moves code core mid at sent receiver sel core.arguments.items (sending_known code grants law core at sent receiver sel is first ready)
     (sending_set code core mid at sent made) new (next.Waits at) n sends
-    (sending_move code core at sent receiver sel core.arguments.items (sending_stands code grants core at sent receiver sel is first ready).named
-    ∙ move_there code core at (pending.Sending receiver sel sent.site sent.floor) is)
+    (move_there code core at (pending.Sending receiver sel sent.site sent.floor) is)
 
 pub performing_moves : (code : CodeProgram) (grants : Grants) → WaitingHasRoom code grants →
     (core mid new : Core) (at : Registers) (sent : Sent)
     (receiver : Value) (sel : Sel) (array : ℕ) (n : Next) → core.waiting ≡ pending.Performing receiver sel array sent.site sent.floor → sent.first ≡ sent.floor
     → MachineIsReady code grants core (next.Waits at) → HasMadePlace code (keeping (items_of core.run.world.world.cells (Ref array)) core) at sent mid
-    → Sends code mid at sent.floor (sent_on_at code mid sent receiver) new n
+    → Sends code mid at sent.floor (sent_on_at code mid sent receiver sel) new n
     → MakesMove code core (next.Waits at) new n
 performing_moves code grants law core mid new at sent receiver sel array n is first ready made sends =
-    sent_moves code core mid at sent receiver (items_of core.run.world.world.cells (Ref array))
+    sent_moves code core mid at sent receiver sel (items_of core.run.world.world.cells (Ref array))
     (performing_known code grants law core at sent receiver sel array is first ready)
     (performing_set code core mid at sent (items_of core.run.world.world.cells (Ref array)) made) new (next.Waits at) n sends
-    (sending_move code core at sent receiver sel (items_of core.run.world.world.cells (Ref array))
-    (performing_stands code grants core at sent receiver sel array is first ready).named
-    ∙ move_there code core at (pending.Performing receiver sel array sent.site sent.floor) is)
+    (move_there code core at (pending.Performing receiver sel array sent.site sent.floor) is)

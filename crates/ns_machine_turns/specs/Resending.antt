@@ -1,5 +1,6 @@
 -- Sends that waited.
 use Rattle.std.specs.Prelude.{◌≡◌, ◌<◌, ◌≤◌, ℕ, List, length}
+use Rattle.ns_base.specs.declared.selector.Sel.{Sel}
 use Rattle.ns_code.specs.declared.program.CodeProgram.{CodeProgram}
 use Rattle.ns_verify.specs.Verify.{IsSound}
 use Rattle.ns_world.specs.declared.value.Value.{Value}
@@ -17,8 +18,8 @@ use Rattle.ns_machine_sends.specs.declared.sent.Sent.{Sent}
 abbrev pub sent_from_floor : KeptSite → ℕ → Sent
 sent_from_floor site floor = record { site = site; floor = floor; first = floor }
 
--- What is known where a send waits with these arguments.
-pub record WaitsToSend (code : CodeProgram) (core : Core) (at : Registers) (sent : Sent) (receiver : Value) (arguments : List Value) : Type 0 where
+-- What is known where a send of a selector waits with these arguments.
+pub record WaitsToSend (code : CodeProgram) (core : Core) (at : Registers) (sent : Sent) (receiver : Value) (sel : Sel) (arguments : List Value) : Type 0 where
   pub sound : IsSound code
   pub lawful : IsLawful core.run.world.world code
   pub begun : core.run.begun ≤ core.run.world.world.steps
@@ -26,7 +27,7 @@ pub record WaitsToSend (code : CodeProgram) (core : Core) (at : Registers) (sent
   pub rooms : HasRooms code core
   pub depth : core.run.world.world.depth ≡ length core.stack.frames.items
   pub live : IsLiveValue core.run.world.world.cells code receiver
-  pub selector : FitsSelector core.run.world.world.cells code sent.site.sel arguments
+  pub selector : FitsSelector core.run.world.world.cells code sel arguments
   pub room : HasRoomOnTop code (stood core.stack (with_top sent.floor at))
 
 -- The arguments are kept, the place for an answer is there, and all else is as it was.

@@ -50,7 +50,8 @@ pub fn perform(
     requires can { CanDo code.now core.old at (instr_of (step_in step)) }
     requires top { IsOnTop code.now top core.old.stack.frames.items }
     requires member { HasMemberAbove code.now core.old.stack.frames.items (step_in step) }
-    ensures { LeadsOrChangesNothing code.now (instr_of (step_in step.entry)) (place_of core.old.places (step_in step.entry)) core.old at core.new result }
+    ensures { LeadsOrChangesNothing code.now (instr_of (step_in step.entry))
+        (place_of core.old.places (step_in step.entry)) core.old at core.new result }
 {
     let tables = step.tables;
     match step.packed {
@@ -102,7 +103,8 @@ fn send_to_integer(
 ) -> Led
     requires can { CanDo code.now core.old at (send_instr send.now.kind send.now.sel send.now.argc) }
     requires row { row_of_send code.now send.now.sel ≡ Some row }
-    ensures { LeadsOrChangesNothing code.now (send_instr send.now.kind send.now.sel send.now.argc) (slice_get core.old.places send.now.place) core.old at core.new result }
+    ensures { LeadsOrChangesNothing code.now (send_instr send.now.kind send.now.sel send.now.argc)
+        (slice_get core.old.places send.now.place) core.old at core.new result }
 {
     match send_integer(
         code, core, at, send.sel, send.argc, send.kind, send.place, row,
@@ -123,7 +125,8 @@ fn send_to_boolean(
 ) -> Led
     requires can { CanDo code.now core.old at (send_instr send.now.kind send.now.sel send.now.argc) }
     requires method { method_of_send code.now send.now.sel ≡ Some method }
-    ensures { LeadsOrChangesNothing code.now (send_instr send.now.kind send.now.sel send.now.argc) (slice_get core.old.places send.now.place) core.old at core.new result }
+    ensures { LeadsOrChangesNothing code.now (send_instr send.now.kind send.now.sel send.now.argc)
+        (slice_get core.old.places send.now.place) core.old at core.new result }
 {
     match send_boolean(
         code, core, at, send.sel, send.argc, send.kind, send.place, method,
@@ -137,10 +140,13 @@ fn send_to_boolean(
 }
 
 /// Sends to the operand below the arguments by what is found.
+// The answer is told again, case by case, so that it is built in the caller's registers: handed on as it is, it would
+// come back through memory, on the way of every send.
 #[inline(always)]
 fn send_found(code: &CodeProgram, core: &mut Core, at: Registers, send: &ValueSend) -> Led
     requires { CanDo code.now core.old at (send_instr send.now.kind send.now.sel send.now.argc) }
-    ensures { LeadsOrChangesNothing code.now (send_instr send.now.kind send.now.sel send.now.argc) (slice_get core.old.places send.now.place) core.old at core.new result }
+    ensures { LeadsOrChangesNothing code.now (send_instr send.now.kind send.now.sel send.now.argc)
+        (slice_get core.old.places send.now.place) core.old at core.new result }
 {
     match send_apart(code, core, at.next, at.top, at.base, send) {
         Led::Straight(to) => Led::Straight(to),
@@ -161,8 +167,10 @@ fn send_apart(
     base: u32,
     found: &ValueSend,
 ) -> Led
-    requires { CanDo code.now core.old (record { next = next; top = top; base = base }) (send_instr found.now.kind found.now.sel found.now.argc) }
-    ensures { LeadsOrChangesNothing code.now (send_instr found.now.kind found.now.sel found.now.argc) (slice_get core.old.places found.now.place) core.old (record { next = next; top = top; base = base }) core.new result }
+    requires { CanDo code.now core.old (record { next = next; top = top; base = base })
+        (send_instr found.now.kind found.now.sel found.now.argc) }
+    ensures { LeadsOrChangesNothing code.now (send_instr found.now.kind found.now.sel found.now.argc)
+        (slice_get core.old.places found.now.place) core.old (record { next = next; top = top; base = base }) core.new result }
 {
     let at = Registers { next, top, base };
     send(
@@ -181,7 +189,8 @@ fn send_apart(
 fn send_around(code: &CodeProgram, core: &mut Core, at: Registers, send: &PrivateSend) -> Led
     requires can { CanDo code.now core.old at (instr.SendPrivate send.now.level send.now.sel send.now.argc) }
     requires member { IsMemberAbove code.now core.old.stack.frames.items send.now.level send.now.sel send.now.member }
-    ensures { LeadsOrChangesNothing code.now (instr.SendPrivate send.now.level send.now.sel send.now.argc) (slice_get core.old.places send.now.place) core.old at core.new result }
+    ensures { LeadsOrChangesNothing code.now (instr.SendPrivate send.now.level send.now.sel send.now.argc)
+        (slice_get core.old.places send.now.place) core.old at core.new result }
 {
     send_private(
         code,

@@ -44,9 +44,8 @@ pub fn send_waiting(
     ensures { MakesMove code.now core.old (next.Waits at) core.new result }
 {
     valid_frames_are_framed();
-    let _sel = sel;
     make_place(code, core, at, sent);
-    send_to(code, core, at, sent, receiver, own)
+    send_to(code, core, at, sent, receiver, sel, own)
 }
 
 /// Makes a send of `perform:with:` that waits, with the elements of its array, which are kept.
@@ -68,10 +67,9 @@ pub fn perform_waiting(
 {
     valid_frames_are_framed();
     arguments_are_few();
-    let _sel = sel;
     keep_items(core, array);
     make_place(code, core, at, sent);
-    send_to(code, core, at, sent, receiver, own)
+    send_to(code, core, at, sent, receiver, sel, own)
 }
 
 /// Makes a send with the arguments that are kept, and brings a value that it gives at once to what stands below.
@@ -81,15 +79,16 @@ fn send_to(
     at: Registers,
     sent: Sent,
     receiver: Value,
+    sel: Sel,
     own: OwnSends,
 ) -> Next
-    requires can { CanSendOn code.now core.old at sent receiver }
+    requires can { CanSendOn code.now core.old at sent receiver sel }
     requires room { HasRoomOnTop code.now (stood core.old.stack (with_top sent.floor at)) }
     requires own { AreOwn code.now core.old.places own }
-    ensures { Sends code.now core.old at sent.floor (sent_on_at code.now core.old sent receiver) core.new result }
+    ensures { Sends code.now core.old at sent.floor (sent_on_at code.now core.old sent receiver sel) core.new result }
 {
     sends_that_waited_go_on();
-    match send_on(code, core, at, sent, receiver, own.does_not_understand) {
+    match send_on(code, core, at, sent, receiver, sel, own.does_not_understand) {
         Led::Goes(next) => next,
         Led::Gives(value) => {
             let below = Registers {

@@ -1,11 +1,8 @@
 use Rattle.std.proofs.Common.{refl}
 use Rattle.ns_world.specs.declared.value.Value.TheVariants.{Ref}
-use Rattle.ns_world.specs.World.{WorldView}
 use Rattle.ns_actions.specs.declared.control.Exit.TheVariants as exit
 use Rattle.ns_actions.specs.declared.control.Reached.TheVariants as reached
-use Rattle.ns_machine_core.specs.declared.state.Core.{Core}
 use Rattle.ns_machine_core.specs.declared.state.Next.TheVariants.{On}
-use Rattle.ns_machine_core.specs.laws.Worlds.{in_other}
 use Rattle.ns_machine_sends.specs.Going.{arguments_in}
 use Rattle.ns_machine_sends.proofs.AtOnce.{block_evaluated}
 use Rattle.ns_machine_sends.proofs.Evaluated.{evaluated_goes, evaluated_control, evaluation_goes, evaluation_leads}

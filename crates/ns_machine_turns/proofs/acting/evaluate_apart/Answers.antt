@@ -6,7 +6,7 @@ use Rattle.ns_machine_core.specs.declared.state.Core.{Core}
 use Rattle.ns_machine_core.specs.declared.state.Next.TheVariants.{On, Waits}
 use Rattle.ns_machine_core.specs.Ready.{MakesMove}
 use Rattle.ns_machine_sends.specs.Waiting.{BlockWaits, with_block}
-use Rattle.ns_machine_turns.specs.Looping.{BlockStands, sent_by}
+use Rattle.ns_machine_turns.specs.Looping.{sent_by}
 use Rattle.ns_machine_turns.proofs.Looped.{frame_moves, frame_place, frame_waits, topmost_loops, topmost_sends}
 use Rattle.ns_machine_turns.proofs.acting.evaluate_apart.Goals as goal
 

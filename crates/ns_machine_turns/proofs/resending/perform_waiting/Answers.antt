@@ -15,7 +15,7 @@ keep_items-requires-clause-there c =
 
 pub keep_items-requires-clause-room : goal.keep_items-requires-clause-room
 keep_items-requires-clause-room c =
-    items_fit c.args.code.now (c.arguments_are_few.ensures c.args.code.now) c.args.core.now c.args.at c.args.sent c.args.receiver (items_of c.args.core.now.run.world.world.cells (Ref c.args.array))
+    items_fit c.args.code.now (c.arguments_are_few.ensures c.args.code.now) c.args.core.now c.args.at c.args.sent c.args.receiver c.args.sel (items_of c.args.core.now.run.world.world.cells (Ref c.args.array))
     (performing_known c.args.code.now c.requires.can.grants (c.valid_frames_are_framed.ensures.waiting c.args.code.now c.requires.can.grants) c.args.core.now c.args.at
     c.args.sent c.args.receiver c.args.sel c.args.array c.requires.waits c.requires.first c.requires.can.ready)
 
@@ -31,7 +31,7 @@ make_place-requires-clause-waits c =
 pub make_place-requires-clause-room : goal.make_place-requires-clause-room
 make_place-requires-clause-room c =
     rw c.keep_items.ensures
-    (place_fits c.args.code.now c.args.core.now c.args.at c.args.sent c.args.receiver (items_of c.args.core.now.run.world.world.cells (Ref c.args.array))
+    (place_fits c.args.code.now c.args.core.now c.args.at c.args.sent c.args.receiver c.args.sel (items_of c.args.core.now.run.world.world.cells (Ref c.args.array))
     (performing_known c.args.code.now c.requires.can.grants (c.valid_frames_are_framed.ensures.waiting c.args.code.now c.requires.can.grants) c.args.core.now c.args.at
     c.args.sent c.args.receiver c.args.sel c.args.array c.requires.waits c.requires.first c.requires.can.ready)
     (performing_stands c.args.code.now c.requires.can.grants c.args.core.now c.args.at c.args.sent c.args.receiver c.args.sel c.args.array c.requires.waits
@@ -39,21 +39,21 @@ make_place-requires-clause-room c =
 
 pub send_to-requires-clause-can : goal.send_to-requires-clause-can
 send_to-requires-clause-can c =
-    can_send c.args.code.now c.args.core.now c.make_place.new.core c.args.at c.args.sent c.args.receiver (items_of c.args.core.now.run.world.world.cells (Ref c.args.array))
+    can_send c.args.code.now c.args.core.now c.make_place.new.core c.args.at c.args.sent c.args.receiver c.args.sel (items_of c.args.core.now.run.world.world.cells (Ref c.args.array))
     (performing_known c.args.code.now c.requires.can.grants (c.valid_frames_are_framed.ensures.waiting c.args.code.now c.requires.can.grants) c.args.core.now c.args.at
     c.args.sent c.args.receiver c.args.sel c.args.array c.requires.waits c.requires.first c.requires.can.ready)
     (performing_set c.args.code.now c.args.core.now c.make_place.new.core c.args.at c.args.sent (items_of c.args.core.now.run.world.world.cells (Ref c.args.array)) (subst (λ (core : Core). HasMadePlace c.args.code.now core c.args.at c.args.sent c.make_place.new.core) c.keep_items.ensures c.make_place.ensures))
 
 pub send_to-requires-clause-room : goal.send_to-requires-clause-room
 send_to-requires-clause-room c =
-    room_stays c.args.code.now c.args.core.now c.make_place.new.core c.args.at c.args.sent c.args.receiver (items_of c.args.core.now.run.world.world.cells (Ref c.args.array))
+    room_stays c.args.code.now c.args.core.now c.make_place.new.core c.args.at c.args.sent c.args.receiver c.args.sel (items_of c.args.core.now.run.world.world.cells (Ref c.args.array))
     (performing_known c.args.code.now c.requires.can.grants (c.valid_frames_are_framed.ensures.waiting c.args.code.now c.requires.can.grants) c.args.core.now c.args.at
     c.args.sent c.args.receiver c.args.sel c.args.array c.requires.waits c.requires.first c.requires.can.ready)
     (performing_set c.args.code.now c.args.core.now c.make_place.new.core c.args.at c.args.sent (items_of c.args.core.now.run.world.world.cells (Ref c.args.array)) (subst (λ (core : Core). HasMadePlace c.args.code.now core c.args.at c.args.sent c.make_place.new.core) c.keep_items.ensures c.make_place.ensures))
 
 pub send_to-requires-clause-own : goal.send_to-requires-clause-own
 send_to-requires-clause-own c =
-    own_set c.args.code.now c.args.core.now c.make_place.new.core c.args.at c.args.sent c.args.receiver (items_of c.args.core.now.run.world.world.cells (Ref c.args.array))
+    own_set c.args.code.now c.args.core.now c.make_place.new.core c.args.at c.args.sent c.args.receiver c.args.sel (items_of c.args.core.now.run.world.world.cells (Ref c.args.array))
     (performing_known c.args.code.now c.requires.can.grants (c.valid_frames_are_framed.ensures.waiting c.args.code.now c.requires.can.grants) c.args.core.now c.args.at
     c.args.sent c.args.receiver c.args.sel c.args.array c.requires.waits c.requires.first c.requires.can.ready)
     (performing_set c.args.code.now c.args.core.now c.make_place.new.core c.args.at c.args.sent (items_of c.args.core.now.run.world.world.cells (Ref c.args.array)) (subst (λ (core : Core). HasMadePlace c.args.code.now core c.args.at c.args.sent c.make_place.new.core) c.keep_items.ensures c.make_place.ensures)) c.args.own c.requires.own

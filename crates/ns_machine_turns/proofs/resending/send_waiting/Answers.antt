@@ -11,7 +11,7 @@ make_place-requires-clause-waits c =
 
 pub make_place-requires-clause-room : goal.make_place-requires-clause-room
 make_place-requires-clause-room c =
-    place_fits c.args.code.now c.args.core.now c.args.at c.args.sent c.args.receiver c.args.core.now.arguments.items
+    place_fits c.args.code.now c.args.core.now c.args.at c.args.sent c.args.receiver c.args.sel c.args.core.now.arguments.items
     (sending_known c.args.code.now c.requires.can.grants (c.valid_frames_are_framed.ensures.waiting c.args.code.now c.requires.can.grants) c.args.core.now c.args.at
     c.args.sent c.args.receiver c.args.sel c.requires.waits c.requires.first c.requires.can.ready)
     (sending_stands c.args.code.now c.requires.can.grants c.args.core.now c.args.at c.args.sent c.args.receiver c.args.sel c.requires.waits c.requires.first
@@ -19,21 +19,21 @@ make_place-requires-clause-room c =
 
 pub send_to-requires-clause-can : goal.send_to-requires-clause-can
 send_to-requires-clause-can c =
-    can_send c.args.code.now c.args.core.now c.make_place.new.core c.args.at c.args.sent c.args.receiver c.args.core.now.arguments.items
+    can_send c.args.code.now c.args.core.now c.make_place.new.core c.args.at c.args.sent c.args.receiver c.args.sel c.args.core.now.arguments.items
     (sending_known c.args.code.now c.requires.can.grants (c.valid_frames_are_framed.ensures.waiting c.args.code.now c.requires.can.grants) c.args.core.now c.args.at
     c.args.sent c.args.receiver c.args.sel c.requires.waits c.requires.first c.requires.can.ready)
     (sending_set c.args.code.now c.args.core.now c.make_place.new.core c.args.at c.args.sent c.make_place.ensures)
 
 pub send_to-requires-clause-room : goal.send_to-requires-clause-room
 send_to-requires-clause-room c =
-    room_stays c.args.code.now c.args.core.now c.make_place.new.core c.args.at c.args.sent c.args.receiver c.args.core.now.arguments.items
+    room_stays c.args.code.now c.args.core.now c.make_place.new.core c.args.at c.args.sent c.args.receiver c.args.sel c.args.core.now.arguments.items
     (sending_known c.args.code.now c.requires.can.grants (c.valid_frames_are_framed.ensures.waiting c.args.code.now c.requires.can.grants) c.args.core.now c.args.at
     c.args.sent c.args.receiver c.args.sel c.requires.waits c.requires.first c.requires.can.ready)
     (sending_set c.args.code.now c.args.core.now c.make_place.new.core c.args.at c.args.sent c.make_place.ensures)
 
 pub send_to-requires-clause-own : goal.send_to-requires-clause-own
 send_to-requires-clause-own c =
-    own_set c.args.code.now c.args.core.now c.make_place.new.core c.args.at c.args.sent c.args.receiver c.args.core.now.arguments.items
+    own_set c.args.code.now c.args.core.now c.make_place.new.core c.args.at c.args.sent c.args.receiver c.args.sel c.args.core.now.arguments.items
     (sending_known c.args.code.now c.requires.can.grants (c.valid_frames_are_framed.ensures.waiting c.args.code.now c.requires.can.grants) c.args.core.now c.args.at
     c.args.sent c.args.receiver c.args.sel c.requires.waits c.requires.first c.requires.can.ready)
     (sending_set c.args.code.now c.args.core.now c.make_place.new.core c.args.at c.args.sent c.make_place.ensures) c.args.own c.requires.own
