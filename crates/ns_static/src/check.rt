@@ -2,7 +2,8 @@
 
 ghost use Rattle.std.specs.Prelude.{◌≡◌, None, IfOk, MatchResult};
 ghost use Rattle.ns_scope.specs.Whole.{IsWhole};
-ghost use Rattle.ns_static.specs.Check.{fault_of, IsFaultless, FaultIsTold};
+ghost use Rattle.ns_static_rules.specs.Keeping.{keep_all};
+ghost use Rattle.ns_static.specs.Check.{fault_of, faults_of, IsFaultless, FaultIsTold};
 
 use crate::fault::StaticFault;
 use crate::units::{Before, unit_faults};
@@ -10,6 +11,8 @@ use ns_base::no_memory::NoMemory;
 use ns_scope::program::Program;
 use ns_scope::table::Table;
 use ns_static_rules::fault::Placed;
+use ns_static_rules::kept::Kept;
+use ns_static_rules::laws::walks_keep_what_is_asked_for;
 use std::alloc::Global;
 use std::marker::Model;
 
@@ -73,15 +76,24 @@ pub fn check(alloc: Global, program: Program) -> Result<Checked, StaticFault>
 fn least_fault(alloc: Global, program: &Program) -> Result<Option<Placed>, NoMemory>
     ensures { IfOk result (λ least. least ≡ fault_of program.now) }
 {
+    walks_keep_what_is_asked_for();
+    let kept = found_in(alloc, program, Kept::Least(None))?;
+    Ok(kept.into_least())
+}
+
+/// What is kept when the faults of a program are found too, in the order of its text.
+pub fn found_in(alloc: Global, program: &Program, kept: Kept) -> Result<Kept, NoMemory>
+    ensures { IfOk result (λ found. found ≡ keep_all kept (faults_of program.now)) }
+{
     let mut before = Before {
         names: Table::new(alloc, program.key),
         classes: 0,
     };
-    let mut least = None;
+    let mut kept = kept;
     let units = program.units.as_slice();
     let marks = program.marks.as_slice();
     for (unit, marks) in units.iter().zip(marks) {
-        least = unit_faults(alloc, &mut before, least, marks.as_slice(), unit)?;
+        kept = unit_faults(alloc, &mut before, kept, marks.as_slice(), unit)?;
     }
-    Ok(least)
+    Ok(kept)
 }

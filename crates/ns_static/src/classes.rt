@@ -56,7 +56,8 @@ fn instance_found(
     slots: &Option<Vec<Slot>>,
     side: &Side,
 ) -> Result<Table<Access>, NoMemory>
-    ensures found { OnOk result (checker.new ≡ with_found checker.old (members_found (names.instance_members (bars_of slots.now) (side_of side.now)))) }
+    ensures found { OnOk result (checker.new ≡ with_found checker.old (members_found
+        (names.instance_members (bars_of slots.now) (side_of side.now)))) }
     ensures table { IfOk result (λ table. table ≡ names.table_of (names.instance_members (bars_of slots.now) (side_of side.now))) }
 {
     let members = instance_members(checker.alloc, slots, side)?;

@@ -6,7 +6,7 @@ ghost use Rattle.ns_static_rules.specs.Rules.{top_name_found};
 ghost use Rattle.ns_static_rules.specs.Faults.{unit_faults, class_name, class_names};
 ghost use Rattle.ns_tree.specs.Parts.{unit_class};
 ghost use Rattle.ns_static_rules.specs.Least.{with_top};
-ghost use Rattle.ns_static_rules.specs.Walk.{with_found, least_after};
+ghost use Rattle.ns_static_rules.specs.Walk.{with_found, kept_after};
 
 use crate::counting::classes_found_in;
 use crate::declarations::class_faults;
@@ -16,7 +16,8 @@ use ns_base::text::Text;
 use ns_scope::chain::Chain;
 use ns_scope::table::Table;
 use ns_static_rules::checker::{Checker, found_if};
-use ns_static_rules::fault::{Placed, StaticCause};
+use ns_static_rules::fault::StaticCause;
+use ns_static_rules::kept::Kept;
 use ns_tree::tree::{Class, Named, Unit};
 use std::alloc::Global;
 
@@ -27,26 +28,22 @@ pub struct Before {
     pub classes: u64,
 }
 
-/// The least of a fault, if there is one, and of those of a unit behind others.
+/// What is kept when the faults of a unit behind others are found too.
 pub fn unit_faults(
     alloc: Global,
     before: &mut Before,
-    least: Option<Placed>,
+    kept: Kept,
     marks: &[Place],
     unit: &Unit,
-) -> Result<Option<Placed>, NoMemory>
-    ensures found { IfOk result (λ found. found ≡ least_after marks.now least
+) -> Result<Kept, NoMemory>
+    ensures found { IfOk result (λ found. found ≡ kept_after marks.now kept
         (unit_faults before.old.names before.old.classes (unit_class (unit_of unit.now)))) }
     ensures names { OnOk result (before.new.names ≡ with_top before.old.names (class_name (unit_class (unit_of unit.now)))) }
     ensures classes { OnOk result (before.new.classes ≡ before.old.classes + length (class_names (unit_class (unit_of unit.now)))) }
 {
-    let mut checker = Checker {
-        alloc,
-        marks,
-        least,
-    };
+    let mut checker = Checker { alloc, marks, kept };
     top_class_faults(&mut checker, before, &unit.class)?;
-    Ok(checker.least)
+    Ok(checker.kept)
 }
 
 /// The faults of a top-level class.
@@ -55,7 +52,8 @@ fn top_class_faults(
     before: &mut Before,
     class: &Class,
 ) -> Result<(), NoMemory>
-    ensures found { OnOk result (checker.new ≡ with_found checker.old (unit_faults before.old.names before.old.classes (class_of class.now))) }
+    ensures found { OnOk result (checker.new ≡ with_found checker.old (unit_faults before.old.names before.old.classes
+        (class_of class.now))) }
     ensures names { OnOk result (before.new.names ≡ with_top before.old.names (class_name (class_of class.now))) }
     ensures classes { OnOk result (before.new.classes ≡ before.old.classes + length (class_names (class_of class.now))) }
 {

@@ -1,4 +1,5 @@
 pub mod Inside
+pub mod Keeping
 pub mod Order
 pub mod Past
 pub mod Shapes

@@ -5,11 +5,11 @@ use Rattle.ns_static_rules.specs.declared.fault.Placed.{Placed}
 use Rattle.ns_static_rules.specs.Least.{comes_before, order_of, earlier, least}
 use Rattle.ns_static_rules.specs.LeastOf.{IsAmong, NoneBefore, IsLeastOf}
 
-is_false : (b : Bool) → (b ≡ true → ⊥) → b ≡ false
+pub is_false : (b : Bool) → (b ≡ true → ⊥) → b ≡ false
 is_false true h = absurd (h refl)
 is_false false h = refl
 
-not_both : (b : Bool) → b ≡ true → b ≡ false → ⊥
+pub not_both : (b : Bool) → b ≡ true → b ≡ false → ⊥
 not_both true h k = cc
 not_both false h k = cc
 
@@ -24,7 +24,7 @@ less_first x y r h = grind (arith, nat_tests)
 same_first : (x y : ℕ) (r : Bool) → x ≡ y → r ≡ true → (if nat_lt x y then true else if nat_eq x y then r else false) ≡ true
 same_first x y r h k = grind (arith, nat_tests)
 
-not_itself : (xs : List ℕ) → comes_before xs xs ≡ false
+pub not_itself : (xs : List ℕ) → comes_before xs xs ≡ false
 not_itself [] = refl
 not_itself (x ∷ xs) = grind (arith, nat_tests, not_itself xs)
 
@@ -34,7 +34,7 @@ step_step x y z a b r ih (inl h) (inr (e, k)) = less_first x z r (omega arith)
 step_step x y z a b r ih (inr (e, h)) (inl k) = less_first x z r (omega arith)
 step_step x y z a b r ih (inr (e, h)) (inr (f, k)) = same_first x z r (omega arith) (ih h k)
 
-before_before : (xs ys zs : List ℕ) → comes_before xs ys ≡ true → comes_before ys zs ≡ true → comes_before xs zs ≡ true
+pub before_before : (xs ys zs : List ℕ) → comes_before xs ys ≡ true → comes_before ys zs ≡ true → comes_before xs zs ≡ true
 before_before [] ys zs h k = absurd cc
 before_before (x ∷ xs) [] zs h k = absurd cc
 before_before (x ∷ xs) (y ∷ ys) [] h k = absurd cc
@@ -52,7 +52,7 @@ step_not x y z a b r ih (inl h) (inr (e, k)) = less_first x y r (omega arith)
 step_not x y z a b r ih (inr (e, h)) (inl k) = less_first x y r (omega arith)
 step_not x y z a b r ih (inr (e, h)) (inr (f, k)) = same_first x y r (omega arith) (ih h k)
 
-before_other : (xs ys zs : List ℕ) → length xs ≡ length ys → length ys ≡ length zs → comes_before xs zs ≡ true → comes_before ys zs ≡ false → comes_before xs ys ≡ true
+pub before_other : (xs ys zs : List ℕ) → length xs ≡ length ys → length ys ≡ length zs → comes_before xs zs ≡ true → comes_before ys zs ≡ false → comes_before xs ys ≡ true
 before_other [] ys zs e f h k = absurd cc
 before_other (x ∷ xs) [] zs e f h k = absurd (omega arith)
 before_other (x ∷ xs) (y ∷ ys) [] e f h k = absurd cc

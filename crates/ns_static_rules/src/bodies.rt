@@ -40,7 +40,8 @@ pub fn begin_method(
     params: &[Named],
     slots: &Option<Vec<Slot>>,
 ) -> Result<Scope, NoMemory>
-    ensures found { OnOk result (checker.new ≡ with_found checker.old (params_found params.now ++ locals_found (locals_of params.now (bars_of slots.now)))) }
+    ensures found { OnOk result (checker.new ≡ with_found checker.old (params_found params.now ++ locals_found
+        (locals_of params.now (bars_of slots.now)))) }
     ensures scope { IfOk result (λ scope. scope ≡ method_scope classes.now side params.now (bars_of slots.now)) }
 {
     params_found(checker, params);

@@ -6,16 +6,17 @@ ghost use Rattle.ns_static_rules.specs.Walk.{with_found};
 ghost use Rattle.ns_static_rules.specs.declared.fault.StaticCause.TheVariants as c;
 
 use crate::fault::{Many, Placed, StaticCause};
-use crate::least::{earlier, place_at};
+use crate::kept::Kept;
+use crate::least::place_at;
 use ns_base::place::Place;
 use std::alloc::Global;
 
-/// The places of the file's tokens, and the least fault so far.
+/// The places of the file's tokens, and what is kept of the faults so far.
 #[derive(Drop)]
 pub struct Checker<'a> {
     pub alloc: Global,
     pub marks: &'a [Place],
-    pub least: Option<Placed>,
+    pub kept: Kept,
 }
 
 /// A cause at a token.
@@ -23,7 +24,7 @@ pub fn found(checker: &mut Checker<'_>, at: u32, cause: StaticCause)
     ensures { checker.new ≡ with_found checker.old ((at, cause) ∷ []) }
 {
     let place = place_at(checker.marks, at);
-    checker.least = Some(earlier(checker.least, Placed { place, cause }));
+    checker.kept.keep(Placed { place, cause });
 }
 
 /// A cause at a token, where something is wrong.

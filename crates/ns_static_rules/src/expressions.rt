@@ -78,7 +78,8 @@ fn keywords_faults(
     scope: &Scope,
     keys: &[(Named, BinExpr)],
 ) -> Result<(), NoMemory>
-    ensures { OnOk result (checker.new ≡ with_found checker.old (keywords_found (keys_of keys.now) ++ keys_faults scope.now (keys_of keys.now))) }
+    ensures { OnOk result (checker.new ≡ with_found checker.old
+        (keywords_found (keys_of keys.now) ++ keys_faults scope.now (keys_of keys.now))) }
 {
     keywords_found(checker, keys);
     keys_faults(checker, scope, keys)
@@ -210,7 +211,8 @@ fn outer_faults(
 
 #[cycle(expressions)]
 fn tuple_faults(checker: &mut Checker<'_>, scope: &Scope, items: &[Expr]) -> Result<(), NoMemory>
-    ensures { OnOk result (checker.new ≡ with_found checker.old (elements_found (exprs_of items.now) ++ items_faults scope.now (exprs_of items.now))) }
+    ensures { OnOk result (checker.new ≡ with_found checker.old (elements_found (exprs_of items.now) ++ items_faults scope.now
+        (exprs_of items.now))) }
 {
     elements_found(checker, items);
     items_faults(checker, scope, items)

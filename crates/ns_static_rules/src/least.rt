@@ -23,7 +23,7 @@ pub fn earlier(least: Option<Placed>, fault: Placed) -> Placed
 }
 
 /// By file, line, column, and the cause's number.
-fn comes_before(fault: Placed, other: Placed) -> bool
+pub fn comes_before(fault: Placed, other: Placed) -> bool
     ensures { result ≡ comes_before (order_of fault) (order_of other) }
 {
     if fault.place.file < other.place.file {

@@ -7,6 +7,7 @@ pub mod bodies;
 pub mod checker;
 pub mod expressions;
 pub mod fault;
+pub mod kept;
 pub mod laws;
 pub mod least;
 pub mod rules;

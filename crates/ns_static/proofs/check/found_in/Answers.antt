@@ -3,7 +3,7 @@ use Rattle.std.proofs.Common.{◌≡◌, ◌⊎◌, inl, inr, refl, List, [], �
 use Rattle.std.specs.Prelude.{zip}
 use Rattle.std.proofs.lemmas.Slice.Zip.{either_empty_from_Zip}
 use Rattle.ns_tree.specs.PlainOf.{unit_of}
-use Rattle.ns_static.proofs.check.least_fault.Goals as goal
+use Rattle.ns_static.proofs.check.found_in.Goals as goal
 
 no_pairs : {A B C : Type 0} (f : A → C) (xs : List A) (ys : List B) → (xs ≡ []) ⊎ (ys ≡ []) → zip (map f xs) ys ≡ []
 no_pairs f [] ys h = refl

@@ -1,0 +1,4 @@
+pub mod Answered
+pub mod Never
+pub mod Texts
+pub mod Unanswered
