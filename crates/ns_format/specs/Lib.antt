@@ -1,0 +1,4 @@
+pub mod Pieces
+pub mod Leads
+pub mod Format
+pub mod Consists
