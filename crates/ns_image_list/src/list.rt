@@ -102,7 +102,8 @@ fn put_body_numbers(out: &mut Output, body: &BodyCode) -> Result<(), NoMemory>
     out.end_line()
 }
 
-fn kind_shown(kind: u8) -> &'static [u8]
+/// The word of a kind of body.
+pub fn kind_shown(kind: u8) -> &'static [u8]
     ensures { result.now ≡ spec.kind_shown kind }
 {
     match kind {
@@ -114,7 +115,7 @@ fn kind_shown(kind: u8) -> &'static [u8]
 }
 
 /// Their lines, from the names that are there, or from as many as are made of numbers.
-fn put_local_names(out: &mut Output, names: &LocalNames) -> Result<(), NoMemory>
+pub fn put_local_names(out: &mut Output, names: &LocalNames) -> Result<(), NoMemory>
     ensures { OnOk result (out.new ≡ after out.old (spec.numbered spec.local_line 0 names.now)) }
 {
     let (given, count) = names.parts();

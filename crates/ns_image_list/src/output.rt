@@ -52,6 +52,11 @@ impl Output {
         })
     }
 
+    /// Where its memory comes from.
+    pub fn alloc(&self) -> Global {
+        self.alloc
+    }
+
     /// How many bytes were counted.
     pub fn counted(&self) -> usize
         ensures { result ≡ counted self.now }

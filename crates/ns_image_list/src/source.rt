@@ -43,6 +43,13 @@ impl Source<'_> {
         Ok(Source { code, quoted })
     }
 
+    /// The code.
+    pub fn code(&self) -> &CodeProgram
+        ensures { result.now ≡ self.now }
+    {
+        self.code
+    }
+
     /// Its classes.
     pub fn classes(&self) -> &[ClassCode]
         ensures { result.now ≡ self.now.classes }
