@@ -1,0 +1,14 @@
+pub mod Apart
+pub mod Characters
+pub mod Digits
+pub mod Numbers
+pub mod Parts
+pub mod Read
+pub mod ReadAll
+pub mod ReadEnds
+pub mod ReadOthers
+pub mod ReadRefusals
+pub mod ReadRuns
+pub mod Strings
+pub mod Told
+pub mod Within

@@ -1,0 +1,14 @@
+use Rattle.std.proofs.Common.{codes, arith}
+use Rattle.std.proofs.lemmas.Grind.{common_steps}
+use Rattle.ns_json.specs.Json.{texted}
+use Rattle.ns_json.specs.Report as spec
+use Rattle.ns_json.proofs.Parts.{object_parts}
+use Rattle.ns_json.proofs.check.UnansweredObject.put_object.Goals as goal
+
+pub returns : goal.returns
+returns c =
+    grind (
+      arith,
+      common_steps,
+      object_parts (texted (codes "selector") c.args.self.now.selector) (spec.place_members c.args.self.now.place),
+    )

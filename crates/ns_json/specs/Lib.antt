@@ -1,0 +1,5 @@
+pub mod Json
+pub mod Objects
+pub mod Report
+pub mod Stats
+pub mod Laws
