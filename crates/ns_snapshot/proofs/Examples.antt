@@ -8,6 +8,7 @@ use Rattle.ns_frozen.specs.declared.cell.CellData.TheVariants as held
 use Rattle.ns_image.specs.Read.{got, truncated, bad}
 use Rattle.ns_snapshot.specs.declared.fault.SnapFault.TheVariants as fault
 use Rattle.ns_snapshot.specs.Bytes as s
+use Rattle.ns_snapshot.specs.Fields as fields
 use Rattle.ns_snapshot.specs.Reading as r
 use Rattle.ns_snapshot.specs.Snapshot.{read_snapshot}
 
@@ -24,17 +25,17 @@ site = refl
 
 -- ---- what is read
 
-symbol : r.value (4 ∷ 0 ∷ 0 ∷ 1 ∷ 2 ∷ 9 ∷ []) ≡ got (Sym (record { 0 = 258 })) (9 ∷ [])
-unfolding r.value r.one_of
+symbol : fields.value (4 ∷ 0 ∷ 0 ∷ 1 ∷ 2 ∷ 9 ∷ []) ≡ got (Sym (record { 0 = 258 })) (9 ∷ [])
+unfolding fields.value fields.one_of
 symbol = refl
 
 -- a value has seven variants
-eighth : r.value (7 ∷ 0 ∷ []) ≡ bad 2
-unfolding r.value r.one_of
+eighth : fields.value (7 ∷ 0 ∷ []) ≡ bad 2
+unfolding fields.value fields.one_of
 eighth = refl
 
-cut : r.value (6 ∷ 0 ∷ 0 ∷ []) ≡ truncated
-unfolding r.value r.one_of
+cut : fields.value (6 ∷ 0 ∷ 0 ∷ []) ≡ truncated
+unfolding fields.value fields.one_of
 cut = refl
 
 -- ---- whole snapshots

@@ -11,15 +11,15 @@ use Rattle.ns_image.specs.Read.{Reader}
 use Rattle.ns_image.specs.laws.Format.{Format, field, refit, mapped, checks}
 use Rattle.ns_image.specs.laws.Fields.{number_format, wide64, word_format, times_format}
 use Rattle.ns_snapshot.specs.Bytes as s
-use Rattle.ns_snapshot.specs.Reading as r
+use Rattle.ns_snapshot.specs.Fields as fields
 use Rattle.ns_snapshot.specs.Fits.{IsDouble}
 
 -- a number of eight bytes
-pub double_format : Format r.double IsDouble s.double
+pub double_format : Format fields.double IsDouble s.double
 double_format = number_format w64 (2 ^ 64) wide64
 
 -- a number of eight bytes from 1 to the greatest
-pub from_1_to_format : (greatest : ℕ) → greatest < 2 ^ 64 → Format (r.from_1_to greatest) (λ n. IsFrom1To n greatest) s.double
+pub from_1_to_format : (greatest : ℕ) → greatest < 2 ^ 64 → Format (fields.from_1_to greatest) (λ n. IsFrom1To n greatest) s.double
 from_1_to_format greatest below =
     refit (checks (λ n. nat_le 1 n && nat_le n greatest) double_format)
     (λ n k g.
@@ -34,10 +34,10 @@ from_1_to_format greatest below =
 abbrev sel_of : ℕ → Sel
 sel_of n = record { 0 = n }
 
-pub selector_format : Format r.selector (λ s. IsWord s.0) (λ s. b.word s.0)
+pub selector_format : Format fields.selector (λ s. IsWord s.0) (λ s. b.word s.0)
 selector_format = mapped sel_of (λ s. s.0) (λ s. IsWord s.0) word_format (λ n lt. (refl, lt)) (λ s lt. (refl, lt))
 
 -- items behind their count
-pub counted_format : {A : Type 0} {item : Reader A} {Good : A → Type 0} {bytes_of : A → List ℕ} → Format item Good bytes_of → Format (r.counted item) (λ xs. IsWord (length xs) × All Good xs) (b.counted bytes_of)
-unfolding r.counted
+pub counted_format : {A : Type 0} {item : Reader A} {Good : A → Type 0} {bytes_of : A → List ℕ} → Format item Good bytes_of → Format (fields.counted item) (λ xs. IsWord (length xs) × All Good xs) (b.counted bytes_of)
+unfolding fields.counted
 counted_format format = field length word_format (λ n. times_format n format)

@@ -17,7 +17,7 @@ use Rattle.ns_kernel.specs.declared.parts.KMethod.TheVariants as method
 use Rattle.ns_image.specs.Bytes as b
 use Rattle.ns_image.specs.laws.Format.{Format, Any, rewrite}
 use Rattle.ns_snapshot.specs.Bytes as s
-use Rattle.ns_snapshot.specs.Reading as r
+use Rattle.ns_snapshot.specs.Fields as fields
 use Rattle.ns_snapshot.proofs.Variants.{variants_format}
 
 abbrev classes : List KClass
@@ -35,7 +35,7 @@ class_bytes : (c : KClass) → b.byte (class_number c) ≡ s.kernel_class c
 class_bytes kernel.Object = refl
 class_bytes kernel.Array = refl
 
-pub kernel_class_format : Format r.kernel_class Any s.kernel_class
+pub kernel_class_format : Format fields.kernel_class Any s.kernel_class
 kernel_class_format = rewrite (variants_format classes class_number (omega arith) refl class_there) class_bytes
 
 abbrev rows : List KernelRow
@@ -82,7 +82,7 @@ rows_there row.Mirrors = refl
 rows_there row.Mirror = refl
 rows_there row.Message = refl
 
-pub kernel_row_format : Format r.kernel_row Any (λ x. b.byte (s.row_number x))
+pub kernel_row_format : Format fields.kernel_row Any (λ x. b.byte (s.row_number x))
 kernel_row_format = variants_format rows s.row_number (omega arith) refl rows_there
 
 abbrev kinds : List Kind
@@ -119,7 +119,7 @@ kinds_there error.InitMismatch = refl
 kinds_there error.FixedSlot = refl
 kinds_there error.ChainLimit = refl
 
-pub error_kind_format : Format r.error_kind Any (λ x. b.byte (s.kind_number x))
+pub error_kind_format : Format fields.error_kind Any (λ x. b.byte (s.kind_number x))
 error_kind_format = variants_format kinds s.kind_number (omega arith) refl kinds_there
 
 abbrev limit_kinds : List LimitKind
@@ -136,7 +136,7 @@ limit_kinds_there limit.Cells = refl
 limit_kinds_there limit.Depth = refl
 limit_kinds_there limit.Out = refl
 
-pub limit_kind_format : Format r.limit_kind Any (λ x. b.byte (s.limit_number x))
+pub limit_kind_format : Format fields.limit_kind Any (λ x. b.byte (s.limit_number x))
 limit_kind_format = variants_format limit_kinds s.limit_number (omega arith) refl limit_kinds_there
 
 abbrev facets : List FacetKind
@@ -157,7 +157,7 @@ facets_there facet.Mirrors = refl
 facets_there facet.Kernel = refl
 facets_there facet.Board = refl
 
-pub facet_kind_format : Format r.facet_kind Any (λ x. b.byte (facet_number x))
+pub facet_kind_format : Format fields.facet_kind Any (λ x. b.byte (facet_number x))
 facet_kind_format = variants_format facets facet_number (omega arith) refl facets_there
 
 abbrev methods : List KMethod
@@ -188,5 +188,5 @@ methods_there method.ToDo = refl
 methods_there method.TimesRepeat = refl
 methods_there method.Do = refl
 
-pub kernel_method_format : Format r.kernel_method Any (λ x. b.byte (s.method_number x))
+pub kernel_method_format : Format fields.kernel_method Any (λ x. b.byte (s.method_number x))
 kernel_method_format = variants_format methods s.method_number (omega arith) refl methods_there

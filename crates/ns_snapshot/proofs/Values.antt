@@ -7,14 +7,14 @@ use Rattle.ns_world.specs.declared.kernel.ClassName.TheVariants as name
 use Rattle.ns_image.specs.laws.Format.{Format}
 use Rattle.ns_image.specs.laws.Fields.{word_format, long_format}
 use Rattle.ns_snapshot.specs.Bytes as s
-use Rattle.ns_snapshot.specs.Reading as r
+use Rattle.ns_snapshot.specs.Fields as fields
 use Rattle.ns_snapshot.specs.Fits.{ValueFits, ValuesFit, PlaceFits, ClassNameFits, SiteFits}
 use Rattle.ns_snapshot.proofs.Variants.{Again, reads_given, reads_field, reads_one, reads_one_of, again_given, again_field, again_one, again_one_of, both_ways, option_format}
 use Rattle.ns_snapshot.proofs.Numbers.{selector_format, counted_format}
 use Rattle.ns_snapshot.proofs.Plain.{kernel_class_format, kernel_row_format}
 
-value_again : (x : Value) → ValueFits x → Again r.value x (s.value x)
-unfolding r.value
+value_again : (x : Value) → ValueFits x → Again fields.value x (s.value x)
+unfolding fields.value
 value_again v.Nil good = again_one_of {front = []} _ 0 _ refl (omega arith) (again_given v.Nil)
 value_again v.True good = again_one_of {front = []} _ 1 _ refl (omega arith) (again_given v.True)
 value_again v.False good = again_one_of {front = []} _ 2 _ refl (omega arith) (again_given v.False)
@@ -23,8 +23,8 @@ value_again (v.Sym sel) good = again_one_of _ 4 _ refl (omega arith) (again_one 
 value_again (v.Kernel class) good = again_one_of _ 5 _ refl (omega arith) (again_one (λ c. v.Kernel c) kernel_class_format class tt)
 value_again (v.Ref at) good = again_one_of _ 6 _ refl (omega arith) (again_one (λ n. v.Ref n) word_format at good)
 
-pub value_format : Format r.value ValueFits s.value
-unfolding r.value
+pub value_format : Format fields.value ValueFits s.value
+unfolding fields.value
 value_format =
     both_ways
     (reads_one_of _ (
@@ -51,25 +51,25 @@ value_format =
     ))
     value_again
 
-pub values_format : Format r.values ValuesFit s.values
+pub values_format : Format fields.values ValuesFit s.values
 values_format = counted_format value_format
 
-pub place_format : Format r.place PlaceFits s.place
-unfolding r.place
+pub place_format : Format fields.place PlaceFits s.place
+unfolding fields.place
 place_format =
     both_ways
     (reads_field word_format (λ file g. reads_field word_format (λ line h. reads_field word_format (λ col i.
     reads_given (record { file = file; line = line; col = col }) (refl, record { file = g; line = h; col = i })))))
     (λ x g. again_field _ word_format x.file g.file (again_field _ word_format x.line g.line (again_field _ word_format x.col g.col (again_given x))))
 
-class_name_again : (x : ClassName) → ClassNameFits x → Again r.class_name x (s.class_name x)
-unfolding r.class_name
+class_name_again : (x : ClassName) → ClassNameFits x → Again fields.class_name x (s.class_name x)
+unfolding fields.class_name
 class_name_again (name.Declared decl) good = again_one_of _ 0 _ refl (omega arith) (again_one (λ n. name.Declared n) word_format decl good)
 class_name_again (name.ClassOf decl) good = again_one_of _ 1 _ refl (omega arith) (again_one (λ n. name.ClassOf n) word_format decl good)
 class_name_again (name.Kernel row) good = again_one_of _ 2 _ refl (omega arith) (again_one (λ r. name.Kernel r) kernel_row_format row tt)
 
-pub class_name_format : Format r.class_name ClassNameFits s.class_name
-unfolding r.class_name
+pub class_name_format : Format fields.class_name ClassNameFits s.class_name
+unfolding fields.class_name
 class_name_format =
     both_ways
     (reads_one_of _ (
@@ -84,8 +84,8 @@ class_name_format =
     ))
     class_name_again
 
-pub site_format : Format r.site SiteFits s.site
-unfolding r.site
+pub site_format : Format fields.site SiteFits s.site
+unfolding fields.site
 site_format =
     both_ways
     (reads_field (option_format place_format) (λ place g. reads_field class_name_format (λ class h. reads_field selector_format (λ sel i.

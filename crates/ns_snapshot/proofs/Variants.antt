@@ -12,7 +12,7 @@ use Rattle.ns_image.specs.Read.{got, Reader, ◌>>=◌, given, byte}
 use Rattle.ns_image.specs.laws.Format.{IsBytes, Format, Any, bind_got}
 use Rattle.ns_image.specs.laws.Fields.{byte_format}
 use Rattle.ns_snapshot.specs.Bytes as s
-use Rattle.ns_snapshot.specs.Reading.{one_of, behind, option}
+use Rattle.ns_snapshot.specs.Fields.{one_of, behind, option}
 
 -- ---- what is read was written so
 

@@ -15,12 +15,13 @@ use Rattle.ns_image.specs.Bytes as b
 use Rattle.ns_image.specs.Reading.{read_image}
 use Rattle.ns_frozen.specs.declared.frozen.Frozen.{Frozen}
 use Rattle.ns_frozen.specs.declared.fault.RestoreFault.{RestoreFault}
-use Rattle.ns_frozen.specs.Fault.{fault_of}
+use Rattle.ns_frozen.specs.Fault.{fault_of, IsValid}
 use Rattle.ns_snapshot.specs.declared.fault.SnapFault.{SnapFault}
 use Rattle.ns_snapshot.specs.declared.fault.SnapFault.TheVariants as f
 use Rattle.ns_snapshot.specs.Bytes as s
 use Rattle.ns_snapshot.specs.Reading.{Parts, read_parts}
-use Rattle.ns_snapshot.specs.Snapshot.{Snapshot, of_fault, of_code, of_image, of_parts}
+use Rattle.ns_snapshot.specs.declared.snapshot.Snapshot.{Snapshot}
+use Rattle.ns_snapshot.specs.Snapshot.{of_code, of_image, of_parts, read_data, judged, of_data}
 use Rattle.ns_snapshot.specs.Laws.{CanBeWritten, WrittenIsRead, ReadWasWritten}
 use Rattle.ns_snapshot.proofs.States.{part_bytes}
 use Rattle.ns_snapshot.proofs.Snapshots.{bytes_with, parts_are_read, parts_were_written}
@@ -34,7 +35,8 @@ begin = b.mark ++ b.half 2
 pub written_is_read : (code : CodeProgram) (frozen : Frozen) → (Fits code → read_image (b.bytes_of code) ≡ Ok code) → WrittenIsRead code frozen
 written_is_read code frozen image can =
     let told : read_parts (s.snapshot_of code frozen) ≡ Ok (record { image = b.bytes_of code; frozen = frozen }) = parts_are_read (record { image = b.bytes_of code; frozen = frozen }) (can.short, can.fields) in
-    ap of_parts told ∙ ap (of_image frozen) (image can.fits) ∙ ap (of_code frozen code) can.sound ∙ ap (of_fault code frozen) can.valid
+    let told_data : read_data (s.snapshot_of code frozen) ≡ Ok (record { code = code; frozen = frozen }) = ap of_parts told ∙ ap (of_image frozen) (image can.fits) ∙ ap (of_code frozen code) can.sound in
+    ap of_data told_data ∙ ap (judged (record { code = code; frozen = frozen })) can.valid
 
 -- ---- what is read was written so
 
@@ -55,14 +57,19 @@ image_ok frozen (Err fault) snapshot e = absurd (cc (e))
 image_ok frozen (Ok code) snapshot e = (code, refl, e)
 
 code_ok : (frozen : Frozen) (code : CodeProgram) (fault : Option Fault) (snapshot : Snapshot) → of_code frozen code fault ≡ Ok snapshot
-    → (fault ≡ None) × (of_fault code frozen (fault_of code frozen) ≡ Ok snapshot)
-code_ok frozen code (Some fault) snapshot e = absurd (cc (e))
-code_ok frozen code None snapshot e = (refl, e)
-
-fault_ok : (frozen : Frozen) (code : CodeProgram) (fault : Option RestoreFault) (snapshot : Snapshot) → of_fault code frozen fault ≡ Ok snapshot
     → (fault ≡ None) × (record { code = code; frozen = frozen } ≡ snapshot)
-fault_ok frozen code (Some fault) snapshot e = absurd (cc (e))
-fault_ok frozen code None snapshot e = (refl, cc (e))
+code_ok frozen code (Some fault) snapshot e = absurd (cc (e))
+code_ok frozen code None snapshot e = (refl, cc (e))
+
+judged_ok : (made : Snapshot) (fault : Option RestoreFault) (snapshot : Snapshot) → judged made fault ≡ Ok snapshot → (fault ≡ None) × (made ≡ snapshot)
+judged_ok made (Some fault) snapshot e = absurd (cc (e))
+judged_ok made None snapshot e = (refl, cc (e))
+
+data_ok : (read : Result Snapshot SnapFault) (snapshot : Snapshot) → of_data read ≡ Ok snapshot → (read ≡ Ok snapshot) × IsValid snapshot.code snapshot.frozen
+data_ok (Err fault) snapshot e = absurd (cc (e))
+data_ok (Ok made) snapshot e =
+    let j = judged_ok made (fault_of made.code made.frozen) snapshot e in
+    (ap (λ (x : Snapshot). Ok x) j.1, subst (λ (x : Snapshot). IsValid x.code x.frozen) j.1 j.0)
 
 -- ---- what is known of images
 
@@ -101,13 +108,14 @@ image_was_written was again bytes code all begins e =
 
 pub read_was_written : IsImageOf → IsWrittenAgain → (bytes : List ℕ) → ReadWasWritten bytes
 read_was_written was again bytes snapshot all e =
-    let p = parts_ok (read_parts bytes) snapshot e in
+    let d = data_ok (read_data bytes) snapshot e in
+    let p = parts_ok (read_parts bytes) snapshot d.0 in
     let w = parts_were_written bytes p.0 all p.1 in
     let i = image_ok p.0.frozen (read_image p.0.image) snapshot p.3 in
     let c = code_ok p.0.frozen i.0 (verifier.fault_of i.0) snapshot i.2 in
-    let l = fault_ok p.0.frozen i.0 (fault_of i.0 p.0.frozen) snapshot c.1 in
+    let valid = subst (λ (x : Snapshot). IsValid x.code x.frozen) (sym c.1) d.1 in
     let m = image_was_written was again p.0.image i.0 (image_bytes p.0 (subst (All IsByte) w.0 all)) p.2 i.1 in
-    subst (λ (made : Snapshot). (bytes ≡ s.snapshot_of made.code made.frozen) × CanBeWritten made.code made.frozen) l.1 (
+    subst (λ (made : Snapshot). (bytes ≡ s.snapshot_of made.code made.frozen) × CanBeWritten made.code made.frozen) c.1 (
       w.0 ∙ ap (λ (image : List ℕ). bytes_with (record { image = image; frozen = p.0.frozen })) (sym m.1),
-      record { sound = c.0; fits = m.0; short = subst IsShort (sym m.1) w.1.0; valid = l.0; fields = w.1.1 },
+      record { sound = c.0; fits = m.0; short = subst IsShort (sym m.1) w.1.0; valid = valid; fields = w.1.1 },
     )

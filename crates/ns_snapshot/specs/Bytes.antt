@@ -248,6 +248,10 @@ frozen f =
 abbrev pub mark : List ℕ
 mark = codes "NSPS"
 
+-- the snapshot of a state of a run of the code of that image
+abbrev pub with_image : List ℕ → Frozen → List ℕ
+with_image image f = mark ++ (half 1 ++ (text image ++ frozen f))
+
 -- the snapshot of a state of a run of that code
 abbrev pub snapshot_of : CodeProgram → Frozen → List ℕ
-snapshot_of code f = mark ++ (half 1 ++ (text (bytes_of code) ++ frozen f))
+snapshot_of code f = with_image (bytes_of code) f

@@ -1,4 +1,5 @@
 pub mod Bytes
+pub mod Fields
 pub mod Reading
 pub mod Fits
 pub mod Snapshot

@@ -5,3 +5,4 @@
 
 pub mod fault;
 pub mod laws;
+pub mod snapshot;

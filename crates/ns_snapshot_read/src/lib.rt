@@ -1,0 +1,14 @@
+//! Reads the code and the state of a run from the bytes of a snapshot.
+//! `crates/ns_snapshot/specs/Snapshot.antt` says what is read of any bytes (`read_data`), and what is asked of the state
+//! behind that.
+//! Stands between ns_snapshot and a host; no command reads a snapshot yet.
+#![tactic(auto)]
+
+pub mod cell;
+pub mod field;
+pub mod frame;
+pub mod pending;
+pub mod read;
+pub mod state;
+pub mod value;
+pub mod variant;
