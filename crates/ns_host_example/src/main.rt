@@ -50,17 +50,24 @@ fn main(rt: HostRuntime) -> Result<(), io::Error> {
 /// Makes a machine for a plug-in, lets its run begin, and asks what that answered.
 fn host(rt: &HostRuntime, name: &str, source: &str) -> Result<(), io::Error> {
     println!(rt; "{name}")?;
-    let Some(machine) = machine_of(rt.alloc(), source) else {
-        return println!(rt; "refused");
-    };
-    let mut machine = machine;
+    match machine_of(rt.alloc(), source) {
+        Some(machine) => {
+            let mut machine = machine;
+            run(rt, &mut machine)
+        }
+        None => println!(rt; "refused"),
+    }
+}
+
+/// Lets the run of a plug-in begin, and asks what that answered.
+fn run(rt: &HostRuntime, machine: &mut Machine) -> Result<(), io::Error> {
     match machine.run() {
         Ending::Done(plugin) => {
-            ask(rt, &mut machine, plugin, "add:", 3)?;
-            ask(rt, &mut machine, plugin, "add:", 4)?;
-            ask(rt, &mut machine, plugin, "open:", 1)
+            ask(rt, machine, plugin, "add:", 3)?;
+            ask(rt, machine, plugin, "add:", 4)?;
+            ask(rt, machine, plugin, "open:", 1)
         }
-        ending => tell(rt, &machine, ending),
+        ending => tell(rt, machine, ending),
     }
 }
 

@@ -2,16 +2,9 @@
 //! from within alone.
 
 ghost use Rattle.std.specs.Prelude.{◌≡◌};
-ghost use Rattle.ns_world_tests.specs.Program.{program_code as the_code};
-ghost use Rattle.ns_world_tests.specs.Ready.{WorldIsReady};
+ghost use Rattle.ns_world_setting.specs.Program.{program_code as the_code};
+ghost use Rattle.ns_world_setting.specs.Ready.{WorldIsReady};
 
-use crate::asking::{
-    ask_kept_lookup, ask_kernel_lookup, ask_lookup, ask_private, ask_super_lookup,
-};
-use crate::setting::{
-    ANN, BASE, BASE_OBJECT, BLOCK, MESSAGE, MIRROR, PAIR, PART, PART_OBJECT, SUB, SUB_OBJECT,
-    Setting, set_up, set_up_bare,
-};
 use ns_base::selector::Sel;
 use ns_find::found::{Found, Sending};
 use ns_find::memo::Memo;
@@ -20,6 +13,13 @@ use ns_kernel::parts::{DataRow, FacetRow, IntRow, KMethod, MirrorRow};
 use ns_kernel::row::Row;
 use ns_kernel::table::row_of;
 use ns_world::value::{KClass, Value};
+use ns_world_setting::asking::{
+    ask_kept_lookup, ask_kernel_lookup, ask_lookup, ask_private, ask_super_lookup,
+};
+use ns_world_setting::setting::{
+    ANN, BASE, BASE_OBJECT, BLOCK, MESSAGE, MIRROR, PAIR, PART, PART_OBJECT, SUB, SUB_OBJECT,
+    Setting, set_up, set_up_bare,
+};
 use std::alloc::Global;
 
 const PLAIN: Sending = Sending::Plain;
@@ -163,7 +163,7 @@ fn are_found(alloc: Global, table: &[Lookup]) -> bool {
     true
 }
 
-#[tactic(auto, using(crate::proofs::Starting::empty_is_right))]
+#[tactic(auto, using(crate::proofs::Empty::empty_is_right))]
 fn is_found(alloc: Global, row: &Lookup) -> bool {
     let (receiver, sel, kind, want) = *row;
     let Some(w) = set_up(alloc) else {

@@ -2,15 +2,9 @@
 //! fit.
 
 ghost use Rattle.std.specs.Prelude.{◌≡◌};
-ghost use Rattle.ns_world_tests.specs.Program.{program_code as the_code};
-ghost use Rattle.ns_world_tests.specs.Ready.{WorldIsReady};
+ghost use Rattle.ns_world_setting.specs.Program.{program_code as the_code};
+ghost use Rattle.ns_world_setting.specs.Ready.{WorldIsReady};
 
-use crate::asking::ask_datum;
-use crate::looking::{item, says, shape};
-use crate::setting::{
-    ANN, ANNA, ELEVEN_BYTES, EMPTY, HELLO, ITS, MESSAGE, NO_ITEMS, PAIR, QUOTES, Setting,
-    TWELVE_BYTES, USED, set_up, with_room,
-};
 use ns_base::selector::Sel;
 use ns_kernel::parts::DataRow;
 use ns_world::cell::NewCell;
@@ -18,6 +12,12 @@ use ns_world::ending::{Fault, Kind, LimitKind};
 use ns_world::kernel::NO_CLASS;
 use ns_world::value::Value::{Int, Sym};
 use ns_world::value::{KClass, Value};
+use ns_world_setting::asking::ask_datum;
+use ns_world_setting::looking::{item, says, shape};
+use ns_world_setting::setting::{
+    ANN, ANNA, ELEVEN_BYTES, EMPTY, HELLO, ITS, MESSAGE, NO_ITEMS, PAIR, QUOTES, Setting,
+    TWELVE_BYTES, USED, set_up, with_room,
+};
 use std::alloc::Global;
 
 const NIL: Value = Value::Nil;

@@ -1,14 +1,16 @@
 //! The cells of a world, classes that are made over values, and how many arguments selectors take.
 
-use crate::asking::ask_class;
-use crate::looking::shape;
-use crate::setting::{ANN, BASE, BASE_OBJECT, OTHER_BASE, PART, SUB, USED, set_up, with_room};
 use ns_base::selector::Sel;
 use ns_classes::apply::MakeFault;
 use ns_code::selector::text_arity;
 use ns_world::cell::{FacetKind, NewCell};
 use ns_world::kernel::NO_CLASS;
 use ns_world::value::{KClass, Value};
+use ns_world_setting::asking::ask_class;
+use ns_world_setting::looking::shape;
+use ns_world_setting::setting::{
+    ANN, BASE, BASE_OBJECT, OTHER_BASE, PART, SUB, USED, set_up, with_room,
+};
 use std::alloc::Global;
 
 const OBJECT: Value = Value::Kernel(KClass::Object);

@@ -1,5 +1,0 @@
-use Rattle.ns_world_tests.specs.Ready.{WorldIsReady}
-use Rattle.ns_world_tests.proofs.setting.fill.Given as goal
-
-abbrev pub invariant-texts : goal.invariant-texts
-invariant-texts l = WorldIsReady l.world
