@@ -202,7 +202,8 @@ pub fn answered_by(
     requires receiver { IsLiveValue run.old.world.world.cells code.now receiver }
     requires selector { FitsSelector run.old.world.world.cells code.now sel values.now }
     requires suits { Suits run.old.world.world.cells code.now receiver found }
-    ensures answered { RunAnswersAs code.now sel receiver values.now result run.old run.new (spec.answered_by code.now found sel receiver values.now) }
+    ensures answered { RunAnswersAs code.now sel receiver values.now result run.old run.new
+        (spec.answered_by code.now found sel receiver values.now) }
     ensures member { IsAnswered found run.old.world result run.new.world }
     ensures rest { SameRest run.old.world run.new.world }
     ensures kept { All (PlaceIsRight run.old.world.world.cells code.now) run.new.memo }

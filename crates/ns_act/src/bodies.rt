@@ -38,7 +38,8 @@ fn make_environment(
 /// The body as it is entered, with its environment.
 #[inline(always)]
 fn with_environment(running: Running, env: Value, given: Given) -> Entered
-    ensures { result ≡ record { me = running.me; holder = running.holder; body = running.body; home = running.home; env = env; given = given } }
+    ensures { result ≡
+        record { me = running.me; holder = running.holder; body = running.body; home = running.home; env = env; given = given } }
 {
     Entered {
         me: running.me,
@@ -62,8 +63,8 @@ pub fn open_body(
     arguments: &[Value],
 ) -> Reached
     requires room { HasCellRoom world.old }
-    ensures reached { ReachesGiven code.now (λ heap values. given_values heap (passed exit values) given) arguments.now result world.old world.new
-        (body_opened code.now exit running arguments.now) }
+    ensures reached { ReachesGiven code.now (λ heap values. given_values heap (passed exit values) given) arguments.now
+        result world.old world.new (body_opened code.now exit running arguments.now) }
     ensures rest { SameRest world.old world.new }
     ensures plain { IsOwnGiven given → IsPlain result }
 {
@@ -94,8 +95,8 @@ pub fn enter_body(
     arguments: &[Value],
 ) -> Reached
     requires room { HasCellRoom world.old }
-    ensures reached { ReachesGiven code.now (λ heap values. given_values heap (passed exit values) given) arguments.now result world.old world.new
-        (body_entered code.now exit running arguments.now) }
+    ensures reached { ReachesGiven code.now (λ heap values. given_values heap (passed exit values) given) arguments.now
+        result world.old world.new (body_entered code.now exit running arguments.now) }
     ensures rest { SameRest world.old world.new }
     ensures plain { IsOwnGiven given → IsPlain result }
 {

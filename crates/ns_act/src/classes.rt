@@ -104,7 +104,8 @@ fn head(world: &mut World, code: &CodeProgram, object: u32, holder: u32, class: 
     requires lawful { IsLawful world.old.world code.now }
     requires room { HasCellRoom world.old }
     requires class { HasClass world.old.world.cells code.now object holder class }
-    ensures reached { ReachesAnyhow code.now result world.old world.new (spec.head code.now object holder class (clause_of code.now class)) }
+    ensures reached { ReachesAnyhow code.now result world.old world.new (spec.head code.now object holder class
+        (clause_of code.now class)) }
     ensures rest { SameRest world.old world.new }
     ensures plain { IsPlain result }
 {

@@ -76,7 +76,8 @@ fn evaluate(
     turn: bool,
     state: KState,
 ) -> Waited
-    ensures waited { WaitsAs result world.old world.new (λ site progress. spec.turned turn progress (Waits block (spec.listed argument) state)) }
+    ensures waited { WaitsAs result world.old world.new (λ site progress. spec.turned turn progress
+        (Waits block (spec.listed argument) state)) }
     ensures rest { SameRest world.old world.new }
 {
     if turn {

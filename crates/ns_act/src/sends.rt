@@ -174,7 +174,8 @@ pub fn enter_factory(world: &mut World, code: &CodeProgram, class: u32, values: 
     requires lawful { IsLawful world.old.world code.now }
     requires room { HasCellRoom world.old }
     requires class { IsTrue (is_class (find_cell world.old.world.cells class)) }
-    ensures reached { ReachesAs code.now values.now result world.old world.new (spec.factory_entered code.now class (spec.Listed values.now)) }
+    ensures reached { ReachesAs code.now values.now result world.old world.new (spec.factory_entered code.now class
+        (spec.Listed values.now)) }
     ensures rest { SameRest world.old world.new }
     ensures plain { IsPlain result }
 {
@@ -189,7 +190,8 @@ pub fn enter_factory(world: &mut World, code: &CodeProgram, class: u32, values: 
 #[inline(always)]
 pub fn set(world: &mut World, receiver: Value, word: u32, values: &[Value]) -> Reached
     requires { (at : ℕ) → receiver ≡ Ref at → word < length (open_words_at world.old.world.cells at) }
-    ensures reached { (code : CodeProgram) → ReachesAs code values.now result world.old world.new (λ site. spec.set word receiver (spec.Listed values.now)) }
+    ensures reached { (code : CodeProgram) → ReachesAs code values.now result world.old world.new
+        (λ site. spec.set word receiver (spec.Listed values.now)) }
     ensures rest { SameRest world.old world.new }
     ensures plain { IsPlain result }
 {
@@ -253,7 +255,8 @@ pub fn enter_factory_with_message(
     requires room { HasCellRoom world.old }
     requires class { IsTrue (is_class (find_cell world.old.world.cells class)) }
     requires selector { FitsSelector world.old.world.cells code.now sel values.now }
-    ensures reached { ReachesAnyhow code.now result world.old world.new (spec.factory_entered code.now class (spec.Wrapped sel values.now)) }
+    ensures reached { ReachesAnyhow code.now result world.old world.new (spec.factory_entered code.now class
+        (spec.Wrapped sel values.now)) }
     ensures rest { SameRest world.old world.new }
     ensures plain { IsPlain result }
 {

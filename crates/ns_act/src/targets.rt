@@ -85,7 +85,8 @@ pub fn send_super(
     requires selector { FitsSelector run.old.world.world.cells code.now sel values.now }
     ensures answered { RunAnswersAs code.now sel running.me values.now result run.old run.new
         (λ site. answered code.now (activation_at site running) spec.ToSuper sel values.now site) }
-    ensures member { IsAnswered (spec.found_at run.old.world.world.cells code.now (code_of running) spec.ToSuper sel.0) run.old.world result run.new.world }
+    ensures member { IsAnswered (spec.found_at run.old.world.world.cells code.now (code_of running) spec.ToSuper
+        sel.0) run.old.world result run.new.world }
     ensures rest { SameRest run.old.world run.new.world }
     ensures kept { All (PlaceIsRight run.old.world.world.cells code.now) run.new.memo }
 {
@@ -163,7 +164,8 @@ pub fn send_private(
     requires running { FitsActivation run.old.world.world.cells code.now (code_of running) }
     requires level { IsSome (declaration_at code.now running.body level) }
     requires selector { FitsSelector run.old.world.world.cells code.now sel values.now }
-    ensures answered { RunAnswersAs code.now sel (spec.receiver_of run.old.world.world.cells (code_of running) (spec.ToPrivate level)) values.now result
+    ensures answered { RunAnswersAs code.now sel (spec.receiver_of run.old.world.world.cells (code_of running) (spec.ToPrivate level))
+        values.now result
         run.old run.new (λ site. answered code.now (activation_at site running) (spec.ToPrivate level) sel values.now site) }
     ensures member { IsAnswered (spec.found_at run.old.world.world.cells code.now (code_of running) (spec.ToPrivate level) sel.0)
         run.old.world result run.new.world }

@@ -1,6 +1,6 @@
 -- What a state is said to send, its next move sends.
-use Rattle.std.specs.Prelude.{◌⊎◌, option_map}
-use Rattle.std.proofs.Common.{◌≡◌, ℕ, List, [], ◌∷◌, refl, inl, inr, subst, Option, Some, None}
+use Rattle.std.specs.Prelude.{option_map}
+use Rattle.std.proofs.Common.{◌≡◌, List, [], ◌∷◌, refl, inl, inr, subst, Option, Some, None}
 use Rattle.std.proofs.lemmas.Option.{same_Some}
 use Rattle.ns_base.specs.declared.place.Place.{Place as SourcePlace}
 use Rattle.ns_base.specs.declared.selector.Sel.{Sel}
@@ -18,7 +18,7 @@ use Rattle.ns_machine_moves.specs.Arrivals.{arrived}
 use Rattle.ns_machine_moves.specs.Instructions.{executed}
 use Rattle.ns_machine_moves.specs.laws.Operands.{on_top_all, taken_all}
 use Rattle.ns_audit.specs.Audit.{sent_by}
-use Rattle.ns_audit.specs.NextSend.{next_send, send_of}
+use Rattle.ns_audit.specs.NextSend.{send_of}
 use Rattle.ns_audit.specs.Stated.{ComesFromSend, PerformedIsTold, SendsNext, SendsAreMade, SendsCarryPlaces}
 
 module _ (code : CodeProgram) (phase : Phase) (leaving : Leaving) (a : Activation) (ls : List Value) (rest : List PlacedInstr) (frames : List Frame) (p : Progress) where

@@ -16,7 +16,8 @@ ghost use Rattle.ns_link.specs.Spoken.{NamesFit};
 
 /// The code of a whole program without static faults whose sizes are within their limits is sound.
 pub fn code_is_sound()
-    ensures { (program : Program) → IsWhole program → IsFaultless program → size_fault (code_of (meant program)) ≡ None → IsSound (code_of (meant program)) }
+    ensures { (program : Program) → IsWhole program → IsFaultless program → size_fault (code_of (meant program)) ≡ None →
+        IsSound (code_of (meant program)) }
 {
     crate::right::whole_programs_are_right();
     ns_gen_code::laws::right_programs_have_sound_code();
@@ -56,7 +57,8 @@ pub fn numbers_fit()
 pub fn names_and_places_are_there()
     ensures names { (program : Program) → IsAccepted program → All IsName (code_of (meant program)).names }
     ensures texts { (program : Program) → IsAccepted program → All IsShort (code_of (meant program)).texts }
-    ensures bodies { (program : Program) → IsAccepted program → All (NamesFit (length (code_of (meant program)).files)) (code_of (meant program)).bodies }
+    ensures bodies { (program : Program) → IsAccepted program → All (NamesFit (length (code_of (meant program)).files))
+        (code_of (meant program)).bodies }
 {
     crate::right::whole_programs_are_right();
     crate::right::classes_and_members_are_few();
@@ -69,7 +71,8 @@ pub fn names_and_places_are_there()
 /// The code of a whole program without static faults whose sizes are within their limits fits its
 /// fields.
 pub fn code_fits()
-    ensures { (program : Program) → IsWhole program → IsFaultless program → size_fault (code_of (meant program)) ≡ None → Fits (code_of (meant program)) }
+    ensures { (program : Program) → IsWhole program → IsFaultless program → size_fault (code_of (meant program)) ≡ None →
+        Fits (code_of (meant program)) }
 {
     tables_are_small();
     numbers_fit();

@@ -218,7 +218,8 @@ fn answer(
     requires finds { FindsRow code.now core.old sent receiver kind (Method method) }
     requires loops { CanLoop core.old at sent method }
     requires answers { spec.answer_at_once method receiver ≡ Some value }
-    ensures { (activation : Activation) → AnswersAt code.now core.old at sent.floor (looked_up code.now core.old at sent activation (To receiver kind)) core.new (next.On result) }
+    ensures { (activation : Activation) → AnswersAt code.now core.old at sent.floor
+        (looked_up code.now core.old at sent activation (To receiver kind)) core.new (next.On result) }
 {
     let _receiver = receiver;
     let _kind = kind;

@@ -102,7 +102,8 @@ fn do_found(
     found: Found,
 ) -> Led
     requires can { CanSend code.now core.old at sent receiver }
-    requires found { found ≡ found_from core.old.run.world.world.cells code.now (start_of core.old.run.world.world.cells receiver) sent.site.sel.0 kind }
+    requires found { found ≡ found_from core.old.run.world.world.cells code.now
+        (start_of core.old.run.world.world.cells receiver) sent.site.sel.0 kind }
     ensures { SendLeads code.now core.old at sent receiver kind core.new result }
 {
     match found {

@@ -126,7 +126,8 @@ fn begin(
     requires can { CanSend code.now core.old at sent receiver }
     requires finds { FindsRow code.now core.old sent receiver kind (row_is.Method method) }
     requires loops { CanLoop core.old at sent method }
-    ensures { (activation : Activation) → Sends code.now core.old at sent.floor (looked_up code.now core.old at sent activation (To receiver kind)) core.new (next.On result) }
+    ensures { (activation : Activation) → Sends code.now core.old at sent.floor (looked_up code.now core.old at sent activation
+        (To receiver kind)) core.new (next.On result) }
 {
     live_values_are_there();
     let _kind = kind;

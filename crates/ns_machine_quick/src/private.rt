@@ -60,7 +60,8 @@ pub fn send_private(
 ) -> Led
     requires can { CanDo code.now core.old at (instr.SendPrivate level sel argc) }
     requires member { IsMemberAbove code.now core.old.stack.frames.items level sel member }
-    ensures { LeadsOrChangesNothing code.now (instr.SendPrivate level sel argc) (slice_get core.old.places place) core.old at core.new result }
+    ensures { LeadsOrChangesNothing code.now (instr.SendPrivate level sel argc) (slice_get core.old.places place)
+        core.old at core.new result }
 {
     operands_are_taken();
     enclosing_objects_are_there();

@@ -163,7 +163,8 @@ pub fn give(
     requires can { CanSend code.now core.old at sent receiver }
     requires finds { FindsRow code.now core.old sent receiver kind row }
     requires gives { RowGives code.now core.old.run.world.world.cells row receiver (argument_at (arguments_in core.old at sent) 0) value }
-    ensures sends { (activation : Activation) → Sends code.now core.old at sent.floor (looked_up code.now core.old at sent activation (To receiver kind)) core.new (next.On result) }
+    ensures sends { (activation : Activation) → Sends code.now core.old at sent.floor
+        (looked_up code.now core.old at sent activation (To receiver kind)) core.new (next.On result) }
     ensures stays { StaysOnTop 0 core.old core.new }
 {
     let _receiver = receiver;
@@ -237,7 +238,8 @@ fn put(
     requires finds { FindsRow code.now core.old sent receiver kind (Data ArrayPut) }
     requires names { NamesPlace core.old at sent receiver place }
     requires below { place < length (items_of core.old.run.world.world.cells receiver) }
-    ensures sends { (activation : Activation) → Sends code.now core.old at sent.floor (looked_up code.now core.old at sent activation (To receiver kind)) core.new (next.On result) }
+    ensures sends { (activation : Activation) → Sends code.now core.old at sent.floor
+        (looked_up code.now core.old at sent activation (To receiver kind)) core.new (next.On result) }
     ensures stays { StaysOnTop 0 core.old core.new }
 {
     let _kind = kind;

@@ -64,7 +64,8 @@ fn put_done(
 ) -> Result<(), NoMemory>
     requires lawful { IsLawful world.now.world code.now }
     requires live { IsLiveValue world.now.world.cells code.now value }
-    ensures { OnOk result (out.new.items ≡ out.old.items ++ (codes "=> " ++ spec.value_text world.now.world.cells code.now value ++ 10 ∷ [])) }
+    ensures { OnOk result (out.new.items ≡ out.old.items ++
+        (codes "=> " ++ spec.value_text world.now.world.cells code.now value ++ 10 ∷ [])) }
 {
     put(out, b"=> ".as_slice())?;
     put_value(out, world, code, value)?;

@@ -105,7 +105,8 @@ fn put_class_object(out: &mut Vec<u8>, code: &CodeProgram, decl: u32) -> Result<
 fn put_object(out: &mut Vec<u8>, world: &World, code: &CodeProgram, at: u32) -> Result<(), NoMemory>
     requires receiver { IsTrue (is_receiver world.now.world.cells (Ref at)) }
     requires class { IsTrue (has_class world.now.world.cells (start_of world.now.world.cells (Ref at))) }
-    ensures { OnOk result (out.new.items ≡ out.old.items ++ (codes "object " ++ class_text code.now (class_name_of world.now.world.cells (Ref at)))) }
+    ensures { OnOk result (out.new.items ≡ out.old.items ++ (codes "object " ++ class_text code.now
+        (class_name_of world.now.world.cells (Ref at)))) }
 {
     put(out, b"object ".as_slice())?;
     put_class(out, code, world.class_name(world.start(Value::Ref(at))))

@@ -1,6 +1,5 @@
 -- Each run of admitted code comes to its end, and what is told of it there is what the machine tells.
-use Rattle.std.proofs.Common.{◌≡◌, ℕ, List, Some, true, refl, sym, ap, subst, ◌∙◌}
-use Rattle.ns_base.specs.declared.limits.Limits.{Limits}
+use Rattle.std.proofs.Common.{◌≡◌, ℕ, Some, true, refl, sym, ap, subst, ◌∙◌}
 use Rattle.ns_code.specs.declared.program.CodeProgram.{CodeProgram}
 use Rattle.ns_machine_moves.specs.Falling.{run_left}
 use Rattle.ns_machine_moves.specs.Beginning.{NewIsValid, StartKeepsValid}

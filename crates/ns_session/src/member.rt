@@ -70,7 +70,8 @@ impl Member {
 
     /// A turn of so many steps, with the board lent to it where it is granted.
     pub fn turn(&mut self, steps: u64, board: &mut Board) -> Turn
-        ensures turn { TurnOf self.old.application.grants.board self.old.application.code steps self.old.state board.old self.new.state board.new }
+        ensures turn { TurnOf self.old.application.grants.board self.old.application.code steps self.old.state
+            board.old self.new.state board.new }
         ensures rest { self.new ≡ record self.old { state = self.new.state } }
         ensures answer { result ≡ turn_at self.new.state }
         ensures less { 1 ≤ steps → ending_of self.old.state ≡ None → left_for self.new < left_for self.old }

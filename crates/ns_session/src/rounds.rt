@@ -33,7 +33,8 @@ fn round(session: &mut Session, quantum: u64) -> bool
 fn give(session: &mut Session, number: u32, quantum: u64) -> bool
     requires quantum { 1 ≤ quantum }
     requires there { number < length session.old.members }
-    ensures given { GivenTo (ending_in (slice_get session.old.members number)) (record { number = number; steps = quantum }) session.old session.new }
+    ensures given { GivenTo (ending_in (slice_get session.old.members number))
+        (record { number = number; steps = quantum }) session.old session.new }
     ensures less { IsTrue result → left_of session.new.members < left_of session.old.members }
     ensures same { result ≡ false → session.new ≡ session.old }
     ensures ended { result ≡ false → IsSome (ending_in (slice_get session.old.members number)) }

@@ -49,7 +49,8 @@ pub fn run_jointly<S: Shelf>(
     requires quantum { 1 ≤ quantum }
     requires asked { AreApplications (map string_bytes words.now) }
     requires few { length words.now ≤ 16 }
-    ensures told { (files : Files) → S.holds shelf.old ≡ Some files → TellsOfAll (spec.joint_over files lib limits quantum (map string_bytes words.now)) result }
+    ensures told { (files : Files) → S.holds shelf.old ≡ Some files → TellsOfAll
+        (spec.joint_over files lib limits quantum (map string_bytes words.now)) result }
     ensures texts { OfSomeTexts (files_named (map string_bytes words.now)) (λ texts.
         TellsOfAll (spec.joint_of lib limits quantum (map string_bytes words.now) texts) result) }
     ensures status { IfOk result (λ told. IsRunStatus told.status) }

@@ -71,13 +71,15 @@ fn make_one<S: Shelf>(
     requires room { length session.old.members < 16 }
     ensures told { (files : Files) → S.holds shelf.old ≡ Some files →
         AddsAll limits (spec.made_from files lib (asked_of word.now)) session.old session.new result }
-    ensures texts { OfSomeTexts (asked_of word.now).names (λ texts. AddsAll limits (spec.made_of lib (asked_of word.now) texts) session.old session.new result) }
+    ensures texts { OfSomeTexts (asked_of word.now).names (λ texts. AddsAll limits (spec.made_of lib (asked_of word.now) texts)
+        session.old session.new result) }
     ensures count { IfOk result (λ _. length session.new.members ≡ length session.old.members + 1) }
     ensures refused { IfErr result HasRefusedFile }
     ensures only_read { OnlyRead S.holds S.misses S.faults S.store_faults shelf.old shelf.new }
     ensures missing { IfErr result (λ why. IsMissingFile why → Rose (S.misses shelf.old) (S.misses shelf.new)) }
     ensures read_fault { IsErrOf result Unread → Rose (S.faults shelf.old) (S.faults shelf.new) }
-    ensures read_fault_there { (files : Files) → S.holds shelf.old ≡ Some files → IsErrOf result Unread → SomeIsThere files (asked_of word.now).names }
+    ensures read_fault_there { (files : Files) → S.holds shelf.old ≡ Some files → IsErrOf result Unread →
+        SomeIsThere files (asked_of word.now).names }
 {
     match application_of(word) {
         Some(asked) => add_asked(alloc, asked, lib, limits, shelf, session),
@@ -106,7 +108,8 @@ fn add_asked<S: Shelf>(
     ensures only_read { OnlyRead S.holds S.misses S.faults S.store_faults shelf.old shelf.new }
     ensures missing { IfErr result (λ why. IsMissingFile why → Rose (S.misses shelf.old) (S.misses shelf.new)) }
     ensures read_fault { IsErrOf result Unread → Rose (S.faults shelf.old) (S.faults shelf.new) }
-    ensures read_fault_there { (files : Files) → S.holds shelf.old ≡ Some files → IsErrOf result Unread → SomeIsThere files (asked_seen asked.entry).names }
+    ensures read_fault_there { (files : Files) → S.holds shelf.old ≡ Some files → IsErrOf result Unread →
+        SomeIsThere files (asked_seen asked.entry).names }
 {
     // By a `match`, and not by `?`: the clauses speak of the very fault that was answered.
     match code_of(alloc, asked, lib, shelf) {

@@ -49,7 +49,8 @@ pub fn code_of<S: Shelf>(
     ensures only_read { OnlyRead S.holds S.misses S.faults S.store_faults shelf.old shelf.new }
     ensures missing { IfErr result (λ why. IsMissingFile why → Rose (S.misses shelf.old) (S.misses shelf.new)) }
     ensures read_fault { IsErrOf result Unread → Rose (S.faults shelf.old) (S.faults shelf.new) }
-    ensures read_fault_there { (files : Files) → S.holds shelf.old ≡ Some files → IsErrOf result Unread → SomeIsThere files (asked_seen asked.entry).names }
+    ensures read_fault_there { (files : Files) → S.holds shelf.old ≡ Some files → IsErrOf result Unread →
+        SomeIsThere files (asked_seen asked.entry).names }
 {
     code_of_files(alloc, asked.names, lib, shelf)
 }
@@ -71,7 +72,8 @@ pub fn code_of_files<S: Shelf>(
     ensures only_read { OnlyRead S.holds S.misses S.faults S.store_faults shelf.old shelf.new }
     ensures missing { IfErr result (λ why. IsMissingFile why → Rose (S.misses shelf.old) (S.misses shelf.new)) }
     ensures read_fault { IsErrOf result Unread → Rose (S.faults shelf.old) (S.faults shelf.new) }
-    ensures read_fault_there { (files : Files) → S.holds shelf.old ≡ Some files → IsErrOf result Unread → SomeIsThere files (names_in names.now) }
+    ensures read_fault_there { (files : Files) → S.holds shelf.old ≡ Some files → IsErrOf result Unread →
+        SomeIsThere files (names_in names.now) }
 {
     let names = names_in(alloc, names)?;
     let texts = names_of(alloc, names.as_slice())?;

@@ -22,7 +22,8 @@ pub fn tell(alloc: Global, session: &Session, number: u32, told: Told) -> Result
     requires ended { HaveEnded session.now }
     requires run { IsRunStatus told.status }
     ensures out { IfOk result (λ all. all.out ≡ told.out ++ text_from number (runs_at (drop number session.now.members))) }
-    ensures status { IfOk result (λ all. all.status ≡ status_then_lem told.status (status_of_all (runs_at (drop number session.now.members)))) }
+    ensures status { IfOk result (λ all. all.status ≡ status_then_lem told.status
+        (status_of_all (runs_at (drop number session.now.members)))) }
     ensures alone { OnOk result (AllStandAlone (drop number session.now.members)) }
     ensures run { IfOk result (λ all. IsRunStatus all.status) }
 {

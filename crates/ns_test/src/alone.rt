@@ -6,7 +6,7 @@ ghost use Rattle.ns_machine.specs.Asking.{HasSelector, MayAsk, named};
 ghost use Rattle.ns_machine_moves.specs.Starts.{begun};
 ghost use Rattle.ns_machine_moves.specs.State.{ending_of, world_of};
 ghost use Rattle.ns_machine_report.specs.Ending.{IsLiveEnding};
-ghost use Rattle.ns_run_code.specs.Machine.{rested, told_at};
+ghost use Rattle.ns_run_code.specs.Machine.{rested};
 ghost use Rattle.ns_run_code.specs.Run.{granted};
 ghost use Rattle.ns_run_code.specs.Running.{HasAnEnd};
 ghost use Rattle.ns_test.specs.Alone as spec;

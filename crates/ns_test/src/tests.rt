@@ -10,7 +10,6 @@ ghost use Rattle.ns_run_code.specs.Machine.{told_at};
 ghost use Rattle.ns_run_code.specs.Running.{HasAnEnd};
 ghost use Rattle.ns_world.specs.Lawful.{IsLiveValue};
 ghost use Rattle.ns_world.specs.declared.ending.Ending.TheVariants.{Done};
-ghost use Rattle.ns_test.specs.Alone.{test_line, test_verdict};
 ghost use Rattle.ns_test.specs.Opening.{tests_of};
 ghost use Rattle.ns_test.specs.Stated.{AnswersClass, AnswersFault, IsTest, Tells};
 ghost use Rattle.ns_test.specs.Tests as spec;

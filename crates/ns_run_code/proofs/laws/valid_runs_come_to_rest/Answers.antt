@@ -1,4 +1,4 @@
-use Rattle.ns_run_code.proofs.Resting.{Known, rests, rest_stays, still_rests}
+use Rattle.ns_run_code.proofs.Resting.{rests, rest_stays, still_rests}
 use Rattle.ns_run_code.proofs.laws.valid_runs_come_to_rest.Goals as goal
 
 pub returns-clause-rests : goal.returns-clause-rests
