@@ -10,8 +10,8 @@ use Rattle.ns_lex.specs.Next.{next_piece}
 use Rattle.ns_lex.specs.Piece.{Text}
 use Rattle.ns_lex.specs.Scan.{scan_from, before}
 use Rattle.ns_lex.specs.declared.piece.Piece.TheVariants as lexed
-use Rattle.ns_lex.proofs.Blanks.{blank_read, refuse, accept}
-use Rattle.ns_lex.proofs.Steps as scanning
+use Rattle.ns_lex.specs.laws.Blanks.{blank_read, refuse, accept}
+use Rattle.ns_lex.specs.laws.Steps as scanning
 use Rattle.ns_format.specs.declared.piece.Gap.{Gap}
 use Rattle.ns_format.specs.declared.piece.Gap.TheVariants as gap
 use Rattle.ns_format.specs.declared.piece.Mark.TheVariants as mark

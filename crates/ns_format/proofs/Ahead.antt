@@ -17,8 +17,8 @@ use Rattle.ns_lex.specs.Single.{single}
 use Rattle.ns_lex.specs.declared.piece.Piece.{Piece}
 use Rattle.ns_lex.specs.declared.piece.Piece.TheVariants.{Token, Fault}
 use Rattle.ns_lex.specs.declared.piece.Cause.TheVariants as cause
-use Rattle.ns_lex.proofs.Blanks.{Ends, blank_ends, refuse}
-use Rattle.ns_lex.proofs.Symbols.{symbol_token}
+use Rattle.ns_lex.specs.laws.Blanks.{Ends, blank_ends, refuse}
+use Rattle.ns_lex.specs.laws.Symbols.{symbol_token}
 
 -- a byte that ends each token but a string
 pub record Stops (b : ℕ) : Type 0 where

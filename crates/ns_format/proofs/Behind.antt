@@ -18,11 +18,11 @@ use Rattle.ns_lex.specs.declared.piece.Piece.TheVariants.{Gap, Token, Fault}
 use Rattle.ns_lex.specs.declared.piece.Cause.TheVariants as cause
 use Rattle.ns_lex.specs.Gap.{IsGapPart, inside}
 use Rattle.ns_lex.specs.laws.Stands.{stands_spells}
-use Rattle.ns_lex.proofs.Blanks.{refuse}
-use Rattle.ns_lex.proofs.Gaps.{IsPart}
-use Rattle.ns_lex.proofs.Pieces.{next_gap, next_token, IsFirst}
-use Rattle.ns_lex.proofs.ReadAgain.{read_again}
-use Rattle.ns_lex.proofs.Singles.{clash}
+use Rattle.ns_lex.specs.laws.Blanks.{refuse}
+use Rattle.ns_lex.specs.laws.Gaps.{IsPart}
+use Rattle.ns_lex.specs.laws.Pieces.{next_gap, next_token, IsFirst}
+use Rattle.ns_lex.specs.laws.ReadAgain.{read_again}
+use Rattle.ns_lex.specs.laws.Singles.{clash}
 use Rattle.ns_format.proofs.Ahead.{Stops, blank_stops, bracket_stops, remark_stops, word_same, number_same, operator_same, symbol_same, single_same}
 
 -- one test, and what holds of both its sides

@@ -5,8 +5,8 @@ use Rattle.ns_tree.specs.declared.token.Token.{Token}
 use Rattle.ns_lex.specs.Lexes.{Lexes}
 use Rattle.ns_lex.specs.Piece.{Text}
 use Rattle.ns_lex.specs.Spaced.{LexesTo}
-use Rattle.ns_lex.proofs.Cutting.{scan_lexes}
-use Rattle.ns_lex.proofs.Scanned.{lexes_scanned}
+use Rattle.ns_lex.specs.laws.Cutting.{scan_lexes}
+use Rattle.ns_lex.specs.laws.Scanned.{lexes_scanned}
 use Rattle.ns_format.specs.Consists.{ArePieces}
 use Rattle.ns_format.specs.Format.{formatted}
 use Rattle.ns_format.specs.Pieces.{pieces}

@@ -11,11 +11,11 @@ use Rattle.ns_lex.specs.Piece.{Text}
 use Rattle.ns_lex.specs.Scan.{Tokens, scan_from, before}
 use Rattle.ns_lex.specs.declared.piece.Piece as lex
 use Rattle.ns_lex.specs.declared.piece.Piece.TheVariants as lexed
-use Rattle.ns_lex.proofs.Blanks.{blank_read}
-use Rattle.ns_lex.proofs.Gaps.{IsPart}
-use Rattle.ns_lex.proofs.Pieces.{next_gap, next_token, IsFirst}
-use Rattle.ns_lex.proofs.Steps as scanning
-use Rattle.ns_lex.proofs.Words.{length_taken}
+use Rattle.ns_lex.specs.laws.Blanks.{blank_read}
+use Rattle.ns_lex.specs.laws.Gaps.{IsPart}
+use Rattle.ns_lex.specs.laws.Pieces.{next_gap, next_token, IsFirst}
+use Rattle.ns_lex.specs.laws.Steps as scanning
+use Rattle.ns_lex.specs.laws.Words.{length_taken}
 use Rattle.ns_format.specs.declared.piece.Gap.{Gap}
 use Rattle.ns_format.specs.declared.piece.Gap.TheVariants as gap
 use Rattle.ns_format.specs.Pieces.{with_blank}

@@ -12,9 +12,9 @@ use Rattle.ns_lex.specs.Scan.{scan_from}
 use Rattle.ns_lex.specs.Spells.{SpellsToken}
 use Rattle.ns_lex.specs.declared.piece.Piece.TheVariants as lexed
 use Rattle.ns_lex.specs.laws.Stands.{stands_spells}
-use Rattle.ns_lex.proofs.Gaps.{IsPart}
-use Rattle.ns_lex.proofs.Pieces.{next_gap, next_token, IsFirst}
-use Rattle.ns_lex.proofs.Singles.{clash, same_first}
+use Rattle.ns_lex.specs.laws.Gaps.{IsPart}
+use Rattle.ns_lex.specs.laws.Pieces.{next_gap, next_token, IsFirst}
+use Rattle.ns_lex.specs.laws.Singles.{clash, same_first}
 use Rattle.ns_format.specs.declared.piece.Gap.{Gap}
 use Rattle.ns_format.specs.declared.piece.Gap.TheVariants as gap
 use Rattle.ns_format.specs.declared.piece.Piece.{Piece}

@@ -2,9 +2,10 @@
 
 ghost use Rattle.std.specs.Prelude.{◌≡◌, ◌++◌, IfOk, OnOk, replicate};
 ghost use Rattle.ns_format.specs.Format as spec;
+ghost use Rattle.ns_format.specs.Leads.{lead_behind, closed_at};
 
 use crate::leads::{closed_at, lead_behind, open_behind, role_in, side_behind};
-use crate::piece::{Gap, Piece};
+use crate::piece::{Gap, Piece, Role};
 use crate::pieces::pieces;
 use ns_base::no_memory::NoMemory;
 use ns_base::text::Text;
@@ -30,7 +31,7 @@ fn lay(alloc: Global, pieces: &[Piece]) -> Result<Text, NoMemory>
     let mut left = pieces;
     'pieces: while let [piece, more @ ..] = left {
         let role = role_in(&piece.mark);
-        let lead = lead_behind(closed_at(role, more), leads.as_slice());
+        let lead = lead_of(piece.gap, role, more, leads.as_slice());
         put_gap(&mut out, piece.gap, lead)?;
         out.extend_from_slice(piece.text.bytes())?;
         open_behind(role, side, &mut leads)?;
@@ -39,6 +40,17 @@ fn lay(alloc: Global, pieces: &[Piece]) -> Result<Text, NoMemory>
     }
     out.push(b'\n')?;
     Ok(Text::from_vec(out))
+}
+
+/// The lead of what stands behind a gap. What closes is counted only where a line begins, so each piece is gone through
+/// at most twice.
+fn lead_of(gap: Gap, role: Role, more: &[Piece], leads: &[usize]) -> usize
+    ensures { spec.spaced gap result ≡ spec.spaced gap (lead_behind (closed_at role more.now) leads.now) }
+{
+    match gap {
+        Gap::First | Gap::Nothing | Gap::Blanks => 0,
+        Gap::Line | Gap::Lines => lead_behind(closed_at(role, more), leads),
+    }
 }
 
 /// Writes what stands for a gap.

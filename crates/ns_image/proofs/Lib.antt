@@ -1,4 +1,3 @@
-pub mod Loop
 pub mod Instructions
 pub mod Numbered
 pub mod Records

@@ -9,11 +9,11 @@ use Rattle.ns_lex.specs.Piece.{Text}
 use Rattle.ns_lex.specs.Scan.{scan_from, before}
 use Rattle.ns_lex.specs.Spaced.{IsSpaced, LexesTo}
 use Rattle.ns_lex.specs.Spells.{AllOf, SpellsToken}
-use Rattle.ns_lex.proofs.Cutting.{scan_lexes}
-use Rattle.ns_lex.proofs.OneKind.{spelled_some}
-use Rattle.ns_lex.proofs.Blanks.{blank_read}
-use Rattle.ns_lex.proofs.ReadAgain.{read_again}
-use Rattle.ns_lex.proofs.Steps.{gap_goes, token_goes, ends}
+use Rattle.ns_lex.specs.laws.Cutting.{scan_lexes}
+use Rattle.ns_lex.specs.lemmas.OneKind.{spelled_some}
+use Rattle.ns_lex.specs.laws.Blanks.{blank_read}
+use Rattle.ns_lex.specs.laws.ReadAgain.{read_again}
+use Rattle.ns_lex.specs.laws.Steps.{gap_goes, token_goes, ends}
 
 -- The scan of a text gives tokens of these kinds.
 record ScansTo (at : ℕ) (z : Text) (wanted : List Kind) : Type 0 where

@@ -15,3 +15,4 @@ pub mod Gap
 pub mod Lexes
 pub mod Spaced
 pub mod laws
+pub mod lemmas

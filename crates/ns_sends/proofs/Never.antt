@@ -36,7 +36,7 @@ use Rattle.ns_find.specs.Rows.{top_rows, called_by, row_members, rows_members, k
 use Rattle.ns_find.specs.Find.{found_from, found_private, members_from, class_side_members}
 use Rattle.ns_static_all.specs.Ascending.{IsOneOf}
 use Rattle.ns_static_all.specs.InOrder.{in_order}
-use Rattle.ns_static_all.proofs.Putting.{ordered_are_items}
+use Rattle.ns_static_all.specs.laws.Putting.{ordered_are_items}
 use Rattle.ns_sends.specs.declared.sent.SentAt.{SentAt}
 use Rattle.ns_sends.specs.Answered.{slot_texts, method_text, class_texts, program_texts, is_row, is_answered}
 use Rattle.ns_sends.specs.Unanswered.{lost_at, lost_by, lost_in, lost_sends, unanswered, sent_key, sent_by}

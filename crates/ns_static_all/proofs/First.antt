@@ -4,14 +4,14 @@ use Rattle.ns_scope.specs.declared.program.Program.{Program}
 use Rattle.ns_static_rules.specs.declared.fault.Placed.{Placed}
 use Rattle.ns_static_rules.specs.Least.{comes_before, least, order_of}
 use Rattle.ns_static_rules.specs.LeastOf.{IsAmong, NoneBefore, IsLeastOf}
-use Rattle.ns_static_rules.proofs.Order.{least_is_least, not_both}
+use Rattle.ns_static_rules.specs.laws.Order.{least_is_least, not_both}
 use Rattle.ns_static.specs.Check.{fault_of, faults_of}
 use Rattle.ns_static_all.specs.All.{all_faults}
 use Rattle.ns_static_all.specs.InOrder.{in_order}
 use Rattle.ns_static_all.specs.Ascending.{IsOneOf, Ascends, AreAmong, AreAllOf, first_of}
 use Rattle.ns_static_all.proofs.Alike.{four_numbers, same_fault}
-use Rattle.ns_static_all.proofs.Same.{before_each}
-use Rattle.ns_static_all.proofs.Telling.{all_of_them}
+use Rattle.ns_static_all.specs.lemmas.Same.{before_each}
+use Rattle.ns_static_all.specs.laws.Telling.{all_of_them}
 
 abbrev before : Placed → Placed → Bool
 before x y = comes_before (order_of x) (order_of y)

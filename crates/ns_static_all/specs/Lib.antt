@@ -1,3 +1,5 @@
 pub mod All
 pub mod Ascending
 pub mod InOrder
+pub mod laws
+pub mod lemmas

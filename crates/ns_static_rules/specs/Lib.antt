@@ -5,3 +5,4 @@ pub mod LeastOf
 pub mod Listing
 pub mod Rules
 pub mod Walk
+pub mod laws

@@ -1,7 +1,7 @@
-use Rattle.ns_lex.proofs.Cutting.{scan_lexes}
-use Rattle.ns_lex.proofs.OneCut.{lexes_whole, one_lexes}
-use Rattle.ns_lex.proofs.OneStop.{one_stop}
-use Rattle.ns_lex.proofs.Scanned.{cut_or_stopped, lexes_scanned, stop_scanned, scanned_stop}
+use Rattle.ns_lex.specs.laws.Cutting.{scan_lexes}
+use Rattle.ns_lex.specs.lemmas.OneCut.{lexes_whole, one_lexes}
+use Rattle.ns_lex.specs.lemmas.OneStop.{one_stop}
+use Rattle.ns_lex.specs.laws.Scanned.{cut_or_stopped, lexes_scanned, stop_scanned, scanned_stop}
 use Rattle.ns_lex.proofs.laws.sources_are_cut_one_way.Goals as goal
 
 pub returns-clause-some : goal.returns-clause-some

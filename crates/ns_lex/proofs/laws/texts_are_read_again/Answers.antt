@@ -1,4 +1,4 @@
-use Rattle.ns_lex.proofs.ReadAgain.{read_again}
+use Rattle.ns_lex.specs.laws.ReadAgain.{read_again}
 use Rattle.ns_lex.proofs.laws.texts_are_read_again.Goals as goal
 
 pub returns : goal.returns

@@ -1,5 +1,5 @@
-use Rattle.ns_lex.proofs.Cutting.{scan_lexes, scan_stops}
-use Rattle.ns_lex.proofs.Steps.{gap_loop, token_loop, fault_loop, end_loop, later, one_more, token_grows}
+use Rattle.ns_lex.specs.laws.Cutting.{scan_lexes, scan_stops}
+use Rattle.ns_lex.specs.laws.Steps.{gap_loop, token_loop, fault_loop, end_loop, later, one_more, token_grows}
 use Rattle.std.proofs.Common.{ap, sym, subst, ◌+◌, ◌∙◌, Err, arith}
 use Rattle.ns_lex.specs.Scan.{InOrder}
 use Rattle.ns_lex.proofs.scan.lex.Goals as goal

@@ -3,7 +3,7 @@ use Rattle.std.proofs.lemmas.Fn.{always_returns_same}
 use Rattle.std.specs.Ordering.{is_lt}
 use Rattle.ns_static_rules.specs.Least.{comes_before}
 use Rattle.ns_static_all.specs.InOrder.{once_behind}
-use Rattle.ns_static_all.proofs.Telling.{order_is_weak, told_in_order}
+use Rattle.ns_static_all.specs.laws.Telling.{order_is_weak, told_in_order}
 use Rattle.ns_sends.specs.Unanswered.{sent_key}
 use Rattle.ns_sends.proofs.SentKeys.{four_numbers, same_send}
 use Rattle.ns_sends.proofs.order.in_order.Goals as goal

@@ -3,7 +3,7 @@ use Rattle.std.proofs.lemmas.List.{take_all, take_more_set}
 use Rattle.std.proofs.lemmas.Result.{err_from_is_err_and}
 use Rattle.ns_facets.specs.declared.board.Plain.{Plain}
 use Rattle.ns_image.specs.Read.{got, times}
-use Rattle.ns_image.proofs.Loop.{goes_on, ends, is_done}
+use Rattle.ns_image.specs.laws.Loop.{goes_on, ends, is_done}
 use Rattle.ns_snapshot.specs.Reading.{plain}
 use Rattle.ns_snapshot_read.proofs.state.places.Goals as goal
 

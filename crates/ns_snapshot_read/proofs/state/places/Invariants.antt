@@ -1,6 +1,6 @@
 use Rattle.std.proofs.Common.{◌≡◌, ◌-◌, take, length}
 use Rattle.ns_image.specs.Read.{times}
-use Rattle.ns_image.proofs.Loop.{with_front}
+use Rattle.ns_image.specs.laws.Loop.{with_front}
 use Rattle.ns_snapshot.specs.Reading.{plain}
 use Rattle.ns_snapshot_read.proofs.state.places.Given as goal
 

@@ -4,7 +4,7 @@ use Rattle.std.specs.Ordering.{is_lt}
 use Rattle.ns_static_rules.specs.Least.{comes_before, order_of}
 use Rattle.ns_static_all.specs.InOrder.{once_behind}
 use Rattle.ns_static_all.proofs.Alike.{four_numbers, same_fault}
-use Rattle.ns_static_all.proofs.Telling.{order_is_weak, told_in_order}
+use Rattle.ns_static_all.specs.laws.Telling.{order_is_weak, told_in_order}
 use Rattle.ns_static_all.proofs.all.in_order.Goals as goal
 
 pub returns : goal.returns

@@ -1,6 +1,6 @@
 use Rattle.std.proofs.lemmas.Result.{err_from_is_err_and}
 use Rattle.ns_image.specs.Read.{times}
-use Rattle.ns_image.proofs.Loop.{goes_on, ends, is_done}
+use Rattle.ns_image.specs.laws.Loop.{goes_on, ends, is_done}
 use Rattle.ns_image.proofs.read.format.times.Goals as goal
 
 pub returns-in_err-item : goal.returns-in_err-item

@@ -1,6 +1,6 @@
 use Rattle.std.proofs.Common.{◌≡◌, ◌-◌}
 use Rattle.ns_image.specs.Read.{times}
-use Rattle.ns_image.proofs.Loop.{with_front}
+use Rattle.ns_image.specs.laws.Loop.{with_front}
 use Rattle.ns_image.proofs.read.format.times.Given as goal
 
 abbrev pub invariant-items : goal.invariant-items

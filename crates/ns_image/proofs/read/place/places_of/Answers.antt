@@ -1,7 +1,7 @@
 use Rattle.std.proofs.lemmas.Result.{err_from_is_err_and}
 use Rattle.ns_image.specs.Read.{chained}
 use Rattle.ns_image.specs.Reading.{place, behind_place}
-use Rattle.ns_image.proofs.Loop.{goes_on, ends, is_done}
+use Rattle.ns_image.specs.laws.Loop.{goes_on, ends, is_done}
 use Rattle.ns_image.proofs.read.place.places_of.Goals as goal
 
 pub returns-in_err-item : goal.returns-in_err-item

@@ -1,7 +1,7 @@
 use Rattle.std.proofs.Common.{◌≡◌, ◌-◌}
 use Rattle.ns_image.specs.Read.{chained}
 use Rattle.ns_image.specs.Reading.{place, behind_place}
-use Rattle.ns_image.proofs.Loop.{with_front}
+use Rattle.ns_image.specs.laws.Loop.{with_front}
 use Rattle.ns_image.proofs.read.place.places_of.Given as goal
 
 abbrev pub invariant-places : goal.invariant-places

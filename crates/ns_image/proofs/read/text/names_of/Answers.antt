@@ -1,7 +1,7 @@
 use Rattle.std.proofs.lemmas.Result.{err_from_is_err_and}
 use Rattle.ns_image.specs.Read.{chained}
 use Rattle.ns_image.specs.Reading.{name_after, with_name}
-use Rattle.ns_image.proofs.Loop.{goes_on, ends, is_done}
+use Rattle.ns_image.specs.laws.Loop.{goes_on, ends, is_done}
 use Rattle.ns_image.proofs.read.text.names_of.Goals as goal
 
 pub returns-in_err-text : goal.returns-in_err-text

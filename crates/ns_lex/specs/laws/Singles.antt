@@ -11,7 +11,7 @@ use Rattle.ns_lex.specs.declared.piece.Piece.{Piece}
 use Rattle.ns_lex.specs.declared.piece.Piece.TheVariants.{Token}
 use Rattle.ns_lex.specs.Spells.{IsIdentifierText, IsOperator, SpellsToken}
 use Rattle.ns_lex.specs.Lexes.{BeforeSlotSet, SpellsInText}
-use Rattle.ns_lex.proofs.Words.{IsToken, NoneLonger, longest_cut, moved}
+use Rattle.ns_lex.specs.laws.Words.{IsToken, NoneLonger, longest_cut, moved}
 
 -- The byte begins no name, number, operator, string or symbol.
 pub record Apart (b : ℕ) : Type 0 where

@@ -14,9 +14,9 @@ use Rattle.ns_lex.specs.declared.piece.Cause.TheVariants as cause
 use Rattle.ns_lex.specs.Spells.{AllOf}
 use Rattle.ns_lex.specs.Gap.{Inside, closes, byte, nested, inside, BeginsMark, Marked, IsComment, IsRemark, BeginsNoGap}
 use Rattle.ns_lex.specs.Lexes.{IsFault}
-use Rattle.ns_lex.proofs.Words.{run_all, at_end}
-use Rattle.ns_lex.proofs.Singles.{clash, same_first}
-use Rattle.ns_lex.proofs.Faults.{is_comment}
+use Rattle.ns_lex.specs.laws.Words.{run_all, at_end}
+use Rattle.ns_lex.specs.laws.Singles.{clash, same_first}
+use Rattle.ns_lex.specs.lemmas.Faults.{is_comment}
 
 -- ---- comments are found
 

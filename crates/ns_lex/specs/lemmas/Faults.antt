@@ -16,9 +16,9 @@ use Rattle.ns_lex.specs.Spells.{IsIdentifierText, IsOperator, SpellsToken}
 use Rattle.ns_lex.specs.Gap.{BeginsNoGap}
 use Rattle.ns_lex.specs.Lexes.{SpellsInText, IsDigits, BeginsName, BeginsFraction, BeginsNoFault}
 use Rattle.ns_lex.specs.laws.Stands.{stands_spells}
-use Rattle.ns_lex.proofs.Words.{IsToken, run_all, at_end}
-use Rattle.ns_lex.proofs.Singles.{clash, same_first}
-use Rattle.ns_lex.proofs.Numbers.{run, number_says}
+use Rattle.ns_lex.specs.laws.Words.{IsToken, run_all, at_end}
+use Rattle.ns_lex.specs.laws.Singles.{clash, same_first}
+use Rattle.ns_lex.specs.lemmas.Numbers.{run, number_says}
 
 -- ---- gaps
 

@@ -11,8 +11,8 @@ use Rattle.ns_lex.specs.declared.piece.Piece.TheVariants.{Token}
 use Rattle.ns_base.specs.Quoted.{doubled}
 use Rattle.ns_base.specs.Spelling.{is_digit, begins_name, is_operator_byte}
 use Rattle.ns_lex.specs.Lexes.{SpellsInText, Longest}
-use Rattle.ns_lex.proofs.Words.{IsToken, moved, length_taken}
-use Rattle.ns_lex.proofs.Singles.{no_name, no_operator, first_not, same_first, no_slot_set, clash}
+use Rattle.ns_lex.specs.laws.Words.{IsToken, moved, length_taken}
+use Rattle.ns_lex.specs.laws.Singles.{no_name, no_operator, first_not, same_first, no_slot_set, clash}
 
 -- ---- what the machine says
 

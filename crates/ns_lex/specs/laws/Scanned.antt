@@ -11,9 +11,9 @@ use Rattle.ns_lex.specs.declared.piece.Piece.{Piece}
 use Rattle.ns_lex.specs.declared.piece.Piece.TheVariants as piece
 use Rattle.ns_lex.specs.declared.piece.Cause.{Cause}
 use Rattle.ns_lex.specs.declared.piece.Cause.TheVariants as cause
-use Rattle.ns_lex.proofs.Cutting.{scan_lexes, scan_stops}
-use Rattle.ns_lex.proofs.OneCut.{one_lexes, lexes_whole}
-use Rattle.ns_lex.proofs.OneStop.{one_stop}
+use Rattle.ns_lex.specs.laws.Cutting.{scan_lexes, scan_stops}
+use Rattle.ns_lex.specs.lemmas.OneCut.{one_lexes, lexes_whole}
+use Rattle.ns_lex.specs.lemmas.OneStop.{one_stop}
 
 -- ---- no scan wants memory
 

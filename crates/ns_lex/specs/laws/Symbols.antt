@@ -14,9 +14,9 @@ use Rattle.ns_lex.specs.Symbol.{symbol, selector_len, keys_from}
 use Rattle.ns_lex.specs.declared.piece.Piece.TheVariants.{Token, Fault}
 use Rattle.ns_lex.specs.declared.piece.Cause.TheVariants as cause
 use Rattle.ns_lex.specs.Spells.{AllOf, IsIdentifierText, IsKeysText, IsOperator, SpellsToken}
-use Rattle.ns_lex.proofs.Words.{IsToken, NoneLonger, longest_cut, moved, name_run, in_name, is_name, name_short}
-use Rattle.ns_lex.proofs.Singles.{no_name, no_operator, first_not, same_first, no_slot_set, clash}
-use Rattle.ns_lex.proofs.Operators.{operator_longest, operator_stands}
+use Rattle.ns_lex.specs.laws.Words.{IsToken, NoneLonger, longest_cut, moved, name_run, in_name, is_name, name_short}
+use Rattle.ns_lex.specs.laws.Singles.{no_name, no_operator, first_not, same_first, no_slot_set, clash}
+use Rattle.ns_lex.specs.lemmas.Operators.{operator_longest, operator_stands}
 
 -- ---- what the machine says of keys
 

@@ -22,17 +22,17 @@ use Rattle.ns_lex.specs.declared.piece.Piece.TheVariants.{Gap, Token, Fault}
 use Rattle.ns_lex.specs.Gap.{BeginsNoGap}
 use Rattle.ns_lex.specs.Lexes.{BeginsNoFault, IsFault}
 use Rattle.ns_lex.specs.laws.Stands.{stands_spells}
-use Rattle.ns_lex.proofs.Words.{IsToken, word_token}
-use Rattle.ns_lex.proofs.Singles.{split, clash, single_token}
-use Rattle.ns_lex.proofs.Numbers.{number_token, run}
-use Rattle.ns_lex.proofs.Operators.{operator_token}
-use Rattle.ns_lex.proofs.Strings.{string_token, at_quote}
-use Rattle.ns_lex.proofs.Symbols.{symbol_token, at_mark}
-use Rattle.ns_lex.proofs.Gaps.{IsPart, blank_part, remark_part, comment_part}
+use Rattle.ns_lex.specs.laws.Words.{IsToken, word_token}
+use Rattle.ns_lex.specs.laws.Singles.{split, clash, single_token}
+use Rattle.ns_lex.specs.lemmas.Numbers.{number_token, run}
+use Rattle.ns_lex.specs.lemmas.Operators.{operator_token}
+use Rattle.ns_lex.specs.lemmas.Strings.{string_token, at_quote}
+use Rattle.ns_lex.specs.laws.Symbols.{symbol_token, at_mark}
+use Rattle.ns_lex.specs.laws.Gaps.{IsPart, blank_part, remark_part, comment_part}
 use Rattle.ns_lex.specs.declared.piece.Cause.{Cause}
-use Rattle.ns_lex.proofs.Stops.{IsStop, remark_stop, comment_stop}
-use Rattle.ns_lex.proofs.Refused.{number_fault, string_fault, symbol_fault, single_fault}
-use Rattle.ns_lex.proofs.Faults.{is_comment, no_gap, no_fault, no_digits, number_digits, token_first, NoBadDigits, MarkStands, QuoteStands}
+use Rattle.ns_lex.specs.lemmas.Stops.{IsStop, remark_stop, comment_stop}
+use Rattle.ns_lex.specs.lemmas.Refused.{number_fault, string_fault, symbol_fault, single_fault}
+use Rattle.ns_lex.specs.lemmas.Faults.{is_comment, no_gap, no_fault, no_digits, number_digits, token_first, NoBadDigits, MarkStands, QuoteStands}
 
 -- ---- pieces of a gap
 

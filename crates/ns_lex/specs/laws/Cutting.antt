@@ -14,11 +14,11 @@ use Rattle.ns_lex.specs.Piece.{Text}
 use Rattle.ns_lex.specs.Scan.{Tokens, scan, scan_from, before}
 use Rattle.ns_lex.specs.Gap.{IsGap, IsGapPart, BeginsNoGap}
 use Rattle.ns_lex.specs.Lexes.{Gapped, Cuts, Lexes, BeginsNoFault, IsFault, StopsAt}
-use Rattle.ns_lex.proofs.Steps.{gap_goes, token_goes, fault_goes, ends}
-use Rattle.ns_lex.proofs.Words.{length_taken}
-use Rattle.ns_lex.proofs.Gaps.{IsPart}
-use Rattle.ns_lex.proofs.Pieces.{next_gap, next_token, next_fault, IsFirst}
-use Rattle.ns_lex.proofs.Stops.{IsStop}
+use Rattle.ns_lex.specs.laws.Steps.{gap_goes, token_goes, fault_goes, ends}
+use Rattle.ns_lex.specs.laws.Words.{length_taken}
+use Rattle.ns_lex.specs.laws.Gaps.{IsPart}
+use Rattle.ns_lex.specs.laws.Pieces.{next_gap, next_token, next_fault, IsFirst}
+use Rattle.ns_lex.specs.lemmas.Stops.{IsStop}
 
 -- a part of a gap before a gap
 gap_more : (p g : Text) → IsGapPart p → IsGap g → IsGap (p ++ g)

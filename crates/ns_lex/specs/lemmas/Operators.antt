@@ -15,7 +15,7 @@ use Rattle.ns_lex.specs.Operator.{operator, operator_len}
 use Rattle.ns_lex.specs.declared.piece.Piece.TheVariants.{Token}
 use Rattle.ns_lex.specs.Spells.{AllOf, IsIdentifierText, SpellsToken}
 use Rattle.ns_lex.specs.Lexes.{BeforeSlotSet}
-use Rattle.ns_lex.proofs.Words.{IsToken, NoneLonger, longest_cut, run_of, run_all, moved, length_taken}
+use Rattle.ns_lex.specs.laws.Words.{IsToken, NoneLonger, longest_cut, run_of, run_all, moved, length_taken}
 
 -- an operator's byte begins no name and no number
 no_name : (b : ℕ) → is_operator_byte b ≡ true → begins_name b ≡ true → ⊥

@@ -11,10 +11,10 @@ use Rattle.ns_lex.specs.Single.{single}
 use Rattle.ns_lex.specs.declared.piece.Piece.TheVariants.{Token}
 use Rattle.ns_lex.specs.Spells.{SpellsToken}
 use Rattle.ns_base.specs.Quoted.{doubled}
-use Rattle.ns_lex.proofs.Blanks.{Ends, blank_ends, refuse}
-use Rattle.ns_lex.proofs.ReadNames.{name_again, key_again, set_again}
-use Rattle.ns_lex.proofs.ReadRuns.{oper_again, digits_again}
-use Rattle.ns_lex.proofs.ReadSymbols.{string_again, symbol_again}
+use Rattle.ns_lex.specs.laws.Blanks.{Ends, blank_ends, refuse}
+use Rattle.ns_lex.specs.lemmas.ReadNames.{name_again, key_again, set_again}
+use Rattle.ns_lex.specs.lemmas.ReadRuns.{oper_again, digits_again}
+use Rattle.ns_lex.specs.lemmas.ReadSymbols.{string_again, symbol_again}
 
 -- ---- signs
 

@@ -6,7 +6,7 @@ use Rattle.ns_lex.specs.Bytes.{is_blank}
 use Rattle.ns_lex.specs.Piece.{Text}
 use Rattle.ns_lex.specs.Next.{next_piece}
 use Rattle.ns_lex.specs.declared.piece.Piece.TheVariants.{Gap}
-use Rattle.ns_lex.proofs.Words.{at_end}
+use Rattle.ns_lex.specs.laws.Words.{at_end}
 
 -- a byte that ends each token but a string
 pub record Ends (b : ℕ) : Type 0 where

@@ -5,11 +5,11 @@ use Rattle.std.specs.List.{Contains, slice_index_or}
 use Rattle.std.specs.List.Sorted.{IsSortedBy, IsPermutation}
 use Rattle.std.proofs.lemmas.List.Sorted.{Contains-permutation, IsPermutation-sym}
 use Rattle.ns_static_rules.specs.Least.{comes_before}
-use Rattle.ns_static_rules.proofs.Order.{before_before, before_other, is_false, not_both, not_itself}
+use Rattle.ns_static_rules.specs.laws.Order.{before_before, before_other, is_false, not_both, not_itself}
 use Rattle.ns_static_all.specs.InOrder.{in_order, once_behind, is_behind}
 use Rattle.ns_static_all.specs.Ascending.{IsOneOf, BeforeAll, Ascends, AreAmong, AreAllOf}
-use Rattle.ns_static_all.proofs.Putting.{neither_before, before_all, in_order_ascends, ordered_are_items, ordered_miss_none}
-use Rattle.ns_static_all.proofs.Same.{same_list}
+use Rattle.ns_static_all.specs.laws.Putting.{neither_before, before_all, in_order_ascends, ordered_are_items, ordered_miss_none}
+use Rattle.ns_static_all.specs.lemmas.Same.{same_list}
 
 module _ {X : Type 0} (key : X → List ℕ) (size : ℕ) (long : (x : X) → length (key x) ≡ size) (same : (x y : X) → key x ≡ key y → x ≡ y) where
   abbrev before : X → X → Bool

@@ -13,10 +13,10 @@ use Rattle.ns_lex.specs.Number.{number, sized, at_most_greatest, value, greatest
 use Rattle.ns_lex.specs.Operator.{operator, operator_len}
 use Rattle.ns_lex.specs.declared.piece.Piece.TheVariants.{Token}
 use Rattle.ns_lex.specs.Spells.{AllOf, IsOperator}
-use Rattle.ns_lex.proofs.Words.{run_all}
-use Rattle.ns_lex.proofs.Numbers.{run}
-use Rattle.ns_lex.proofs.Symbols.{oper_start}
-use Rattle.ns_lex.proofs.Blanks.{Ends, refuse, accept, and_second, first_behind}
+use Rattle.ns_lex.specs.laws.Words.{run_all}
+use Rattle.ns_lex.specs.lemmas.Numbers.{run}
+use Rattle.ns_lex.specs.laws.Symbols.{oper_start}
+use Rattle.ns_lex.specs.laws.Blanks.{Ends, refuse, accept, and_second, first_behind}
 
 -- ---- operators
 

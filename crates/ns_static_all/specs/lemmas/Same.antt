@@ -1,7 +1,7 @@
 -- Lists that ascend and have the same items are the same.
 use Rattle.std.proofs.Common.{◌≡◌, inl, inr, refl, sym, subst, ℕ, Bool, true, List, [], ◌∷◌}
 use Rattle.ns_static_rules.specs.Least.{comes_before}
-use Rattle.ns_static_rules.proofs.Order.{before_before, not_both, not_itself}
+use Rattle.ns_static_rules.specs.laws.Order.{before_before, not_both, not_itself}
 use Rattle.ns_static_all.specs.Ascending.{IsOneOf, BeforeAll, Ascends, AreAmong}
 
 module _ {X : Type 0} (key : X → List ℕ) where

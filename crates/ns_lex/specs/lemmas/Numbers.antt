@@ -14,8 +14,8 @@ use Rattle.ns_lex.specs.Piece.{Text}
 use Rattle.ns_lex.specs.Number.{number, sized, at_most_greatest, value, greatest}
 use Rattle.ns_lex.specs.declared.piece.Piece.TheVariants.{Token}
 use Rattle.ns_lex.specs.Spells.{SpellsToken}
-use Rattle.ns_lex.proofs.Words.{IsToken, NoneLonger, longest_cut, run_of, run_all, moved, length_taken}
-use Rattle.ns_lex.proofs.Singles.{no_name, no_operator, first_not, same_first, no_slot_set, split}
+use Rattle.ns_lex.specs.laws.Words.{IsToken, NoneLonger, longest_cut, run_of, run_all, moved, length_taken}
+use Rattle.ns_lex.specs.laws.Singles.{no_name, no_operator, first_not, same_first, no_slot_set, split}
 
 name_of : (b : ℕ) → is_digit b ≡ true → begins_name b ≡ false
 name_of b h = grind (arith, nat_tests)

@@ -13,11 +13,11 @@ use Rattle.ns_lex.specs.declared.piece.Piece.TheVariants.{Token}
 use Rattle.ns_lex.specs.Spells.{AllOf, IsIdentifierText, IsKeysText, IsOperator}
 use Rattle.ns_base.specs.Quoted.{doubled}
 use Rattle.ns_base.specs.Spelling.{begins_name, goes_on_name, is_operator_byte}
-use Rattle.ns_lex.proofs.Words.{name_end}
-use Rattle.ns_lex.proofs.Strings.{finds}
-use Rattle.ns_lex.proofs.Symbols.{IsSelector, no_colon, key_then, keys_start, oper_start, no_oper}
-use Rattle.ns_lex.proofs.Blanks.{Ends, refuse, accept}
-use Rattle.ns_lex.proofs.ReadRuns.{len_again}
+use Rattle.ns_lex.specs.laws.Words.{name_end}
+use Rattle.ns_lex.specs.lemmas.Strings.{finds}
+use Rattle.ns_lex.specs.laws.Symbols.{IsSelector, no_colon, key_then, keys_start, oper_start, no_oper}
+use Rattle.ns_lex.specs.laws.Blanks.{Ends, refuse, accept}
+use Rattle.ns_lex.specs.lemmas.ReadRuns.{len_again}
 
 -- ---- strings
 

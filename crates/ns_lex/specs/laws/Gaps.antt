@@ -13,8 +13,8 @@ use Rattle.ns_lex.specs.declared.piece.Piece.TheVariants.{Gap, Fault}
 use Rattle.ns_lex.specs.declared.piece.Cause.TheVariants as cause
 use Rattle.ns_lex.specs.Spells.{AllOf}
 use Rattle.ns_lex.specs.Gap.{Inside, closes, byte, nested, inside, BeginsMark, Marked, IsGapPart}
-use Rattle.ns_lex.proofs.Words.{run_of}
-use Rattle.ns_lex.proofs.Singles.{clash}
+use Rattle.ns_lex.specs.laws.Words.{run_of}
+use Rattle.ns_lex.specs.laws.Singles.{clash}
 
 -- The first n bytes of the text are a part of a gap.
 pub record IsPart (z : Text) (n : ℕ) : Type 0 where

@@ -10,8 +10,8 @@ use Rattle.ns_lex.specs.Next.{next_piece}
 use Rattle.ns_lex.specs.Word.{word, word_by, name_len, named, reserved}
 use Rattle.ns_lex.specs.declared.piece.Piece.TheVariants.{Token}
 use Rattle.ns_lex.specs.Spells.{IsIdentifierText}
-use Rattle.ns_lex.proofs.Words.{name_end, at_end}
-use Rattle.ns_lex.proofs.Blanks.{Ends, refuse, accept, first_behind}
+use Rattle.ns_lex.specs.laws.Words.{name_end, at_end}
+use Rattle.ns_lex.specs.laws.Blanks.{Ends, refuse, accept, first_behind}
 
 name_blank : (c : ℕ) → begins_name c ≡ true → is_blank c ≡ false
 name_blank c h = grind (arith, nat_tests)

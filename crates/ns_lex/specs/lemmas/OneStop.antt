@@ -12,9 +12,9 @@ use Rattle.ns_lex.specs.Piece.{Text}
 use Rattle.ns_lex.specs.Lexes.{IsDigits, BeginsName, BeginsFraction, BeginsNothing, IsFault, Cuts, LexStops}
 use Rattle.ns_lex.specs.declared.piece.Cause.{Cause}
 use Rattle.ns_lex.specs.declared.piece.Cause.TheVariants as cause
-use Rattle.ns_lex.proofs.Words.{run_all}
-use Rattle.ns_lex.proofs.Faults.{run_ends, bad_no_digit}
-use Rattle.ns_lex.proofs.OneCut.{gapped_cut, step_same, after_step}
+use Rattle.ns_lex.specs.laws.Words.{run_all}
+use Rattle.ns_lex.specs.lemmas.Faults.{run_ends, bad_no_digit}
+use Rattle.ns_lex.specs.lemmas.OneCut.{gapped_cut, step_same, after_step}
 
 -- ---- the fault that a text can only have
 

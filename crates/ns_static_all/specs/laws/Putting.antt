@@ -1,10 +1,10 @@
 -- Items that are put in order ascend, and are those that were put.
 use Rattle.std.proofs.Common.{◌≡◌, ◌∙◌, ◌⊎◌, inl, inr, refl, sym, subst, ℕ, Bool, true, false, List, [], ◌∷◌, length, if◌then◌else◌, fold}
 use Rattle.ns_static_rules.specs.Least.{comes_before}
-use Rattle.ns_static_rules.proofs.Order.{before_before}
+use Rattle.ns_static_rules.specs.laws.Order.{before_before}
 use Rattle.ns_static_all.specs.InOrder.{put, in_order}
 use Rattle.ns_static_all.specs.Ascending.{IsOneOf, BeforeAll, Ascends, AreAmong}
-use Rattle.ns_static_all.proofs.Keys.{neither_first}
+use Rattle.ns_static_all.specs.lemmas.Keys.{neither_first}
 
 module _ {X : Type 0} (key : X → List ℕ) (size : ℕ) (long : (x : X) → length (key x) ≡ size) (same : (x y : X) → key x ≡ key y → x ≡ y) where
   abbrev pub before : X → X → Bool

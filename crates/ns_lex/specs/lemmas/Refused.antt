@@ -23,11 +23,11 @@ use Rattle.ns_base.specs.Quoted.{doubled}
 use Rattle.ns_base.specs.Spelling.{is_digit, begins_name, is_operator_byte}
 use Rattle.ns_lex.specs.Gap.{IsGapPart, inside}
 use Rattle.ns_lex.specs.Lexes.{SpellsInText, IsDigits, BeginsNothing, IsFault}
-use Rattle.ns_lex.proofs.Words.{run_of, length_taken, at_end}
-use Rattle.ns_lex.proofs.Singles.{clash, same_first, split, no_name, no_operator}
-use Rattle.ns_lex.proofs.Numbers.{run}
-use Rattle.ns_lex.proofs.Strings.{finds, found}
-use Rattle.ns_lex.proofs.Symbols.{IsSelector, selector_longest}
+use Rattle.ns_lex.specs.laws.Words.{run_of, length_taken, at_end}
+use Rattle.ns_lex.specs.laws.Singles.{clash, same_first, split, no_name, no_operator}
+use Rattle.ns_lex.specs.lemmas.Numbers.{run}
+use Rattle.ns_lex.specs.lemmas.Strings.{finds, found}
+use Rattle.ns_lex.specs.laws.Symbols.{IsSelector, selector_longest}
 
 -- a fault that is another's by its cause and place
 moved : (z : Text) (c d : Cause) (n m : ℕ) → Fault c n ≡ Fault d m → IsFault z c n → IsFault z d m

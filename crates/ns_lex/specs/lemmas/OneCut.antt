@@ -9,8 +9,8 @@ use Rattle.ns_lex.specs.Spells.{SpellsToken}
 use Rattle.ns_lex.specs.declared.piece.Cause.{Cause}
 use Rattle.ns_lex.specs.declared.piece.Cause.TheVariants as cause
 use Rattle.ns_lex.specs.laws.Stands.{stands_spells}
-use Rattle.ns_lex.proofs.OneKind.{all_in, spelled_kind, spelled_some}
-use Rattle.ns_lex.proofs.OneGap.{Same, equal_cut, gap_cut, run_cut}
+use Rattle.ns_lex.specs.lemmas.OneKind.{all_in, spelled_kind, spelled_some}
+use Rattle.ns_lex.specs.lemmas.OneGap.{Same, equal_cut, gap_cut, run_cut}
 
 -- ---- gaps and tokens
 
