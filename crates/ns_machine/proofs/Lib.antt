@@ -7,3 +7,4 @@ pub mod Running
 pub mod LiveEndings
 pub mod LiveTest
 pub mod Asked
+pub mod Freezes

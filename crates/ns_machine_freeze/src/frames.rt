@@ -1,6 +1,6 @@
 //! All frames as plain data.
 
-ghost use Rattle.std.specs.Prelude.{◌≡◌, ◌<◌, length, true, IfOk};
+ghost use Rattle.std.specs.Prelude.{◌≡◌, ◌<◌, length, Bool, true, IfOk};
 ghost use Rattle.ns_machine_frames.specs.Leaving.{floor_of};
 ghost use Rattle.ns_machine_frames.specs.Standing.{with_next};
 ghost use Rattle.ns_machine_frames.specs.Stack.{stood, IsLaid};
@@ -53,7 +53,7 @@ fn frame_at(
     if number == 0 {
         return topmost(alloc, code, core, at, waits);
     }
-    lower(alloc, code, core, at, number, waits)
+    lower(alloc, code, core, at, number)
 }
 
 /// The topmost frame, whose next instruction the registers have.
@@ -79,14 +79,12 @@ fn lower(
     core: &Core,
     at: Registers,
     number: u32,
-    waits: bool,
 ) -> Result<FrozenFrame, NoMemory>
     requires laid { IsLaid core.now.stack at }
     requires some { 0 < number }
     requires there { number < length core.now.stack.frames.items }
-    ensures { IfOk result (λ frame. IsDown code.now core.now at waits number frame) }
+    ensures { (waits : Bool) → IfOk result (λ frame. IsDown code.now core.now at waits number frame) }
 {
-    let _waits = waits;
     let end = floor_of(core.stack.frame(number - 1));
     let frozen = frame_of(alloc, code, core, *core.stack.frame(number), end, true)?;
     Ok(frozen)

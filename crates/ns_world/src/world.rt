@@ -456,6 +456,16 @@ impl World {
         self.output.as_slice()
     }
 
+    /// Goes on with other counts of steps and of frames.
+    pub fn resume(&mut self, steps: u64, depth: u64)
+        requires steps { steps ≤ self.old.world.limits.steps }
+        requires depth { depth ≤ self.old.world.limits.depth }
+        ensures { self.new ≡ record self.old { world = record self.old.world { steps = steps; depth = depth } } }
+    {
+        self.steps = steps;
+        self.depth = depth;
+    }
+
     /// Forgets all cells and all output, with all counters 0. What was reserved stays.
     pub fn clear(&mut self)
         ensures { self.new ≡ record self.old { world = empty_world self.old.world.limits } }

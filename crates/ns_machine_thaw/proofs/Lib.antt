@@ -1,0 +1,14 @@
+pub mod Fitting
+pub mod Writing
+pub mod Onto
+pub mod Arrays
+pub mod Placed
+pub mod Shown
+pub mod Entered
+pub mod Waited
+pub mod Supers
+pub mod Stacked
+pub mod Worlds
+pub mod Put
+pub mod Sure
+pub mod Whole

@@ -1,0 +1,11 @@
+use Rattle.std.proofs.lemmas.List.{take_more}
+use Rattle.ns_machine_thaw.proofs.Writing.{writing_starts, writing_goes_on}
+use Rattle.ns_machine_thaw.proofs.cells.write_words.Goals as goal
+
+pub words-init : goal.words-init
+words-init c = writing_starts c.args.at c.args.words.now c.args.world.now c.requires.last
+
+pub words-preserved : goal.words-preserved
+words-preserved c =
+    writing_goes_on c.args.at c.args.words.now c.words.word c.args.world.now c.words.world c.write.new.self _ c.words-test.true
+    (take_more c.args.words.now c.words.word _ c.words-test.true) c.words.invariant c.write.ensures
