@@ -3,18 +3,20 @@ use Rattle.std.specs.Prelude.{◌≡◌, ℕ, ◌&&◌, nat_eq, nat_le, nat_lt, 
 use Rattle.std.proofs.Common.{◌≤◌, ◌<◌, ◌+◌, arith, ap, sym, subst, ◌∙◌, append_assoc}
 use Rattle.std.proofs.lemmas.Bool.Decides.{nat_tests}
 use Rattle.std.proofs.lemmas.List.{append-nil}
-use Rattle.std.specs.Option.{is_some}
+use Rattle.std.specs.Option.{is_some, option_or as or_else}
 use Rattle.std.specs.Str.{bytes_eq}
 use Rattle.ns_base.specs.declared.limits.Limits.{Limits}
+use Rattle.ns_help.specs.Topics.{text_of}
 use Rattle.ns_run_words.specs.Application.{is_application}
 use Rattle.ns_run_words.specs.FileName.{is_file_name}
 use Rattle.ns_run_words.specs.Forms.{AreNames, all_given}
-use Rattle.ns_run_words.specs.Options.{denial_where, tests_where, value_behind, with_denied, with_only}
+use Rattle.ns_run_words.specs.Options.{denial_where, run_where, tests_where, value_behind, with_denied, with_only}
+use Rattle.ns_run_words.specs.Own.{check_where, json_where, least_of, listing_where, most_of, own_option, to_where, with_to}
 use Rattle.ns_run_words.specs.Table.{form_of}
 use Rattle.ns_run_words.specs.Words.{Options, Names, Arguments, bad, says, given_or, has_needed, is_item, limit_where, number_given, number_of, option_or, part_or, quantum_where, read_from, with_cells, with_depth, with_limit, with_name, with_option, with_out, with_quantum, with_steps}
 use Rattle.ns_run_words.specs.declared.form.Form.{Form}
 use Rattle.ns_run_words.specs.declared.form.Item.{Item}
-use Rattle.ns_run_words.specs.declared.form.Item.TheVariants.{File, Number, Application}
+use Rattle.ns_run_words.specs.declared.form.Item.TheVariants.{File, Number, Application, Text, Topic}
 use Rattle.ns_run_words.specs.declared.form.Verb.{Verb}
 use Rattle.ns_run_words.specs.declared.words.Given.{Given}
 
@@ -60,12 +62,44 @@ pub no_denial : (takes : Bool) (given : Given) (word : List ℕ) → BeginsOther
 no_denial false given word n = refl
 no_denial true given word n = ap (with_denied given) (no_value (codes "--deny=") word (n 100 (codes "eny=")))
 
+pub no_run : (takes : Bool) (given : Given) (word : List ℕ) → IsOther word → run_where takes given word ≡ None
+no_run false given word o = refl
+no_run true given word o = rw (o 115 (codes "tats"), o 116 (codes "rue")) refl
+
+pub no_check : (takes : Bool) (given : Given) (word : List ℕ) → IsOther word → check_where takes given word ≡ None
+no_check false given word o = refl
+no_check true given word o = rw (o 97 (codes "ll"), o 115 (codes "ends")) refl
+
+pub no_listing : (takes : Bool) (given : Given) (word : List ℕ) → IsOther word → listing_where takes given word ≡ None
+no_listing false given word o = refl
+no_listing true given word o = rw (o 109 (codes "embers")) refl
+
+pub no_image : (takes : Bool) (given : Given) (word : List ℕ) → BeginsOtherwise word → to_where takes given word ≡ None
+no_image false given word n = refl
+no_image true given word n = ap (with_to given) (no_value (codes "--to=") word (n 116 (codes "o=")))
+
+pub no_json : (takes : Bool) (given : Given) (word : List ℕ) → IsOther word → json_where takes given word ≡ None
+no_json false given word o = refl
+no_json true given word o = rw (o 106 (codes "son")) refl
+
+pub no_own : (form : Form) (given : Given) (word : List ℕ) → IsOther word → BeginsOtherwise word → own_option form given word ≡ None
+no_own form given word o n =
+    let last = or_else (to_where form.to given word) (json_where form.json given word) in
+    ap (λ q. or_else q (or_else (listing_where form.members given word) last)) (no_check form.checks given word o)
+    ∙ ap (λ q. or_else q last) (no_listing form.members given word o)
+    ∙ ap (λ q. or_else q (json_where form.json given word)) (no_image form.to given word n)
+    ∙ no_json form.json given word o
+
 pub no_option : (form : Form) (given : Given) (word : List ℕ) → IsOther word → BeginsOtherwise word → with_option form given word ≡ None
 no_option form given word o n =
+    let others = given_or (own_option form given word) (limit_where form.greatest given word) in
+    let runs = given_or (run_where form.runs given word) others in
     rw (o 108 (codes "ib"))
-    (ap (λ q. given_or q (given_or (tests_where form.tests given word) (given_or (denial_where form.denies given word) (limit_where form.greatest given word)))) (no_quantum form.quantum given word n)
-    ∙ ap (λ q. given_or q (given_or (denial_where form.denies given word) (limit_where form.greatest given word))) (no_test form.tests given word o n)
-    ∙ ap (λ q. given_or q (limit_where form.greatest given word)) (no_denial form.denies given word n)
+    (ap (λ q. given_or q (given_or (tests_where form.tests given word) (given_or (denial_where form.denies given word) runs))) (no_quantum form.quantum given word n)
+    ∙ ap (λ q. given_or q (given_or (denial_where form.denies given word) runs)) (no_test form.tests given word o n)
+    ∙ ap (λ q. given_or q runs) (no_denial form.denies given word n)
+    ∙ ap (λ q. given_or q others) (no_run form.runs given word o)
+    ∙ ap (λ q. given_or q (limit_where form.greatest given word)) (no_own form given word o n)
     ∙ no_limit_where form.greatest given word n)
 
 -- A name has no dash in front.
@@ -98,18 +132,37 @@ no_dash_of_application b bs h =
       | false ↦ λ e. refl
     ] refl
 
+never : {P : Type 0} → false ≡ true → P
+never e = absurd (cc (e))
+
+-- What there is a text on has no dash in front.
+pub no_dash_of_topic : (b : ℕ) (bs : List ℕ) → is_some (text_of (b ∷ bs)) ≡ true → nat_eq b 45 ≡ false
+no_dash_of_topic b bs h =
+    elim (nat_eq b 45) as (λ q. nat_eq b 45 ≡ q → q ≡ false) [
+      | true ↦ λ e. by (grind (arith, nat_tests, e))
+      | false ↦ λ e. refl
+    ] refl
+  where
+    by : b ≡ 45 → true ≡ false
+    by is = never (subst (λ x. is_some (text_of (x ∷ bs)) ≡ true) is h)
+
+-- Any text has none either.
+pub no_dash_of_text : (b : ℕ) → not (nat_eq b 45) ≡ true → nat_eq b 45 ≡ false
+no_dash_of_text b h =
+    elim (nat_eq b 45) as (λ q. not q ≡ true → q ≡ false) [
+      | true ↦ λ k. absurd (cc (k))
+      | false ↦ λ k. refl
+    ] h
+
 pub no_dash_of_item : (item : Item) (b : ℕ) (bs : List ℕ) → is_item item (b ∷ bs) ≡ true → nat_eq b 45 ≡ false
 no_dash_of_item File b bs h = no_dash b bs h
 no_dash_of_item (Number greatest) b bs h = no_dash_of_number greatest b bs h
 no_dash_of_item Application b bs h = no_dash_of_application b bs h
-
-pub some_item : {P : Type 0} (item : Item) → is_item item [] ≡ true → P
-some_item File h = absurd (cc (h))
-some_item (Number greatest) h = absurd (cc (h))
-some_item Application h = absurd (cc (h))
+no_dash_of_item Text b bs h = no_dash_of_text b h
+no_dash_of_item Topic b bs h = no_dash_of_topic b bs h
 
 pub name_is_no_option : (form : Form) (given : Given) (word : List ℕ) → is_item form.item word ≡ true → with_option form given word ≡ None
-name_is_no_option form given [] h = some_item form.item h
+name_is_no_option form given [] h = no_option form given [] (λ c name. refl) (λ c name. refl)
 name_is_no_option form given (b ∷ bs) h =
     let e : nat_eq b 45 ≡ false = no_dash_of_item form.item b bs h in
     no_option form given (b ∷ bs) (λ c name. rw e refl) (λ c name. rw e refl)
@@ -119,6 +172,8 @@ pub dashes_are_no_item : (item : Item) → is_item item (codes "--") ≡ false
 dashes_are_no_item File = refl
 dashes_are_no_item (Number greatest) = refl
 dashes_are_no_item Application = refl
+dashes_are_no_item Text = refl
+dashes_are_no_item Topic = refl
 
 pub dashes_are_no_option : (form : Form) (given : Given) → with_option form given (codes "--") ≡ None
 dashes_are_no_option form given = no_option form given (codes "--") (λ c name. refl) (λ c name. refl)
@@ -162,29 +217,29 @@ pub names_append : (item : Item) (names : List (List ℕ)) (w : List ℕ) → Ar
 names_append item [] w a e = (e, tt)
 names_append item (n ∷ ns) w a e = (a.0, names_append item ns w a.1 e)
 
-pub names_read : (verb : Verb) (given : Given) (options before names words : List (List ℕ)) (k : ℕ) → has_needed (form_of verb) given ≡ true → AreNames (form_of verb).item names → length before + length names ≤ (form_of verb).most
+pub names_read : (verb : Verb) (given : Given) (options before names words : List (List ℕ)) (k : ℕ) → has_needed (form_of verb) given ≡ true → AreNames (form_of verb).item names → length before + length names ≤ most_of (form_of verb) given
     → read_from verb (Names given options before) k (names ++ words) ≡ read_from verb (Names given options (before ++ names)) (k + length names) words
 names_read verb given options before [] words k d a l =
     let n : k ≡ k + 0 = omega arith in
     ap (λ b. read_from verb (Names given options b) k words) (sym (append-nil before)) ∙ ap (λ j. read_from verb (Names given options (before ++ [])) j words) n
 names_read verb given options before (w ∷ ws) words k d a l =
-    let room : nat_lt (length before) (form_of verb).most ≡ true = grind (arith, nat_tests) in
+    let room : nat_lt (length before) (most_of (form_of verb) given) ≡ true = grind (arith, nat_tests) in
     let n : k + 1 + length ws ≡ k + length (w ∷ ws) = omega arith in
-    let size : length (before ++ w ∷ []) + length ws ≤ (form_of verb).most = omega (arith, length_one before w) in
+    let size : length (before ++ w ∷ []) + length ws ≤ most_of (form_of verb) given = omega (arith, length_one before w) in
     first room
     ∙ names_read verb given options (before ++ w ∷ []) ws words (k + 1) d a.1 size
     ∙ ap (λ b. read_from verb (Names given options b) (k + 1 + length ws) words) (append_assoc before (w ∷ []) ws)
     ∙ ap (λ j. read_from verb (Names given options (before ++ w ∷ ws)) j words) n
   where
-    first : nat_lt (length before) (form_of verb).most ≡ true → read_from verb (Names given options before) k (w ∷ ws ++ words) ≡ read_from verb (Names given options (before ++ w ∷ [])) (k + 1) (ws ++ words)
+    first : nat_lt (length before) (most_of (form_of verb) given) ≡ true → read_from verb (Names given options before) k (w ∷ ws ++ words) ≡ read_from verb (Names given options (before ++ w ∷ [])) (k + 1) (ws ++ words)
     first r = rw (a.0, r, d) refl
 
 -- ---- arguments
 
-pub arguments_read : (verb : Verb) (given : Given) (options names before words : List (List ℕ)) (k m : ℕ) → (form_of verb).arguments ≡ Some m → (form_of verb).least ≤ length names → length before + length words ≤ m
+pub arguments_read : (verb : Verb) (given : Given) (options names before words : List (List ℕ)) (k m : ℕ) → (form_of verb).arguments ≡ Some m → least_of (form_of verb) given ≤ length names → length before + length words ≤ m
     → read_from verb (Arguments given options names before) k words ≡ says (record { verb = verb; given = given; options = options; names = names; arguments = before ++ words })
 arguments_read verb given options names before [] k m a e l =
-    let enough : nat_le (form_of verb).least (length names) ≡ true = grind (arith, nat_tests) in
+    let enough : nat_le (least_of (form_of verb) given) (length names) ≡ true = grind (arith, nat_tests) in
     rw enough (ap (λ b. says (record { verb = verb; given = given; options = options; names = names; arguments = b })) (sym (append-nil before)))
 arguments_read verb given options names before (w ∷ ws) k m a e l =
     let room : nat_lt (length before) m ≡ true = grind (arith, nat_tests) in

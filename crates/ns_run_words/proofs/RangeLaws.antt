@@ -2,18 +2,20 @@
 use Rattle.std.specs.Prelude.{◌≡◌, ℕ, ◌+◌, ◌&&◌, nat_le, nat_lt, List, [], ◌∷◌, Bool, true, false, Option, Some, None, cond, codes, drop, length, option_and_then, refl, take}
 use Rattle.std.proofs.Common.{◌≤◌, arith, subst}
 use Rattle.std.proofs.lemmas.Bool.Decides.{nat_tests}
-use Rattle.std.specs.Option.{unwrap_or}
+use Rattle.std.specs.Option.{option_or as or_else, unwrap_or}
 use Rattle.std.specs.Str.{bytes_eq}
 use Rattle.ns_base.specs.Limits.{InRange, IsFrom1To}
 use Rattle.ns_base.specs.declared.limits.Limits.{Limits}
 use Rattle.ns_run_words.specs.Forms.{IsForm, all_given}
 use Rattle.ns_base.specs.Spelling.{is_identifier, is_selector}
-use Rattle.ns_run_words.specs.Options.{denial_where, tests_where, value_behind, with_denied, with_only, with_reverse}
+use Rattle.ns_run_words.specs.Options.{denial_where, run_where, tests_where, value_behind, with_denied, with_only, with_reverse, with_stats, with_truth}
+use Rattle.ns_run_words.specs.Own.{check_where, json_where, listing_where, own_option, to_where, with_all, with_json, with_members, with_sends, with_to}
+use Rattle.ns_run_words.specs.FileName.{is_file_name}
 use Rattle.ns_run_words.specs.Table.{form_of}
 use Rattle.ns_run_words.specs.Words.{CommandLine, begins_bad, in_range, limits_of, nothing_given, number_given, number_of, value_from, given_or, limit_where, quantum_of, quantum_where, with_cells, with_depth, with_lib, with_limit, with_option, with_out, with_quantum, with_steps}
 use Rattle.ns_run_words.specs.declared.form.Form.{Form}
 use Rattle.ns_run_words.specs.declared.form.Verb.{Verb}
-use Rattle.ns_run_words.specs.declared.form.Verb.TheVariants.{Check, Show, Run, Build, Exec, Listing, Session, Sample, Audit, Test, Help, Version}
+use Rattle.ns_run_words.specs.declared.form.Verb.TheVariants.{Check, Show, Format, Run, Eval, Build, Exec, Listing, Session, Sample, Audit, Test, Library, Help, Explain, Version}
 use Rattle.ns_run_words.specs.declared.words.Given.{Given}
 
 -- The number, where there is one, is from 1 to the greatest.
@@ -156,11 +158,95 @@ pub denial_within : (takes : Bool) (given : Given) (word : List ℕ) → AreWith
 denial_within false given word a = tt
 denial_within true given word a = denied_within given (value_behind (codes "--deny=") word) a
 
+pub run_within : (takes : Bool) (given : Given) (word : List ℕ) → AreWithin given → IsFine (run_where takes given word)
+run_within false given word a = tt
+run_within true given word a =
+    elim (bytes_eq word (codes "--stats")) as (λ q. IsFine (cond q (with_stats given) (cond (bytes_eq word (codes "--true")) (with_truth given) None))) [
+      | true ↦ elim given.stats as (λ q. IsFine (cond q None (Some (record given { stats = true })))) [
+        | true ↦ tt
+        | false ↦ record { steps = a.steps; cells = a.cells; depth = a.depth; out = a.out; quantum = a.quantum }
+      ]
+      | false ↦ elim (bytes_eq word (codes "--true")) as (λ q. IsFine (cond q (with_truth given) None)) [
+        | true ↦ elim given.truth as (λ q. IsFine (cond q None (Some (record given { truth = true })))) [
+          | true ↦ tt
+          | false ↦ record { steps = a.steps; cells = a.cells; depth = a.depth; out = a.out; quantum = a.quantum }
+        ]
+        | false ↦ tt
+      ]
+    ]
+
+pub check_within : (takes : Bool) (given : Given) (word : List ℕ) → AreWithin given → IsFine (check_where takes given word)
+check_within false given word a = tt
+check_within true given word a =
+    elim (bytes_eq word (codes "--all")) as (λ q. IsFine (cond q (with_all given) (cond (bytes_eq word (codes "--sends")) (with_sends given) None))) [
+      | true ↦ elim given.all as (λ q. IsFine (cond q None (Some (record given { all = true })))) [
+        | true ↦ tt
+        | false ↦ record { steps = a.steps; cells = a.cells; depth = a.depth; out = a.out; quantum = a.quantum }
+      ]
+      | false ↦ elim (bytes_eq word (codes "--sends")) as (λ q. IsFine (cond q (with_sends given) None)) [
+        | true ↦ elim given.sends as (λ q. IsFine (cond q None (Some (record given { sends = true })))) [
+          | true ↦ tt
+          | false ↦ record { steps = a.steps; cells = a.cells; depth = a.depth; out = a.out; quantum = a.quantum }
+        ]
+        | false ↦ tt
+      ]
+    ]
+
+pub listing_within : (takes : Bool) (given : Given) (word : List ℕ) → AreWithin given → IsFine (listing_where takes given word)
+listing_within false given word a = tt
+listing_within true given word a =
+    elim (bytes_eq word (codes "--members")) as (λ q. IsFine (cond q (with_members given) None)) [
+      | true ↦ elim given.members as (λ q. IsFine (cond q None (Some (record given { members = true })))) [
+        | true ↦ tt
+        | false ↦ record { steps = a.steps; cells = a.cells; depth = a.depth; out = a.out; quantum = a.quantum }
+      ]
+      | false ↦ tt
+    ]
+
+pub image_within : (given : Given) (name : Option (List ℕ)) → AreWithin given → IsFine (with_to given name)
+image_within given None a = tt
+image_within given (Some name) a =
+    elim given.to as (λ q. IsFine (cond q None (cond (is_file_name name) (Some (record given { to = true })) None))) [
+      | true ↦ tt
+      | false ↦ elim (is_file_name name) as (λ q. IsFine (cond q (Some (record given { to = true })) None)) [
+        | true ↦ record { steps = a.steps; cells = a.cells; depth = a.depth; out = a.out; quantum = a.quantum }
+        | false ↦ tt
+      ]
+    ]
+
+pub to_within : (takes : Bool) (given : Given) (word : List ℕ) → AreWithin given → IsFine (to_where takes given word)
+to_within false given word a = tt
+to_within true given word a = image_within given (value_behind (codes "--to=") word) a
+
+pub json_within : (takes : Bool) (given : Given) (word : List ℕ) → AreWithin given → IsFine (json_where takes given word)
+json_within false given word a = tt
+json_within true given word a =
+    elim (bytes_eq word (codes "--json")) as (λ q. IsFine (cond q (with_json given) None)) [
+      | true ↦ elim given.json as (λ q. IsFine (cond q None (Some (record given { json = true })))) [
+        | true ↦ tt
+        | false ↦ record { steps = a.steps; cells = a.cells; depth = a.depth; out = a.out; quantum = a.quantum }
+      ]
+      | false ↦ tt
+    ]
+
+pub either_within : (one other : Option Given) → IsFine one → IsFine other → IsFine (or_else one other)
+either_within None other f g = g
+either_within (Some given) other f g = f
+
+pub own_within : (form : Form) (given : Given) (word : List ℕ) → AreWithin given → IsFine (own_option form given word)
+own_within form given word a =
+    either_within _ _ (check_within form.checks given word a)
+    (either_within _ _ (listing_within form.members given word a)
+    (either_within _ _ (to_within form.to given word a) (json_within form.json given word a)))
+
 pub option_within : (form : Form) (given : Given) (word : List ℕ) → IsSmall form.greatest → AreWithin given → IsFine (with_option form given word)
 option_within form given word s a =
     elim (bytes_eq word (codes "--lib")) as (λ q. IsFine (cond q (cond form.lib (with_lib given) None)
     (given_or (quantum_where form.quantum given word)
-    (given_or (tests_where form.tests given word) (given_or (denial_where form.denies given word) (limit_where form.greatest given word)))))) [
+    (given_or (tests_where form.tests given word)
+    (given_or (denial_where form.denies given word)
+    (given_or (run_where form.runs given word)
+    (given_or (own_option form given word) (limit_where form.greatest given word)))))))) [
       | true ↦ elim form.lib as (λ q. IsFine (cond q (with_lib given) None)) [
         | true ↦ lib_within given a
         | false ↦ tt
@@ -168,7 +254,9 @@ option_within form given word s a =
       | false ↦
           one_within _ _ (quantum_within form.quantum given word a)
           (one_within _ _ (tests_within form.tests given word a)
-          (one_within _ _ (denial_within form.denies given word a) (where_within form.greatest given word s a)))
+          (one_within _ _ (denial_within form.denies given word a)
+          (one_within _ _ (run_within form.runs given word a)
+          (one_within _ _ (own_within form given word a) (where_within form.greatest given word s a)))))
     ]
 
 pub all_within : (form : Form) (given last : Given) (options : List (List ℕ)) → IsSmall form.greatest → AreWithin given → all_given form given options ≡ Some last → AreWithin last
@@ -186,7 +274,9 @@ nothing_within = record { steps = tt; cells = tt; depth = tt; out = tt; quantum 
 pub forms_small : (verb : Verb) → IsSmall (form_of verb).greatest
 forms_small Check = tt
 forms_small Show = tt
+forms_small Format = tt
 forms_small Run = ((omega arith, omega arith), (omega arith, omega arith), (omega arith, omega arith), (omega arith, omega arith))
+forms_small Eval = ((omega arith, omega arith), (omega arith, omega arith), (omega arith, omega arith), (omega arith, omega arith))
 forms_small Build = tt
 forms_small Exec = ((omega arith, omega arith), (omega arith, omega arith), (omega arith, omega arith), (omega arith, omega arith))
 forms_small Listing = tt
@@ -194,7 +284,9 @@ forms_small Session = ((omega arith, omega arith), (omega arith, omega arith), (
 forms_small Sample = tt
 forms_small Audit = tt
 forms_small Test = ((omega arith, omega arith), (omega arith, omega arith), (omega arith, omega arith), (omega arith, omega arith))
+forms_small Library = tt
 forms_small Help = tt
+forms_small Explain = tt
 forms_small Version = tt
 
 -- What the options of a form give is within its ranges.

@@ -8,14 +8,15 @@ use Rattle.std.proofs.lemmas.Slice.Eq.{bytes_eq-Decides}
 use Rattle.std.specs.Str.{bytes_eq}
 use Rattle.ns_run_words.proofs.FormLaws.{form_is_read, word_is_read}
 use Rattle.ns_run_words.proofs.PartLaws.{all_given_append, length_one, names_append}
-use Rattle.ns_run_words.specs.Forms.{AreArguments, AreNames, Begins, IsForm, IsReadingOf, all_given}
-use Rattle.ns_run_words.specs.Table.{form_of, verb_of, word_of}
-use Rattle.ns_run_words.specs.Words.{CommandLine, ReadSoFar, Options, Names, Arguments, LineReading, bad, bad_of, says, arguments_behind, first_bad, has_needed, has_room, is_item, line_of, names_read, nothing_given, option_or, part_or, read_from, reading_of, with_argument, with_dashes, with_name, with_option, with_word}
+use Rattle.ns_run_words.specs.Forms.{AreArguments, AreNames, Begins, IsForm, IsOneOf, IsReadingOf, all_given}
+use Rattle.ns_run_words.specs.Own.{least_of, most_of}
+use Rattle.ns_run_words.specs.Table.{form_of, verb_of, words_of}
+use Rattle.ns_run_words.specs.Words.{CommandLine, ReadSoFar, Options, Names, Arguments, LineReading, bad, bad_of, says, arguments_behind, first_bad, given_of, has_needed, has_room, is_item, line_of, names_read, nothing_given, option_or, part_or, read_from, reading_of, with_argument, with_dashes, with_name, with_option, with_word}
 use Rattle.ns_run_words.specs.declared.form.Form.{Form}
 use Rattle.ns_run_words.specs.declared.form.Item.{Item}
-use Rattle.ns_run_words.specs.declared.form.Item.TheVariants.{File, Number, Application}
+use Rattle.ns_run_words.specs.declared.form.Item.TheVariants.{File, Number, Application, Text, Topic}
 use Rattle.ns_run_words.specs.declared.form.Verb.{Verb}
-use Rattle.ns_run_words.specs.declared.form.Verb.TheVariants.{Check, Show, Run, Build, Exec, Listing, Session, Sample, Audit, Test, Help, Version}
+use Rattle.ns_run_words.specs.declared.form.Verb.TheVariants.{Check, Show, Format, Run, Eval, Build, Exec, Listing, Session, Sample, Audit, Test, Library, Help, Explain, Version}
 use Rattle.ns_run_words.specs.declared.words.Given.{Given}
 
 -- ---- what was read so far
@@ -26,18 +27,18 @@ pub record AreNamed (form : Form) (words : List (List ℕ)) (given : Given) (opt
   pub gives : all_given form nothing_given options ≡ Some given
   pub needed : names ≡ [] ⊎ (has_needed form given ≡ true)
   pub named : AreNames form.item names
-  pub few : length names ≤ form.most
+  pub few : length names ≤ most_of form given
 
 -- The form takes `--` behind so many names, and so many arguments behind it.
-abbrev pub TakesArguments : Form → List (List ℕ) → List (List ℕ) → Type 0
-TakesArguments form names arguments = (m : ℕ) × (form.arguments ≡ Some m) × (form.least ≤ length names) × (length arguments ≤ m)
+abbrev pub TakesArguments : Form → Given → List (List ℕ) → List (List ℕ) → Type 0
+TakesArguments form given names arguments = (m : ℕ) × (form.arguments ≡ Some m) × (least_of form given ≤ length names) × (length arguments ≤ m)
 
 -- The words spell what was read, and the form can go on behind them.
 abbrev pub IsPart : Form → List (List ℕ) → ReadSoFar → Type 0
 IsPart form words (Options given options) = (words ≡ options) × (all_given form nothing_given words ≡ Some given)
 IsPart form words (Names given options names) = AreNamed form words given options names
 IsPart form words (Arguments given options names arguments) =
-    (front : List (List ℕ)) × (words ≡ front ++ codes "--" ∷ arguments) × AreNamed form front given options names × TakesArguments form names arguments
+    (front : List (List ℕ)) × (words ≡ front ++ codes "--" ∷ arguments) × AreNamed form front given options names × TakesArguments form given names arguments
 
 -- ---- one word more
 
@@ -54,47 +55,47 @@ argument_more form words given options names arguments w next (front, s, n, (m, 
     ] refl h
 
 pub dashes_more : (form : Form) (words : List (List ℕ)) (given : Given) (options names : List (List ℕ)) (w : List ℕ) (next : ReadSoFar) → AreNamed form words given options names
-    → with_dashes given options names (arguments_behind form (length names) w) ≡ Some next → IsPart form (words ++ w ∷ []) next
+    → with_dashes given options names (arguments_behind form given (length names) w) ≡ Some next → IsPart form (words ++ w ∷ []) next
 dashes_more form words given options names w next n h =
-    elim (bytes_eq w (codes "--")) as (λ q. bytes_eq w (codes "--") ≡ q → with_dashes given options names (cond (q && nat_le form.least (length names)) form.arguments None) ≡ Some next → IsPart form (words ++ w ∷ []) next) [
+    elim (bytes_eq w (codes "--")) as (λ q. bytes_eq w (codes "--") ≡ q → with_dashes given options names (cond (q && nat_le (least_of form given) (length names)) form.arguments None) ≡ Some next → IsPart form (words ++ w ∷ []) next) [
       | false ↦ λ e k. absurd (cc (k))
       | true ↦ λ e k.
           let dashes : w ≡ codes "--" = (bytes_eq-Decides w (codes "--")).0 e in
           enough dashes k
     ] refl h
   where
-    taken : (o : Option ℕ) → w ≡ codes "--" → form.least ≤ length names → form.arguments ≡ o → with_dashes given options names o ≡ Some next → IsPart form (words ++ w ∷ []) next
+    taken : (o : Option ℕ) → w ≡ codes "--" → least_of form given ≤ length names → form.arguments ≡ o → with_dashes given options names o ≡ Some next → IsPart form (words ++ w ∷ []) next
     taken None e l a k = absurd (cc (k))
     taken (Some m) e l a k =
         let is : Arguments given options names [] ≡ next = cc (k) in
         subst (IsPart form (words ++ w ∷ [])) is (words, ap (λ v. words ++ v ∷ []) e, n, (m, a, l, omega arith))
 
-    enough : w ≡ codes "--" → with_dashes given options names (cond (nat_le form.least (length names)) form.arguments None) ≡ Some next → IsPart form (words ++ w ∷ []) next
+    enough : w ≡ codes "--" → with_dashes given options names (cond (nat_le (least_of form given) (length names)) form.arguments None) ≡ Some next → IsPart form (words ++ w ∷ []) next
     enough e k =
-        elim (nat_le form.least (length names)) as (λ q. nat_le form.least (length names) ≡ q → with_dashes given options names (cond q form.arguments None) ≡ Some next → IsPart form (words ++ w ∷ []) next) [
+        elim (nat_le (least_of form given) (length names)) as (λ q. nat_le (least_of form given) (length names) ≡ q → with_dashes given options names (cond q form.arguments None) ≡ Some next → IsPart form (words ++ w ∷ []) next) [
           | false ↦ λ r j. absurd (cc (j))
           | true ↦ λ r j.
-              let l : form.least ≤ length names = grind (arith, nat_tests, r) in taken form.arguments e l refl j
+              let l : least_of form given ≤ length names = grind (arith, nat_tests, r) in taken form.arguments e l refl j
         ] refl k
 
 pub name_more : (form : Form) (words : List (List ℕ)) (given : Given) (options names : List (List ℕ)) (w : List ℕ) (next : ReadSoFar) → AreNamed form words given options names
     → with_name form given options names w ≡ Some next → IsPart form (words ++ w ∷ []) next
 name_more form words given options names w next n h =
     elim (is_item form.item w) as (λ q. is_item form.item w ≡ q
-    → cond (q && nat_lt (length names) form.most && has_needed form given) (Some (Names given options (names ++ w ∷ []))) other ≡ Some next → IsPart form (words ++ w ∷ []) next) [
+    → cond (q && nat_lt (length names) (most_of form given) && has_needed form given) (Some (Names given options (names ++ w ∷ []))) other ≡ Some next → IsPart form (words ++ w ∷ []) next) [
       | false ↦ λ e k. dashes_more form words given options names w next n k
       | true ↦ λ e k. room e k
     ] refl h
   where
     other : Option ReadSoFar
-    other = with_dashes given options names (arguments_behind form (length names) w)
+    other = with_dashes given options names (arguments_behind form given (length names) w)
 
-    needed : is_item form.item w ≡ true → nat_lt (length names) form.most ≡ true → cond (has_needed form given) (Some (Names given options (names ++ w ∷ []))) other ≡ Some next → IsPart form (words ++ w ∷ []) next
+    needed : is_item form.item w ≡ true → nat_lt (length names) (most_of form given) ≡ true → cond (has_needed form given) (Some (Names given options (names ++ w ∷ []))) other ≡ Some next → IsPart form (words ++ w ∷ []) next
     needed e r k =
         elim (has_needed form given) as (λ q. has_needed form given ≡ q → cond q (Some (Names given options (names ++ w ∷ []))) other ≡ Some next → IsPart form (words ++ w ∷ []) next) [
           | false ↦ λ d j. dashes_more form words given options names w next n j
           | true ↦ λ d j.
-              let few : length (names ++ w ∷ []) ≤ form.most = grind (arith, nat_tests, r, length_one names w) in
+              let few : length (names ++ w ∷ []) ≤ most_of form given = grind (arith, nat_tests, r, length_one names w) in
               let is : Names given options (names ++ w ∷ []) ≡ next = cc (j) in
               let all : AreNamed form (words ++ w ∷ []) given options (names ++ w ∷ []) =
               record { spelled = ap (λ x. x ++ w ∷ []) n.spelled ∙ append_assoc options names (w ∷ []); gives = n.gives; needed = inr d; named = names_append form.item names w n.named e; few = few }
@@ -102,9 +103,9 @@ name_more form words given options names w next n h =
               subst (IsPart form (words ++ w ∷ [])) is all
         ] refl k
 
-    room : is_item form.item w ≡ true → cond (nat_lt (length names) form.most && has_needed form given) (Some (Names given options (names ++ w ∷ []))) other ≡ Some next → IsPart form (words ++ w ∷ []) next
+    room : is_item form.item w ≡ true → cond (nat_lt (length names) (most_of form given) && has_needed form given) (Some (Names given options (names ++ w ∷ []))) other ≡ Some next → IsPart form (words ++ w ∷ []) next
     room e k =
-        elim (nat_lt (length names) form.most) as (λ q. nat_lt (length names) form.most ≡ q
+        elim (nat_lt (length names) (most_of form given)) as (λ q. nat_lt (length names) (most_of form given) ≡ q
         → cond (q && has_needed form given) (Some (Names given options (names ++ w ∷ []))) other ≡ Some next → IsPart form (words ++ w ∷ []) next) [
           | false ↦ λ r j. dashes_more form words given options names w next n j
           | true ↦ λ r j. needed e r j
@@ -139,6 +140,8 @@ abbrev pub filler : Item → List ℕ
 filler File = codes "1"
 filler (Number greatest) = codes "1"
 filler Application = codes "=1"
+filler Text = codes "1"
+filler Topic = codes "run"
 
 -- so many names
 abbrev pub fill : Item → ℕ → List (List ℕ)
@@ -152,7 +155,9 @@ fill_length item (suc n) = omega (arith, fill_length item n)
 pub fill_item : (verb : Verb) → is_item (form_of verb).item (filler (form_of verb).item) ≡ true
 fill_item Check = refl
 fill_item Show = refl
+fill_item Format = refl
 fill_item Run = refl
+fill_item Eval = refl
 fill_item Build = refl
 fill_item Exec = refl
 fill_item Listing = refl
@@ -160,7 +165,9 @@ fill_item Session = refl
 fill_item Sample = refl
 fill_item Audit = refl
 fill_item Test = refl
+fill_item Library = refl
 fill_item Help = refl
+fill_item Explain = refl
 fill_item Version = refl
 
 pub fill_named : (item : Item) (n : ℕ) → is_item item (filler item) ≡ true → AreNames item (fill item n)
@@ -171,19 +178,27 @@ pub both_named : (item : Item) (names more : List (List ℕ)) → AreNames item 
 both_named item [] more a b = b
 both_named item (n ∷ ns) more a b = (a.0, both_named item ns more a.1 b)
 
-pub least_is_less : (verb : Verb) → (form_of verb).least ≤ (form_of verb).most
-least_is_less Check = omega arith
-least_is_less Show = omega arith
-least_is_less Run = omega arith
-least_is_less Build = omega arith
-least_is_less Exec = omega arith
-least_is_less Listing = omega arith
-least_is_less Session = omega arith
-least_is_less Sample = omega arith
-least_is_less Audit = omega arith
-least_is_less Test = omega arith
-least_is_less Help = omega arith
-least_is_less Version = omega arith
+pub least_is_less : (verb : Verb) (given : Given) → least_of (form_of verb) given ≤ most_of (form_of verb) given
+least_is_less Check given = omega arith
+least_is_less Show given = omega arith
+least_is_less Format given = omega arith
+least_is_less Run given = omega arith
+least_is_less Eval given = omega arith
+least_is_less Build given =
+    elim given.to as (λ q. cond q (2 - 1) 2 ≤ cond q (17 - 1) 17) [
+      | true ↦ omega arith
+      | false ↦ omega arith
+    ]
+least_is_less Exec given = omega arith
+least_is_less Listing given = omega arith
+least_is_less Session given = omega arith
+least_is_less Sample given = omega arith
+least_is_less Audit given = omega arith
+least_is_less Test given = omega arith
+least_is_less Library given = omega arith
+least_is_less Help given = omega arith
+least_is_less Explain given = omega arith
+least_is_less Version given = omega arith
 
 pub no_arguments : (most : Option ℕ) → AreArguments most [] []
 no_arguments None = (refl, refl)
@@ -193,14 +208,16 @@ pub some_arguments : (most : Option ℕ) (m : ℕ) (arguments : List (List ℕ))
 some_arguments most m arguments e l = subst (λ o. AreArguments o (codes "--" ∷ arguments) arguments) (sym e) (inr (refl, l))
 
 -- A form that needs an option needs a name too: so with names enough the option is there.
-pub enough_needs : (verb : Verb) (given : Given) (names : List (List ℕ)) → names ≡ [] ⊎ (has_needed (form_of verb) given ≡ true) → (form_of verb).least ≤ length names → has_needed (form_of verb) given ≡ true
+pub enough_needs : (verb : Verb) (given : Given) (names : List (List ℕ)) → names ≡ [] ⊎ (has_needed (form_of verb) given ≡ true) → least_of (form_of verb) given ≤ length names → has_needed (form_of verb) given ≡ true
 enough_needs verb given names (inr d) l = d
-enough_needs verb given names (inl e) l = none verb (subst (λ x. (form_of verb).least ≤ length x) e l)
+enough_needs verb given names (inl e) l = none verb (subst (λ x. least_of (form_of verb) given ≤ length x) e l)
   where
-    none : (verb : Verb) → (form_of verb).least ≤ 0 → has_needed (form_of verb) given ≡ true
+    none : (verb : Verb) → least_of (form_of verb) given ≤ 0 → has_needed (form_of verb) given ≡ true
     none Check m = refl
     none Show m = refl
+    none Format m = refl
     none Run m = refl
+    none Eval m = refl
     none Build m = refl
     none Exec m = refl
     none Listing m = refl
@@ -208,27 +225,31 @@ enough_needs verb given names (inl e) l = none verb (subst (λ x. (form_of verb)
     none Sample m = refl
     none Audit m = absurd (omega (arith, m))
     none Test m = refl
+    none Library m = refl
     none Help m = refl
+    none Explain m = refl
     none Version m = refl
 
 -- Names behind the options that the form needs, and as many more as it needs.
-pub filled_begin : (verb : Verb) (words : List (List ℕ)) (given : Given) (options names : List (List ℕ)) → AreNamed (form_of verb) words given options names → has_needed (form_of verb) given ≡ true → Begins (word_of verb ∷ words)
-filled_begin verb words given options names n d =
-    let more : List (List ℕ) = fill (form_of verb).item ((form_of verb).least - length names) in
-    let size : length (names ++ more) ≡ length names + ((form_of verb).least - length names) = length-append names more ∙ ap (λ j. length names + j) (fill_length (form_of verb).item ((form_of verb).least - length names)) in
+pub filled_begin : (verb : Verb) (first : List ℕ) → IsOneOf first (words_of verb) → (words : List (List ℕ)) (given : Given) (options names : List (List ℕ)) → AreNamed (form_of verb) words given options names → has_needed (form_of verb) given ≡ true → Begins (first ∷ words)
+filled_begin verb first o words given options names n d =
+    let more : List (List ℕ) = fill (form_of verb).item (least_of (form_of verb) given - length names) in
+    let size : length (names ++ more) ≡ length names + (least_of (form_of verb) given - length names) = length-append names more ∙ ap (λ j. length names + j) (fill_length (form_of verb).item (least_of (form_of verb) given - length names)) in
     let spelled : words ++ more ≡ options ++ (names ++ more) ++ [] =
     ap (λ x. x ++ more) n.spelled ∙ append_assoc options names more ∙ sym (append-nil (options ++ (names ++ more)))
     in (
       more,
       record { verb = verb; given = given; options = options; names = names ++ more; arguments = [] },
       record {
+        first = first;
+        named_by = o;
         last = [];
-        spelled = ap (λ x. word_of verb ∷ x) spelled;
+        spelled = ap (λ x. first ∷ x) spelled;
         given = n.gives;
         needed = d;
         enough = omega (arith, size);
-        few = omega (arith, size, n.few, least_is_less verb);
-        named = both_named (form_of verb).item names more n.named (fill_named (form_of verb).item ((form_of verb).least - length names) (fill_item verb));
+        few = omega (arith, size, n.few, least_is_less verb given);
+        named = both_named (form_of verb).item names more n.named (fill_named (form_of verb).item (least_of (form_of verb) given - length names) (fill_item verb));
         ends = no_arguments (form_of verb).arguments;
       },
     )
@@ -240,7 +261,9 @@ denial = codes "--deny=a"
 pub denial_given : (verb : Verb) (given : Given) → has_needed (form_of verb) given ≡ false → with_option (form_of verb) given denial ≡ Some (record given { denied = given.denied + 1 })
 denial_given Check given h = absurd (cc (h))
 denial_given Show given h = absurd (cc (h))
+denial_given Format given h = absurd (cc (h))
 denial_given Run given h = absurd (cc (h))
+denial_given Eval given h = absurd (cc (h))
 denial_given Build given h = absurd (cc (h))
 denial_given Exec given h = absurd (cc (h))
 denial_given Listing given h = absurd (cc (h))
@@ -249,13 +272,17 @@ denial_given Sample given h = absurd (cc (h))
 denial_given Audit given h =
     let few : nat_lt given.denied 16 ≡ true = grind (arith, nat_tests, h) in rw few refl
 denial_given Test given h = absurd (cc (h))
+denial_given Library given h = absurd (cc (h))
 denial_given Help given h = absurd (cc (h))
+denial_given Explain given h = absurd (cc (h))
 denial_given Version given h = absurd (cc (h))
 
 pub denial_serves : (verb : Verb) (given : Given) → has_needed (form_of verb) (record given { denied = given.denied + 1 }) ≡ true
 denial_serves Check given = refl
 denial_serves Show given = refl
+denial_serves Format given = refl
 denial_serves Run given = refl
+denial_serves Eval given = refl
 denial_serves Build given = refl
 denial_serves Exec given = refl
 denial_serves Listing given = refl
@@ -263,15 +290,17 @@ denial_serves Session given = refl
 denial_serves Sample given = refl
 denial_serves Audit given = grind (arith, nat_tests)
 denial_serves Test given = refl
+denial_serves Library given = refl
 denial_serves Help given = refl
+denial_serves Explain given = refl
 denial_serves Version given = refl
 
 -- What begins a form with a word more begins one.
 pub fewer_begin : (words : List (List ℕ)) (w : List ℕ) → Begins (words ++ w ∷ []) → Begins words
 fewer_begin words w (more, line, f) = (w ∷ more, line, subst (λ x. IsForm x line) (append_assoc words (w ∷ []) more) f)
 
-pub denied_begin : (verb : Verb) (words : List (List ℕ)) (given : Given) (options names : List (List ℕ)) → AreNamed (form_of verb) words given options names → names ≡ [] → has_needed (form_of verb) given ≡ false → Begins (word_of verb ∷ words)
-denied_begin verb words given options names n none h =
+pub denied_begin : (verb : Verb) (first : List ℕ) → IsOneOf first (words_of verb) → (words : List (List ℕ)) (given : Given) (options names : List (List ℕ)) → AreNamed (form_of verb) words given options names → names ≡ [] → has_needed (form_of verb) given ≡ false → Begins (first ∷ words)
+denied_begin verb first o words given options names n none h =
     let next : Given = record given { denied = given.denied + 1 } in
     let one : all_given (form_of verb) given (denial ∷ []) ≡ Some next = rw (denial_given verb given h) refl in
     let named : AreNamed (form_of verb) (words ++ denial ∷ []) next (options ++ denial ∷ []) [] =
@@ -283,28 +312,30 @@ denied_begin verb words given options names n none h =
       few = omega arith;
     }
     in
-    fewer_begin (word_of verb ∷ words) denial (filled_begin verb (words ++ denial ∷ []) next (options ++ denial ∷ []) [] named (denial_serves verb given))
+    fewer_begin (first ∷ words) denial (filled_begin verb first o (words ++ denial ∷ []) next (options ++ denial ∷ []) [] named (denial_serves verb given))
 
-pub named_begin : (verb : Verb) (words : List (List ℕ)) (given : Given) (options names : List (List ℕ)) → AreNamed (form_of verb) words given options names → Begins (word_of verb ∷ words)
-named_begin verb words given options names n = by (has_needed (form_of verb) given) refl n.needed
+pub named_begin : (verb : Verb) (first : List ℕ) → IsOneOf first (words_of verb) → (words : List (List ℕ)) (given : Given) (options names : List (List ℕ)) → AreNamed (form_of verb) words given options names → Begins (first ∷ words)
+named_begin verb first o words given options names n = by (has_needed (form_of verb) given) refl n.needed
   where
-    by : (q : Bool) → has_needed (form_of verb) given ≡ q → names ≡ [] ⊎ (has_needed (form_of verb) given ≡ true) → Begins (word_of verb ∷ words)
-    by true e d = filled_begin verb words given options names n e
-    by false e (inl none) = denied_begin verb words given options names n none e
+    by : (q : Bool) → has_needed (form_of verb) given ≡ q → names ≡ [] ⊎ (has_needed (form_of verb) given ≡ true) → Begins (first ∷ words)
+    by true e d = filled_begin verb first o words given options names n e
+    by false e (inl none) = denied_begin verb first o words given options names n none e
     by false e (inr d) = absurd (cc (e, d))
 
-pub part_begins : (verb : Verb) (words : List (List ℕ)) (part : ReadSoFar) → IsPart (form_of verb) words part → Begins (word_of verb ∷ words)
-part_begins verb words (Options given options) p = named_begin verb words given options [] (no_names (form_of verb) words given options p)
-part_begins verb words (Names given options names) p = named_begin verb words given options names p
-part_begins verb words (Arguments given options names arguments) (front, s, n, (m, a, e, l)) =
+pub part_begins : (verb : Verb) (first : List ℕ) → IsOneOf first (words_of verb) → (words : List (List ℕ)) (part : ReadSoFar) → IsPart (form_of verb) words part → Begins (first ∷ words)
+part_begins verb first o words (Options given options) p = named_begin verb first o words given options [] (no_names (form_of verb) words given options p)
+part_begins verb first o words (Names given options names) p = named_begin verb first o words given options names p
+part_begins verb first o words (Arguments given options names arguments) (front, s, n, (m, a, e, l)) =
     let spelled : words ++ [] ≡ options ++ names ++ codes "--" ∷ arguments =
     append-nil words ∙ s ∙ ap (λ x. x ++ codes "--" ∷ arguments) n.spelled
     in (
       [],
       record { verb = verb; given = given; options = options; names = names; arguments = arguments },
       record {
+        first = first;
+        named_by = o;
         last = codes "--" ∷ arguments;
-        spelled = ap (λ x. word_of verb ∷ x) spelled;
+        spelled = ap (λ x. first ∷ x) spelled;
         given = n.gives;
         needed = enough_needs verb given names n.needed e;
         enough = e;
@@ -315,13 +346,15 @@ part_begins verb words (Arguments given options names arguments) (front, s, n, (
     )
 
 -- Where there are names enough, the words are a form.
-pub named_form : (verb : Verb) (words : List (List ℕ)) (given : Given) (options names : List (List ℕ)) → AreNamed (form_of verb) words given options names → (form_of verb).least ≤ length names
-    → IsForm (word_of verb ∷ words) (record { verb = verb; given = given; options = options; names = names; arguments = [] })
-named_form verb words given options names n l =
+pub named_form : (verb : Verb) (first : List ℕ) → IsOneOf first (words_of verb) → (words : List (List ℕ)) (given : Given) (options names : List (List ℕ)) → AreNamed (form_of verb) words given options names → least_of (form_of verb) given ≤ length names
+    → IsForm (first ∷ words) (record { verb = verb; given = given; options = options; names = names; arguments = [] })
+named_form verb first o words given options names n l =
     let spelled : words ≡ options ++ names ++ [] = n.spelled ∙ sym (append-nil (options ++ names)) in
     record {
+      first = first;
+      named_by = o;
       last = [];
-      spelled = ap (λ x. word_of verb ∷ x) spelled;
+      spelled = ap (λ x. first ∷ x) spelled;
       given = n.gives;
       needed = enough_needs verb given names n.needed l;
       enough = l;
@@ -330,14 +363,16 @@ named_form verb words given options names n l =
       ends = no_arguments (form_of verb).arguments;
     }
 
-pub part_form : (verb : Verb) (words : List (List ℕ)) (part : ReadSoFar) → IsPart (form_of verb) words part → (form_of verb).least ≤ length (names_read part) → IsForm (word_of verb ∷ words) (line_of verb part)
-part_form verb words (Options given options) p l = named_form verb words given options [] (no_names (form_of verb) words given options p) l
-part_form verb words (Names given options names) p l = named_form verb words given options names p l
-part_form verb words (Arguments given options names arguments) (front, s, n, (m, a, e, few)) l =
+pub part_form : (verb : Verb) (first : List ℕ) → IsOneOf first (words_of verb) → (words : List (List ℕ)) (part : ReadSoFar) → IsPart (form_of verb) words part → least_of (form_of verb) (given_of part) ≤ length (names_read part) → IsForm (first ∷ words) (line_of verb part)
+part_form verb first o words (Options given options) p l = named_form verb first o words given options [] (no_names (form_of verb) words given options p) l
+part_form verb first o words (Names given options names) p l = named_form verb first o words given options names p l
+part_form verb first o words (Arguments given options names arguments) (front, s, n, (m, a, e, few)) l =
     let spelled : words ≡ options ++ names ++ codes "--" ∷ arguments = s ∙ ap (λ x. x ++ codes "--" ∷ arguments) n.spelled in
     record {
+      first = first;
+      named_by = o;
       last = codes "--" ∷ arguments;
-      spelled = ap (λ x. word_of verb ∷ x) spelled;
+      spelled = ap (λ x. first ∷ x) spelled;
       given = n.gives;
       needed = enough_needs verb given names n.needed e;
       enough = e;
@@ -367,38 +402,38 @@ bad_behind words (w ∷ rest) k at b n =
 -- ---- all words
 
 -- Behind these words is read on from the part.
-abbrev pub ReadsOn : Verb → List (List ℕ) → ReadSoFar → Type 0
-ReadsOn verb words part = (rest : List (List ℕ)) → reading_of (word_of verb ∷ words ++ rest) ≡ read_from verb part (1 + length words) rest
+abbrev pub ReadsOn : Verb → List ℕ → List (List ℕ) → ReadSoFar → Type 0
+ReadsOn verb first words part = (rest : List (List ℕ)) → reading_of (first ∷ words ++ rest) ≡ read_from verb part (1 + length words) rest
 
-pub reading_from : (verb : Verb) (words rest : List (List ℕ)) (part : ReadSoFar) → IsPart (form_of verb) words part → ReadsOn verb words part → IsReadingOf (word_of verb ∷ words ++ rest) (read_from verb part (1 + length words) rest)
-reading_from verb words [] part p r =
-    elim (nat_le (form_of verb).least (length (names_read part))) as (λ q. nat_le (form_of verb).least (length (names_read part)) ≡ q → IsReadingOf (word_of verb ∷ words ++ []) (cond q (says (line_of verb part)) (bad (1 + length words)))) [
+pub reading_from : (verb : Verb) (first : List ℕ) → IsOneOf first (words_of verb) → (words rest : List (List ℕ)) (part : ReadSoFar) → IsPart (form_of verb) words part → ReadsOn verb first words part → IsReadingOf (first ∷ words ++ rest) (read_from verb part (1 + length words) rest)
+reading_from verb first o words [] part p r =
+    elim (nat_le (least_of (form_of verb) (given_of part)) (length (names_read part))) as (λ q. nat_le (least_of (form_of verb) (given_of part)) (length (names_read part)) ≡ q → IsReadingOf (first ∷ words ++ []) (cond q (says (line_of verb part)) (bad (1 + length words)))) [
       | true ↦ λ e.
-          let l : (form_of verb).least ≤ length (names_read part) = grind (arith, nat_tests, e) in
-          subst (λ x. IsForm (word_of verb ∷ x) (line_of verb part)) (sym (append-nil words)) (part_form verb words part p l)
-      | false ↦ λ e. bad_behind (word_of verb ∷ words) [] (1 + length words) (omega arith) (part_begins verb words part p) (λ w rest h. absurd (cc (h)))
+          let l : least_of (form_of verb) (given_of part) ≤ length (names_read part) = grind (arith, nat_tests, e) in
+          subst (λ x. IsForm (first ∷ x) (line_of verb part)) (sym (append-nil words)) (part_form verb first o words part p l)
+      | false ↦ λ e. bad_behind (first ∷ words) [] (1 + length words) (omega arith) (part_begins verb first o words part p) (λ w rest h. absurd (cc (h)))
     ] refl
-reading_from verb words (w ∷ rest) part p r =
-    elim (with_word (form_of verb) part w) as (λ o. with_word (form_of verb) part w ≡ o → IsReadingOf (word_of verb ∷ words ++ w ∷ rest) (part_or (bad (1 + length words)) (λ more. read_from verb more (1 + length words + 1) rest) o)) [
-      | None ↦ λ e. bad_behind (word_of verb ∷ words) (w ∷ rest) (1 + length words) (omega arith) (part_begins verb words part p) (λ v others same more line f.
+reading_from verb first o words (w ∷ rest) part p r =
+    elim (with_word (form_of verb) part w) as (λ p. with_word (form_of verb) part w ≡ p → IsReadingOf (first ∷ words ++ w ∷ rest) (part_or (bad (1 + length words)) (λ more. read_from verb more (1 + length words + 1) rest) p)) [
+      | None ↦ λ e. bad_behind (first ∷ words) (w ∷ rest) (1 + length words) (omega arith) (part_begins verb first o words part p) (λ v others same more line f.
           let v_is : w ≡ v = cc (same) in
           let stops : read_from verb part (1 + length words) (v ∷ more) ≡ bad (1 + length words) =
           ap (part_or (bad (1 + length words)) (λ part. read_from verb part (1 + length words + 1) more)) (ap (with_word (form_of verb) part) (sym v_is) ∙ e)
           in
-          let both : says line ≡ bad (1 + length words) = sym (form_is_read (word_of verb ∷ words ++ v ∷ more) line f) ∙ r (v ∷ more) ∙ stops in
+          let both : says line ≡ bad (1 + length words) = sym (form_is_read (first ∷ words ++ v ∷ more) line f) ∙ r (v ∷ more) ∙ stops in
           cc)
       | Some next ↦ λ e.
           let more : List (List ℕ) = words ++ w ∷ [] in
           let size : 1 + length words + 1 ≡ 1 + length more = omega (arith, length_one words w) in
-          let on : ReadsOn verb more next = λ others.
-          ap (λ x. reading_of (word_of verb ∷ x)) (append_assoc words (w ∷ []) others)
+          let on : ReadsOn verb first more next = λ others.
+          ap (λ x. reading_of (first ∷ x)) (append_assoc words (w ∷ []) others)
           ∙ r (w ∷ others)
           ∙ ap (part_or (bad (1 + length words)) (λ part. read_from verb part (1 + length words + 1) others)) e
           ∙ ap (λ k. read_from verb next k others) size
           in
-          let is : IsReadingOf (word_of verb ∷ more ++ rest) (read_from verb next (1 + length more) rest) = reading_from verb more rest next (part_more (form_of verb) words part w next p e) on in
-          subst (λ k. IsReadingOf (word_of verb ∷ words ++ w ∷ rest) (read_from verb next k rest)) (sym size)
-          (subst (λ x. IsReadingOf (word_of verb ∷ x) (read_from verb next (1 + length more) rest)) (append_assoc words (w ∷ []) rest) is)
+          let is : IsReadingOf (first ∷ more ++ rest) (read_from verb next (1 + length more) rest) = reading_from verb first o more rest next (part_more (form_of verb) words part w next p e) on in
+          subst (λ k. IsReadingOf (first ∷ words ++ w ∷ rest) (read_from verb next k rest)) (sym size)
+          (subst (λ x. IsReadingOf (first ∷ x) (read_from verb next (1 + length more) rest)) (append_assoc words (w ∷ []) rest) is)
     ] refl
 
 -- ---- the first word
@@ -407,21 +442,27 @@ pub apart : (a b : List ℕ) → bytes_eq a b ≡ false → a ≡ b → ⊥
 apart a b e f = let t : true ≡ false = sym ((bytes_eq-Decides a b).1 f) ∙ e in cc
 
 -- what follows of the command that the first word names
-pub by_verb : (w : List ℕ) (P : Option Verb → Type 0) → ((verb : Verb) → w ≡ word_of verb → P (Some verb)) → (((verb : Verb) → w ≡ word_of verb → ⊥) → P None) → P (verb_of w)
+pub by_verb : (w : List ℕ) (P : Option Verb → Type 0) → ((verb : Verb) → IsOneOf w (words_of verb) → P (Some verb)) → (((verb : Verb) → IsOneOf w (words_of verb) → ⊥) → P None) → P (verb_of w)
 by_verb w P some none =
-    test (codes "check") _ _ (some Check) λ a.
-    test (codes "show") _ _ (some Show) λ b.
-    test (codes "run") _ _ (some Run) λ c.
-    test (codes "build") _ _ (some Build) λ d.
-    test (codes "exec") _ _ (some Exec) λ e.
-    test (codes "list") _ _ (some Listing) λ f.
-    test (codes "session") _ _ (some Session) λ j.
-    test (codes "sample") _ _ (some Sample) λ g.
-    test (codes "audit") _ _ (some Audit) λ k.
-    test (codes "test") _ _ (some Test) λ l.
-    test (codes "--help") _ _ (some Help) λ h.
-    test (codes "--version") _ _ (some Version) λ i.
-    none (all a b c d e f j g k l h i)
+    test (codes "check") _ _ (λ is. some Check (inl is)) λ a.
+    test (codes "show") _ _ (λ is. some Show (inl is)) λ b.
+    test (codes "format") _ _ (λ is. some Format (inl is)) λ t.
+    test (codes "run") _ _ (λ is. some Run (inl is)) λ c.
+    test (codes "eval") _ _ (λ is. some Eval (inl is)) λ d.
+    test (codes "build") _ _ (λ is. some Build (inl is)) λ e.
+    test (codes "exec") _ _ (λ is. some Exec (inl is)) λ f.
+    test (codes "list") _ _ (λ is. some Listing (inl is)) λ g.
+    test (codes "session") _ _ (λ is. some Session (inl is)) λ h.
+    test (codes "sample") _ _ (λ is. some Sample (inl is)) λ i.
+    test (codes "audit") _ _ (λ is. some Audit (inl is)) λ j.
+    test (codes "test") _ _ (λ is. some Test (inl is)) λ k.
+    test (codes "library") _ _ (λ is. some Library (inl is)) λ l.
+    test (codes "--help") _ _ (λ is. some Help (inl is)) λ m.
+    test (codes "-h") _ _ (λ is. some Help (inr (inl is))) λ n.
+    test (codes "help") _ _ (λ is. some Explain (inl is)) λ q.
+    test (codes "--version") _ _ (λ is. some Version (inl is)) λ r.
+    test (codes "-V") _ _ (λ is. some Version (inr (inl is))) λ s.
+    none (all a b t c d e f g h i j k l m n q r s)
   where
     test : (text : List ℕ) (x y : Option Verb) → (w ≡ text → P x) → (bytes_eq w text ≡ false → P y) → P (cond (bytes_eq w text) x y)
     test text x y f g =
@@ -430,22 +471,46 @@ by_verb w P some none =
           | false ↦ g
         ] refl
 
-    all : bytes_eq w (codes "check") ≡ false → bytes_eq w (codes "show") ≡ false → bytes_eq w (codes "run") ≡ false → bytes_eq w (codes "build") ≡ false → bytes_eq w (codes "exec") ≡ false → bytes_eq w (codes "list") ≡ false → bytes_eq w (codes "session") ≡ false → bytes_eq w (codes "sample") ≡ false → bytes_eq w (codes "audit") ≡ false → bytes_eq w (codes "test") ≡ false → bytes_eq w (codes "--help") ≡ false → bytes_eq w (codes "--version") ≡ false → (verb : Verb) → w ≡ word_of verb → ⊥
-    all a b c d e f j g k l h i Check is = apart w (codes "check") a is
-    all a b c d e f j g k l h i Show is = apart w (codes "show") b is
-    all a b c d e f j g k l h i Run is = apart w (codes "run") c is
-    all a b c d e f j g k l h i Build is = apart w (codes "build") d is
-    all a b c d e f j g k l h i Exec is = apart w (codes "exec") e is
-    all a b c d e f j g k l h i Listing is = apart w (codes "list") f is
-    all a b c d e f j g k l h i Session is = apart w (codes "session") j is
-    all a b c d e f j g k l h i Sample is = apart w (codes "sample") g is
-    all a b c d e f j g k l h i Audit is = apart w (codes "audit") k is
-    all a b c d e f j g k l h i Test is = apart w (codes "test") l is
-    all a b c d e f j g k l h i Help is = apart w (codes "--help") h is
-    all a b c d e f j g k l h i Version is = apart w (codes "--version") i is
+    all : bytes_eq w (codes "check") ≡ false → bytes_eq w (codes "show") ≡ false → bytes_eq w (codes "format") ≡ false → bytes_eq w (codes "run") ≡ false → bytes_eq w (codes "eval") ≡ false → bytes_eq w (codes "build") ≡ false → bytes_eq w (codes "exec") ≡ false → bytes_eq w (codes "list") ≡ false → bytes_eq w (codes "session") ≡ false → bytes_eq w (codes "sample") ≡ false → bytes_eq w (codes "audit") ≡ false → bytes_eq w (codes "test") ≡ false → bytes_eq w (codes "library") ≡ false → bytes_eq w (codes "--help") ≡ false → bytes_eq w (codes "-h") ≡ false → bytes_eq w (codes "help") ≡ false → bytes_eq w (codes "--version") ≡ false → bytes_eq w (codes "-V") ≡ false → (verb : Verb) → IsOneOf w (words_of verb) → ⊥
+    all a b t c d e f g h i j k l m n q r s Check (inl is) = apart w (codes "check") a is
+    all a b t c d e f g h i j k l m n q r s Check (inr void) = void
+    all a b t c d e f g h i j k l m n q r s Show (inl is) = apart w (codes "show") b is
+    all a b t c d e f g h i j k l m n q r s Show (inr void) = void
+    all a b t c d e f g h i j k l m n q r s Format (inl is) = apart w (codes "format") t is
+    all a b t c d e f g h i j k l m n q r s Format (inr void) = void
+    all a b t c d e f g h i j k l m n q r s Run (inl is) = apart w (codes "run") c is
+    all a b t c d e f g h i j k l m n q r s Run (inr void) = void
+    all a b t c d e f g h i j k l m n q r s Eval (inl is) = apart w (codes "eval") d is
+    all a b t c d e f g h i j k l m n q r s Eval (inr void) = void
+    all a b t c d e f g h i j k l m n q r s Build (inl is) = apart w (codes "build") e is
+    all a b t c d e f g h i j k l m n q r s Build (inr void) = void
+    all a b t c d e f g h i j k l m n q r s Exec (inl is) = apart w (codes "exec") f is
+    all a b t c d e f g h i j k l m n q r s Exec (inr void) = void
+    all a b t c d e f g h i j k l m n q r s Listing (inl is) = apart w (codes "list") g is
+    all a b t c d e f g h i j k l m n q r s Listing (inr void) = void
+    all a b t c d e f g h i j k l m n q r s Session (inl is) = apart w (codes "session") h is
+    all a b t c d e f g h i j k l m n q r s Session (inr void) = void
+    all a b t c d e f g h i j k l m n q r s Sample (inl is) = apart w (codes "sample") i is
+    all a b t c d e f g h i j k l m n q r s Sample (inr void) = void
+    all a b t c d e f g h i j k l m n q r s Audit (inl is) = apart w (codes "audit") j is
+    all a b t c d e f g h i j k l m n q r s Audit (inr void) = void
+    all a b t c d e f g h i j k l m n q r s Test (inl is) = apart w (codes "test") k is
+    all a b t c d e f g h i j k l m n q r s Test (inr void) = void
+    all a b t c d e f g h i j k l m n q r s Library (inl is) = apart w (codes "library") l is
+    all a b t c d e f g h i j k l m n q r s Library (inr void) = void
+    all a b t c d e f g h i j k l m n q r s Help (inl is) = apart w (codes "--help") m is
+    all a b t c d e f g h i j k l m n q r s Help (inr (inl is)) = apart w (codes "-h") n is
+    all a b t c d e f g h i j k l m n q r s Help (inr (inr void)) = void
+    all a b t c d e f g h i j k l m n q r s Explain (inl is) = apart w (codes "help") q is
+    all a b t c d e f g h i j k l m n q r s Explain (inr void) = void
+    all a b t c d e f g h i j k l m n q r s Version (inl is) = apart w (codes "--version") r is
+    all a b t c d e f g h i j k l m n q r s Version (inr (inl is)) = apart w (codes "-V") s is
+    all a b t c d e f g h i j k l m n q r s Version (inr (inr void)) = void
 
 pub begins_nothing : Begins []
-begins_nothing = let b : Begins (word_of Help ∷ []) = part_begins Help [] (Options nothing_given []) (refl, refl) in (word_of Help ∷ b.0, b.1, b.2)
+begins_nothing =
+    let first : List ℕ = codes "--help" in
+    let b : Begins (first ∷ []) = part_begins Help first (inl refl) [] (Options nothing_given []) (refl, refl) in (first ∷ b.0, b.1, b.2)
 
 pub after_first : (w : List ℕ) (words : List (List ℕ)) → IsReadingOf (w ∷ words) (reading_of (w ∷ words))
 after_first w words = by_verb w (λ o. IsReadingOf (w ∷ words) (after words o)) known unknown
@@ -454,18 +519,17 @@ after_first w words = by_verb w (λ o. IsReadingOf (w ∷ words) (after words o)
     after rest None = bad 0
     after rest (Some verb) = read_from verb (Options nothing_given []) 1 rest
 
-    known : (verb : Verb) → w ≡ word_of verb → IsReadingOf (w ∷ words) (read_from verb (Options nothing_given []) 1 words)
-    known verb e =
+    known : (verb : Verb) → IsOneOf w (words_of verb) → IsReadingOf (w ∷ words) (read_from verb (Options nothing_given []) 1 words)
+    known verb o =
         let at : 1 ≡ 1 + length {A = List ℕ} [] = omega arith in
-        let on : ReadsOn verb [] (Options nothing_given []) = λ rest. word_is_read verb rest ∙ ap (λ k. read_from verb (Options nothing_given []) k rest) at in
-        subst (λ v. IsReadingOf (v ∷ words) (read_from verb (Options nothing_given []) 1 words)) (sym e)
-        (subst (λ k. IsReadingOf (word_of verb ∷ words) (read_from verb (Options nothing_given []) k words)) (sym at) (reading_from verb [] words (Options nothing_given []) (refl, refl) on))
+        let on : ReadsOn verb w [] (Options nothing_given []) = λ rest. word_is_read verb w rest o ∙ ap (λ k. read_from verb (Options nothing_given []) k rest) at in
+        subst (λ k. IsReadingOf (w ∷ words) (read_from verb (Options nothing_given []) k words)) (sym at) (reading_from verb w o [] words (Options nothing_given []) (refl, refl) on)
 
-    first : (more : List (List ℕ)) (line : CommandLine) → IsForm (w ∷ more) line → w ≡ word_of line.verb
+    first : (more : List (List ℕ)) (line : CommandLine) (f : IsForm (w ∷ more) line) → f.first ≡ w
     first more line f = cc (f.spelled)
 
-    unknown : ((verb : Verb) → w ≡ word_of verb → ⊥) → IsReadingOf (w ∷ words) (bad 0)
-    unknown n = (omega arith, begins_nothing, λ l b. n b.1.verb (first b.0 b.1 b.2))
+    unknown : ((verb : Verb) → IsOneOf w (words_of verb) → ⊥) → IsReadingOf (w ∷ words) (bad 0)
+    unknown n = (omega arith, begins_nothing, λ l b. n b.1.verb (subst (λ x. IsOneOf x (words_of b.1.verb)) (first b.0 b.1 b.2) b.2.named_by))
 
 -- What is read of words is what they spell, or tells the first bad word.
 pub reading_is : (words : List (List ℕ)) → IsReadingOf words (reading_of words)

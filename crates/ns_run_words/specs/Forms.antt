@@ -1,6 +1,7 @@
 -- The forms of a command line as relations, apart from how words are read.
 use Rattle.std.specs.Prelude.{◌≡◌, ◌⊎◌, ℕ, ◌+◌, ◌<◌, ◌≤◌, List, [], ◌∷◌, ◌++◌, Option, Some, None, true, option_and_then, codes, take, length}
-use Rattle.ns_run_words.specs.Table.{form_of, word_of}
+use Rattle.ns_run_words.specs.Own.{least_of, most_of}
+use Rattle.ns_run_words.specs.Table.{form_of, words_of}
 use Rattle.ns_run_words.specs.Words.{CommandLine, LineReading, says, bad, has_needed, is_item, nothing_given, with_option}
 use Rattle.ns_run_words.specs.declared.form.Form.{Form}
 use Rattle.ns_run_words.specs.declared.form.Item.{Item}
@@ -27,14 +28,21 @@ AreArguments None words arguments = (words ≡ []) × (arguments ≡ [])
 AreArguments (Some most) words arguments =
     ((words ≡ []) × (arguments ≡ [])) ⊎ ((words ≡ codes "--" ∷ arguments) × (length arguments ≤ most))
 
--- The words are the first word of a command, options in any order, names, and arguments, as its form takes them.
+-- The word is one of these.
+abbrev pub IsOneOf : List ℕ → List (List ℕ) → Type 0
+IsOneOf word [] = ⊥
+IsOneOf word (each ∷ others) = (word ≡ each) ⊎ IsOneOf word others
+
+-- The words are a first word of a command, options in any order, names, and arguments, as its form takes them.
 pub record IsForm (words : List (List ℕ)) (line : CommandLine) : Type 0 where
+  pub first : List ℕ
   pub last : List (List ℕ)
-  pub spelled : words ≡ word_of line.verb ∷ line.options ++ line.names ++ last
+  pub named_by : IsOneOf first (words_of line.verb)
+  pub spelled : words ≡ first ∷ line.options ++ line.names ++ last
   pub given : all_given (form_of line.verb) nothing_given line.options ≡ Some line.given
   pub needed : has_needed (form_of line.verb) line.given ≡ true
-  pub enough : (form_of line.verb).least ≤ length line.names
-  pub few : length line.names ≤ (form_of line.verb).most
+  pub enough : least_of (form_of line.verb) line.given ≤ length line.names
+  pub few : length line.names ≤ most_of (form_of line.verb) line.given
   pub named : AreNames (form_of line.verb).item line.names
   pub ends : AreArguments (form_of line.verb).arguments last line.arguments
 

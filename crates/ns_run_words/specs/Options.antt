@@ -1,4 +1,4 @@
--- The options of tests and of audits (this profile).
+-- The options of tests, of audits and of runs (this profile).
 use Rattle.std.specs.Prelude.{ℕ, ◌+◌, nat_lt, List, [], ◌∷◌, Bool, true, Option, Some, None, take, drop, length, codes, if◌then◌else◌}
 use Rattle.std.specs.Option.{option_or}
 use Rattle.std.specs.Str.{bytes_eq}
@@ -48,3 +48,21 @@ denial_where takes given word = if takes then with_denied given (value_behind (c
 abbrev pub denied_by : List (List ℕ) → List (List ℕ)
 denied_by [] = []
 denied_by (option ∷ options) = drop (length (codes "--deny=")) option ∷ denied_by options
+
+-- ---- runs
+
+-- what is given with a word more that asks for what was used
+abbrev pub with_stats : Given → Option Given
+with_stats given = if given.stats then None else Some (record given { stats = true })
+
+-- what is given with a word more that asks for the truth
+abbrev pub with_truth : Given → Option Given
+with_truth given = if given.truth then None else Some (record given { truth = true })
+
+-- what is given with a word more that is an option of runs
+abbrev pub run_where : Bool → Given → List ℕ → Option Given
+run_where takes given word =
+    if takes
+    then (if bytes_eq word (codes "--stats") then with_stats given
+    else (if bytes_eq word (codes "--true") then with_truth given else None))
+    else None

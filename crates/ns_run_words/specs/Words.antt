@@ -4,13 +4,15 @@ use Rattle.std.specs.Option.{is_some, unwrap_or}
 use Rattle.std.specs.Str.{bytes_eq}
 use Rattle.ns_base.specs.Spelling.{is_digit}
 use Rattle.ns_base.specs.declared.limits.Limits.{Limits}
+use Rattle.ns_help.specs.Topics.{text_of}
 use Rattle.ns_run_words.specs.Application.{is_application}
-use Rattle.ns_run_words.specs.FileName.{is_file_name}
-use Rattle.ns_run_words.specs.Options.{denial_where, tests_where}
+use Rattle.ns_run_words.specs.FileName.{is_file_name, is_text}
+use Rattle.ns_run_words.specs.Options.{denial_where, run_where, tests_where}
+use Rattle.ns_run_words.specs.Own.{least_of, most_of, own_option}
 use Rattle.ns_run_words.specs.Table.{form_of, verb_of}
 use Rattle.ns_run_words.specs.declared.form.Form.{Form}
 use Rattle.ns_run_words.specs.declared.form.Item.{Item}
-use Rattle.ns_run_words.specs.declared.form.Item.TheVariants.{File, Number, Application}
+use Rattle.ns_run_words.specs.declared.form.Item.TheVariants.{File, Number, Application, Text, Topic}
 use Rattle.ns_run_words.specs.declared.form.Verb.{Verb}
 use Rattle.ns_run_words.specs.declared.words.Given.{Given}
 
@@ -68,6 +70,13 @@ nothing_given =
       reverse = false;
       only = false;
       denied = 0;
+      stats = false;
+      truth = false;
+      json = false;
+      all = false;
+      sends = false;
+      members = false;
+      to = false;
     }
 
 -- the number that a word gives which begins with an option's name, where that option wasn't given before
@@ -127,7 +136,9 @@ with_option form given word =
     if bytes_eq word (codes "--lib") then (if form.lib then with_lib given else None)
     else given_or (quantum_where form.quantum given word)
     (given_or (tests_where form.tests given word)
-    (given_or (denial_where form.denies given word) (limit_where form.greatest given word)))
+    (given_or (denial_where form.denies given word)
+    (given_or (run_where form.runs given word)
+    (given_or (own_option form given word) (limit_where form.greatest given word)))))
 
 -- whether the options are there without which the form takes no name
 abbrev pub has_needed : Form → Given → Bool
@@ -149,11 +160,14 @@ quantum_of given = unwrap_or given.quantum 1000
 
 -- ---- one word
 
--- a word that can be a name of a command: the name of a file, a number from 1 to the greatest, or an application
+-- a word that can be a name of a command: the name of a file, a number from 1 to the greatest, an application, any text without a
+-- dash in front, or what there is a text on
 abbrev pub is_item : Item → List ℕ → Bool
 is_item File word = is_file_name word
 is_item (Number greatest) word = is_some (number_of greatest word)
 is_item Application word = is_application word
+is_item Text word = is_text word
+is_item Topic word = is_some (text_of word)
 
 -- Behind so many arguments another one may stand.
 abbrev pub has_room : Option ℕ → ℕ → Bool
@@ -166,8 +180,9 @@ with_argument form given options names arguments word =
     if has_room form.arguments (length arguments) then Some (Arguments given options names (arguments ++ word ∷ [])) else None
 
 -- how many arguments may stand behind the word, where it is `--` and the form takes it behind so many names
-abbrev pub arguments_behind : Form → ℕ → List ℕ → Option ℕ
-arguments_behind form count word = if bytes_eq word (codes "--") && nat_le form.least count then form.arguments else None
+abbrev pub arguments_behind : Form → Given → ℕ → List ℕ → Option ℕ
+arguments_behind form given count word =
+    if bytes_eq word (codes "--") && nat_le (least_of form given) count then form.arguments else None
 
 -- what is read with `--` behind the names, where so many arguments may stand behind it
 abbrev pub with_dashes : Given → List (List ℕ) → List (List ℕ) → Option ℕ → Option ReadSoFar
@@ -177,9 +192,9 @@ with_dashes given options names (Some most) = Some (Arguments given options name
 -- what is read with a word more behind names: another name, or `--`
 abbrev pub with_name : Form → Given → List (List ℕ) → List (List ℕ) → List ℕ → Option ReadSoFar
 with_name form given options names word =
-    if is_item form.item word && nat_lt (length names) form.most && has_needed form given
+    if is_item form.item word && nat_lt (length names) (most_of form given) && has_needed form given
     then Some (Names given options (names ++ word ∷ []))
-    else with_dashes given options names (arguments_behind form (length names) word)
+    else with_dashes given options names (arguments_behind form given (length names) word)
 
 -- an option more, or else the other
 abbrev pub option_or : Option ReadSoFar → List (List ℕ) → Option Given → Option ReadSoFar
@@ -222,7 +237,8 @@ line_of verb part =
 
 -- what the words are read as that end here, where the next would be number k
 abbrev pub ended : Verb → ℕ → ReadSoFar → LineReading
-ended verb k part = if nat_le (form_of verb).least (length (names_read part)) then says (line_of verb part) else bad k
+ended verb k part =
+    if nat_le (least_of (form_of verb) (given_of part)) (length (names_read part)) then says (line_of verb part) else bad k
 
 abbrev pub part_or : LineReading → (ReadSoFar → LineReading) → Option ReadSoFar → LineReading
 part_or other next None = other

@@ -12,8 +12,12 @@ pub enum Verb {
     Check,
     /// Writes the canonical source of a file.
     Show,
+    /// Writes a file with its lines laid out.
+    Format,
     /// Runs a program.
     Run,
+    /// Runs statements that the line itself has.
+    Eval,
     /// Stores the image of a program.
     Build,
     /// Runs an image.
@@ -28,8 +32,12 @@ pub enum Verb {
     Audit,
     /// Runs the tests of a program.
     Test,
+    /// Writes the source of the library.
+    Library,
     /// Tells how the program is used.
     Help,
+    /// Tells that too, or what a command does, or what the name of a refusal, an error or a limit means.
+    Explain,
     /// Tells the version of the program.
     Version,
 }
@@ -43,6 +51,10 @@ pub enum Item {
     Number(u32),
     /// An application: what it is granted, and the names of its files.
     Application,
+    /// Any text without a dash in front.
+    Text,
+    /// What there is a text on: the word of a command, or the name of a cause.
+    Topic,
 }
 
 /// What may stand behind the first word: options, in any order and each at most once, but for denials; then
@@ -59,6 +71,16 @@ pub struct Form {
     pub tests: bool,
     /// Whether `--deny=SELECTOR` is to be given, from once to 16 times.
     pub denies: bool,
+    /// Whether `--stats` and `--true` can be given.
+    pub runs: bool,
+    /// Whether `--json` can be given.
+    pub json: bool,
+    /// Whether `--all` and `--sends` can be given.
+    pub checks: bool,
+    /// Whether `--members` can be given.
+    pub members: bool,
+    /// Whether `--to=IMAGE` can be given, which stands for the first of the names.
+    pub to: bool,
     /// What each name is.
     pub item: Item,
     /// The fewest names.
@@ -82,34 +104,27 @@ pub fn form_of(verb: Verb) -> Form
 {
     match verb {
         Verb::Check => Form {
-            lib: true,
-            ..names(1, 16)
+            checks: true,
+            json: true,
+            ..program()
         },
         Verb::Show => names(1, 1),
-        Verb::Run => Form {
-            greatest: Some(Limits::GREATEST),
-            lib: true,
-            arguments: Some(255),
-            ..names(1, 16)
-        },
+        Verb::Format => names(1, 1),
+        Verb::Run => run(program()),
+        Verb::Eval => eval(),
         // The image, and 1 to 16 files behind it.
         Verb::Build => Form {
             lib: true,
+            to: true,
+            json: true,
             ..names(2, 17)
         },
-        Verb::Exec => Form {
-            greatest: Some(Limits::GREATEST),
-            arguments: Some(255),
+        Verb::Exec => run(names(1, 1)),
+        Verb::Listing => Form {
+            members: true,
             ..names(1, 1)
         },
-        Verb::Listing => names(1, 1),
-        Verb::Session => Form {
-            greatest: Some(GREATEST_OF_MANY),
-            quantum: true,
-            lib: true,
-            item: Item::Application,
-            ..names(1, 16)
-        },
+        Verb::Session => session(),
         Verb::Sample => Form {
             item: Item::Number(1_000),
             ..names(1, 1)
@@ -119,14 +134,72 @@ pub fn form_of(verb: Verb) -> Form
             denies: true,
             ..names(2, 2)
         },
-        Verb::Test => Form {
-            greatest: Some(Limits::GREATEST),
-            lib: true,
-            tests: true,
-            ..names(1, 16)
-        },
+        Verb::Test => tests(),
+        Verb::Library => names(0, 0),
         Verb::Help => names(0, 0),
+        Verb::Explain => Form {
+            item: Item::Topic,
+            ..names(0, 1)
+        },
         Verb::Version => names(0, 0),
+    }
+}
+
+/// The form of the files of a program.
+fn program() -> Form
+    ensures { result ≡ spec.of_program }
+{
+    Form {
+        lib: true,
+        ..names(1, 16)
+    }
+}
+
+/// A form with the options of a run and with arguments.
+fn run(form: Form) -> Form
+    ensures { result ≡ spec.run_of form }
+{
+    Form {
+        greatest: Some(Limits::GREATEST),
+        runs: true,
+        json: true,
+        arguments: Some(255),
+        ..form
+    }
+}
+
+/// The form of a run of statements.
+fn eval() -> Form
+    ensures { result ≡ spec.form_of Verb.Eval }
+{
+    run(Form {
+        lib: true,
+        item: Item::Text,
+        ..names(1, 1)
+    })
+}
+
+/// The form of a session.
+fn session() -> Form
+    ensures { result ≡ spec.form_of Verb.Session }
+{
+    Form {
+        greatest: Some(GREATEST_OF_MANY),
+        quantum: true,
+        lib: true,
+        item: Item::Application,
+        ..names(1, 16)
+    }
+}
+
+/// The form of the tests of a program.
+fn tests() -> Form
+    ensures { result ≡ spec.form_of Verb.Test }
+{
+    Form {
+        greatest: Some(Limits::GREATEST),
+        tests: true,
+        ..program()
     }
 }
 
@@ -140,6 +213,11 @@ fn names(least: u64, most: u64) -> Form
         lib: false,
         tests: false,
         denies: false,
+        runs: false,
+        json: false,
+        checks: false,
+        members: false,
+        to: false,
         item: Item::File,
         least,
         most,
@@ -157,8 +235,14 @@ pub fn verb_of(word: &[u8]) -> Option<Verb>
     if word == b"show".as_slice() {
         return Some(Verb::Show);
     }
+    if word == b"format".as_slice() {
+        return Some(Verb::Format);
+    }
     if word == b"run".as_slice() {
         return Some(Verb::Run);
+    }
+    if word == b"eval".as_slice() {
+        return Some(Verb::Eval);
     }
     if word == b"build".as_slice() {
         return Some(Verb::Build);
@@ -181,10 +265,29 @@ pub fn verb_of(word: &[u8]) -> Option<Verb>
     if word == b"test".as_slice() {
         return Some(Verb::Test);
     }
+    if word == b"library".as_slice() {
+        return Some(Verb::Library);
+    }
+    telling_verb_of(word)
+}
+
+/// The command that a first word names, of those that tell of the program itself.
+fn telling_verb_of(word: &[u8]) -> Option<Verb>
+    ensures { result ≡ spec.telling_verb_of word.now }
+{
     if word == b"--help".as_slice() {
         return Some(Verb::Help);
     }
+    if word == b"-h".as_slice() {
+        return Some(Verb::Help);
+    }
+    if word == b"help".as_slice() {
+        return Some(Verb::Explain);
+    }
     if word == b"--version".as_slice() {
+        return Some(Verb::Version);
+    }
+    if word == b"-V".as_slice() {
         return Some(Verb::Version);
     }
     None

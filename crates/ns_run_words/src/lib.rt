@@ -1,10 +1,11 @@
 //! The words of a command line: the forms of the commands, and how the words are read.
 //! `specs/Words.antt` says what words are read as: a line, or the first bad word.
-//! Stands between base and ns_run.
+//! Stands between base, ns_help and ns_run.
 #![tactic(auto)]
 
 pub mod application;
 pub mod form;
 pub mod laws;
 pub mod options;
+pub mod own;
 pub mod words;

@@ -1,4 +1,4 @@
-//! The options of tests and of audits.
+//! The options of tests, of audits and of runs.
 
 ghost use Rattle.std.specs.Prelude.{◌≡◌, IfOk, Some, codes, drop, length, map, option_map, string_bytes};
 ghost use Rattle.ns_run_words.specs.Options as spec;
@@ -82,6 +82,48 @@ fn with_denied(given: Given, text: &[u8]) -> Option<Given>
     }
 }
 
+/// What is given with a word more that is an option of runs, where the form takes these.
+pub fn run_where(takes: bool, given: Given, word: &[u8]) -> Option<Given>
+    ensures { result ≡ spec.run_where takes given word.now }
+{
+    if !takes {
+        return None;
+    }
+    if word == b"--stats".as_slice() {
+        return with_stats(given);
+    }
+    if word == b"--true".as_slice() {
+        return with_truth(given);
+    }
+    None
+}
+
+fn with_stats(given: Given) -> Option<Given>
+    ensures { result ≡ spec.with_stats given }
+{
+    if given.stats {
+        None
+    } else {
+        Some(Given {
+            stats: true,
+            ..given
+        })
+    }
+}
+
+fn with_truth(given: Given) -> Option<Given>
+    ensures { result ≡ spec.with_truth given }
+{
+    if given.truth {
+        None
+    } else {
+        Some(Given {
+            truth: true,
+            ..given
+        })
+    }
+}
+
 /// The one test that options name, if they name one.
 pub fn only_among(options: &[String]) -> Option<&[u8]>
     ensures { option_map (λ name. name.now) result ≡ spec.only_among (map string_bytes options.now) }
@@ -119,7 +161,7 @@ fn denied_text(alloc: Global, option: &[u8]) -> Result<Text, NoMemory>
 }
 
 /// What stands behind the name of an option, in a word that begins with it.
-fn value_behind<'a>(name: &[u8], word: &'a [u8]) -> Option<&'a [u8]>
+pub fn value_behind<'a>(name: &[u8], word: &'a [u8]) -> Option<&'a [u8]>
     ensures { option_map (λ value. value.now) result ≡ spec.value_behind name.now word.now }
 {
     if word.len() < name.len() {

@@ -5,14 +5,17 @@ ghost use Rattle.ns_base.specs.Limits.{InRange};
 ghost use Rattle.ns_run_words.specs.FileName as file_name;
 ghost use Rattle.ns_run_words.specs.Forms.{IsSpelledLine};
 ghost use Rattle.ns_run_words.specs.Line.{line_seen, seen};
+ghost use Rattle.ns_run_words.specs.Own.{least_of as least_of_lem};
 ghost use Rattle.ns_run_words.specs.Table.{form_of as form_of_lem};
 ghost use Rattle.ns_run_words.specs.Words as spec;
 
 use crate::application::application_of;
 use crate::form::{Form, Item, Verb, form_of, verb_of};
-use crate::options::{denial_where, tests_where};
+use crate::options::{denial_where, run_where, tests_where};
+use crate::own::{least_of, most_of, own_option};
 use ns_base::limits::Limits;
 use ns_base::spelling::is_digit;
+use ns_help::topics::text_of;
 
 /// What the options of a command line give.
 #[derive(Clone, Copy)]
@@ -29,6 +32,20 @@ pub struct Given {
     pub only: bool,
     /// How many selectors are denied.
     pub denied: u64,
+    /// Whether what a run used is to be told.
+    pub stats: bool,
+    /// Whether a run is done only where its answer is true.
+    pub truth: bool,
+    /// Whether all is told as one line of JSON.
+    pub json: bool,
+    /// Whether all faults of a program are to be told.
+    pub all: bool,
+    /// Whether the sends that nothing answers are to be told.
+    pub sends: bool,
+    /// Whether members are to be listed.
+    pub members: bool,
+    /// Whether an option names the image.
+    pub to: bool,
 }
 
 impl Given {
@@ -126,6 +143,13 @@ fn nothing_given() -> Given
         reverse: false,
         only: false,
         denied: 0,
+        stats: false,
+        truth: false,
+        json: false,
+        all: false,
+        sends: false,
+        members: false,
+        to: false,
     }
 }
 
@@ -174,12 +198,12 @@ fn after_names<'a>(
         [] => ended(verb, given, options, number, names),
         [word, more @ ..] => {
             if is_item(form.item, word.as_str())
-                && (count as u64) < form.most
+                && (count as u64) < most_of(form, given)
                 && has_needed(form, given)
             {
                 return after_names(verb, given, options, number + 1, words, count + 1);
             }
-            match arguments_behind(form, count as u64, word.as_bytes()) {
+            match arguments_behind(form, given, count as u64, word.as_bytes()) {
                 Some(most) => arguments(verb, given, options, names, most, number + 1, more),
                 None => Err(BadWord(number)),
             }
@@ -197,7 +221,7 @@ fn ended<'a>(
 ) -> Result<Line<'a>, BadWord>
     ensures { seen result ≡ spec.ended verb number (spec.Names given (map string_bytes options.now) (map string_bytes names.now)) }
 {
-    if form_of(verb).least <= names.len() as u64 {
+    if least_of(form_of(verb), given) <= names.len() as u64 {
         Ok(Line {
             verb,
             given,
@@ -212,11 +236,11 @@ fn ended<'a>(
 
 /// How many arguments may stand behind the word, where it is `--` and the form takes it behind so
 /// many names.
-fn arguments_behind(form: Form, count: u64, word: &[u8]) -> Option<u64>
-    ensures is { result ≡ spec.arguments_behind form count word.now }
-    ensures taken { IfSome result (λ most. (form.arguments ≡ Some most) × (nat_le form.least count ≡ true)) }
+fn arguments_behind(form: Form, given: Given, count: u64, word: &[u8]) -> Option<u64>
+    ensures is { result ≡ spec.arguments_behind form given count word.now }
+    ensures taken { IfSome result (λ most. (form.arguments ≡ Some most) × (nat_le (least_of_lem form given) count ≡ true)) }
 {
-    if word == b"--".as_slice() && form.least <= count {
+    if word == b"--".as_slice() && least_of(form, given) <= count {
         form.arguments
     } else {
         None
@@ -234,7 +258,7 @@ fn arguments<'a>(
     words: &'a [String],
 ) -> Result<Line<'a>, BadWord>
     requires most { (form_of_lem verb).arguments ≡ Some most }
-    requires enough { nat_le (form_of_lem verb).least (length names.now) ≡ true }
+    requires enough { nat_le (least_of_lem (form_of_lem verb) given) (length names.now) ≡ true }
     requires number { number + length words.now ≤ 18446744073709551615 }
     ensures { seen result ≡ spec.read_from verb (spec.Arguments given (map string_bytes options.now) (map string_bytes names.now) [])
         number (map string_bytes words.now) }
@@ -266,6 +290,8 @@ fn is_item(item: Item, word: &str) -> bool
         Item::File => is_file_name(word.as_bytes()),
         Item::Number(greatest) => number(greatest as u64, word.as_bytes()).is_some(),
         Item::Application => application_of(word).is_some(),
+        Item::Text => is_text(word.as_bytes()),
+        Item::Topic => text_of(word.as_bytes()).is_some(),
     }
 }
 
@@ -274,6 +300,13 @@ pub fn is_file_name(word: &[u8]) -> bool
     ensures { result ≡ file_name.is_file_name word.now }
 {
     !word.is_empty() && word[0] != b'-' && word.len() <= 4_294_967_295
+}
+
+/// Whether a word has no dash in front.
+fn is_text(word: &[u8]) -> bool
+    ensures { result ≡ file_name.is_text word.now }
+{
+    word.is_empty() || word[0] != b'-'
 }
 
 /// What is given with one word more: an option that the form takes, and that was not given before, or one more denial.
@@ -291,6 +324,12 @@ fn with_option(form: Form, given: Given, word: &[u8]) -> Option<Given>
         return Some(more);
     }
     if let Some(more) = denial_where(form.denies, given, word) {
+        return Some(more);
+    }
+    if let Some(more) = run_where(form.runs, given, word) {
+        return Some(more);
+    }
+    if let Some(more) = own_option(form, given, word) {
         return Some(more);
     }
     limit_where(form.greatest, given, word)

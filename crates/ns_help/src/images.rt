@@ -1,0 +1,125 @@
+//! What the refusals of images, audits and tests mean.
+
+ghost use Rattle.std.specs.Prelude.{◌≡◌, option_map};
+ghost use Rattle.ns_help.specs.Topics as spec;
+
+/// What `NotAnImage` means.
+pub const NOT_AN_IMAGE: &str = "NotAnImage: the file is no image. Build it by `nspk build`.
+";
+
+/// What `BadVersion` means.
+pub const BAD_VERSION: &str = "BadVersion: the image is one of a later `nspk`.
+";
+
+/// What `Truncated` means.
+pub const TRUNCATED: &str = "Truncated: the image was cut off. Make it again.
+";
+
+/// What `BadField` means.
+pub const BAD_FIELD: &str =
+    "BadField: the image has at this byte, counted from 0, what can't stand there.
+Make it again.
+";
+
+/// What `Trailing` means.
+pub const TRAILING: &str = "Trailing: the image has something behind it. Make it again.
+";
+
+/// What `BadJump` means.
+pub const BAD_JUMP: &str =
+    "BadJump: a jump of this code leaves its body. No compiler wrote it; FORMATS.md
+says what is tested. Don't trust it.
+";
+
+/// What `BadHeight` means.
+pub const BAD_HEIGHT: &str =
+    "BadHeight: the operands of this code come short, or are more than its body
+says. No compiler wrote it; FORMATS.md says what is tested. Don't trust it.
+";
+
+/// What `BadSlot` means.
+pub const BAD_SLOT: &str =
+    "BadSlot: this code names a slot, a class, a body or a place that its class has
+not. No compiler wrote it; FORMATS.md says what is tested. Don't trust it.
+";
+
+/// What `BadScope` means.
+pub const BAD_SCOPE: &str = "BadScope: this code reaches a local or a body that is not around it. No
+compiler wrote it; FORMATS.md says what is tested. Don't trust it.
+";
+
+/// What `BadLiteral` means.
+pub const BAD_LITERAL: &str =
+    "BadLiteral: a name or text that this code uses is none, or not of the form
+that it needs. No compiler wrote it; FORMATS.md says what is tested. Don't
+trust it.
+";
+
+/// What `NoReturn` means.
+pub const NO_RETURN: &str = "NoReturn: a body of this code can go on behind its last instruction. No
+compiler wrote it; FORMATS.md says what is tested. Don't trust it.
+";
+
+/// What `NotTests` means.
+pub const NOT_TESTS: &str =
+    "NotTests: the application of `test` doesn't answer an object of a class that
+this program declares.
+";
+
+/// What `NoTest` means.
+pub const NO_TEST: &str = "NoTest: the class has no test of the name that `--only` gives.
+";
+
+/// What `NoClass` means.
+pub const NO_CLASS: &str =
+    "NoClass: the image has no top-level class of the name that `audit` was given.
+";
+
+/// What is told of a cause for which an image, an audit or tests are refused, if the word is one.
+pub fn images_text(word: &[u8]) -> Option<&'static str>
+    ensures { option_map (λ text. text.now) result ≡ spec.found word.now spec.images }
+{
+    if word == b"NotAnImage".as_slice() {
+        return Some(NOT_AN_IMAGE);
+    }
+    if word == b"BadVersion".as_slice() {
+        return Some(BAD_VERSION);
+    }
+    if word == b"Truncated".as_slice() {
+        return Some(TRUNCATED);
+    }
+    if word == b"BadField".as_slice() {
+        return Some(BAD_FIELD);
+    }
+    if word == b"Trailing".as_slice() {
+        return Some(TRAILING);
+    }
+    if word == b"BadJump".as_slice() {
+        return Some(BAD_JUMP);
+    }
+    if word == b"BadHeight".as_slice() {
+        return Some(BAD_HEIGHT);
+    }
+    if word == b"BadSlot".as_slice() {
+        return Some(BAD_SLOT);
+    }
+    if word == b"BadScope".as_slice() {
+        return Some(BAD_SCOPE);
+    }
+    if word == b"BadLiteral".as_slice() {
+        return Some(BAD_LITERAL);
+    }
+    if word == b"NoReturn".as_slice() {
+        return Some(NO_RETURN);
+    }
+    if word == b"NotTests".as_slice() {
+        return Some(NOT_TESTS);
+    }
+    if word == b"NoTest".as_slice() {
+        return Some(NO_TEST);
+    }
+    if word == b"NoClass".as_slice() {
+        return Some(NO_CLASS);
+    }
+    None
+}
