@@ -1,9 +1,8 @@
-pub mod FaultLaws
 pub mod ImageLaws
 pub mod KeepLaws
 pub mod LineLaws
+pub mod PartLaws
 pub mod ReportLaws
-pub mod SampleLaws
 pub mod SessionLaws
 pub mod StoreLaws
 pub mod TextLaws

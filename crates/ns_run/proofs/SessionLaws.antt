@@ -12,11 +12,12 @@ use Rattle.ns_run_outcome.specs.Outcome.{IsEnding, IsMissing}
 use Rattle.ns_run_outcome.specs.Report.{size_name}
 use Rattle.ns_run_outcome.specs.declared.report.Report.{Report}
 use Rattle.ns_run_outcome.specs.declared.stop.Stop.{Stop}
-use Rattle.ns_run.proofs.FaultLaws.{cause_ends, cause_says}
-use Rattle.ns_run.proofs.ReportLaws.{check_plain, file_plain, size_ends, some_of}
-use Rattle.ns_run.specs.Meaning.{name_of, of_joint, of_refusal}
+use Rattle.ns_run.specs.Meaning.{of_joint, of_refusal, told_jointly}
+use Rattle.ns_run_files.specs.Programs.{name_of}
+use Rattle.ns_run_files.specs.laws.Faults.{cause_ends, cause_says}
+use Rattle.ns_run_files.specs.laws.Programs.{check_plain}
+use Rattle.ns_run_outcome.specs.laws.Plain.{size_ends, size_plain, some_of}
 use Rattle.std.specs.Prelude.{string_bytes, Some}
-use Rattle.ns_run.specs.Run.{told_jointly}
 
 -- The report of a refusal is what the session means.
 pub refusal_means : (joint : Joint) (why : JointFault) (report : Report) → IfRefusal (λ refusal. joint ≡ stopped_for refusal) why →
@@ -43,7 +44,7 @@ refusal_ends (fault.Unloaded names cause file) report r =
     subst (λ (each : Report). IsEnding each.status) (sym r) (cause_ends (name_of (map string_bytes names.items) file) cause)
 refusal_ends (fault.Unchecked names place cause) report r =
     subst (λ (each : Report). IsEnding each.status) (sym r) (check_plain (map string_bytes names.items) (Some (record { place = place; cause = cause }))).ends
-refusal_ends (fault.TooLarge kind) report r = subst (λ (each : Report). IsEnding each.status) (sym r) (file_plain (codes "nspk") (size_name kind) (size_ends kind)).ends
+refusal_ends (fault.TooLarge kind) report r = subst (λ (each : Report). IsEnding each.status) (sym r) (size_plain (size_name kind) (size_ends kind)).ends
 refusal_ends fault.Memory report r = absurd r
 
 pub refusals_end : (why : JointFault) (result : Result Report Stop) → IfOk result (λ r. RefusesAs (λ refusal. r ≡ of_refusal refusal) why) →
@@ -58,7 +59,7 @@ refusal_says (fault.Unloaded names cause file) report r name m =
     cause_says (name_of (map string_bytes names.items) file) cause (λ e. e) name (subst (IsMissing name) r m)
 refusal_says (fault.Unchecked names place cause) report r name m =
     absurd ((check_plain (map string_bytes names.items) (Some (record { place = place; cause = cause }))).says name (subst (IsMissing name) r m))
-refusal_says (fault.TooLarge kind) report r name m = absurd ((file_plain (codes "nspk") (size_name kind) (size_ends kind)).says name (subst (IsMissing name) r m))
+refusal_says (fault.TooLarge kind) report r name m = absurd ((size_plain (size_name kind) (size_ends kind)).says name (subst (IsMissing name) r m))
 refusal_says fault.Memory report r name m = absurd r
 
 pub refusals_say : {X : Type 0} (why : JointFault) (result : Result Report Stop) (names : List (List ℕ)) →

@@ -2,9 +2,10 @@
 use Rattle.std.proofs.Common.{◌≡◌, ℕ, List, [], ◌∷◌, length, map, nat_lt, cond, Bool, true, false, Option, Some, None, codes, refl, ap, ◌∙◌}
 use Rattle.ns_base.specs.declared.limits.Limits.{Limits}
 use Rattle.ns_base.specs.declared.place.Place.{Place}
+use Rattle.ns_code.specs.declared.program.CodeProgram.{CodeProgram}
 use Rattle.ns_audit.specs.Image.{AuditedImage, audited_image, answers, no_class, unadmitted, unread}
 use Rattle.ns_run_code.specs.Exec.{Executed, executed, has_run, refused_code, refused_image}
-use Rattle.ns_run_code.specs.Listing.{ListedCode, listed, lines, unlisted}
+use Rattle.ns_run_code.specs.Listing.{ListedCode, lines, unlisted}
 use Rattle.ns_gen_code.specs.Code.{code_of}
 use Rattle.ns_image.specs.declared.fault.ImageFault.{ImageFault}
 use Rattle.ns_image.specs.declared.fault.ImageFault.TheVariants as images
@@ -16,21 +17,28 @@ use Rattle.ns_session_files.specs.Making.{Refusal, unchecked, unloaded}
 use Rattle.ns_session_files.specs.Making as making
 use Rattle.ns_lib.specs.Sample.{sample}
 use Rattle.ns_load.specs.Loaded.{Loading, loaded_texts, stopped, units}
+use Rattle.ns_load.specs.Source.{FileReading, spells, refused, read}
 use Rattle.ns_load.specs.declared.fault.LoadCause.{LoadCause}
 use Rattle.ns_load.specs.declared.fault.LoadCause.TheVariants as cause
 use Rattle.ns_load.specs.declared.fault.LoadFault.{LoadFault}
 use Rattle.ns_load.specs.declared.fault.LoadFault.TheVariants as fault
 use Rattle.ns_resolved.specs.Classes.{meant_of}
 use Rattle.ns_resolved.specs.Program.{Meant}
-use Rattle.ns_run_outcome.specs.Report.{refused_file}
+use Rattle.ns_help.specs.Topics.{text_of}
+use Rattle.ns_json.specs.declared.saying.Run.{Run}
+use Rattle.ns_json.specs.declared.saying.Saying.{Saying}
+use Rattle.ns_run_outcome.specs.Report.{refused_file, unsound}
+use Rattle.ns_run_outcome.specs.Styled.{in_json, styled}
 use Rattle.ns_run_outcome.specs.declared.report.Report.{Report}
+use Rattle.ns_run_outcome.specs.declared.run.Telling.{Telling}
 use Rattle.ns_static_rules.specs.Least.{faults, least}
 use Rattle.ns_static_rules.specs.declared.fault.Placed.{Placed}
-use Rattle.ns_run.specs.Image.{ImageWork, Executes, Lists, Audits, of_audited, of_executed, of_image, of_image_bytes, of_image_fault, of_listed, of_short, unsound}
-use Rattle.ns_run.specs.Meaning.{name_of, of_cause, of_check, of_fault, of_joint, of_audit, of_line, of_loading, of_reading, of_refusal, of_run, of_sample, of_show, of_sized, of_tests, of_texts, of_units}
+use Rattle.ns_run_image.specs.Image.{ImageWork, Executes, Lists, Audits, listing_asked, of_audited, of_executed, of_image, of_image_bytes, of_image_fault, of_listed, of_short, parts_of}
+use Rattle.ns_run.specs.Meaning.{of_joint, of_audit, of_line, of_reading, of_refusal, of_statements, of_topic, telling_of, text_told}
+use Rattle.ns_run_files.specs.Programs.{eval_source, name_of, of_cause, of_checks, of_fault, of_faultless, of_faults, of_format, of_layout, of_least, of_loading, of_sends, of_own_fault, of_run, of_sample, of_show, of_sized, of_source, of_tests, of_texts, of_units, sample_telling}
 use Rattle.ns_run.specs.Outcome.{IsNoBuild, OverTexts, StoresNothing}
-use Rattle.ns_run.specs.Tests.{tests_report}
-use Rattle.ns_run.specs.Task.{Task, Checks, Shows, Builds, Runs, Tests}
+use Rattle.ns_run_files.specs.Tests.{tests_report}
+use Rattle.ns_run_files.specs.Task.{Task, Checks, Shows, Builds, Runs, Tests}
 use Rattle.ns_test.specs.Source.{source_tested}
 use Rattle.ns_test.specs.Tests.{Tested, has_no_code, has_not_opened, has_tested, no_test, not_tests}
 use Rattle.ns_tree.specs.Plain as p
@@ -41,6 +49,7 @@ use Rattle.ns_run_words.specs.Application.{asked_of}
 use Rattle.ns_run_words.specs.Options.{denied_by, only_among}
 use Rattle.ns_run_words.specs.Words.{CommandLine, LineReading, says, bad, limits_of, nothing_given, quantum_of, reading_of, sample_number}
 use Rattle.ns_run_words.specs.declared.form.Verb.{Verb}
+use Rattle.ns_run_words.specs.declared.words.Given.{Given}
 use Rattle.ns_run_words.specs.declared.form.Verb.TheVariants as verb
 
 -- The report stores nothing.
@@ -49,24 +58,43 @@ KeepsNone report = report.stored ≡ None
 
 -- ---- programs
 
-check_keeps : (names : List (List ℕ)) (why : Option Placed) → KeepsNone (of_check names why)
-check_keeps names None = refl
-check_keeps names (Some why) = refl
+faults_keep : (names : List (List ℕ)) (each : List Placed) (other : Report) → KeepsNone other → KeepsNone (of_faults names each other)
+faults_keep names [] other k = k
+faults_keep names (fault ∷ faults) other k = refl
+
+sends_keep : (names : List (List ℕ)) (code : CodeProgram) (kind : Option SizeKind) → KeepsNone (of_sends names code kind)
+sends_keep names code None = refl
+sends_keep names code (Some kind) = refl
+
+faultless_keeps : (sends : Bool) (names : List (List ℕ)) (meant : Meant) → KeepsNone (of_faultless sends names meant)
+faultless_keeps false names meant = refl
+faultless_keeps true names meant = sends_keep names (code_of meant) (size_fault (code_of meant))
+
+least_keeps : (sends : Bool) (names files : List (List ℕ)) (trees : List p.SourceUnit) (places : List (List Place)) (why : Option Placed) →
+    KeepsNone (of_least sends names files trees places why)
+least_keeps sends names files trees places None = faultless_keeps sends names (meant_of files trees places)
+least_keeps sends names files trees places (Some why) = refl
+
+checks_keep : (all sends : Bool) (names files : List (List ℕ)) (trees : List p.SourceUnit) (places : List (List Place)) (each : List Placed) (why : Option Placed)
+    → KeepsNone (of_checks all sends names files trees places each why)
+checks_keep false sends names files trees places each why = least_keeps sends names files trees places why
+checks_keep true sends names files trees places each why =
+    faults_keep names each (of_least sends names files trees places why) (least_keeps sends names files trees places why)
 
 show_keeps : (trees : List p.SourceUnit) → KeepsNone (of_show trees)
 show_keeps [] = refl
 show_keeps (unit ∷ more) = refl
 
-sized_keeps : (limits : Limits) (arguments : List (List ℕ)) (classes : Option ℕ) (meant : Meant) (kind : Option SizeKind) →
-    KeepsNone (of_sized limits arguments classes meant kind)
-sized_keeps limits arguments classes meant None = refl
-sized_keeps limits arguments classes meant (Some kind) = refl
+sized_keeps : (telling : Telling) (limits : Limits) (arguments : List (List ℕ)) (meant : Meant) (kind : Option SizeKind) →
+    KeepsNone (of_sized telling limits arguments meant kind)
+sized_keeps telling limits arguments meant None = refl
+sized_keeps telling limits arguments meant (Some kind) = refl
 
-run_keeps : (names : List (List ℕ)) (limits : Limits) (arguments : List (List ℕ)) (classes : Option ℕ) (files : List (List ℕ)) (trees : List p.SourceUnit) (places : List (List Place)) (why : Option Placed)
-    → KeepsNone (of_run names limits arguments classes files trees places why)
-run_keeps names limits arguments classes files trees places None =
-    sized_keeps limits arguments classes (meant_of files trees places) (size_fault (code_of (meant_of files trees places)))
-run_keeps names limits arguments classes files trees places (Some why) = refl
+run_keeps : (names : List (List ℕ)) (telling : Telling) (limits : Limits) (arguments files : List (List ℕ)) (trees : List p.SourceUnit) (places : List (List Place)) (why : Option Placed)
+    → KeepsNone (of_run names telling limits arguments files trees places why)
+run_keeps names telling limits arguments files trees places None =
+    sized_keeps telling limits arguments (meant_of files trees places) (size_fault (code_of (meant_of files trees places)))
+run_keeps names telling limits arguments files trees places (Some why) = refl
 
 tested_keeps : (file : List ℕ) (tests : Tested) → KeepsNone (tests_report file tests)
 tested_keeps file (has_no_code kind) = refl
@@ -83,19 +111,20 @@ tests_keep names limits reversed only files trees places (Some why) = refl
 
 -- The task isn't the one that stores an image.
 abbrev pub IsNoBuilding : Task → Type 0
-IsNoBuilding Checks = Unit {0}
+IsNoBuilding (Checks all sends) = Unit {0}
 IsNoBuilding Shows = Unit {0}
 IsNoBuilding (Builds name) = ⊥
-IsNoBuilding (Runs limits arguments classes) = Unit {0}
+IsNoBuilding (Runs telling limits arguments) = Unit {0}
 IsNoBuilding (Tests limits reversed only) = Unit {0}
 
 units_keep : (t : Task) (names files : List (List ℕ)) (trees : List p.SourceUnit) (places : List (List Place)) → IsNoBuilding t →
     KeepsNone (of_units t names files trees places)
-units_keep Checks names files trees places i = check_keeps names (least (faults trees places))
+units_keep (Checks all sends) names files trees places i =
+    checks_keep all sends names files trees places _ (least (faults trees places))
 units_keep Shows names files trees places i = show_keeps trees
 units_keep (Builds name) names files trees places i = absurd i
-units_keep (Runs limits arguments classes) names files trees places i =
-    run_keeps names limits arguments classes files trees places (least (faults trees places))
+units_keep (Runs telling limits arguments) names files trees places i =
+    run_keeps names telling limits arguments files trees places (least (faults trees places))
 units_keep (Tests limits reversed only) names files trees places i =
     tests_keep names limits reversed only files trees places (least (faults trees places))
 
@@ -118,9 +147,35 @@ texts_keep : (t : Task) (names : List (List ℕ)) (lib : Bool) (texts : List (Op
     KeepsNone (of_texts t names lib texts)
 texts_keep t names lib texts i = loading_keeps t names lib (loaded_texts texts lib) i
 
+own_keeps : (name : List ℕ) (why : LoadFault) → KeepsNone (of_own_fault name why)
+own_keeps name (fault.At why file) = cause_keeps name why
+own_keeps name fault.Memory = refl
+
+layout_keeps : (name source : List ℕ) (reading : FileReading) → KeepsNone (of_layout name source reading)
+layout_keeps name source (spells unit places) = refl
+layout_keeps name source (refused why) = own_keeps name why
+
+source_keeps : (name source : List ℕ) → KeepsNone (of_source name source)
+source_keeps name source =
+    elim (nat_lt 1048576 (length source)) as (λ q. KeepsNone (cond q (refused_file name (codes "TooLong")) (of_layout name source (read 0 source)))) [
+      | true ↦ refl
+      | false ↦ layout_keeps name source (read 0 source)
+    ]
+
+format_keeps : (names : List (List ℕ)) (texts : List (Option (List ℕ))) → KeepsNone (of_format names texts)
+format_keeps [] texts = refl
+format_keeps (name ∷ names) [] = refl
+format_keeps (name ∷ names) (None ∷ texts) = refl
+format_keeps (name ∷ names) (Some source ∷ texts) = source_keeps name source
+
 sample_keeps : (number : Option ℕ) → KeepsNone (of_sample number)
 sample_keeps None = refl
-sample_keeps (Some n) = texts_keep (Runs (limits_of nothing_given) [] (Some n)) (codes "sample" ∷ []) false (Some (sample n) ∷ []) tt
+sample_keeps (Some n) = texts_keep (Runs (sample_telling n) (limits_of nothing_given) []) (codes "sample" ∷ []) false (Some (sample n) ∷ []) tt
+
+statements_keep : (given : Given) (arguments words : List (List ℕ)) → KeepsNone (of_statements given arguments words)
+statements_keep given arguments [] = refl
+statements_keep given arguments (text ∷ more) =
+    texts_keep (Runs (telling_of given) (limits_of given) arguments) (codes "eval" ∷ []) given.lib (Some (eval_source text) ∷ []) tt
 
 -- ---- images
 
@@ -136,10 +191,11 @@ image_keeps_none file (images.BadField at) = refl
 image_keeps_none file images.Trailing = refl
 image_keeps_none file images.Memory = refl
 
-executed_keeps : (file : List ℕ) (done : Executed) → KeepsNone (of_executed file done)
-executed_keeps file (refused_image why) = image_keeps_none file why
-executed_keeps file (refused_code why at) = unsound_keeps file why at
-executed_keeps file (has_run ran) = refl
+executed_keeps : (telling : Telling) (limits : Limits) (file : List ℕ) (done : Executed) (parts : Option Run) →
+    KeepsNone (of_executed telling limits file done parts)
+executed_keeps telling limits file (refused_image why) parts = image_keeps_none file why
+executed_keeps telling limits file (refused_code why at) parts = unsound_keeps file why at
+executed_keeps telling limits file (has_run ran) parts = refl
 
 listed_keeps : (file : List ℕ) (done : ListedCode) → KeepsNone (of_listed file done)
 listed_keeps file (unlisted why) = image_keeps_none file why
@@ -152,8 +208,9 @@ audited_keeps file no_class = refl
 audited_keeps file (answers line status) = refl
 
 bytes_keep : (work : ImageWork) (file bytes : List ℕ) → KeepsNone (of_image_bytes work file bytes)
-bytes_keep (Executes limits arguments) file bytes = executed_keeps file (executed bytes limits arguments)
-bytes_keep Lists file bytes = listed_keeps file (listed bytes)
+bytes_keep (Executes telling limits arguments) file bytes =
+    executed_keeps telling limits file (executed bytes limits arguments) (parts_of telling bytes limits arguments)
+bytes_keep (Lists members) file bytes = listed_keeps file (listing_asked members bytes)
 bytes_keep (Audits denied class) file bytes = audited_keeps file (audited_image bytes denied class)
 
 short_keeps : (work : ImageWork) (file bytes : List ℕ) → KeepsNone (of_short work file bytes)
@@ -185,26 +242,49 @@ session_keeps : (each : Joint) → KeepsNone (of_joint each)
 session_keeps (stopped_for why) = refusal_keeps why
 session_keeps (joints.has_run told) = refl
 
+-- ---- what the program tells of itself
+
+text_keeps : (text : Option (List ℕ)) → KeepsNone (text_told text)
+text_keeps None = refl
+text_keeps (Some text) = refl
+
+topic_keeps : (names : List (List ℕ)) → KeepsNone (of_topic names)
+topic_keeps [] = refl
+topic_keeps (topic ∷ more) = text_keeps (text_of topic)
+
 -- ---- commands
 
 line_keeps : (each : Verb) (line : CommandLine) (texts : List (Option (List ℕ))) → IsNoBuild each → KeepsNone (of_line each line texts)
-line_keeps verb.Check line texts i = texts_keep Checks line.names line.given.lib texts tt
+line_keeps verb.Check line texts i = texts_keep (Checks line.given.all line.given.sends) line.names line.given.lib texts tt
 line_keeps verb.Show line texts i = texts_keep Shows line.names line.given.lib texts tt
-line_keeps verb.Run line texts i = texts_keep (Runs (limits_of line.given) line.arguments None) line.names line.given.lib texts tt
+line_keeps verb.Format line texts i = format_keeps line.names texts
+line_keeps verb.Run line texts i =
+    texts_keep (Runs (telling_of line.given) (limits_of line.given) line.arguments) line.names line.given.lib texts tt
+line_keeps verb.Eval line texts i = statements_keep line.given line.arguments line.names
 line_keeps verb.Build line texts i = absurd i
-line_keeps verb.Exec line texts i = image_keeps (Executes (limits_of line.given) line.arguments) line.names texts
-line_keeps verb.Listing line texts i = image_keeps Lists line.names texts
+line_keeps verb.Exec line texts i = image_keeps (Executes (telling_of line.given) (limits_of line.given) line.arguments) line.names texts
+line_keeps verb.Listing line texts i = image_keeps (Lists line.given.members) line.names texts
 line_keeps verb.Session line texts i =
     session_keeps (joint line.given.lib (limits_of line.given) (quantum_of line.given) (map asked_of line.names) texts)
 line_keeps verb.Sample line texts i = sample_keeps (sample_number line.names)
 line_keeps verb.Audit line texts i = audit_keeps (denied_by line.options) line.names texts
 line_keeps verb.Test line texts i =
     texts_keep (Tests (limits_of line.given) line.given.reverse (only_among line.options)) line.names line.given.lib texts tt
+line_keeps verb.Library line texts i = refl
 line_keeps verb.Help line texts i = refl
+line_keeps verb.Explain line texts i = topic_keeps line.names
 line_keeps verb.Version line texts i = refl
 
+json_keeps : (report : Report) (parts : Option Saying) → KeepsNone report → KeepsNone (in_json report parts)
+json_keeps report None keeps = keeps
+json_keeps report (Some saying) keeps = keeps
+
+styled_keeps : (json : Bool) (report : Report) → KeepsNone report → KeepsNone (styled json report)
+styled_keeps false report keeps = keeps
+styled_keeps true report keeps = json_keeps report report.said keeps
+
 reading_keeps : (reading : LineReading) (texts : List (Option (List ℕ))) → StoresNothing reading → KeepsNone (of_reading reading texts)
-reading_keeps (says line) texts i = line_keeps line.verb line texts i
+reading_keeps (says line) texts i = styled_keeps line.given.json (of_line line.verb line texts) (line_keeps line.verb line texts i)
 reading_keeps (bad word) texts i = refl
 
 -- A report that some texts mean stores nothing, where its command doesn't.

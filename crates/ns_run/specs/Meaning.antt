@@ -1,143 +1,48 @@
 -- What a command means: what it stores, the bytes that it writes and its status, over the texts of its files.
-use Rattle.std.specs.Prelude.{ℕ, Bool, false, List, Option, Some, None, codes, map, ◌++◌, ◌∷◌, [], slice_get}
+use Rattle.std.specs.Prelude.{ℕ, Bool, List, Option, Some, None, map, ◌∷◌, []}
 use Rattle.ns_base.specs.Files.{Files}
 use Rattle.ns_base.specs.declared.limits.Limits.{Limits}
-use Rattle.ns_base.specs.declared.place.Place.{Place}
-use Rattle.ns_run_code.specs.Build.{Built, built_of, image, image_too_large}
-use Rattle.ns_run_code.specs.Build as built
-use Rattle.ns_gen_code.specs.Code.{code_of}
-use Rattle.ns_gen_code.specs.Sizes.{size_fault}
-use Rattle.ns_gen_code.specs.declared.size.SizeKind.{SizeKind}
+use Rattle.ns_help.specs.Topics.{text_of}
+use Rattle.ns_help.specs.declared.usage.TheConstants.{HELP, VERSION}
+use Rattle.ns_lib.specs.Collections.{collections}
+use Rattle.ns_run_files.specs.Guard.{of_built_to}
+use Rattle.ns_run_files.specs.Programs.{of_check, of_eval, of_fault, of_format, of_sample, of_texts}
+use Rattle.ns_run_files.specs.Task.{Checks, Shows, Builds, Runs, Tests}
+use Rattle.ns_run_image.specs.Image.{Executes, Lists, Audits, of_image}
+use Rattle.ns_run_outcome.specs.Report.{bad_word, told, too_large}
+use Rattle.ns_run_outcome.specs.Styled.{styled}
+use Rattle.ns_run_outcome.specs.declared.report.Report.{Report}
+use Rattle.ns_run_outcome.specs.declared.run.Telling.{Telling}
+use Rattle.ns_run_words.specs.Options.{denied_by, only_among}
+use Rattle.ns_run_words.specs.Own.{image_among}
+use Rattle.ns_run_words.specs.Words.{CommandLine, LineReading, says, bad, limits_of, quantum_of, reading_of, sample_number}
+use Rattle.ns_run_words.specs.declared.form.Verb.{Verb}
+use Rattle.ns_run_words.specs.declared.form.Verb.TheVariants.{Check, Show, Format, Run, Eval, Build, Exec, Listing, Session, Sample, Audit, Test, Library, Help, Explain, Version}
+use Rattle.ns_run_words.specs.declared.words.Given.{Given}
 use Rattle.ns_session_files.specs.Joint.{Joint, joint_of, has_run, stopped_for}
 use Rattle.ns_session_files.specs.Making.{Refusal, files_named, unchecked, unloaded}
 use Rattle.ns_session_files.specs.Making as making
-use Rattle.ns_lib.specs.Sample.{sample}
-use Rattle.ns_load.specs.Loaded.{Loading, units, stopped, file_names, loaded_texts}
-use Rattle.ns_load.specs.declared.fault.LoadCause.{LoadCause}
-use Rattle.ns_load.specs.declared.fault.LoadCause.TheVariants.{Missing, TooLong, ReadFault, Spelling}
-use Rattle.ns_load.specs.declared.fault.LoadFault.{LoadFault}
-use Rattle.ns_load.specs.declared.fault.LoadFault.TheVariants.{At, Memory}
-use Rattle.ns_resolved.specs.Classes.{meant_of}
-use Rattle.ns_resolved.specs.Program.{Meant}
-use Rattle.ns_run_outcome.specs.Report.{bad_word, never_told, refused_file, refused_text, spelling_name, static_name, stores, told, too_large}
-use Rattle.ns_run_outcome.specs.declared.report.Report.{Report}
-use Rattle.ns_run_outcome.specs.declared.usage.TheConstants.{HELP, VERSION}
-use Rattle.ns_print.specs.Printed.{printed}
-use Rattle.ns_run_code.specs.Run.{meant_run}
-use Rattle.ns_run.specs.Image.{Executes, Lists, Audits, of_image}
-use Rattle.ns_run.specs.Run.{run_report, told_jointly}
-use Rattle.ns_run.specs.Task.{Task, Checks, Shows, Builds, Runs, Tests}
-use Rattle.ns_run.specs.Tests.{tests_report}
-use Rattle.ns_static_rules.specs.Least.{faults, least}
-use Rattle.ns_static_rules.specs.declared.fault.Placed.{Placed}
-use Rattle.ns_test.specs.Source.{source_tested}
-use Rattle.ns_tree.specs.Flat.{flat}
-use Rattle.ns_tree.specs.Plain as p
-use Rattle.ns_run_words.specs.Options.{denied_by, only_among}
-use Rattle.ns_run_words.specs.Words.{CommandLine, LineReading, says, bad, limits_of, nothing_given, quantum_of, reading_of, sample_number}
-use Rattle.ns_run_words.specs.declared.form.Verb.{Verb}
-use Rattle.ns_run_words.specs.declared.form.Verb.TheVariants.{Check, Show, Run, Build, Exec, Listing, Session, Sample, Audit, Test, Help, Version}
-
-abbrev pub name_from : Option (List ℕ) → List ℕ
-name_from (Some name) = name
-name_from None = codes "lib:Collections"
-
--- the name of the file of that number: the library stands behind the files that are named
-abbrev pub name_of : List (List ℕ) → ℕ → List ℕ
-name_of names file = name_from (slice_get names file)
-
--- the check of units, of which this is the least fault
-abbrev pub of_check : List (List ℕ) → Option Placed → Report
-of_check names None = told (codes "ok" ++ 10 ∷ [])
-of_check names (Some fault) = refused_text (name_of names fault.place.file) fault.place (static_name fault.cause)
-
--- the canonical source of the first unit (there is always one)
-abbrev pub of_show : List p.SourceUnit → Report
-of_show [] = never_told
-of_show (unit ∷ more) = told (printed (flat unit))
-
--- the run of a program, of which this size is too large: the code of what is meant decides on sizes alone
-abbrev pub of_sized : Limits → List (List ℕ) → Option ℕ → Meant → Option SizeKind → Report
-of_sized limits arguments classes meant None = run_report classes (meant_run meant limits arguments)
-of_sized limits arguments classes meant (Some kind) = too_large kind
-
--- the run of a program without static faults
-abbrev pub of_meant : Limits → List (List ℕ) → Option ℕ → Meant → Report
-of_meant limits arguments classes meant = of_sized limits arguments classes meant (size_fault (code_of meant))
-
--- the run of units of files of these names, of which this is the least static fault
-abbrev pub of_run : List (List ℕ) → Limits → List (List ℕ) → Option ℕ → List (List ℕ) → List p.SourceUnit → List (List Place) →
-    Option Placed → Report
-of_run names limits arguments classes files trees places None = of_meant limits arguments classes (meant_of files trees places)
-of_run names limits arguments classes files trees places (Some fault) = of_check names (Some fault)
-
--- the tests of units of files of these names, of which this is the least static fault
-abbrev pub of_tests : List (List ℕ) → Limits → Bool → Option (List ℕ) → List (List ℕ) → List p.SourceUnit → List (List Place) →
-    Option Placed → Report
-of_tests names limits reversed only files trees places None =
-    tests_report (name_of names 0) (source_tested (meant_of files trees places) limits reversed only)
-of_tests names limits reversed only files trees places (Some fault) = of_check names (Some fault)
-
--- An image is stored under its name; one that would be too large is refused, as a size of the program is.
-abbrev pub of_built : List ℕ → Built → Report
-of_built name (image bytes) = stores name bytes
-of_built name (built.too_large kind) = too_large kind
-of_built name image_too_large = refused_file (codes "nspk") (codes "TooLarge(Image)")
-
--- the image of units of files of these names, of which this is the least static fault
-abbrev pub of_build : List (List ℕ) → List ℕ → List (List ℕ) → List p.SourceUnit → List (List Place) → Option Placed → Report
-of_build names name files trees places None = of_built name (built_of (meant_of files trees places))
-of_build names name files trees places (Some fault) = of_check names (Some fault)
-
--- what is done with the units of files of these names, of which the first are those that the command names
-abbrev pub of_units : Task → List (List ℕ) → List (List ℕ) → List p.SourceUnit → List (List Place) → Report
-of_units Checks names files trees places = of_check names (least (faults trees places))
-of_units Shows names files trees places = of_show trees
-of_units (Builds name) names files trees places = of_build names name files trees places (least (faults trees places))
-of_units (Runs limits arguments classes) names files trees places =
-    of_run names limits arguments classes files trees places (least (faults trees places))
-of_units (Tests limits reversed only) names files trees places =
-    of_tests names limits reversed only files trees places (least (faults trees places))
-
--- the refusal of a file (none that is told fails to be read)
-abbrev pub of_cause : List ℕ → LoadCause → Report
-of_cause file Missing = refused_file file (codes "Missing")
-of_cause file TooLong = refused_file file (codes "TooLong")
-of_cause file ReadFault = never_told
-of_cause file (Spelling wrong place) = refused_text file place (spelling_name wrong)
-
--- the refusal of files (none want memory)
-abbrev pub of_fault : List (List ℕ) → LoadFault → Report
-of_fault names (At cause file) = of_cause (name_of names file) cause
-of_fault names Memory = never_told
-
-abbrev pub of_loading : Task → List (List ℕ) → Bool → Loading → Report
-of_loading task names lib (units trees places) = of_units task names (file_names names lib) trees places
-of_loading task names lib (stopped fault) = of_fault names fault
-
--- what is done with these texts of the files of these names, and with the library where it is asked for
-abbrev pub of_texts : Task → List (List ℕ) → Bool → List (Option (List ℕ)) → Report
-of_texts task names lib texts = of_loading task names lib (loaded_texts texts lib)
-
--- what is done with the files of these names, and with the library where it is asked for
-abbrev pub of_files : Task → List (List ℕ) → Bool → Files → Report
-of_files task names lib files = of_texts task names lib (map files names)
+use Rattle.ns_session_files.specs.declared.joint.Told.{Told}
 
 -- the image of the program of all files but the first is stored under the name of that; without a name there is none
 abbrev pub of_building : Bool → List (List ℕ) → List (Option (List ℕ)) → Report
 of_building lib [] texts = bad_word 1
 of_building lib (name ∷ names) texts = of_texts (Builds name) names lib texts
 
--- the sample of that number is run within the default limits, and its classes are counted; without a number there is none
-abbrev pub of_sample : Option ℕ → Report
-of_sample None = bad_word 1
-of_sample (Some n) = of_texts (Runs (limits_of nothing_given) [] (Some n)) (codes "sample" ∷ []) false (Some (sample n) ∷ [])
+-- the image of a program is stored under the name that an option gives, where no other file stands; or under the first name
+abbrev pub of_build_line : Bool → Option (List ℕ) → List (List ℕ) → List (Option (List ℕ)) → Report
+of_build_line lib None names texts = of_building lib names texts
+of_build_line lib (Some image) names texts = of_built_to lib image names texts
 
 -- the refusal of an application of a session
 abbrev pub of_refusal : Refusal → Report
 of_refusal (unloaded names fault) = of_fault names fault
 of_refusal (unchecked names fault) = of_check names (Some fault)
 of_refusal (making.too_large kind) = too_large kind
+
+-- A session tells of all its applications in its output, and ends with their status.
+abbrev pub told_jointly : Told → Report
+told_jointly told = record { out = told.out; err = []; status = told.status; stored = None; said = None }
 
 abbrev pub of_joint : Joint → Report
 of_joint (stopped_for why) = of_refusal why
@@ -156,25 +61,59 @@ of_audit denied [] texts = bad_word 1
 of_audit denied (name ∷ []) texts = bad_word 1
 of_audit denied (name ∷ class ∷ names) texts = of_image (Audits denied class) (name ∷ []) texts
 
+-- what a line asks to be told of its run
+abbrev pub telling_of : Given → Telling
+telling_of given = record { classes = None; stats = given.stats; truth = given.truth; json = given.json }
+
+-- the run of the program of these files, as options ask for it, with these arguments
+abbrev pub of_running : Given → (arguments names : List (List ℕ)) → List (Option (List ℕ)) → Report
+of_running given arguments names texts = of_texts (Runs (telling_of given) (limits_of given) arguments) names given.lib texts
+
+-- the run of the first of these images
+abbrev pub of_executing : Given → (arguments names : List (List ℕ)) → List (Option (List ℕ)) → Report
+of_executing given arguments names texts = of_image (Executes (telling_of given) (limits_of given) arguments) names texts
+
+-- the tests of the program of these files, as these options ask for them
+abbrev pub of_testing : Given → (options names : List (List ℕ)) → List (Option (List ℕ)) → Report
+of_testing given options names texts = of_texts (Tests (limits_of given) given.reverse (only_among options)) names given.lib texts
+
+-- the run of the statements that are the first of these words (there is always one)
+abbrev pub of_statements : Given → (arguments words : List (List ℕ)) → Report
+of_statements given arguments [] = bad_word 1
+of_statements given arguments (text ∷ more) = of_eval (telling_of given) (limits_of given) arguments given.lib text
+
+-- the text that is told (there is always one)
+abbrev pub text_told : Option (List ℕ) → Report
+text_told None = bad_word 1
+text_told (Some text) = told text
+
+-- what the program tells of itself: how it is used, or the text on the one name of a line
+abbrev pub of_topic : List (List ℕ) → Report
+of_topic [] = told HELP.now
+of_topic (topic ∷ more) = text_told (text_of topic)
+
 -- what the command of a line writes over these texts of its files, and its status
 abbrev pub of_line : Verb → CommandLine → List (Option (List ℕ)) → Report
-of_line Check line texts = of_texts Checks line.names line.given.lib texts
+of_line Check line texts = of_texts (Checks line.given.all line.given.sends) line.names line.given.lib texts
 of_line Show line texts = of_texts Shows line.names line.given.lib texts
-of_line Run line texts = of_texts (Runs (limits_of line.given) line.arguments None) line.names line.given.lib texts
-of_line Build line texts = of_building line.given.lib line.names texts
-of_line Exec line texts = of_image (Executes (limits_of line.given) line.arguments) line.names texts
-of_line Listing line texts = of_image Lists line.names texts
+of_line Format line texts = of_format line.names texts
+of_line Run line texts = of_running line.given line.arguments line.names texts
+of_line Eval line texts = of_statements line.given line.arguments line.names
+of_line Build line texts = of_build_line line.given.lib (image_among line.options) line.names texts
+of_line Exec line texts = of_executing line.given line.arguments line.names texts
+of_line Listing line texts = of_image (Lists line.given.members) line.names texts
 of_line Session line texts = of_session line.given.lib (limits_of line.given) (quantum_of line.given) line.names texts
 of_line Sample line texts = of_sample (sample_number line.names)
 of_line Audit line texts = of_audit (denied_by line.options) line.names texts
-of_line Test line texts =
-    of_texts (Tests (limits_of line.given) line.given.reverse (only_among line.options)) line.names line.given.lib texts
+of_line Test line texts = of_testing line.given line.options line.names texts
+of_line Library line texts = told collections
 of_line Help line texts = told HELP.now
+of_line Explain line texts = of_topic line.names
 of_line Version line texts = told VERSION.now
 
 -- what a command that was read so writes over these texts of its files, and its status
 abbrev pub of_reading : LineReading → List (Option (List ℕ)) → Report
-of_reading (says line) texts = of_line line.verb line texts
+of_reading (says line) texts = styled line.given.json (of_line line.verb line texts)
 of_reading (bad word) texts = bad_word word
 
 -- all names but the first
@@ -187,25 +126,39 @@ abbrev pub first_of : List (List ℕ) → List (List ℕ)
 first_of [] = []
 first_of (name ∷ names) = name ∷ []
 
--- the files that a command reads: those that it names, or that its applications name, but for the one that `build` stores,
--- and the class that `audit` names
-abbrev pub files_of : Verb → List (List ℕ) → List (List ℕ)
-files_of Check names = names
-files_of Show names = names
-files_of Run names = names
-files_of Build names = behind_first names
-files_of Exec names = names
-files_of Listing names = names
-files_of Session names = files_named names
-files_of Sample names = []
-files_of Audit names = first_of names
-files_of Test names = names
-files_of Help names = []
-files_of Version names = []
+-- the files of the program that `build` takes: all names where an option names the image, and all but the first where none does
+abbrev pub sources_of : Option (List ℕ) → List (List ℕ) → List (List ℕ)
+sources_of None names = behind_first names
+sources_of (Some image) names = names
+
+-- the files that `build` reads: with an option that names the image, this too, as the first
+abbrev pub files_built : Option (List ℕ) → List (List ℕ) → List (List ℕ)
+files_built None names = behind_first names
+files_built (Some image) names = image ∷ names
+
+-- the files that a command reads: those that it names, or that its applications name, but for the one that `build` stores
+-- where the first name names it, and the class that `audit` names
+abbrev pub files_of : Verb → (options names : List (List ℕ)) → List (List ℕ)
+files_of Check options names = names
+files_of Show options names = names
+files_of Format options names = names
+files_of Run options names = names
+files_of Eval options names = []
+files_of Build options names = files_built (image_among options) names
+files_of Exec options names = names
+files_of Listing options names = names
+files_of Session options names = files_named names
+files_of Sample options names = []
+files_of Audit options names = first_of names
+files_of Test options names = names
+files_of Library options names = []
+files_of Help options names = []
+files_of Explain options names = []
+files_of Version options names = []
 
 -- the files that a command reads that was read so
 abbrev pub files_read : LineReading → List (List ℕ)
-files_read (says line) = files_of line.verb line.names
+files_read (says line) = files_of line.verb line.options line.names
 files_read (bad word) = []
 
 -- what the command of these words writes over these texts of its files, and its status

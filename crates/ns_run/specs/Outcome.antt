@@ -1,10 +1,6 @@
 -- What a command's words and files say of its outcome.
-use Rattle.std.specs.Prelude.{◌≡◌, ℕ, List, Option, IsSome}
+use Rattle.std.specs.Prelude.{ℕ, List, Option, IsSome}
 use Rattle.ns_base.specs.Files.{Files}
-use Rattle.ns_load.specs.declared.fault.LoadCause.{LoadCause}
-use Rattle.ns_load.specs.declared.fault.LoadCause.TheVariants as cause
-use Rattle.ns_load.specs.declared.fault.LoadFault.{LoadFault}
-use Rattle.ns_load.specs.declared.fault.LoadFault.TheVariants as fault
 use Rattle.ns_run_outcome.specs.Outcome.{IsMissing, Wrote, missing_line}
 use Rattle.ns_run_outcome.specs.declared.report.Report.{Report}
 use Rattle.ns_run.specs.Meaning.{files_read, meaning_of_texts}
@@ -17,7 +13,9 @@ use Rattle.ns_session_files.specs.Answer.{OfSomeTexts, OfSomeName}
 abbrev pub IsNoBuild : Verb → Type 0
 IsNoBuild verb.Check = Unit {0}
 IsNoBuild verb.Show = Unit {0}
+IsNoBuild verb.Format = Unit {0}
 IsNoBuild verb.Run = Unit {0}
+IsNoBuild verb.Eval = Unit {0}
 IsNoBuild verb.Build = ⊥
 IsNoBuild verb.Exec = Unit {0}
 IsNoBuild verb.Listing = Unit {0}
@@ -25,17 +23,15 @@ IsNoBuild verb.Session = Unit {0}
 IsNoBuild verb.Sample = Unit {0}
 IsNoBuild verb.Audit = Unit {0}
 IsNoBuild verb.Test = Unit {0}
+IsNoBuild verb.Library = Unit {0}
 IsNoBuild verb.Help = Unit {0}
+IsNoBuild verb.Explain = Unit {0}
 IsNoBuild verb.Version = Unit {0}
 
 -- The command of a line that was read so stores nothing.
 abbrev pub StoresNothing : LineReading → Type 0
 StoresNothing (says line) = IsNoBuild line.verb
 StoresNothing (bad word) = Unit {0}
-
--- There is a text, or none, of which this is so.
-abbrev pub OfSomeText : (Option (List ℕ) → Type 0) → Type 0
-OfSomeText P = (text : Option (List ℕ)) × P text
 
 -- There is a text, or none, for each file of the command of these words, and over these its meaning is so.
 abbrev pub OverTexts : List (List ℕ) → (Report → Type 0) → Type 0
@@ -52,20 +48,3 @@ NamesMissing reading report = OfSomeName (files_read reading) (λ file. IsMissin
 -- The line was written that tells of some file of the command that it isn't there.
 abbrev pub TellsMissing : LineReading → (err err' : Option (List ℕ)) → Type 0
 TellsMissing reading err err' = OfSomeName (files_read reading) (λ file. Wrote (missing_line file) err err')
-
--- The cause refuses a file: it isn't that the file couldn't be read.
-abbrev pub IsRefusedFor : LoadCause → Type 0
-IsRefusedFor cause.Missing = Unit {0}
-IsRefusedFor cause.TooLong = Unit {0}
-IsRefusedFor cause.ReadFault = ⊥
-IsRefusedFor (cause.Spelling wrong place) = Unit {0}
-
--- The fault refuses a file: it isn't that one couldn't be read, nor want of memory.
-abbrev pub IsRefusal : LoadFault → Type 0
-IsRefusal (fault.At why file) = IsRefusedFor why
-IsRefusal fault.Memory = ⊥
-
--- A file couldn't be read.
-abbrev pub IsReadFault : LoadFault → Type 0
-IsReadFault (fault.At why file) = why ≡ cause.ReadFault
-IsReadFault fault.Memory = ⊥

@@ -1,14 +1,8 @@
 //! What a command means, and the top call.
 //! `specs/Meaning.antt` says, of all words and files, what is stored, what is written and the status (`meaning`).
-//! Stands on load, static, print, session and the rest of run; edge calls it.
+//! Stands on ns_run_words, ns_run_files, ns_run_image, session and help; edge calls it.
 #![tactic(auto)]
 
-mod build;
-pub mod files;
-mod image;
-mod run;
-mod sample;
+mod line;
 mod session;
-pub mod task;
-mod testing;
 pub mod top;

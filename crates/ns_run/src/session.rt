@@ -1,24 +1,20 @@
 //! The session of several applications, and its report.
 
 ghost use Rattle.std.specs.Prelude.{◌≡◌, ◌≤◌, map, IfOk, IsErrOf, length, string_bytes};
-ghost use Rattle.ns_base.specs.Count.{Rose};
 ghost use Rattle.ns_base.specs.Limits.{InRange};
-ghost use Rattle.ns_base.specs.Shelf.{OnlyRead};
 ghost use Rattle.ns_session_files.specs.Answer.{HasRefusedFile, RefusesAs};
 ghost use Rattle.ns_session_files.specs.Making.{files_named};
-ghost use Rattle.ns_run_outcome.specs.Outcome.{IsEnding};
 ghost use Rattle.ns_run.specs.Meaning as spec;
-ghost use Rattle.ns_run.specs.Run.{told_jointly as told_jointly_lem};
-ghost use Rattle.ns_run.specs.Stated.{MissingIsCounted, ReportsTexts, ReportsTold, UnreadIsThere};
+ghost use Rattle.ns_run_outcome.specs.Stated.{Reports};
 ghost use Rattle.ns_run_words.specs.Application.{AreApplications};
 ghost use Rattle.ns_session_files.specs.declared.fault.JointFault.TheVariants.{Unread};
 
-use crate::files::{name_of, on_cause, on_static_fault};
 use ns_base::limits::Limits;
 use ns_base::shelf::Shelf;
 use ns_base::text::Text;
+use ns_run_files::files::{name_of, on_cause, on_static_fault};
 use ns_run_outcome::cause::size_name;
-use ns_run_outcome::report::{Report, refused_file};
+use ns_run_outcome::report::{Report, refused_size};
 use ns_run_outcome::stop::{Stop, or_stop};
 use ns_session_files::fault::JointFault;
 use ns_session_files::joint::{Told, run_jointly};
@@ -37,13 +33,8 @@ pub fn on_session<S: Shelf>(
     requires quantum { 1 ≤ quantum }
     requires asked { AreApplications (map string_bytes words.now) }
     requires few { length words.now ≤ 16 }
-    ensures told { ReportsTold (S.holds shelf.old) (λ files. spec.session_over files lib limits quantum (map string_bytes words.now)) result }
-    ensures texts { ReportsTexts (files_named (map string_bytes words.now)) (spec.of_session lib limits quantum (map string_bytes words.now)) result }
-    ensures ending { IfOk result (λ r. IsEnding r.status) }
-    ensures only_read { OnlyRead S.holds S.misses S.faults S.store_faults shelf.old shelf.new }
-    ensures read_fault { IsErrOf result Stop.ReadFault → Rose (S.faults shelf.old) (S.faults shelf.new) }
-    ensures read_fault_there { UnreadIsThere (S.holds shelf.old) (files_named (map string_bytes words.now)) result }
-    ensures missing { MissingIsCounted (files_named (map string_bytes words.now)) result (S.misses shelf.old) (S.misses shelf.new) }
+    ensures { Reports S.holds S.misses S.faults S.store_faults shelf.old shelf.new
+        (files_named (map string_bytes words.now)) (spec.of_session lib limits quantum (map string_bytes words.now)) result }
 {
     match run_jointly(alloc, words, lib, limits, quantum, shelf) {
         Ok(told) => Ok(told_jointly(alloc, told)),
@@ -53,13 +44,14 @@ pub fn on_session<S: Shelf>(
 
 /// The report of a session that has told so.
 fn told_jointly(alloc: Global, told: Told) -> Report
-    ensures { result ≡ told_jointly_lem told }
+    ensures { result ≡ spec.told_jointly told }
 {
     Report {
         out: told.out,
         err: Text::from_vec(Vec::new(alloc)),
         status: told.status,
         stored: None,
+        said: None,
     }
 }
 
@@ -79,7 +71,7 @@ fn on_refusal(alloc: Global, why: JointFault) -> Result<Report, Stop>
             place,
             cause,
         } => { or_stop(on_static_fault(alloc, names.as_slice(), place, cause)) }
-        JointFault::TooLarge(kind) => or_stop(refused_file(alloc, "nspk", size_name(kind))),
+        JointFault::TooLarge(kind) => or_stop(refused_size(alloc, size_name(kind))),
         JointFault::Memory => Err(Stop::Memory),
     }
 }

@@ -2,5 +2,8 @@ pub mod Keep
 pub mod Outcome
 pub mod Pieces
 pub mod Report
+pub mod Run
+pub mod Stated
 pub mod Store
+pub mod Styled
 pub mod laws

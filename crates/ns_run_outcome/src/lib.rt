@@ -7,5 +7,6 @@ pub mod cause;
 pub mod deliver;
 pub mod keep;
 pub mod report;
+pub mod run;
 pub mod stop;
-pub mod usage;
+pub mod styled;

@@ -1,10 +1,13 @@
 //! The adapters over a system in memory, of which single calls fail.
 
 use crate::broken_system::{Broken, Call, Narrow, Told};
+use ns_base::mem_sink::MemSink;
 use ns_base::no_memory::NoMemory;
 use ns_base::shelf::{Shelf, ShelfFault};
 use ns_base::sink::Sink;
+use ns_base::status::Status;
 use ns_system::arguments::arguments;
+use ns_system::fault::tell_fault;
 use ns_system::files::Disk;
 use ns_system::stream::Stream;
 use std::alloc::Global;
@@ -97,6 +100,95 @@ fn stores(alloc: Global, row: &(Call, bool, u64)) -> bool {
         && disk.drive.placed == *placed
         && disk.drive.drafts == 0
         && disk.store_faults == *fails as u64
+}
+
+/// How a command ended whose load, store and put failed there, how much room standard output has, and the line that is told.
+const TOLD_OF: &[(Call, usize, Status, &str)] = &[
+    (
+        Call::Open,
+        3,
+        Status::ReadFault,
+        "nspk: in/abc: can't be read\n",
+    ),
+    (
+        Call::Read,
+        3,
+        Status::ReadFault,
+        "nspk: in/abc: can't be read\n",
+    ),
+    (
+        Call::Begin,
+        3,
+        Status::WriteFault,
+        "nspk: in/abc: can't be stored\n",
+    ),
+    (
+        Call::Begin,
+        0,
+        Status::WriteFault,
+        "nspk: in/abc: can't be stored\n",
+    ),
+    (
+        Call::None,
+        0,
+        Status::WriteFault,
+        "nspk: standard output can't be written\n",
+    ),
+    (
+        Call::None,
+        3,
+        Status::WriteFault,
+        "nspk: standard error can't be written\n",
+    ),
+    (Call::None, 3, Status::Memory, "nspk: no memory\n"),
+    (Call::Open, 0, Status::Refused, ""),
+];
+
+#[test]
+fn a_fault_is_told(rt: HostRuntime) {
+    for row in TOLD_OF {
+        assert!(rt; tells(rt.alloc(), row) == Ok(true));
+    }
+}
+
+/// Whether that line is told.
+fn tells(alloc: Global, row: &(Call, usize, Status, &'static str)) -> Result<bool, NoMemory> {
+    let (failing, room, status, line) = row;
+    let mut disk = disk(alloc, *failing);
+    let mut out = Stream::new(Narrow::with_room(*room));
+    let mut err = MemSink::new(alloc, 100)?;
+    let _ = disk.load(alloc, "in/abc", 3);
+    let _ = disk.store("in/abc", b"abc");
+    let _ = out.put(b"abc");
+    tell_fault(*status, &disk, &out, &mut err);
+    Ok(err.bytes.as_slice() == line.as_bytes())
+}
+
+#[test]
+fn a_fault_is_told_without_the_name_that_was_not_kept(rt: HostRuntime) {
+    assert!(rt;
+        tells_nameless(
+            rt.alloc(),
+            Status::ReadFault,
+            "nspk: a file can't be read\n"
+        ) == Ok(true)
+    );
+    assert!(rt;
+        tells_nameless(
+            rt.alloc(),
+            Status::WriteFault,
+            "nspk: a file can't be stored\n"
+        ) == Ok(true)
+    );
+}
+
+fn tells_nameless(alloc: Global, status: Status, line: &str) -> Result<bool, NoMemory> {
+    let mut disk = disk(alloc, Call::None);
+    disk.store_faults = 1;
+    let out = Stream::new(Narrow::with_room(3));
+    let mut err = MemSink::new(alloc, 100)?;
+    tell_fault(status, &disk, &out, &mut err);
+    Ok(err.bytes.as_slice() == line.as_bytes())
 }
 
 /// The words, those that are read of them, and whether another stands behind these.

@@ -2,7 +2,7 @@
 
 use crate::command::{Setting, Want, leaves};
 use ns_base::no_memory::NoMemory;
-use ns_run_outcome::usage::{HELP, VERSION};
+use ns_help::usage::{HELP, VERSION};
 use std::alloc::Global;
 
 const HELLO: &[u8] = b"class Hello packageUsing: manifest = () (
@@ -74,10 +74,32 @@ type Row = (&'static [&'static str], Want);
 const DONE: &[Row] = &[
     (&["--help"], (HELP, "", 0)),
     (&["--version"], (VERSION, "", 0)),
+    (&["-h"], (HELP, "", 0)),
+    (&["help"], (HELP, "", 0)),
+    (&["-V"], (VERSION, "", 0)),
+    (
+        &["help", "Overflow"],
+        ("Overflow: the result doesn't fit 64 bits.\n", "", 0),
+    ),
+    (&["eval", "| x | x:: 3. x * x"], ("", "=> 9\n", 0)),
+    (&["eval", "args size", "--", "-a", "b"], ("", "=> 2\n", 0)),
+    (
+        &["eval", "--stats", "--steps=50", "3 + 4"],
+        (
+            "",
+            "=> 7\nused steps 5 of 50 cells 18 of 4000000 depth 0 of 10000 out 0 of 1048576\n",
+            0,
+        ),
+    ),
+    (&["eval", "--true", "1 < 2"], ("", "=> true\n", 0)),
+    (&["eval", "--true", "2 < 1"], ("", "=> false\n", 1)),
     (&["check", "H.ns"], ("ok\n", "", 0)),
     (&["check", "--lib", "Main.ns", "Bank.ns"], ("ok\n", "", 0)),
     (&["check", "Main.ns", "Bank.ns"], ("ok\n", "", 0)),
     (&["check", "--lib", "Bank.ns"], ("ok\n", "", 0)),
+    (&["check", "--all", "H.ns"], ("ok\n", "", 0)),
+    (&["check", "--sends", "H.ns"], ("ok\n", "", 0)),
+    (&["check", "--all", "--sends", "Words.ns"], ("ok\n", "", 0)),
     (
         &["show", "H.ns"],
         (
@@ -272,6 +294,20 @@ const REFUSED_FILES: &[Row] = &[
         ("", "Super.ns:1:21: BareReceiver\n", 2),
     ),
     (&["build", "H.ns", "Z.ns"], ("", "Z.ns: Missing\n", 2)),
+    (
+        &["check", "--all", "Super.ns", "H.ns", "H.ns"],
+        (
+            "",
+            "Super.ns:1:21: BareReceiver\nH.ns:1:7: DuplicateTop\n",
+            2,
+        ),
+    ),
+    (
+        &["build", "--to=Words.ns", "H.ns"],
+        ("", "Words.ns: Exists\n", 2),
+    ),
+    (&["build", "--to=H.ns", "Z.ns"], ("", "Z.ns: Missing\n", 2)),
+    (&["list", "--members", "a.img"], ("", "a.img: Missing\n", 2)),
     (&["exec", "a.img"], ("", "a.img: Missing\n", 2)),
     (&["exec", "H.ns"], ("", "H.ns: NotAnImage\n", 2)),
     (&["list", "a.img"], ("", "a.img: Missing\n", 2)),

@@ -1,10 +1,12 @@
-use Rattle.std.proofs.Common.{◌≡◌, IfOk, map}
+use Rattle.std.proofs.Common.{◌≡◌, Err, IfOk, ap, map, subst, sym}
 use Rattle.std.specs.Prelude.{string_bytes}
+use Rattle.ns_base.specs.Count.{Rose}
 use Rattle.ns_run.proofs.KeepLaws.{finished, no_memory, not_read, only_read_twice}
 use Rattle.ns_run.proofs.StoreLaws.{stores_nothing}
 use Rattle.ns_run.proofs.TextLaws.{over_other}
 use Rattle.ns_run.specs.Meaning.{meaning}
 use Rattle.ns_run.proofs.top.nspk.Goals as goal
+use Rattle.ns_run_words.specs.Words.{reading_of}
 
 pub returns-in-Err-ReadFault-clause-told : goal.returns-in-Err-ReadFault-clause-told
 returns-in-Err-ReadFault-clause-told g c = λ files e.
@@ -35,3 +37,24 @@ pub returns-in-Ok-clause-only_read : goal.returns-in-Ok-clause-only_read
 returns-in-Ok-clause-only_read g c = λ none.
     only_read_twice g.S.Shelf.holds g.S.Shelf.misses g.S.Shelf.faults g.S.Shelf.store_faults c.args.shelf.now c.work.new.shelf c.finish.new.shelf c.work.ensures.only_read
     (c.finish.ensures.only_read (stores_nothing (map string_bytes c.args.words.now) c.in-Ok.report c.in-Ok.ensures.texts none))
+
+pub finish-requires : goal.finish-requires
+finish-requires g c = c.in-Ok.ensures.ending
+
+pub returns-in-Ok-clause-missing : goal.returns-in-Ok-clause-missing
+returns-in-Ok-clause-missing g c = λ refused tells.
+    subst (Rose (g.S.Shelf.misses c.args.shelf.now)) (sym c.finish.ensures.misses)
+    (c.in-Ok.ensures.missing (c.finish.ensures.missing (reading_of (map string_bytes c.args.words.now)) refused tells))
+
+pub returns-in-Err-ReadFault-clause-only_read : goal.returns-in-Err-ReadFault-clause-only_read
+returns-in-Err-ReadFault-clause-only_read g c = λ none. c.work.ensures.only_read
+
+pub returns-in-Err-ReadFault-clause-read_fault : goal.returns-in-Err-ReadFault-clause-read_fault
+returns-in-Err-ReadFault-clause-read_fault g c = λ e. c.in-Err-ReadFault.ensures.read_fault (ap Err c.in-Err-ReadFault.field-0-is)
+
+pub returns-in-Err-ReadFault-clause-read_fault_there : goal.returns-in-Err-ReadFault-clause-read_fault_there
+returns-in-Err-ReadFault-clause-read_fault_there g c = λ files holds e.
+    c.in-Err-ReadFault.ensures.read_fault_there files holds (ap Err c.in-Err-ReadFault.field-0-is)
+
+pub returns-in-Err-Memory-clause-only_read : goal.returns-in-Err-Memory-clause-only_read
+returns-in-Err-Memory-clause-only_read g c = λ none. c.work.ensures.only_read

@@ -1,0 +1,346 @@
+//! The command of a line, to its report.
+
+ghost use Rattle.std.specs.Prelude.{◌≡◌, ◌≤◌, IfOk, IsErrOf, map, length, string_bytes};
+ghost use Rattle.ns_base.specs.Limits.{InRange};
+ghost use Rattle.ns_help.specs.Topics.{text_of as text_of_lem};
+ghost use Rattle.ns_lib.specs.Collections.{collections as collections_lem};
+ghost use Rattle.ns_run.specs.Meaning as spec;
+ghost use Rattle.ns_run_files.specs.Programs.{of_format, of_sample, of_texts};
+ghost use Rattle.ns_run_files.specs.Task.{Checks};
+ghost use Rattle.ns_run_image.specs.Image.{ImageInRange, Lists, of_image, work_of};
+ghost use Rattle.ns_run_outcome.specs.Outcome.{IsEnding};
+ghost use Rattle.ns_run_outcome.specs.Report.{told as told_lem};
+ghost use Rattle.ns_run_outcome.specs.Stated.{Reports};
+ghost use Rattle.ns_run_words.specs.Application.{AreApplications};
+ghost use Rattle.ns_run_words.specs.Forms.{AreFiles, IsSpelledLine};
+ghost use Rattle.ns_run_words.specs.Line.{line_seen};
+ghost use Rattle.ns_run_words.specs.Options.{denied_by};
+ghost use Rattle.ns_run_words.specs.Own.{image_among as image_among_lem};
+ghost use Rattle.ns_run_words.specs.Words.{limits_of, quantum_of, sample_number as sample_number_lem};
+ghost use Rattle.ns_session_files.specs.Making.{files_named};
+
+use crate::session::on_session;
+use ns_base::no_memory::NoMemory;
+use ns_base::shelf::Shelf;
+use ns_base::text::Text;
+use ns_help::topics::text_of;
+use ns_help::usage::{HELP, VERSION};
+use ns_lib::collections::collections;
+use ns_run_files::alone::{on_eval, on_sample};
+use ns_run_files::files::on_files;
+use ns_run_files::guard::on_build_to;
+use ns_run_files::layout::on_format;
+use ns_run_files::task::Task;
+use ns_run_image::image::on_image;
+use ns_run_image::task::ImageTask;
+use ns_run_outcome::report::{Report, bad_word, told, told_text};
+use ns_run_outcome::run::Telling;
+use ns_run_outcome::stop::{Stop, or_stop};
+use ns_run_words::form::Verb;
+use ns_run_words::options::only_among;
+use ns_run_words::own::image_among;
+use ns_run_words::words::{Given, Line, sample_number};
+use std::alloc::Global;
+
+/// The report of the command of a line.
+pub fn on_line<S: Shelf>(alloc: Global, line: Line<'_>, shelf: &mut S) -> Result<Report, Stop>
+    requires form { IsSpelledLine (line_seen line) }
+    requires range { InRange (limits_of line.given) }
+    requires quantum { 1 ≤ quantum_of line.given }
+    ensures { Reports S.holds S.misses S.faults S.store_faults shelf.old shelf.new
+        (spec.files_of line.entry.verb (line_seen line.entry).options (line_seen line.entry).names) (spec.of_line line.entry.verb (line_seen line.entry)) result }
+{
+    let Line {
+        verb,
+        given,
+        options,
+        names,
+        arguments,
+    } = line;
+    match verb {
+        Verb::Check => on_check(alloc, given, names, shelf),
+        Verb::Show => on_files(alloc, Task::Show, given.lib, names, shelf),
+        Verb::Format => on_layout(alloc, names, shelf),
+        Verb::Run => on_run(alloc, given, arguments, names, shelf),
+        Verb::Eval => on_statements(alloc, given, arguments, names),
+        Verb::Build => on_build_line(alloc, given.lib, options, names, shelf),
+        Verb::Exec => on_exec(alloc, given, arguments, names, shelf),
+        Verb::Listing => on_listing(alloc, given.members, names, shelf),
+        Verb::Session => on_applications(alloc, given, names, shelf),
+        Verb::Sample => on_number(alloc, names),
+        Verb::Audit => on_audit(alloc, options, names, shelf),
+        Verb::Test => on_tests(alloc, given, options, names, shelf),
+        Verb::Library => or_stop(library(alloc)),
+        Verb::Help => or_stop(told_text(alloc, HELP)),
+        Verb::Explain => or_stop(on_topic(alloc, names)),
+        Verb::Version => or_stop(told_text(alloc, VERSION)),
+    }
+}
+
+/// The report of the check of the program of these files.
+fn on_check<S: Shelf>(
+    alloc: Global,
+    given: Given,
+    names: &[String],
+    shelf: &mut S,
+) -> Result<Report, Stop>
+    requires { AreFiles (map string_bytes names.now) }
+    ensures { Reports S.holds S.misses S.faults S.store_faults shelf.old shelf.new (map string_bytes names.now)
+        (of_texts (Checks given.all given.sends) (map string_bytes names.now) given.lib) result }
+{
+    let Given {
+        all,
+        sends,
+        lib,
+        ..
+    } = given;
+    on_files(alloc, Task::Check { all, sends }, lib, names, shelf)
+}
+
+/// The report of the listing of the image that is the one name.
+fn on_listing<S: Shelf>(
+    alloc: Global,
+    members: bool,
+    names: &[String],
+    shelf: &mut S,
+) -> Result<Report, Stop>
+    requires { length names.now ≡ 1 }
+    ensures { Reports S.holds S.misses S.faults S.store_faults shelf.old shelf.new (map string_bytes names.now)
+        (of_image (Lists members) (map string_bytes names.now)) result }
+{
+    on_first(alloc, ImageTask::Listing { members }, names, shelf)
+}
+
+/// The report of the layout of the file that is the one name.
+fn on_layout<S: Shelf>(alloc: Global, names: &[String], shelf: &mut S) -> Result<Report, Stop>
+    requires { length names.now ≡ 1 }
+    ensures { Reports S.holds S.misses S.faults S.store_faults shelf.old shelf.new
+        (map string_bytes names.now) (of_format (map string_bytes names.now)) result }
+{
+    on_format(alloc, names[0].as_str(), shelf)
+}
+
+/// What options ask to be told of a run.
+fn telling_of(given: Given) -> Telling
+    ensures { result ≡ spec.telling_of given }
+{
+    Telling {
+        classes: None,
+        stats: given.stats,
+        truth: given.truth,
+        json: given.json,
+    }
+}
+
+/// The report of the run of the program of these files.
+fn on_run<S: Shelf>(
+    alloc: Global,
+    given: Given,
+    arguments: &[String],
+    names: &[String],
+    shelf: &mut S,
+) -> Result<Report, Stop>
+    requires files { AreFiles (map string_bytes names.now) }
+    requires range { InRange (limits_of given) }
+    ensures { Reports S.holds S.misses S.faults S.store_faults shelf.old shelf.new (map string_bytes names.now)
+        (spec.of_running given (map string_bytes arguments.now) (map string_bytes names.now)) result }
+{
+    let task = Task::Run {
+        telling: telling_of(given),
+        limits: given.limits(),
+        arguments,
+    };
+    on_files(alloc, task, given.lib, names, shelf)
+}
+
+/// The report of the tests of the program of these files.
+fn on_tests<S: Shelf>(
+    alloc: Global,
+    given: Given,
+    options: &[String],
+    names: &[String],
+    shelf: &mut S,
+) -> Result<Report, Stop>
+    requires files { AreFiles (map string_bytes names.now) }
+    requires range { InRange (limits_of given) }
+    ensures { Reports S.holds S.misses S.faults S.store_faults shelf.old shelf.new (map string_bytes names.now)
+        (spec.of_testing given (map string_bytes options.now) (map string_bytes names.now)) result }
+{
+    let task = Task::Test {
+        limits: given.limits(),
+        reversed: given.reverse,
+        only: only_among(options),
+    };
+    on_files(alloc, task, given.lib, names, shelf)
+}
+
+/// The report of the run of the statements that are the first name.
+fn on_statements(
+    alloc: Global,
+    given: Given,
+    arguments: &[String],
+    names: &[String],
+) -> Result<Report, Stop>
+    requires { InRange (limits_of given) }
+    ensures told { IfOk result (λ r. r ≡ spec.of_statements given (map string_bytes arguments.now) (map string_bytes names.now)) }
+    ensures ending { IfOk result (λ r. IsEnding r.status) }
+    ensures no_read_fault { IsErrOf result Stop.ReadFault → ⊥ }
+{
+    match names {
+        [] => or_stop(bad_word(alloc, 1)),
+        [text, ..] => {
+            let telling = telling_of(given);
+            let limits = given.limits();
+            on_eval(alloc, telling, limits, arguments, given.lib, text.as_str())
+        }
+    }
+}
+
+/// The report of the sample of the number that is the one name.
+fn on_number(alloc: Global, names: &[String]) -> Result<Report, Stop>
+    ensures told { IfOk result (λ r. r ≡ of_sample (sample_number_lem (map string_bytes names.now))) }
+    ensures ending { IfOk result (λ r. IsEnding r.status) }
+    ensures no_read_fault { IsErrOf result Stop.ReadFault → ⊥ }
+{
+    match sample_number(names) {
+        Some(n) => on_sample(alloc, n),
+        None => or_stop(bad_word(alloc, 1)),
+    }
+}
+
+/// The report of the run of the image that is the one name.
+fn on_exec<S: Shelf>(
+    alloc: Global,
+    given: Given,
+    arguments: &[String],
+    names: &[String],
+    shelf: &mut S,
+) -> Result<Report, Stop>
+    requires one { length names.now ≡ 1 }
+    requires range { InRange (limits_of given) }
+    ensures { Reports S.holds S.misses S.faults S.store_faults shelf.old shelf.new (map string_bytes names.now)
+        (spec.of_executing given (map string_bytes arguments.now) (map string_bytes names.now)) result }
+{
+    let task = ImageTask::Exec {
+        telling: telling_of(given),
+        limits: given.limits(),
+        arguments,
+    };
+    on_first(alloc, task, names, shelf)
+}
+
+/// The report of the session of the applications that these words ask for.
+fn on_applications<S: Shelf>(
+    alloc: Global,
+    given: Given,
+    names: &[String],
+    shelf: &mut S,
+) -> Result<Report, Stop>
+    requires asked { AreApplications (map string_bytes names.now) }
+    requires few { length names.now ≤ 16 }
+    requires range { InRange (limits_of given) }
+    requires quantum { 1 ≤ quantum_of given }
+    ensures { Reports S.holds S.misses S.faults S.store_faults shelf.old shelf.new (files_named (map string_bytes names.now))
+        (spec.of_session given.lib (limits_of given) (quantum_of given) (map string_bytes names.now)) result }
+{
+    let limits = given.limits();
+    let quantum = given.quantum();
+    on_session(alloc, given.lib, limits, quantum, names, shelf)
+}
+
+/// The report of the image of a program, which an option names, or the first of the names.
+fn on_build_line<S: Shelf>(
+    alloc: Global,
+    lib: bool,
+    options: &[String],
+    names: &[String],
+    shelf: &mut S,
+) -> Result<Report, Stop>
+    requires { AreFiles (spec.sources_of (image_among_lem (map string_bytes options.now)) (map string_bytes names.now)) }
+    ensures { Reports S.holds S.misses S.faults S.store_faults shelf.old shelf.new
+        (spec.files_built (image_among_lem (map string_bytes options.now)) (map string_bytes names.now))
+        (spec.of_build_line lib (image_among_lem (map string_bytes options.now)) (map string_bytes names.now)) result }
+{
+    match image_among(options) {
+        Some(image) => on_build_to(alloc, lib, image, names, shelf),
+        None => on_building(alloc, lib, names, shelf),
+    }
+}
+
+/// The report of the image of the program of all files but the first, which names the image.
+fn on_building<S: Shelf>(
+    alloc: Global,
+    lib: bool,
+    names: &[String],
+    shelf: &mut S,
+) -> Result<Report, Stop>
+    requires { AreFiles (spec.behind_first (map string_bytes names.now)) }
+    ensures { Reports S.holds S.misses S.faults S.store_faults shelf.old shelf.new
+        (spec.behind_first (map string_bytes names.now)) (spec.of_building lib (map string_bytes names.now)) result }
+{
+    let image = names[0].as_str();
+    on_files(alloc, Task::Build { image }, lib, &names[1..], shelf)
+}
+
+/// The report of what is done with the image that is the one name.
+fn on_first<S: Shelf>(
+    alloc: Global,
+    task: ImageTask<'_>,
+    names: &[String],
+    shelf: &mut S,
+) -> Result<Report, Stop>
+    requires one { length names.now ≡ 1 }
+    requires range { ImageInRange (work_of task) }
+    ensures { Reports S.holds S.misses S.faults S.store_faults shelf.old shelf.new
+        (map string_bytes names.now) (of_image (work_of task.entry) (map string_bytes names.now)) result }
+{
+    on_image(alloc, task, names[0].as_str(), shelf)
+}
+
+/// The report of the audit of the image that is the first of two names, of which the other is that of a class.
+fn on_audit<S: Shelf>(
+    alloc: Global,
+    options: &[String],
+    names: &[String],
+    shelf: &mut S,
+) -> Result<Report, Stop>
+    requires two { length names.now ≡ 2 }
+    ensures { Reports S.holds S.misses S.faults S.store_faults shelf.old shelf.new (spec.first_of (map string_bytes names.now))
+        (spec.of_audit (denied_by (map string_bytes options.now)) (map string_bytes names.now)) result }
+{
+    let class = names[1].as_str();
+    on_first(
+        alloc,
+        ImageTask::Audit { options, class },
+        &names[..1],
+        shelf,
+    )
+}
+
+/// The source of the library.
+fn library(alloc: Global) -> Result<Report, NoMemory>
+    ensures { IfOk result (λ r. r ≡ told_lem collections_lem) }
+{
+    let source = Text::of(alloc, collections())?;
+    Ok(told(alloc, source))
+}
+
+/// What the program tells of itself: how it is used, or the text on the one name.
+fn on_topic(alloc: Global, names: &[String]) -> Result<Report, NoMemory>
+    ensures { IfOk result (λ r. r ≡ spec.of_topic (map string_bytes names.now)) }
+{
+    match names {
+        [] => told_text(alloc, HELP),
+        [topic, ..] => on_word(alloc, topic.as_bytes()),
+    }
+}
+
+/// The text on a word.
+fn on_word(alloc: Global, word: &[u8]) -> Result<Report, NoMemory>
+    ensures { IfOk result (λ r. r ≡ spec.text_told (text_of_lem word.now)) }
+{
+    match text_of(word) {
+        Some(text) => told_text(alloc, text),
+        None => bad_word(alloc, 1),
+    }
+}

@@ -1,0 +1,5 @@
+pub mod AloneLaws
+pub mod GuardLaws
+pub mod LayoutLaws
+pub mod TextLaws
+pub mod SendLaws

@@ -1,0 +1,6 @@
+pub mod Guard
+pub mod Programs
+pub mod Refusal
+pub mod Task
+pub mod Tests
+pub mod laws

@@ -1,0 +1,255 @@
+-- What is done with a program: what is stored, the bytes that are written and the status, over the texts of its files.
+use Rattle.std.specs.Prelude.{ℕ, Bool, false, List, Option, Some, None, codes, flat_map, map, ◌++◌, ◌∷◌, [], length, nat_lt, slice_get, if◌then◌else◌}
+use Rattle.std.specs.Fmt.{decimal}
+use Rattle.ns_base.specs.Files.{Files}
+use Rattle.ns_base.specs.declared.limits.Limits.{Limits}
+use Rattle.ns_base.specs.declared.place.Place.{Place}
+use Rattle.ns_base.specs.declared.status.Status.{Status}
+use Rattle.ns_base.specs.declared.status.Status.TheVariants.{Done, ProgramError}
+use Rattle.ns_code.specs.Selector.{selector_text}
+use Rattle.ns_code.specs.declared.program.CodeProgram.{CodeProgram}
+use Rattle.ns_format.specs.Format.{formatted}
+use Rattle.ns_gen_code.specs.Code.{code_of}
+use Rattle.ns_gen_code.specs.Sizes.{size_fault}
+use Rattle.ns_gen_code.specs.declared.size.SizeKind.{SizeKind}
+use Rattle.ns_json.specs.declared.saying.Fault.{Fault}
+use Rattle.ns_json.specs.declared.saying.FilePlace.{FilePlace}
+use Rattle.ns_json.specs.declared.saying.Run.{Run}
+use Rattle.ns_json.specs.declared.saying.Saying.TheVariants.{Faulty, Searched}
+use Rattle.ns_json.specs.declared.saying.Unanswered.{Unanswered}
+use Rattle.ns_lib.specs.Sample.{sample}
+use Rattle.ns_load.specs.Loaded.{Loading, units, stopped, file_names, loaded_texts}
+use Rattle.ns_load.specs.Source.{FileReading, spells, read}
+use Rattle.ns_load.specs.Source as reads
+use Rattle.ns_load.specs.declared.fault.LoadCause.{LoadCause}
+use Rattle.ns_load.specs.declared.fault.LoadCause.TheVariants.{Missing, TooLong, ReadFault, Spelling}
+use Rattle.ns_load.specs.declared.fault.LoadFault.{LoadFault}
+use Rattle.ns_load.specs.declared.fault.LoadFault.TheVariants.{At, Memory}
+use Rattle.ns_print.specs.Printed.{printed}
+use Rattle.ns_resolved.specs.Classes.{meant_of}
+use Rattle.ns_resolved.specs.Program.{Meant}
+use Rattle.ns_run_code.specs.Build.{Built, built_of, image, image_too_large}
+use Rattle.ns_run_code.specs.Build as built
+use Rattle.ns_run_code.specs.Run.{meant_run}
+use Rattle.ns_run_told.specs.Told.{code_told}
+use Rattle.ns_run_files.specs.Task.{Task, Checks, Shows, Builds, Runs, Tests}
+use Rattle.ns_run_files.specs.Tests.{tests_report}
+use Rattle.ns_run_outcome.specs.Report.{bad_word, checked, never_told, refused, refused_file, refused_size, refused_text, spelling_name, static_name, stores, told, too_large}
+use Rattle.ns_run_outcome.specs.Run.{run_report}
+use Rattle.ns_run_outcome.specs.declared.report.Report.{Report}
+use Rattle.ns_run_outcome.specs.declared.run.Telling.{Telling}
+use Rattle.ns_run_words.specs.Words.{limits_of, nothing_given}
+use Rattle.ns_sends.specs.Unanswered.{unanswered}
+use Rattle.ns_sends.specs.declared.sent.SentAt.{SentAt}
+use Rattle.ns_static_all.specs.InOrder.{in_order}
+use Rattle.ns_static_rules.specs.Least.{faults, least, order_of}
+use Rattle.ns_static_rules.specs.declared.fault.Placed.{Placed}
+use Rattle.ns_test.specs.Source.{source_tested}
+use Rattle.ns_tree.specs.Flat.{flat}
+use Rattle.ns_tree.specs.Plain as p
+
+abbrev pub name_from : Option (List ℕ) → List ℕ
+name_from (Some name) = name
+name_from None = codes "lib:Collections"
+
+-- the name of the file of that number: the library stands behind the files that are named
+abbrev pub name_of : List (List ℕ) → ℕ → List ℕ
+name_of names file = name_from (slice_get names file)
+
+-- the check of units, of which this is the least fault
+abbrev pub of_check : List (List ℕ) → Option Placed → Report
+of_check names None = checked
+of_check names (Some fault) = refused_text (name_of names fault.place.file) fault.place (static_name fault.cause)
+
+-- the line of a fault
+abbrev pub fault_line : List (List ℕ) → Placed → List ℕ
+fault_line names fault = (of_check names (Some fault)).err
+
+-- a place by the name of its file
+abbrev pub place_told : List (List ℕ) → Place → FilePlace
+place_told names place = record { file = name_of names place.file; line = place.line; col = place.col }
+
+-- a fault in parts
+abbrev pub fault_told : List (List ℕ) → Placed → Fault
+fault_told names fault = record { cause = static_name fault.cause; place = place_told names fault.place }
+
+-- the check that tells each fault, of which these are all; where there is none, it tells the other report
+abbrev pub of_faults : List (List ℕ) → List Placed → Report → Report
+of_faults names [] other = other
+of_faults names (fault ∷ faults) other =
+    refused (Some (Faulty (map (fault_told names) (fault ∷ faults)))) (flat_map (fault_line names) (fault ∷ faults))
+
+-- the front of a line on a place of a file
+abbrev pub place_front : List ℕ → Place → List ℕ
+place_front file place = file ++ codes ":" ++ decimal place.line ++ codes ":" ++ decimal place.col ++ codes ": "
+
+-- the line of a send that nothing answers
+abbrev pub send_line : List (List ℕ) → CodeProgram → SentAt → List ℕ
+send_line names code sent =
+    place_front (name_of names sent.place.file) sent.place ++ codes "nothing answers " ++ selector_text code sent.sel.0 ++ 10 ∷ []
+
+-- a send that nothing answers, in parts
+abbrev pub send_told : List (List ℕ) → CodeProgram → SentAt → Unanswered
+send_told names code sent = record { selector = selector_text code sent.sel.0; place = place_told names sent.place }
+
+-- whether there are sends that nothing answers
+abbrev pub sends_status : List SentAt → Status
+sends_status [] = Done
+sends_status (sent ∷ sends) = ProgramError
+
+-- The sends of code that nothing answers are told, and behind them that the files are a program.
+abbrev pub sends_report : List (List ℕ) → CodeProgram → List SentAt → Report
+sends_report names code sends =
+    record {
+      out = flat_map (send_line names code) sends ++ codes "ok" ++ 10 ∷ [];
+      err = [];
+      status = sends_status sends;
+      stored = None;
+      said = Some (Searched (map (send_told names code) sends));
+    }
+
+-- the sends of code that nothing answers, where this size of it is too large
+abbrev pub of_sends : List (List ℕ) → CodeProgram → Option SizeKind → Report
+of_sends names code None = sends_report names code (unanswered code)
+of_sends names code (Some kind) = too_large kind
+
+-- the check of a program without static faults, asked for its sends or not
+abbrev pub of_faultless : Bool → List (List ℕ) → Meant → Report
+of_faultless sends names meant = if sends then of_sends names (code_of meant) (size_fault (code_of meant)) else of_check names None
+
+-- the check of units of files of these names, of which this is the least static fault
+abbrev pub of_least : Bool → List (List ℕ) → List (List ℕ) → List p.SourceUnit → List (List Place) → Option Placed → Report
+of_least sends names files trees places None = of_faultless sends names (meant_of files trees places)
+of_least sends names files trees places (Some fault) = of_check names (Some fault)
+
+-- the check of units, of which these are the static faults in their order, and this is the least of them; asked for all of them or not
+abbrev pub of_checks : Bool → Bool → List (List ℕ) → List (List ℕ) → List p.SourceUnit → List (List Place) → List Placed → Option Placed →
+    Report
+of_checks all sends names files trees places each fault =
+    if all then of_faults names each (of_least sends names files trees places fault) else of_least sends names files trees places fault
+
+-- the canonical source of the first unit (there is always one)
+abbrev pub of_show : List p.SourceUnit → Report
+of_show [] = never_told
+of_show (unit ∷ more) = told (printed (flat unit))
+
+-- the run of some code in parts, where it is asked for
+abbrev pub parts_of : Telling → CodeProgram → Limits → List (List ℕ) → Option Run
+parts_of telling code limits arguments = if telling.json then Some (code_told code limits arguments) else None
+
+-- the run of a program, of which this size is too large: the code of what is meant decides on sizes alone
+abbrev pub of_sized : Telling → Limits → List (List ℕ) → Meant → Option SizeKind → Report
+of_sized telling limits arguments meant None =
+    run_report telling limits (meant_run meant limits arguments) (parts_of telling (code_of meant) limits arguments)
+of_sized telling limits arguments meant (Some kind) = too_large kind
+
+-- the run of a program without static faults
+abbrev pub of_meant : Telling → Limits → List (List ℕ) → Meant → Report
+of_meant telling limits arguments meant = of_sized telling limits arguments meant (size_fault (code_of meant))
+
+-- the run of units of files of these names, of which this is the least static fault
+abbrev pub of_run : List (List ℕ) → Telling → Limits → List (List ℕ) → List (List ℕ) → List p.SourceUnit → List (List Place) →
+    Option Placed → Report
+of_run names telling limits arguments files trees places None = of_meant telling limits arguments (meant_of files trees places)
+of_run names telling limits arguments files trees places (Some fault) = of_check names (Some fault)
+
+-- the tests of units of files of these names, of which this is the least static fault
+abbrev pub of_tests : List (List ℕ) → Limits → Bool → Option (List ℕ) → List (List ℕ) → List p.SourceUnit → List (List Place) →
+    Option Placed → Report
+of_tests names limits reversed only files trees places None =
+    tests_report (name_of names 0) (source_tested (meant_of files trees places) limits reversed only)
+of_tests names limits reversed only files trees places (Some fault) = of_check names (Some fault)
+
+-- An image is stored under its name; one that would be too large is refused, as a size of the program is.
+abbrev pub of_built : List ℕ → Built → Report
+of_built name (image bytes) = stores name bytes
+of_built name (built.too_large kind) = too_large kind
+of_built name image_too_large = refused_size (codes "TooLarge(Image)")
+
+-- the image of units of files of these names, of which this is the least static fault
+abbrev pub of_build : List (List ℕ) → List ℕ → List (List ℕ) → List p.SourceUnit → List (List Place) → Option Placed → Report
+of_build names name files trees places None = of_built name (built_of (meant_of files trees places))
+of_build names name files trees places (Some fault) = of_check names (Some fault)
+
+-- what is done with the units of files of these names, of which the first are those that the command names
+abbrev pub of_units : Task → List (List ℕ) → List (List ℕ) → List p.SourceUnit → List (List Place) → Report
+of_units (Checks all sends) names files trees places =
+    of_checks all sends names files trees places (in_order order_of (faults trees places)) (least (faults trees places))
+of_units Shows names files trees places = of_show trees
+of_units (Builds name) names files trees places = of_build names name files trees places (least (faults trees places))
+of_units (Runs telling limits arguments) names files trees places =
+    of_run names telling limits arguments files trees places (least (faults trees places))
+of_units (Tests limits reversed only) names files trees places =
+    of_tests names limits reversed only files trees places (least (faults trees places))
+
+-- the refusal of a file (none that is told fails to be read)
+abbrev pub of_cause : List ℕ → LoadCause → Report
+of_cause file Missing = refused_file file (codes "Missing")
+of_cause file TooLong = refused_file file (codes "TooLong")
+of_cause file ReadFault = never_told
+of_cause file (Spelling wrong place) = refused_text file place (spelling_name wrong)
+
+-- the refusal of files (none want memory)
+abbrev pub of_fault : List (List ℕ) → LoadFault → Report
+of_fault names (At cause file) = of_cause (name_of names file) cause
+of_fault names Memory = never_told
+
+abbrev pub of_loading : Task → List (List ℕ) → Bool → Loading → Report
+of_loading task names lib (units trees places) = of_units task names (file_names names lib) trees places
+of_loading task names lib (stopped fault) = of_fault names fault
+
+-- what is done with these texts of the files of these names, and with the library where it is asked for
+abbrev pub of_texts : Task → List (List ℕ) → Bool → List (Option (List ℕ)) → Report
+of_texts task names lib texts = of_loading task names lib (loaded_texts texts lib)
+
+-- what is done with the files of these names, and with the library where it is asked for
+abbrev pub of_files : Task → List (List ℕ) → Bool → Files → Report
+of_files task names lib files = of_texts task names lib (map files names)
+
+-- what is done with a text alone, under that name, and with the library where it is asked for
+abbrev pub of_text : Task → List ℕ → Bool → List ℕ → Report
+of_text task name lib text = of_texts task (name ∷ []) lib (Some text ∷ [])
+
+-- what a sample is asked to tell: its classes are counted
+abbrev pub sample_telling : ℕ → Telling
+sample_telling n = record { classes = Some n; stats = false; truth = false; json = false }
+
+-- the refusal of one file
+abbrev pub of_own_fault : List ℕ → LoadFault → Report
+of_own_fault name (At cause file) = of_cause name cause
+of_own_fault name Memory = never_told
+
+-- the source of a file of these bytes, which is read so, with its lines laid out; or its refusal
+abbrev pub of_layout : List ℕ → List ℕ → FileReading → Report
+of_layout name source (spells unit places) = told (formatted source)
+of_layout name source (reads.refused fault) = of_own_fault name fault
+
+-- the layout of a file of these bytes, if they aren't too many
+abbrev pub of_source : List ℕ → List ℕ → Report
+of_source name source =
+    if nat_lt 1048576 (length source) then refused_file name (codes "TooLong") else of_layout name source (read 0 source)
+
+abbrev pub of_format_file : List ℕ → Option (List ℕ) → Report
+of_format_file name None = refused_file name (codes "Missing")
+of_format_file name (Some source) = of_source name source
+
+-- the layout of the first of these files (there is always one)
+abbrev pub of_format : List (List ℕ) → List (Option (List ℕ)) → Report
+of_format [] texts = bad_word 1
+of_format (name ∷ names) [] = bad_word 1
+of_format (name ∷ names) (text ∷ texts) = of_format_file name text
+
+-- the sample of that number is run within the default limits, and its classes are counted; without a number there is none
+abbrev pub of_sample : Option ℕ → Report
+of_sample None = bad_word 1
+of_sample (Some n) = of_text (Runs (sample_telling n) (limits_of nothing_given) []) (codes "sample") false (sample n)
+
+-- the source of a class whose application answers what these statements do
+abbrev pub eval_source : List ℕ → List ℕ
+eval_source text =
+    codes "class Eval packageUsing: m = (| manifest = m. |) (public main: platform args: args = (^[" ++ 10 ∷ [] ++ text ++ 10 ∷ []
+    ++ codes "] value))" ++ 10 ∷ []
+
+-- the run of these statements
+abbrev pub of_eval : Telling → Limits → List (List ℕ) → Bool → List ℕ → Report
+of_eval telling limits arguments lib text = of_text (Runs telling limits arguments) (codes "eval") lib (eval_source text)

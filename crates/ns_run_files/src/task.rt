@@ -1,0 +1,34 @@
+//! What a command does with a program.
+
+use ns_base::limits::Limits;
+use ns_run_outcome::run::Telling;
+
+/// What is done with a program.
+#[derive(Drop)]
+pub enum Task<'a> {
+    /// It is checked for static faults: all of them are told, or the first; and where there are none, the sends that nothing
+    /// answers, or none.
+    Check {
+        all: bool,
+        sends: bool,
+    },
+    /// The canonical source of its first file is written.
+    Show,
+    /// Its image is stored under this name.
+    Build {
+        image: &'a str,
+    },
+    /// It is run within these limits, with these arguments, and told as it is asked.
+    Run {
+        telling: Telling,
+        limits: Limits,
+        arguments: &'a [String],
+    },
+    /// Its tests are run within these limits, each alone: all in the order of the text, or in the
+    /// reverse one, or the one of this name.
+    Test {
+        limits: Limits,
+        reversed: bool,
+        only: Option<&'a [u8]>,
+    },
+}
