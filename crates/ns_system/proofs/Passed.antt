@@ -16,7 +16,7 @@ pub nothing_passed : (old : Option (List ℕ)) (bytes : List ℕ) → old ≡ wi
 nothing_passed None bytes = refl
 nothing_passed (Some v) bytes = ap (λ u. Some u) (sym (append-nil v))
 
-more_passed : (old : Option (List ℕ)) (xs ys : List ℕ) → with_bytes ys (with_bytes xs old) ≡ with_bytes (xs ++ ys) old
+pub more_passed : (old : Option (List ℕ)) (xs ys : List ℕ) → with_bytes ys (with_bytes xs old) ≡ with_bytes (xs ++ ys) old
 more_passed None xs ys = refl
 more_passed (Some v) xs ys = ap (λ u. Some u) (append_assoc v xs ys)
 

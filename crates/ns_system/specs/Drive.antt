@@ -1,5 +1,5 @@
 -- What a drive has, and what it answers, where it tells that.
-use Rattle.std.specs.Prelude.{◌≡◌, ◌⊎◌, ℕ, List, ◌∷◌, Option, Some, None, Result, Ok, Err, IsSome, IsSomeAnd}
+use Rattle.std.specs.Prelude.{◌≡◌, ◌⊎◌, ℕ, List, ◌∷◌, Option, Some, None, Result, Ok, Err, IsSome, IsSomeAnd, option_map}
 use Rattle.std.specs.IoError.{error_kind}
 use Rattle.std.specs.declared.io.Error.{Error}
 use Rattle.std.specs.declared.io.ErrorKind.{ErrorKind}
@@ -10,6 +10,10 @@ use Rattle.ns_base.specs.Files.{Files, OthersStand}
 pub record Kept : Type 0 where
   pub files : Files
   pub drafts : List (List ℕ)
+
+-- the files of a drive, where it tells what it has
+abbrev pub files_of : Option Kept → Option Files
+files_of kept = option_map (λ told. told.files) kept
 
 -- An error that says that a name leads to no file.
 abbrev pub IsAbsence : ErrorKind → Type 0

@@ -1,12 +1,15 @@
 //! A drive as a shelf: what is loaded and stored is counted, and told where the drive tells it.
 
-ghost use Rattle.std.specs.Prelude.{◌≡◌, ◌≢◌, ℕ, List, Err, ◌+◌, ◌≤◌, length, take, Option, option_map, IfOk, IfSome};
+ghost use Rattle.std.specs.Prelude.{◌≡◌, ◌≢◌, ℕ, List, Err, ◌+◌, ◌≤◌, length, take, Option, None, option_map, IfOk, IfSome, IsErrOf, IsNone, IsSomeAnd, MatchOption, string_bytes};
+ghost use Rattle.ns_base.specs.Count.{Rose};
 ghost use Rattle.ns_base.specs.Files.{Files};
-ghost use Rattle.ns_base.specs.Shelf.{AnswersLoad};
-ghost use Rattle.ns_system.specs.Drive.{AnswersOpen, IsAbsence};
+ghost use Rattle.ns_base.specs.Shelf.{AnswersLoad, AnswersStore};
+ghost use Rattle.ns_system.specs.Drive.{AnswersOpen, IsAbsence, files_of};
+ghost use Rattle.ns_system.specs.Telling.{KeepsName};
 
 use crate::drive::Drive;
 use crate::store::store;
+use crate::telling::TellingShelf;
 use ns_base::shelf::{Shelf, ShelfFault};
 use std::alloc::Global;
 use std::io::{self, ErrorKind, Read};
@@ -14,7 +17,8 @@ use std::io::{self, ErrorKind, Read};
 /// How many bytes are read at once.
 const READ_BYTES: u64 = 16_384;
 
-/// The files of a drive, with how many loads found no file, how many failed, and how many stores failed.
+/// The files of a drive, with how many loads found no file, how many failed, and how many stores failed; and with the names of the
+/// files where a load and where a store failed last. A name for which no memory was found isn't kept.
 #[derive(Drop)]
 pub struct Disk<D> {
     pub drive: D,
@@ -22,6 +26,8 @@ pub struct Disk<D> {
     pub misses: u64,
     pub faults: u64,
     pub store_faults: u64,
+    pub unread: Option<String>,
+    pub unstored: Option<String>,
 }
 
 impl<D> Disk<D> {
@@ -29,6 +35,8 @@ impl<D> Disk<D> {
     pub fn new(alloc: Global, drive: D) -> Disk<D>
         ensures drive { result.drive ≡ drive }
         ensures counts { result.misses + result.faults + result.store_faults ≡ 0 }
+        ensures unread { result.unread ≡ None }
+        ensures unstored { result.unstored ≡ None }
     {
         Disk {
             drive,
@@ -36,14 +44,16 @@ impl<D> Disk<D> {
             misses: 0,
             faults: 0,
             store_faults: 0,
+            unread: None,
+            unstored: None,
         }
     }
 }
 
 impl<D: Drive> Shelf for Disk<D> {
-    ghost use Rattle.std.specs.Prelude.{option_map};
+    ghost use Rattle.ns_system.specs.Drive.{files_of};
 
-    ghost holds = { λ s. option_map (λ kept. kept.files) (D.kept s.drive) };
+    ghost holds = { λ s. files_of (D.kept s.drive) };
 
     ghost misses = { λ s. s.misses };
 
@@ -51,7 +61,20 @@ impl<D: Drive> Shelf for Disk<D> {
 
     ghost store_faults = { λ s. s.store_faults };
 
-    fn load(&mut self, alloc: Global, name: &str, most: u64) -> Result<Vec<u8>, ShelfFault> {
+    /// The first `most` bytes of the file. Where that fails, its name is kept.
+    fn load(&mut self, alloc: Global, name: &str, most: u64) -> Result<Vec<u8>, ShelfFault>
+        ensures unread { KeepsName name.now result (option_map string_bytes self.old.unread) (option_map string_bytes self.new.unread) }
+        ensures unstored { self.new.unstored ≡ self.old.unstored }
+
+        ensures holds { files_of (D.kept self.new.drive) ≡ files_of (D.kept self.old.drive) }
+        ensures store_faults { self.new.store_faults ≡ self.old.store_faults }
+        ensures misses { self.old.misses ≤ self.new.misses }
+        ensures faults { self.old.faults ≤ self.new.faults }
+        ensures at_most { IfOk result (λ bytes. length bytes.items ≤ most) }
+        ensures missing { IsErrOf result ShelfFault.Missing → Rose self.old.misses self.new.misses }
+        ensures failed { IsErrOf result ShelfFault.Failed → Rose self.old.faults self.new.faults }
+        ensures told { IfSome (files_of (D.kept self.old.drive)) (λ files. AnswersLoad files name.now most result) }
+    {
         match load(&mut self.drive, alloc, name, most) {
             Ok(bytes) => Ok(bytes),
             Err(ShelfFault::Missing) => {
@@ -60,21 +83,75 @@ impl<D: Drive> Shelf for Disk<D> {
             }
             Err(ShelfFault::Failed) => {
                 self.faults = self.faults.saturating_add(1);
+                self.unread = kept(alloc, name);
                 Err(ShelfFault::Failed)
             }
             Err(ShelfFault::Memory) => Err(ShelfFault::Memory),
         }
     }
 
-    fn store(&mut self, name: &str, bytes: &[u8]) -> Result<(), ShelfFault> {
+    /// Makes these the bytes of the file. Where that fails, its name is kept.
+    fn store(&mut self, name: &str, bytes: &[u8]) -> Result<(), ShelfFault>
+        ensures unstored { KeepsName name.now result (option_map string_bytes self.old.unstored) (option_map string_bytes self.new.unstored) }
+        ensures unread { self.new.unread ≡ self.old.unread }
+
+        ensures misses { self.new.misses ≡ self.old.misses }
+        ensures faults { self.new.faults ≡ self.old.faults }
+        ensures store_faults { self.old.store_faults ≤ self.new.store_faults }
+        ensures missing { IsErrOf result ShelfFault.Missing → ⊥ }
+        ensures failed { IsErrOf result ShelfFault.Failed → Rose self.old.store_faults self.new.store_faults }
+        ensures told { MatchOption (files_of (D.kept self.old.drive)) (IsNone (files_of (D.kept self.new.drive)))
+            (λ old. IsSomeAnd (files_of (D.kept self.new.drive)) (λ new. AnswersStore old new name.now bytes.now result)) }
+    {
         match store(&mut self.drive, self.alloc, name, bytes) {
             Ok(()) => Ok(()),
             Err(ShelfFault::Memory) => Err(ShelfFault::Memory),
             Err(_) => {
                 self.store_faults = self.store_faults.saturating_add(1);
+                self.unstored = kept(self.alloc, name);
                 Err(ShelfFault::Failed)
             }
         }
+    }
+}
+
+impl<D: Drive> TellingShelf for Disk<D> {
+    ghost use Rattle.std.specs.Prelude.{option_map, string_bytes};
+
+    ghost unread = { λ s. option_map string_bytes s.unread };
+
+    ghost unstored = { λ s. option_map string_bytes s.unstored };
+
+    fn unread(&self) -> Option<&str> {
+        as_text(&self.unread)
+    }
+
+    fn unstored(&self) -> Option<&str> {
+        as_text(&self.unstored)
+    }
+
+    fn failed_stores(&self) -> u64 {
+        self.store_faults
+    }
+}
+
+/// A name to be kept, if memory is found for it.
+fn kept(alloc: Global, name: &str) -> Option<String>
+    ensures { IfSome result (λ kept. string_bytes kept ≡ name.now) }
+{
+    match String::from_str(alloc, name) {
+        Ok(name) => Some(name),
+        Err(_) => None,
+    }
+}
+
+/// The name that was kept.
+fn as_text(kept: &Option<String>) -> Option<&str>
+    ensures { option_map (λ name. name.now) result ≡ option_map string_bytes kept.now }
+{
+    match kept {
+        Some(name) => Some(name.as_str()),
+        None => None,
     }
 }
 
@@ -87,7 +164,7 @@ fn load<D: Drive>(
 ) -> Result<Vec<u8>, ShelfFault>
     ensures kept { D.kept drive.new ≡ D.kept drive.old }
     ensures at_most { IfOk result (λ bytes. length bytes.items ≤ most) }
-    ensures told { IfSome (option_map (λ kept. kept.files) (D.kept drive.old)) (λ files. AnswersLoad files name.now most result) }
+    ensures told { IfSome (files_of (D.kept drive.old)) (λ files. AnswersLoad files name.now most result) }
 {
     read_opened(drive.open(name), alloc, most)
 }

@@ -7,8 +7,10 @@
 pub mod arguments;
 mod draft;
 pub mod drive;
+pub mod fault;
 pub mod files;
 pub mod host;
 pub mod outlet;
 pub mod store;
 pub mod stream;
+pub mod telling;

@@ -3,6 +3,7 @@
 ghost use Rattle.std.specs.Prelude.{◌≡◌};
 
 use crate::outlet::{Outlet, put_all};
+use crate::telling::TellingSink;
 use ns_base::sink::{Sink, SinkFailed};
 
 /// A stream of the system, with how many puts failed.
@@ -35,5 +36,11 @@ impl<W: Outlet> Sink for Stream<W> {
             self.faults = self.faults.saturating_add(1);
             Err(SinkFailed)
         }
+    }
+}
+
+impl<W: Outlet> TellingSink for Stream<W> {
+    fn failed_puts(&self) -> u64 {
+        self.faults
     }
 }

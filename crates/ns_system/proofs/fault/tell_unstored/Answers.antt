@@ -1,0 +1,4 @@
+use Rattle.ns_system.proofs.fault.tell_unstored.Goals as goal
+
+pub returns-in-None : goal.returns-in-None
+returns-in-None g c = rw c.in-None.is c.tell.ensures
