@@ -6,7 +6,7 @@ _nspk() {
   local limits='--steps= --cells= --depth= --out=' options= sources= before= joined= one
   COMPREPLY=()
   if [ "$COMP_CWORD" = 1 ]; then
-    COMPREPLY=($(compgen -W 'check show run build exec list session audit test sample --help --version' -- "$word"))
+    COMPREPLY=($(compgen -W 'check show format run eval build exec list session audit test sample library help --version' -- "$word"))
     return
   fi
   # Behind `--` stand arguments of the program, which may be anything.
@@ -14,24 +14,25 @@ _nspk() {
     [ "$one" != -- ] || return
   done
   case $command in
-    check) options=--lib sources=yes ;;
-    show) sources=yes ;;
-    run) options="--lib $limits --" sources=yes ;;
-    build) options=--lib ;;
-    exec) options="$limits --" ;;
-    list) ;;
+    check) options='--lib --all --sends --json' sources=yes ;;
+    show | format) sources=yes ;;
+    run) options="--lib $limits --stats --true --json --" sources=yes ;;
+    eval) options="--lib $limits --stats --true --json --" ;;
+    build) options='--lib --json --to=' ;;
+    exec) options="$limits --stats --true --json --" ;;
+    list) options=--members ;;
     session) options="--lib $limits --quantum=" sources=yes ;;
     audit) options=--deny= ;;
     test) options="--lib $limits --reverse --only=" sources=yes ;;
     *) return ;;
   esac
-  # Bash cuts words at an equals sign. Before it stand grants, or an option, whose value nobody can guess.
+  # Bash cuts words at an equals sign. Before it stand grants, an option whose value is a file, or one whose value nobody can guess.
   if [ "$word" = = ]; then
     before=$last word=
   elif [ "$last" = = ]; then
     before=${COMP_WORDS[COMP_CWORD - 2]}
   fi
-  case $before in --*) return ;; esac
+  case $before in --to) ;; --*) return ;; esac
   case $word in
     -*)
       COMPREPLY=($(compgen -W "$options" -- "$word"))
