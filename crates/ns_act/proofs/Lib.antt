@@ -2,6 +2,7 @@ pub mod Applying
 pub mod Beside
 pub mod Counted
 pub mod Entries
+pub mod Far
 pub mod Levels
 pub mod Members
 pub mod Others

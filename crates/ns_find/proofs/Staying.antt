@@ -28,12 +28,14 @@ use Rattle.ns_code.specs.Access.{public_access}
 use Rattle.ns_kernel.specs.Table.{Numbered as NumberedRow, rows_of}
 use Rattle.ns_find.specs.Rows.{facet_asked, is_granted, top_rows, called_by, row_members, rows_members, kernel_rows}
 use Rattle.ns_find.specs.Find.{members_from, found_from, found_private, is_start}
+use Rattle.ns_find.proofs.Outward.{KeepsShapes}
 
--- Each class, each chain and each row of one world is the same in another.
+-- Each class, each chain and each row of one world is the same in another, and each cell has its shape there.
 pub record SameRows (before after : Heap) : Type 0 where
   pub same : SameClasses before after
   pub facets : (kind : FacetKind) → first_such (is_facet kind) after ≡ first_such (is_facet kind) before
   pub tops : (decl : ℕ) → first_such (is_top decl) after ≡ first_such (is_top decl) before
+  pub shapes : KeepsShapes before after
 
 slots_stay : (before after : Heap) (code : CodeProgram) (wanted : Wanted) (holder : ℕ) →
     ((entry : ℕ) → entry_word after code holder entry ≡ entry_word before code holder entry) → (entry : ℕ) (slots : List SlotCode) →

@@ -3,6 +3,8 @@ pub mod Rows
 pub mod Find
 pub mod Belonging
 pub mod Named
+pub mod Outward
+pub mod Passed
 pub mod Memo
 pub mod Stated
 pub mod laws

@@ -5,6 +5,7 @@ ghost use Rattle.ns_world.specs.Heap.{find_cell, is_class, chain_of, is_chain_st
 ghost use Rattle.ns_world.specs.Lawful.{IsLawful};
 ghost use Rattle.ns_world.specs.Layout.{declaration_of};
 ghost use Rattle.ns_find.specs.Members as spec;
+ghost use Rattle.ns_find.specs.Passed.{PassedHaveNone};
 ghost use Rattle.ns_find.specs.Find.{found_from, found_private, class_side_members, members_from, is_start, side_of, super_start};
 ghost use Rattle.ns_find.specs.declared.members.Wanted.TheVariants.{Visible};
 ghost use Rattle.ns_find.specs.declared.members.Side.TheVariants as side_is;
@@ -19,6 +20,9 @@ use ns_code::program::CodeProgram;
 use ns_kernel::class::KernelRow;
 use ns_world::kernel::Start;
 use ns_world::world::World;
+
+/// The most classes that a code declares.
+const MOST_CLASSES: usize = 4_096;
 
 /// What a selector finds from a start: the first member of that name that isn't private, or a
 /// row of the kernel, or nothing.
@@ -191,7 +195,7 @@ fn factory_of(
     }
 }
 
-/// The member of that name along a chain.
+/// The member of that name along a chain, on which each declaration is gone through once.
 #[inline(never)]
 fn along(world: &World, code: &CodeProgram, class: u32, side: Side, asked: Asked) -> Option<Found>
     requires lawful { IsLawful world.now.world code.now }
@@ -200,14 +204,85 @@ fn along(world: &World, code: &CodeProgram, class: u32, side: Side, asked: Asked
     ensures { result ≡ spec.search code.now asked.sel.0 asked.kind
         (spec.members_along world.now.world.cells code.now side (chain_of world.now.world.cells class)) }
 {
+    let mut passed = [false; MOST_CLASSES];
     let mut at = class;
     'up: while !world.is_past(at) {
-        match of_holder(world, code, at, side, asked) {
+        match of_passing(world, code, &mut passed, at, side, asked) {
             Some(found) => return Some(found),
             None => at = world.superclass(at),
         }
     }
     None
+}
+
+/// The member of that name of a holder's declaration, which isn't gone through again where it was passed.
+#[inline(never)]
+fn of_passing(
+    world: &World,
+    code: &CodeProgram,
+    passed: &mut [bool],
+    holder: u32,
+    side: Side,
+    asked: Asked,
+) -> Option<Found>
+    requires lawful { IsLawful world.now.world code.now }
+    requires holder { IsTrue (is_class (find_cell world.now.world.cells holder)) }
+    requires visible { asked.wanted ≡ Visible }
+    requires room { length passed.old ≡ 4096 }
+    requires passed { PassedHaveNone world.now.world.cells code.now side asked.sel.0 asked.kind passed.old }
+    ensures found { result ≡ spec.search code.now asked.sel.0 asked.kind (spec.holder_members world.now.world.cells code.now asked.wanted side holder) }
+    ensures room { length passed.new ≡ 4096 }
+    ensures passed { PassedHaveNone world.now.world.cells code.now side asked.sel.0 asked.kind passed.new }
+{
+    let declaration = world.declaration(holder) as usize;
+    match code.classes.as_slice().get(declaration) {
+        Some(declared) => of_declared(
+            world,
+            code,
+            passed,
+            declared,
+            declaration,
+            holder,
+            side,
+            asked,
+        ),
+        None => None,
+    }
+}
+
+/// The same, where the declaration is known.
+#[inline(never)]
+fn of_declared(
+    world: &World,
+    code: &CodeProgram,
+    passed: &mut [bool],
+    declared: &ClassCode,
+    declaration: usize,
+    holder: u32,
+    side: Side,
+    asked: Asked,
+) -> Option<Found>
+    requires lawful { IsLawful world.now.world code.now }
+    requires holder { IsTrue (is_class (find_cell world.now.world.cells holder)) }
+    requires visible { asked.wanted ≡ Visible }
+    requires declaration { declaration ≡ declaration_of world.now.world.cells holder }
+    requires declared { slice_get code.now.classes declaration ≡ Some declared.now }
+    requires room { length passed.old ≡ 4096 }
+    requires passed { PassedHaveNone world.now.world.cells code.now side asked.sel.0 asked.kind passed.old }
+    ensures found { result ≡ spec.search code.now asked.sel.0 asked.kind (spec.holder_members world.now.world.cells code.now asked.wanted side holder) }
+    ensures room { length passed.new ≡ 4096 }
+    ensures passed { PassedHaveNone world.now.world.cells code.now side asked.sel.0 asked.kind passed.new }
+{
+    if passed[declaration] {
+        return None;
+    }
+    match of_side(world, code, declared, holder, side, asked) {
+        Some(found) => Some(found),
+        None => {
+            passed[declaration] = true;
+            None
+        }
+    }
 }
 
 /// The member of that name of a holder's declaration.

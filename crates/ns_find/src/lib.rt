@@ -1,4 +1,4 @@
-//! Lookup: what a selector finds, from where a send starts.
+//! Lookup: what a selector finds, from where a send starts; and ways out that are kept.
 //! `specs/Find.antt` says through which members a lookup goes, and what it finds among them.
 //! Stands between classes and actions.
 #![tactic(auto)]
@@ -9,3 +9,4 @@ mod kernel;
 pub mod laws;
 pub mod members;
 pub mod memo;
+pub mod ways;

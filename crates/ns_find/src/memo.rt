@@ -1,9 +1,10 @@
-//! Kept lookups: 1,024 places, each with a lookup and its answer, or nothing.
+//! What is kept beside a world, in 1,536 places: 1,024 for lookups with their answers, and 512 for ways out.
 
 ghost use Rattle.std.specs.Prelude.{◌≡◌, ◌<◌, All, Some, IsTrue, IfOk, IfSome, slice_set};
 ghost use Rattle.ns_world.specs.Lawful.{IsLawful};
 ghost use Rattle.ns_find.specs.Find.{found_from, is_start};
-ghost use Rattle.ns_find.specs.Memo.{IsEmpty, PlaceIsRight, LookupIsKept};
+ghost use Rattle.ns_find.specs.Memo.{IsEmpty, PlaceIsRight, LookupIsKept, WayIsKept};
+ghost use Rattle.ns_find.specs.declared.memo.Kept.TheVariants.{Looked};
 
 use crate::find::find;
 use crate::found::{Found, Sending};
@@ -16,8 +17,8 @@ use ns_world::world::World;
 use std::alloc::Global;
 use std::marker::Model;
 
-/// How many lookups are kept at most.
-const PLACES: usize = 1024;
+/// How many places there are.
+const PLACES: usize = 1536;
 
 /// Two odd numbers: the highest ten bits of a product with one hang on all bits of the other factor.
 const STARTED: u32 = 2_246_822_507;
@@ -26,14 +27,30 @@ const SENT: u32 = 2_654_435_769;
 
 /// A lookup and its answer.
 #[derive(Clone, Copy)]
-pub struct Kept {
+pub struct Lookup {
     pub start: Start,
     pub sel: Sel,
     pub kind: Sending,
     pub found: Found,
 }
 
-/// Lookups that were made. A clause sees the list of its places.
+/// A way out: the class or the environment from which it leads, over how many of what stands around one another, and
+/// the one at its end.
+#[derive(Clone, Copy)]
+pub struct Way {
+    pub from: u32,
+    pub levels: u8,
+    pub to: u32,
+}
+
+/// What a place keeps.
+#[derive(Clone, Copy)]
+pub enum Kept {
+    Looked(Lookup),
+    Out(Way),
+}
+
+/// Lookups that were made, and ways that were gone. A clause sees the list of its places.
 #[derive(Drop)]
 pub struct Memo {
     places: Vec<Option<Kept>>,
@@ -47,7 +64,7 @@ impl Model for Memo {
 
     ghost view = { λ m. m.places.items };
 
-    ghost invariant = { λ m. length m.places.items ≡ 1024 };
+    ghost invariant = { λ m. length m.places.items ≡ 1536 };
 }
 
 impl Memo {
@@ -74,18 +91,32 @@ impl Memo {
     /// The answer that is kept at a place for a lookup, if it is this lookup that is kept there.
     #[inline(always)]
     fn kept(&self, place: usize, start: Start, sel: Sel, kind: Sending) -> Option<Found>
-        requires { place < 1024 }
+        requires { place < 1536 }
         ensures { IfSome result (λ found. LookupIsKept self.now (record { start = start; sel = sel; kind = kind; found = found })) }
     {
         match self.places[place] {
-            Some(kept) => answer_of(kept, start, sel, kind),
+            Some(Kept::Looked(kept)) => answer_of(kept, start, sel, kind),
+            Some(Kept::Out(_)) => None,
             None => None,
         }
     }
 
-    /// Keeps a lookup at a place.
-    fn keep(&mut self, place: usize, kept: Kept)
-        requires { place < 1024 }
+    /// The end of a way that is kept at a place, if it is this way that is kept there.
+    #[inline(always)]
+    pub fn kept_way(&self, place: usize, from: u32, levels: u8) -> Option<u32>
+        requires { place < 1536 }
+        ensures { IfSome result (λ to. WayIsKept self.now (record { from = from; levels = levels; to = to })) }
+    {
+        match self.places[place] {
+            Some(Kept::Looked(_)) => None,
+            Some(Kept::Out(way)) => end_of(way, from, levels),
+            None => None,
+        }
+    }
+
+    /// Keeps something at a place.
+    pub fn keep(&mut self, place: usize, kept: Kept)
+        requires { place < 1536 }
         ensures { self.new ≡ slice_set self.old place (Some kept) }
     {
         self.places[place] = Some(kept);
@@ -116,12 +147,12 @@ pub fn find_kept(
             let found = find(world, code, start, sel, kind);
             memo.keep(
                 place,
-                Kept {
+                Kept::Looked(Lookup {
                     start,
                     sel,
                     kind,
                     found,
-                },
+                }),
             );
             found
         }
@@ -130,11 +161,22 @@ pub fn find_kept(
 
 /// The answer of a lookup that is kept, if it is this lookup.
 #[inline(always)]
-fn answer_of(kept: Kept, start: Start, sel: Sel, kind: Sending) -> Option<Found>
+fn answer_of(kept: Lookup, start: Start, sel: Sel, kind: Sending) -> Option<Found>
     ensures { IfSome result (λ found. kept ≡ record { start = start; sel = sel; kind = kind; found = found }) }
 {
     if kept.start == start && kept.sel.0 == sel.0 && kept.kind == kind {
         return Some(kept.found);
+    }
+    None
+}
+
+/// The end of a way that is kept, if it is this way.
+#[inline(always)]
+fn end_of(kept: Way, from: u32, levels: u8) -> Option<u32>
+    ensures { IfSome result (λ to. kept ≡ record { from = from; levels = levels; to = to }) }
+{
+    if kept.from == from && kept.levels == levels {
+        return Some(kept.to);
     }
     None
 }

@@ -9,12 +9,10 @@ use Rattle.ns_code.specs.declared.instruction.Instr.TheVariants as instr
 use Rattle.ns_world.specs.declared.value.Value.{Value}
 use Rattle.ns_world.specs.Lawful.{IsLawful}
 use Rattle.ns_actions.specs.declared.site.Site.{Site}
-use Rattle.ns_actions.specs.Bodies.{Place, enclosing}
+use Rattle.ns_actions.specs.Bodies.{enclosing}
 use Rattle.ns_actions.specs.Lawful.{declaration_at}
 use Rattle.ns_machine_moves.specs.State.{Going}
 use Rattle.ns_machine_moves.specs.laws.Levels.{level_there}
-use Rattle.ns_act.specs.declared.enclosing.Surrounding.{Surrounding}
-use Rattle.ns_act.specs.Enclosing.{place_of}
 use Rattle.ns_act.specs.Running.{activation_at}
 use Rattle.ns_machine_frames.specs.declared.frame.Frame.TheVariants.{Running}
 use Rattle.ns_machine_frames.specs.declared.frame.RunningFrame.{RunningFrame}
@@ -48,19 +46,19 @@ declared_there code core at level running can top = by_body (slice_get code.bodi
     by_body (Some body) e some = let has = finds.uses body e in level_there code running.activation.body level has.0 body e has.1
     by_body None e some = absurd (cc)
 
-pub outer_pushed : (code : CodeProgram) (old new : Core) (at to : Registers) (level : ℕ) (running : RunningFrame) (around : Surrounding) (place : Option SourcePlace)
+pub outer_pushed : (code : CodeProgram) (old new : Core) (at to : Registers) (level : ℕ) (running : RunningFrame) (object : Value) (place : Option SourcePlace)
     → CanDo code old at (instr.PushOuter level) → old.stack.frames.items ≡ Running running ∷ below old.stack.frames.items
-    → ((site : Site) → place_of around ≡ enclosing old.run.world.world.cells (activation_at site (running_of running.activation)) level)
-    → Pushed code old at around.object new to → IsDone code (instr.PushOuter level) place old at new (next.On to)
-outer_pushed code old new at to level running around place can top is pushed =
-    push_does code old new at to (instr.PushOuter level) place around.object can pushed by_stood
+    → ((site : Site) → object ≡ (enclosing old.run.world.world.cells (activation_at site (running_of running.activation)) level).object)
+    → Pushed code old at object new to → IsDone code (instr.PushOuter level) place old at new (next.On to)
+outer_pushed code old new at to level running object place can top is pushed =
+    push_does code old new at to (instr.PushOuter level) place object can pushed by_stood
   where
     by_stood : (frame : RunningFrame) (locals stack : List Value) (others : List Stood) → Runs frame locals stack ∷ others ≡ stood old.stack at
-        → Going (phase_shown old.phase) (frames_shown code old.places (Runs frame locals (around.object ∷ stack) ∷ others)) (progress_in old)
+        → Going (phase_shown old.phase) (frames_shown code old.places (Runs frame locals (object ∷ stack) ∷ others)) (progress_in old)
         ≡ done code old.places (phase_shown old.phase) (instr.PushOuter level) place (Runs frame locals stack ∷ others) (progress_in old)
     by_stood frame locals stack others e =
         let same = top_stands old at running frame locals stack others top e in
         ap (λ (v : Value). Going (phase_shown old.phase) (frames_shown code old.places (Runs frame locals (v ∷ stack) ∷ others)) (progress_in old))
-        (ap (λ (p : Place). p.object) (is (site_shown old.places running.activation.site))
+        (is (site_shown old.places running.activation.site)
         ∙ ap (λ (f : RunningFrame). (enclosing old.run.world.world.cells
         (activation_at (site_shown old.places f.activation.site) (running_of f.activation)) level).object) (sym same))

@@ -1,4 +1,5 @@
 pub mod Pushed
+pub mod Remembered
 pub mod Settled
 pub mod Taken
 pub mod Made

@@ -9,11 +9,12 @@ use Rattle.ns_code.specs.declared.instruction.Instr.{Instr}
 use Rattle.ns_code.specs.declared.instruction.Instr.TheVariants as instr
 use Rattle.ns_world.specs.declared.value.Value.{Value}
 use Rattle.ns_world.specs.declared.value.Value.TheVariants.{Nil}
+use Rattle.ns_world.specs.Heap.{Heap}
 use Rattle.ns_world.specs.World.{WorldView}
 use Rattle.ns_verify.specs.Uses.{IsUsable, HasLocal as NamesLocal}
 use Rattle.ns_actions.specs.declared.site.Site.{Site}
 use Rattle.ns_actions.specs.Control.{Progress, Activation, in_world}
-use Rattle.ns_actions.specs.Bodies.{has_environment, is_beside, locals_with, local_stored}
+use Rattle.ns_actions.specs.Bodies.{has_environment, is_beside, local_at, locals_with, local_stored}
 use Rattle.ns_machine_moves.specs.State.{Going}
 use Rattle.ns_act.specs.Room.{SameRest}
 use Rattle.ns_act.specs.Running.{activation_at, code_of}
@@ -28,13 +29,14 @@ use Rattle.ns_machine_core.specs.declared.on_top.OnTop.{OnTop}
 use Rattle.ns_machine_core.specs.declared.state.Core.{Core}
 use Rattle.ns_machine_core.specs.declared.state.Next.TheVariants as next
 use Rattle.ns_machine_core.specs.Shown.{phase_shown, progress_in}
-use Rattle.ns_machine_core.specs.Doing.{done, FindsWhatItTakes, Finds, CanDo, running_of, IsDone}
+use Rattle.ns_machine_core.specs.Doing.{done, FindsWhatItTakes, Finds, CanDo, running_of, Pushed, IsDone}
 use Rattle.ns_machine_core.specs.Locals.{LocalIsThere}
 use Rattle.ns_machine_core.specs.Straight.{IsOnTop}
 use Rattle.ns_machine_core.specs.laws.Straight.{top_is}
 use Rattle.ns_machine_core.specs.laws.Pushed.{top_stands}
 use Rattle.ns_machine_core.specs.laws.Worlds.{in_other}
 use Rattle.ns_machine_core.specs.laws.Finds.{finds_in}
+use Rattle.ns_machine_core.proofs.Pushed.{push_does}
 use Rattle.ns_machine_core.proofs.Environments.{local_outside, local_beside}
 
 -- ---- a local that an instruction names is there
@@ -87,6 +89,30 @@ known_there code top frames running known e =
 -- of two values the other, where a test is false
 pub not_taken : {A : Type 0} (b : Bool) (x y : A) → b ≡ false → (if b then x else y) ≡ y
 not_taken b x y e = rw e refl
+
+-- a local that is pushed
+pub local_pushed : (code : CodeProgram) (old new : Core) (at to : Registers) (hops index : ℕ) (running : RunningFrame) (value : Value)
+    (place : Option SourcePlace) → CanDo code old at (instr.PushLocal hops index)
+    → old.stack.frames.items ≡ Running running ∷ below old.stack.frames.items
+    → ((site : Site) → value
+    ≡ local_at old.run.world.world.cells code (activation_at site (running_of running.activation)) (locals_in (stood old.stack at)) hops index)
+    → Pushed code old at value new to → IsDone code (instr.PushLocal hops index) place old at new (next.On to)
+local_pushed code old new at to hops index running value place can top is pushed =
+    push_does code old new at to (instr.PushLocal hops index) place value can pushed by_stood
+  where
+    heap : Heap
+    heap = old.run.world.world.cells
+
+    by_stood : (frame : RunningFrame) (locals stack : List Value) (others : List Stood) → Runs frame locals stack ∷ others ≡ stood old.stack at
+        → Going (phase_shown old.phase) (frames_shown code old.places (Runs frame locals (value ∷ stack) ∷ others)) (progress_in old)
+        ≡ done code old.places (phase_shown old.phase) (instr.PushLocal hops index) place (Runs frame locals stack ∷ others) (progress_in old)
+    by_stood frame locals stack others e =
+        let same = top_stands old at running frame locals stack others top e in
+        ap (λ (v : Value). Going (phase_shown old.phase) (frames_shown code old.places (Runs frame locals (v ∷ stack) ∷ others)) (progress_in old))
+        (is (site_shown old.places running.activation.site)
+        ∙ (ap (λ (f : RunningFrame). local_at heap code (activation_at (site_shown old.places f.activation.site) (running_of f.activation))
+        (locals_in (stood old.stack at)) hops index) (sym same)
+        ∙ ap (λ (s : List Stood). local_at heap code (activation_shown old.places frame.activation) (locals_in s) hops index) (sym e)))
 
 -- ---- storing
 

@@ -1,8 +1,9 @@
 //! Instructions that read and store locals.
 
-ghost use Rattle.std.specs.Prelude.{◌≡◌, Option};
+ghost use Rattle.std.specs.Prelude.{◌≡◌, Option, All};
 ghost use Rattle.ns_base.specs.declared.place.Place.{Place as SourcePlace};
 ghost use Rattle.ns_code.specs.declared.instruction.Instr.TheVariants as instr;
+ghost use Rattle.ns_find.specs.Memo.{PlaceIsRight};
 ghost use Rattle.ns_actions.specs.declared.site.Site.{Site};
 ghost use Rattle.ns_actions.specs.Bodies as bodies;
 ghost use Rattle.ns_act.specs.Running.{activation_at};
@@ -17,13 +18,13 @@ ghost use Rattle.ns_machine_core.specs.Straight.{IsOnTop};
 use crate::on_top::{OnTop, on_top};
 use crate::settling::{push, running, running_code};
 use crate::state::Core;
-use ns_act::locals::{environment_out, store_local as store_outside};
+use ns_act::locals::{environment_number, store_local as store_outside};
+use ns_act::run::Run;
 use ns_act::running::Running;
 use ns_code::program::CodeProgram;
 use ns_machine_frames::registers::Registers;
 use ns_machine_frames::stack::Stack;
-use ns_world::value::{Value, cell_number};
-use ns_world::world::World;
+use ns_world::value::Value;
 
 /// Whether a local stands beside the frame of the body that runs on top.
 #[inline(always)]
@@ -41,16 +42,24 @@ fn stands_beside(code: &CodeProgram, here: Running, top: OnTop, hops: u8) -> boo
 
 /// The number of the environment in which a local stands that doesn't stand beside the frame of the body that runs on top.
 #[inline(always)]
-fn environment_of(code: &CodeProgram, world: &World, here: Running, top: OnTop, hops: u8) -> u32
-    requires way { HasEnvironments world.now.world.cells here.env (environments_out code.now here.body hops) }
+fn environment_of(code: &CodeProgram, run: &mut Run, here: Running, top: OnTop, hops: u8) -> u32
+    requires way { HasEnvironments run.old.world.world.cells here.env (environments_out code.now here.body hops) }
     requires top { top.environment ≡ bodies.has_environment code.now here.body }
-    ensures { (site : Site) → result ≡ bodies.environment_at world.now.world.cells code.now (activation_at site here) hops }
+    requires kept { All (PlaceIsRight run.old.world.world.cells code.now) run.old.memo }
+    ensures number { (site : Site) → result ≡ bodies.environment_at run.old.world.world.cells code.now (activation_at site here) hops }
+    ensures rest { run.new ≡ record run.old { memo = run.new.memo } }
+    ensures keeps { All (PlaceIsRight run.old.world.world.cells code.now) run.new.memo }
 {
-    let _code = code;
     if top.environment {
-        return cell_number(environment_out(world, here.env, hops));
+        return environment_number(&mut run.world, code, &mut run.memo, here.env, hops);
     }
-    cell_number(environment_out(world, here.env, hops.saturating_sub(1)))
+    environment_number(
+        &mut run.world,
+        code,
+        &mut run.memo,
+        here.env,
+        hops.saturating_sub(1),
+    )
 }
 
 /// A local of the code that runs or of a body around it: it stands beside the frame, or in an environment.
@@ -58,25 +67,26 @@ fn environment_of(code: &CodeProgram, world: &World, here: Running, top: OnTop, 
 fn local(
     code: &CodeProgram,
     stack: &Stack,
-    world: &World,
+    run: &mut Run,
     at: Registers,
     here: Running,
     top: OnTop,
     hops: u8,
     index: u8,
 ) -> Value
-    requires there { LocalIsThere code.now stack.now at world.now.world.cells here hops index }
+    requires there { LocalIsThere code.now stack.now at run.old.world.world.cells here hops index }
     requires top { top.environment ≡ bodies.has_environment code.now here.body }
-    ensures { (site : Site) → result ≡ bodies.local_at world.now.world.cells code.now (activation_at site here)
+    requires kept { All (PlaceIsRight run.old.world.world.cells code.now) run.old.memo }
+    ensures value { (site : Site) → result ≡ bodies.local_at run.old.world.world.cells code.now (activation_at site here)
         (locals_in (stood stack.now at)) hops index }
+    ensures rest { run.new ≡ record run.old { memo = run.new.memo } }
+    ensures keeps { All (PlaceIsRight run.old.world.world.cells code.now) run.new.memo }
 {
     if stands_beside(code, here, top, hops) {
         return stack.local(at, u32::from(index));
     }
-    world.read(
-        environment_of(code, world, here, top, hops),
-        u32::from(index),
-    )
+    let environment = environment_of(code, run, here, top, hops);
+    run.world.read(environment, u32::from(index))
 }
 
 /// Pushes a local.
@@ -115,7 +125,7 @@ pub fn push_local_of(
     let value = local(
         code,
         &mut core.stack,
-        &mut core.run.world,
+        &mut core.run,
         at,
         here,
         top,
@@ -163,6 +173,14 @@ pub fn store_local_of(
         core.stack.set_local(at, u32::from(index), value);
         return at;
     }
-    store_outside(&mut core.run.world, code, here, hops, index, value);
+    store_outside(
+        &mut core.run.world,
+        code,
+        &mut core.run.memo,
+        here,
+        hops,
+        index,
+        value,
+    );
     at
 }

@@ -8,7 +8,7 @@ ghost use Rattle.ns_machine_core.specs.Doing.{CanDo, IsDone};
 
 use crate::settling::{push, running, running_code};
 use crate::state::Core;
-use ns_act::enclosing::enclosing;
+use ns_act::enclosing::enclosing_object;
 use ns_base::selector::Sel;
 use ns_code::program::CodeProgram;
 use ns_machine_frames::registers::Registers;
@@ -83,6 +83,6 @@ pub fn push_outer(code: &CodeProgram, core: &mut Core, at: Registers, level: u8)
     ensures { (place : Option SourcePlace) → IsDone code.now (instr.PushOuter level) place core.old at core.new (next.On result) }
 {
     let here = running_code(running(&mut core.stack).activation);
-    let around = enclosing(&mut core.run.world, code, here, level);
-    push(code, core, at, around.object)
+    let object = enclosing_object(&mut core.run.world, code, &mut core.run.memo, here, level);
+    push(code, core, at, object)
 }

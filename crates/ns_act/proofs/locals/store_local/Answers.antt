@@ -14,8 +14,8 @@ write-requires c =
     let code = c.args.code.now in
     let beside = sym (c.is_beside.ensures nowhere) ∙ c.if-is_beside.false in
     let out : ℕ = environments_out code c.args.running.body c.args.hops in
-    let all = locals_open heap (environment_at heap code (code_of c.args.running) c.args.hops) (c.requires.way beside out (omega arith)) in
-    omega (arith, c.from.ensures, c.requires.inside beside, ap length all, ap (λ n. length (open_words_at heap n)) (c.environment_at-at.ensures nowhere))
+    let all = locals_open heap (environment_at heap code (code_of c.args.running) c.args.hops) (c.requires.readable.way beside out (omega arith)) in
+    omega (arith, c.from.ensures, c.requires.readable.inside beside, ap length all, ap (λ n. length (open_words_at heap n)) (c.environment_at-at.ensures.number nowhere))
 
 pub returns-clause-stored : goal.returns-clause-stored
 returns-clause-stored c = λ site rest.
@@ -24,6 +24,6 @@ returns-clause-stored c = λ site rest.
     let at : ℕ = environment_at world.cells code (activation_at site c.args.running) c.args.hops in
     ap (λ (v : WorldView). in_world rest v.world) c.write.ensures
     ∙ (ap (λ n. in_world rest (written world c.environment_at-at.result n c.args.value)) c.from.ensures
-    ∙ (ap (λ n. in_world rest (written world n c.args.place c.args.value)) (c.environment_at-at.ensures site)
+    ∙ (ap (λ n. in_world rest (written world n c.args.place c.args.value)) (c.environment_at-at.ensures.number site)
     ∙ sym (ap (in_world rest) (not_taken (is_beside code (activation_at site c.args.running) c.args.hops) world (written world at c.args.place c.args.value)
     (sym (c.is_beside.ensures site) ∙ c.if-is_beside.false)))))

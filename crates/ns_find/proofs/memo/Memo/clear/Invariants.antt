@@ -5,5 +5,5 @@ use Rattle.ns_find.proofs.memo.Memo.clear.Given as goal
 
 abbrev pub invariant-places : goal.invariant-places
 invariant-places l =
-    (length l.self-inside.places.items ≡ 1024)
+    (length l.self-inside.places.items ≡ 1536)
     × ((k : ℕ) (d : Option Kept) → k < l.place → IsEmpty (get_or l.self-inside.places.items k d))
