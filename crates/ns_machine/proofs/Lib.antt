@@ -8,3 +8,5 @@ pub mod LiveEndings
 pub mod LiveTest
 pub mod Asked
 pub mod Freezes
+pub mod OpenSites
+pub mod Restored

@@ -7,3 +7,6 @@ pub mod Turned
 pub mod Turning
 pub mod Living
 pub mod Asking
+pub mod Sites
+pub mod KeptSites
+pub mod Restored

@@ -3,11 +3,14 @@
 //! Stands between ns_machine_turns and session, run.
 #![tactic(auto)]
 
+mod advancing;
 pub mod asking;
 mod living;
 pub mod machine;
 mod memory;
 mod own;
+mod restoring;
+mod sites;
 pub mod stage;
 mod turning;
 mod waiting;

@@ -7,7 +7,7 @@ pub mod acting;
 pub mod charging;
 pub mod fetching;
 pub mod laws;
-mod moving;
+pub mod moving;
 mod performing;
 pub mod quickly;
 pub mod resending;

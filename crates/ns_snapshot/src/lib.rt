@@ -1,6 +1,6 @@
 //! Snapshots: the bytes of the state of a run with its code, and both read from bytes.
 //! `specs/Bytes.antt` says the layout, field by field, and `specs/Snapshot.antt` what is read of any bytes.
-//! Stands on image and frozen; no command writes or reads a snapshot yet.
+//! Stands between image, frozen and ns_snapshot_write, ns_snapshot_read.
 #![tactic(auto)]
 
 pub mod fault;

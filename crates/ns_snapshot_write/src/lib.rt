@@ -1,6 +1,6 @@
 //! Writes the snapshot of a state of a run with its code.
 //! `crates/ns_snapshot/specs/Bytes.antt` says which bytes these are (`snapshot_of`).
-//! Stands between ns_snapshot and a host; no command writes a snapshot yet.
+//! Stands between ns_snapshot and ns_run_snap.
 #![tactic(auto)]
 
 pub mod cell;

@@ -1,0 +1,11 @@
+pub mod Found
+pub mod Linked
+pub mod Asked
+pub mod Stands
+pub mod Built
+pub mod Outwards
+pub mod Walked
+pub mod Gone
+pub mod Framed
+pub mod Ended
+pub mod Starts

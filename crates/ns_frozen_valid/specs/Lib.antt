@@ -1,0 +1,14 @@
+pub mod Numbers
+pub mod Chain
+pub mod Selectors
+pub mod Bodies
+pub mod Stands
+pub mod Above
+pub mod Seen
+pub mod Kinds
+pub mod Environments
+pub mod Cells
+pub mod First
+pub mod Kernel
+pub mod Frames
+pub mod Rest

@@ -1,0 +1,22 @@
+-- The cells of a frozen state with what is found of them once.
+use Rattle.std.specs.Prelude.{◌≡◌}
+use Rattle.ns_code.specs.Fits.{Fits}
+use Rattle.ns_world.specs.Heap.{Heap}
+use Rattle.ns_frozen.specs.Thawing.{heap_thawed}
+use Rattle.ns_frozen_valid.specs.declared.seen.Seen.{Seen}
+use Rattle.ns_frozen_valid.specs.Numbers.{numbers_from}
+use Rattle.ns_frozen_valid.specs.Chain.{AreChains}
+use Rattle.ns_frozen_valid.specs.Selectors.{AreSelectors}
+use Rattle.ns_frozen_valid.specs.Bodies.{AreBodies}
+
+-- the heap for which the cells stand
+abbrev pub heap_of : Seen → Heap
+heap_of seen = heap_thawed seen.code.now seen.cells.now
+
+-- What was found is of this code and these cells.
+pub record IsSeen (seen : Seen) : Type 0 where
+  pub fits : Fits seen.code.now
+  pub numbers : seen.numbers ≡ numbers_from 0 seen.cells.now
+  pub chains : AreChains seen.code.now (heap_of seen) seen.chains
+  pub selectors : AreSelectors seen.code.now seen.selectors
+  pub bodies : AreBodies seen.code.now seen.bodies

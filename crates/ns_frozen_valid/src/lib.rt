@@ -1,0 +1,28 @@
+//! The first part of any frozen data that can't be: a cell, a frame, or what stands beside these.
+//! `fault_of` in ns_frozen says which that is, and `specs/Seen.antt` what is found once to tell it.
+//! Stands between ns_frozen and the machine that takes a state back where it has no fault.
+#![tactic(auto)]
+
+mod above;
+mod among;
+mod bodies;
+mod cells;
+mod chain;
+mod classes;
+mod environments;
+pub mod fault;
+mod first;
+mod frames;
+mod homes;
+mod kernel;
+mod kinds;
+mod numbers;
+mod objects;
+mod pass;
+mod plain;
+mod rest;
+mod seen;
+mod selectors;
+mod sites;
+mod stand;
+mod values;

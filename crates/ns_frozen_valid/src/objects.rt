@@ -1,0 +1,138 @@
+//! Objects, whose words are those of the classes in their chain.
+
+ghost use Rattle.std.specs.Prelude.{◌≡◌, ◌≤◌, true, option_map};
+ghost use Rattle.std.specs.List.{list_all, slice_index_or};
+ghost use Rattle.ns_world.specs.declared.value.Value.TheVariants as value;
+ghost use Rattle.ns_world.specs.Heap as heap;
+ghost use Rattle.ns_frozen_valid.specs.Kinds as kinds;
+ghost use Rattle.ns_frozen.specs.Cells as spec;
+ghost use Rattle.ns_frozen.specs.Live as live;
+ghost use Rattle.ns_frozen_valid.specs.Seen.{IsSeen, heap_of};
+
+use crate::seen::Seen;
+use crate::values::{is_ref, names};
+use ns_code::class::NestedCode;
+use ns_frozen::cell::CellData;
+use ns_world::value::Value;
+
+impl Seen<'_> {
+    /// Whether an object of a class has a word for each entry, which are live, and its nested classes are its own.
+    pub fn is_instance(&self, number: u128, class: u32, words: &[Value]) -> bool
+        requires { IsSeen self.now }
+        ensures { result ≡ spec.is_instance self.now.code.now (heap_of self.now) number class words.now }
+    {
+        self.has_chain(class)
+            && words.len() as u64 == self.layout(class)
+            && self.are_live(words)
+            && self.are_kept(number, class, words)
+    }
+
+    /// Whether the words for the nested classes of each class in a chain are so.
+    fn are_kept(&self, number: u128, class: u32, words: &[Value]) -> bool
+        requires seen { IsSeen self.now }
+        requires chain { live.has_chain self.now.code.now (heap_of self.now) class ≡ true }
+        ensures { result ≡ list_all (spec.are_kept_of self.now.code.now (heap_of self.now) number words.now) (heap.chain_of (heap_of self.now) class) }
+    {
+        let mut at = class;
+        'links: while self.are_kept_of(number, words, at) {
+            let above = self.superclass(at);
+            if at <= above {
+                return true;
+            }
+            at = above;
+        }
+        false
+    }
+
+    /// Whether those of one class are.
+    #[tactic(auto, using(crate::proofs::Built::class_few))]
+    fn are_kept_of(&self, number: u128, words: &[Value], holder: u32) -> bool
+        requires seen { IsSeen self.now }
+        ensures { result ≡ spec.are_kept_of self.now.code.now (heap_of self.now) number words.now holder }
+    {
+        match self
+            .code
+            .classes
+            .as_slice()
+            .get(self.declaration(holder) as usize)
+        {
+            Some(class) => {
+                let first = self.layout(self.superclass(holder))
+                    + class.slots.as_slice().len() as u64;
+                self.are_kept_from(number, holder, words, first, class.nested.as_slice())
+            }
+            None => false,
+        }
+    }
+
+    /// Whether words from one on are those for nested classes.
+    fn are_kept_from(
+        &self,
+        number: u128,
+        holder: u32,
+        words: &[Value],
+        first: u64,
+        nested: &[NestedCode],
+    ) -> bool
+        requires seen { IsSeen self.now }
+        requires few { first ≤ 562949953486848 }
+        ensures { result ≡ spec.are_kept_from (heap_of self.now) number holder words.now first nested.now }
+    {
+        let mut word = first;
+        'nested: for one in nested {
+            if !self.is_kept(number, holder, one.class, word_at(words, word)) {
+                return false;
+            }
+            word += 1;
+        }
+        true
+    }
+
+    /// Whether a word for a nested class is nil, or holds such a class.
+    fn is_kept(&self, object: u128, holder: u32, decl: u32, word: Value) -> bool
+        requires { IsSeen self.now }
+        ensures { result ≡ spec.is_kept (heap_of self.now) object holder decl word }
+    {
+        match word {
+            Value::Nil => true,
+            Value::Ref(class) => self.is_kept_at(object, holder, decl, class),
+            _ => false,
+        }
+    }
+
+    /// Whether a cell is such a class.
+    #[tactic(auto, using(crate::proofs::Asked::kept_cells))]
+    fn is_kept_at(&self, object: u128, holder: u32, decl: u32, class: u32) -> bool
+        requires { IsSeen self.now }
+        ensures { result ≡ spec.is_kept_cell object holder decl (heap.find_cell (heap_of self.now) class) }
+    {
+        is_kept_cell(object, holder, decl, self.find(class))
+    }
+}
+
+/// The word of that number, nil where there is none.
+fn word_at(words: &[Value], word: u64) -> Value
+    ensures { result ≡ slice_index_or words.now word value.Nil }
+{
+    match words.get(word as usize) {
+        Some(word) => *word,
+        None => Value::Nil,
+    }
+}
+
+/// Whether a cell is a class of that declaration, enclosed by this object and holder.
+fn is_kept_cell(object: u128, holder: u32, decl: u32, cell: Option<&CellData>) -> bool
+    ensures { result ≡ kinds.is_kept_cell object holder decl (option_map (λ cell. cell.now) cell.entry) }
+{
+    match cell {
+        Some(
+            CellData::Class {
+                decl: other,
+                encl,
+                holder: outer,
+                ..
+            },
+        ) => *other == decl && names(object, *encl) && is_ref(holder, *outer),
+        _ => false,
+    }
+}

@@ -1,0 +1,125 @@
+//! The cells of a frozen state, each found by its number, and the code that they are of.
+
+ghost use Rattle.std.specs.Prelude.{◌≡◌, ◌≤◌, IfOk, option_map};
+ghost use Rattle.ns_code.specs.Fits.{Fits};
+ghost use Rattle.ns_verify.specs.Verify.{IsSound};
+ghost use Rattle.ns_code.specs.Selector.{is_selector_number, selector_arity};
+ghost use Rattle.ns_world.specs.Heap as heap;
+ghost use Rattle.ns_world.specs.Layout as layout;
+ghost use Rattle.ns_frozen.specs.Freezing.{cell_frozen};
+ghost use Rattle.ns_frozen.specs.Live as live;
+ghost use Rattle.ns_frozen_valid.specs.Chain as chain;
+ghost use Rattle.ns_frozen_valid.specs.Seen as spec;
+
+use crate::bodies::Bodies;
+use crate::chain::{Chain, Chains};
+use crate::numbers::{cell_at, numbers_of, place_of};
+use crate::selectors::Selectors;
+use ns_base::items::Items;
+use ns_base::no_memory::NoMemory;
+use ns_base::selector::Sel;
+use ns_code::program::CodeProgram;
+use ns_frozen::cell::CellData;
+use std::alloc::Global;
+
+/// Code and cells, with what is found of them once: the number of each cell, the chain of each class, and what is asked of
+/// selectors and bodies.
+#[derive(Drop)]
+pub struct Seen<'a> {
+    pub code: &'a CodeProgram,
+    pub cells: &'a [CellData],
+    pub numbers: Items<u32>,
+    pub chains: Chains,
+    pub selectors: Selectors,
+    pub bodies: Bodies,
+}
+
+impl<'a> Seen<'a> {
+    /// Sees these cells, over this code.
+    pub fn of(
+        alloc: Global,
+        code: &'a CodeProgram,
+        cells: &'a [CellData],
+    ) -> Result<Seen<'a>, NoMemory>
+        requires sound { IsSound code.now }
+        requires fits { Fits code.now }
+        ensures seen { IfOk result (λ seen. spec.IsSeen seen) }
+        ensures these { IfOk result (λ seen. (seen.code.now ≡ code.now) × (seen.cells.now ≡ cells.now)) }
+    {
+        let numbers = numbers_of(alloc, cells)?;
+        let chains = Chains::of(alloc, code, cells)?;
+        let selectors = Selectors::of(alloc, code)?;
+        let bodies = Bodies::of(alloc, code)?;
+        Ok(Seen {
+            code,
+            cells,
+            numbers,
+            chains,
+            selectors,
+            bodies,
+        })
+    }
+
+    /// The cell of that number, if there is one.
+    #[tactic(auto, using(crate::proofs::Found::found_one, crate::proofs::Found::found_none, crate::proofs::Found::rising_numbers))]
+    pub fn find(&self, number: u32) -> Option<&CellData>
+        requires { spec.IsSeen self.now }
+        ensures { option_map (λ cell. cell.now) result ≡ option_map cell_frozen (heap.find_cell (spec.heap_of self.now) number) }
+    {
+        match place_of(self.numbers.as_slice(), number) {
+            Some(place) => cell_at(self.cells, place),
+            None => None,
+        }
+    }
+
+    /// What is kept of the chain of a class.
+    fn chain(&self, class: u32) -> Chain
+        requires { spec.IsSeen self.now }
+        ensures { result ≡ chain.chain_at self.now.code.now (spec.heap_of self.now) class }
+    {
+        self.chains.at(class)
+    }
+
+    /// How many links the chain of a class has, 0 where it isn't as it must be.
+    pub fn links(&self, class: u32) -> u32
+        requires { spec.IsSeen self.now }
+        ensures { result ≡ chain.links_of self.now.code.now (spec.heap_of self.now) class }
+    {
+        self.chain(class).links
+    }
+
+    /// Whether a class has at most 256 declared classes above it and itself, each made before the one below it.
+    #[tactic(auto, using(crate::proofs::Linked::chain_told))]
+    pub fn has_chain(&self, class: u32) -> bool
+        requires { spec.IsSeen self.now }
+        ensures { result ≡ live.has_chain self.now.code.now (spec.heap_of self.now) class }
+    {
+        self.chain(class).links != 0
+    }
+
+    /// How many entries the instances of a class have.
+    #[tactic(auto, using(crate::proofs::Built::seen_few))]
+    pub fn layout(&self, class: u32) -> u64
+        requires { spec.IsSeen self.now }
+        ensures few { result ≤ 562949953421312 }
+        ensures layout { result ≡ layout.layout_of (spec.heap_of self.now) self.now.code.now class }
+    {
+        self.chain(class).layout
+    }
+
+    /// Whether that number is a selector's.
+    pub fn has_selector(&self, sel: Sel) -> bool
+        requires { spec.IsSeen self.now }
+        ensures { result ≡ is_selector_number self.now.code.now sel.0 }
+    {
+        self.selectors.has(sel)
+    }
+
+    /// How many arguments a selector takes.
+    pub fn arity(&self, sel: Sel) -> usize
+        requires { spec.IsSeen self.now }
+        ensures { result ≡ selector_arity self.now.code.now sel.0 }
+    {
+        self.selectors.arity(sel)
+    }
+}
