@@ -1,0 +1,25 @@
+use Rattle.std.proofs.Common.{◌∙◌, List, Some, ap}
+use Rattle.ns_actors.specs.declared.letter.Letter.{Letter}
+use Rattle.ns_actors.specs.Actor.{ActorView}
+use Rattle.ns_actors_calls.proofs.Lists.{looked_past, looked_up}
+use Rattle.ns_actors_calls.proofs.Told.{actor_posted, host_posted, none_told, told_at}
+use Rattle.ns_actors_calls.proofs.actors.Actors.posted.Goals as goal
+
+pub returns-then-k-eq-HOST : goal.returns-then-k-eq-HOST
+returns-then-k-eq-HOST c =
+    host_posted c.self.inside.host.all c.as_slice.result.now c.self.inside.actors.items c.args.self.now c.args.k c.if-k-eq-HOST.true c.as_slice.ensures
+    c.self.view_is
+
+pub returns-in-Some : goal.returns-in-Some
+returns-in-Some c =
+    let actors = c.self.inside.actors.items in
+    let actor = c.in-Some.actor.now in
+    let got = looked_up c.deref.result.now actors c.args.k actor c.deref.ensures.value c.in-Some.ensures.lookup.0 c.in-Some.ensures.lookup.1 in
+    ap (λ (letters : List Letter). Some letters) c.as_slice-in-Some.ensures
+    ∙ (told_at c.self.inside.host.all actors c.args.self.now c.args.k c.self.view_is (λ (a : ActorView). a.posted) actor got ∙ actor_posted c.args.self.now c.args.k c.if-k-eq-HOST.false)
+
+pub returns-in-None : goal.returns-in-None
+returns-in-None c =
+    let actors = c.self.inside.actors.items in
+    let none = looked_past c.deref.result.now actors c.args.k c.deref.ensures.value c.in-None.ensures.lookup.3 in
+    none_told c.self.inside.host.all actors c.args.self.now c.args.k c.self.view_is (λ (a : ActorView). a.posted) none ∙ actor_posted c.args.self.now c.args.k c.if-k-eq-HOST.false

@@ -1,0 +1,4 @@
+pub mod Lists
+pub mod Starting
+pub mod Rounding
+pub mod Texts
