@@ -15,6 +15,8 @@ use Rattle.ns_code.specs.Selector.{selector_text}
 use Rattle.ns_image.specs.Reading.{read_image}
 use Rattle.ns_image.specs.declared.fault.ImageFault.{ImageFault}
 use Rattle.ns_image.specs.declared.fault.ImageFault.TheVariants.{NotAnImage, BadVersion, Truncated, BadField, Trailing, Memory}
+use Rattle.ns_json.specs.declared.saying.Audit as saying
+use Rattle.ns_json.specs.declared.saying.Audit.TheVariants as says
 use Rattle.ns_verify.specs.Verify.{fault_of}
 use Rattle.ns_verify.specs.declared.fault.Fault.{Fault}
 use Rattle.ns_verify.specs.declared.fault.VerifyCause.{VerifyCause}
@@ -25,12 +27,12 @@ use Rattle.ns_audit.specs.declared.image.AuditFault.{AuditFault}
 use Rattle.ns_audit.specs.declared.image.AuditFault.TheVariants as fault
 use Rattle.ns_audit.specs.Audit.{audited, sent_by}
 
--- bytes that are no image, code that isn't admitted, no such class, or the line that is told and the status
+-- bytes that are no image, code that isn't admitted, no such class, or the line that is told, the status, and what is told in parts
 pub data AuditedImage : Type 0 where
   unread : (fault : ImageFault) → AuditedImage
   unadmitted : (cause : VerifyCause) (at : Where) → AuditedImage
   no_class : AuditedImage
-  answers : (line : List ℕ) (status : Status) → AuditedImage
+  answers : (line : List ℕ) (status : Status) (part : saying.Audit) → AuditedImage
 
 -- ---- what is asked for
 
@@ -88,8 +90,14 @@ answer_status Yes = Done
 answer_status (Sends body at) = ProgramError
 answer_status (Performs body at) = ProgramError
 
+-- an audit in parts
+abbrev pub answer_part : CodeProgram → Audit → saying.Audit
+answer_part code Yes = says.Yes
+answer_part code (Sends body at) = says.Sends (text_of code (sent_by_instr code body at)) body at
+answer_part code (Performs body at) = says.Performs body at
+
 abbrev pub answer_told : CodeProgram → Audit → AuditedImage
-answer_told code audit = answers (answer_line code audit) (answer_status audit)
+answer_told code audit = answers (answer_line code audit) (answer_status audit) (answer_part code audit)
 
 -- ---- all of it
 

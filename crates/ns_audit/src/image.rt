@@ -23,6 +23,7 @@ use ns_code::class::ClassCode;
 use ns_code::program::CodeProgram;
 use ns_image::fault::ImageFault;
 use ns_image::read::read;
+use ns_json::saying;
 use ns_verify::fault::{VerifyCause, VerifyFault, Where};
 use ns_verify::verify::{Verified, verify};
 use std::alloc::Global;
@@ -47,11 +48,12 @@ impl From<NoMemory> for AuditFault {
     }
 }
 
-/// What an audit tells: its line, and the status with which its command ends.
+/// What an audit tells: its line, the status with which its command ends, and its answer in parts.
 #[derive(Drop)]
 pub struct AuditTold {
     pub line: Text,
     pub status: Status,
+    pub part: saying::Audit,
 }
 
 /// The audit of the module of the first top-level class of that name in an image, for the denied selectors of these
@@ -62,7 +64,7 @@ pub fn audit_image(
     denied: &[Text],
     class: &[u8],
 ) -> Result<AuditTold, AuditFault>
-    ensures told { IfOk result (λ told. spec.audited_image bytes.now denied.now class.now ≡ spec.answers told.line told.status) }
+    ensures told { IfOk result (λ told. spec.audited_image bytes.now denied.now class.now ≡ spec.answers told.line told.status told.part) }
     ensures image { (fault : ImageFault) → IsErrOf result (Image fault) →
         spec.audited_image bytes.now denied.now class.now ≡ spec.unread fault }
     ensures unsound { (cause : VerifyCause) (at : Where) → IsErrOf result (Unsound cause at) →
@@ -93,7 +95,7 @@ fn audit_read(
     class: &[u8],
 ) -> Result<AuditTold, AuditFault>
     requires fits { Fits code }
-    ensures told { IfOk result (λ told. spec.of_code denied.now class.now code (fault_of code) ≡ spec.answers told.line told.status) }
+    ensures told { IfOk result (λ told. spec.of_code denied.now class.now code (fault_of code) ≡ spec.answers told.line told.status told.part) }
     ensures unsound { (cause : VerifyCause) (at : Where) → IsErrOf result (Unsound cause at) →
         spec.of_code denied.now class.now code (fault_of code) ≡ spec.unadmitted cause at }
     ensures no_class { IsErrOf result NoClass → spec.of_code denied.now class.now code (fault_of code) ≡ spec.no_class }
@@ -113,7 +115,7 @@ fn audit_verified(
     denied: &[Text],
     class: &[u8],
 ) -> Result<AuditTold, AuditFault>
-    ensures told { IfOk result (λ told. spec.of_code denied.now class.now code None ≡ spec.answers told.line told.status) }
+    ensures told { IfOk result (λ told. spec.of_code denied.now class.now code None ≡ spec.answers told.line told.status told.part) }
     ensures unsound { (cause : VerifyCause) (at : Where) → IsErrOf result (Unsound cause at) → ⊥ }
     ensures no_class { IsErrOf result NoClass → spec.of_code denied.now class.now code None ≡ spec.no_class }
     ensures no_image { (fault : ImageFault) → IsErrOf result (Image fault) → ⊥ }
@@ -159,14 +161,16 @@ fn audit_class(
     class: u32,
 ) -> Result<AuditTold, NoMemory>
     requires top { IsTopLevel code.now class }
-    ensures { IfOk result (λ told. spec.of_class code.now denied.now (Some class) ≡ spec.answers told.line told.status) }
+    ensures { IfOk result (λ told. spec.of_class code.now denied.now (Some class) ≡ spec.answers told.line told.status told.part) }
 {
     let denied = denied_in(alloc, code.code(), denied)?;
     let answer = audit(code, class, denied.as_slice());
     let line = answer_line(alloc, code.code(), answer)?;
+    let part = answer_part(alloc, code.code(), answer)?;
     Ok(AuditTold {
         line: Text::from_vec(line),
         status: answer_status(answer),
+        part,
     })
 }
 
@@ -230,6 +234,30 @@ fn performs_line(alloc: Global, body: u32, at: u32) -> Result<Vec<u8>, NoMemory>
     let mut line = place.into_bytes();
     line.extend_from_slice(b" performs\n")?;
     Ok(line)
+}
+
+/// An answer in parts.
+fn answer_part(alloc: Global, code: &CodeProgram, answer: Audit) -> Result<saying::Audit, NoMemory>
+    ensures { IfOk result (λ part. part ≡ spec.answer_part code.now answer) }
+{
+    match answer {
+        Audit::Yes => Ok(saying::Audit::Yes),
+        Audit::Sends { body, at } => sends_part(alloc, code, body, at),
+        Audit::Performs { body, at } => Ok(saying::Audit::Performs { body, at }),
+    }
+}
+
+fn sends_part(
+    alloc: Global,
+    code: &CodeProgram,
+    body: u32,
+    at: u32,
+) -> Result<saying::Audit, NoMemory>
+    ensures { IfOk result (λ part. part ≡ spec.answer_part code.now (Sends body at)) }
+{
+    let sent = sent_by_instr(code, body, at);
+    let selector = Text::of(alloc, text_of(code, sent))?;
+    Ok(saying::Audit::Sends { selector, body, at })
 }
 
 /// The place of an instruction in words.

@@ -24,7 +24,7 @@ Writes FILE with its lines laid out. Tokens, comments and where lines end stay.
 pub const RUN: &str = "nspk run [OPTION ..] FILE .. [-- ARG ..]
 Runs the class of the first FILE. What it prints goes to standard output, and
 then the report line to standard error. Options: --lib --steps=N --cells=N
---depth=N --out=N --stats --true --json
+--depth=N --out=N --text=FILE --trace --stats --true --json
 ";
 
 /// What `eval` does.
@@ -57,6 +57,7 @@ the places of its sends.
 pub const SESSION: &str = "nspk session [OPTION ..] GRANTS=FILE[+FILE ..] ..
 Runs up to 16 applications in turns of a quantum, each with the grants of its
 letters. Options: --lib --steps=N --cells=N --depth=N --out=N --quantum=N
+--json
 ";
 
 /// What `sample` does.
@@ -75,6 +76,11 @@ pub const TEST: &str = "nspk test [OPTION ..] FILE ..
 Runs the tests of the class that the program answers, each in a machine of its
 own.
 Options: --lib --reverse --only=NAME --steps=N --cells=N --depth=N --out=N
+";
+
+/// What `snap` does.
+pub const SNAP: &str = "nspk snap --at=N [OPTION ..] SNAP FILE ..
+Runs as run does for N steps, and stores the state as SNAP.
 ";
 
 /// What `library` does.
@@ -127,6 +133,9 @@ pub fn commands_text(word: &[u8]) -> Option<&'static str>
     }
     if word == b"test".as_slice() {
         return Some(TEST);
+    }
+    if word == b"snap".as_slice() {
+        return Some(SNAP);
     }
     if word == b"library".as_slice() {
         return Some(LIBRARY);

@@ -8,21 +8,21 @@ pub const NOT_AN_IMAGE: &str = "NotAnImage: the file is no image. Build it by `n
 ";
 
 /// What `BadVersion` means.
-pub const BAD_VERSION: &str = "BadVersion: the image is one of a later `nspk`.
+pub const BAD_VERSION: &str = "BadVersion: the image or snapshot is one of a later `nspk`.
 ";
 
 /// What `Truncated` means.
-pub const TRUNCATED: &str = "Truncated: the image was cut off. Make it again.
+pub const TRUNCATED: &str = "Truncated: the image or snapshot was cut off. Make it again.
 ";
 
 /// What `BadField` means.
 pub const BAD_FIELD: &str =
-    "BadField: the image has at this byte, counted from 0, what can't stand there.
-Make it again.
+    "BadField: the image or snapshot has at this byte, counted from 0, what can't
+stand there. Make it again.
 ";
 
 /// What `Trailing` means.
-pub const TRAILING: &str = "Trailing: the image has something behind it. Make it again.
+pub const TRAILING: &str = "Trailing: the image or snapshot has something behind it. Make it again.
 ";
 
 /// What `BadJump` means.

@@ -9,8 +9,8 @@ pub const MISSING: &str = "Missing: there is no file of this name.
 
 /// What `TooLong` means.
 pub const TOO_LONG: &str =
-    "TooLong: the file is too long: a source has at most 1,048,576 bytes, an image
-134,217,728.
+    "TooLong: the file is too long: a source and the file of `--text` have at most
+1,048,576 bytes, an image and a snapshot 134,217,728.
 ";
 
 /// What `Exists` means.

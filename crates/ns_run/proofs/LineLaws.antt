@@ -1,7 +1,7 @@
 -- What the lines of forms say.
 use Rattle.std.proofs.Common.{◌≡◌, ◌≤◌, ◌-◌, ℕ, Bool, true, false, cond, List, [], ◌∷◌, Option, Some, None, arith, length, refl, sym, subst}
 use Rattle.std.specs.Option.{is_some}
-use Rattle.ns_run.specs.Meaning.{sources_of}
+use Rattle.ns_run.specs.Meaning.{behind_first, sources_of}
 use Rattle.ns_run_words.specs.Application.{AreApplications}
 use Rattle.ns_run_words.specs.Forms.{AreFiles, AreNames, IsSpelledLine}
 use Rattle.ns_run_words.specs.Own.{image_among, least_of, most_of}
@@ -11,7 +11,7 @@ use Rattle.ns_run_words.specs.declared.form.Item.TheVariants.{File, Application}
 use Rattle.ns_run_words.specs.declared.form.Verb.{Verb}
 use Rattle.ns_run_words.specs.declared.words.Given.{Given}
 use Rattle.ns_run_words.specs.laws.Image.{image_is_given}
-use Rattle.ns_run_words.specs.declared.form.Verb.TheVariants.{Check, Show, Format, Run, Eval, Build, Exec, Listing, Session, Sample, Audit, Test, Library, Help, Explain, Version}
+use Rattle.ns_run_words.specs.declared.form.Verb.TheVariants.{Check, Show, Format, Run, Eval, Build, Exec, Listing, Session, Sample, Audit, Test, Snap, Library, Help, Explain, Version}
 
 -- The command works on files.
 abbrev pub TakesFiles : Verb → Type 0
@@ -27,6 +27,7 @@ TakesFiles Session = ⊥
 TakesFiles Sample = ⊥
 TakesFiles Audit = ⊥
 TakesFiles Test = Unit {0}
+TakesFiles Snap = ⊥
 TakesFiles Library = ⊥
 TakesFiles Help = ⊥
 TakesFiles Explain = ⊥
@@ -49,6 +50,7 @@ within given Session t = absurd t
 within given Sample t = absurd t
 within given Audit t = absurd t
 within given Test t = (omega arith, omega arith, refl)
+within given Snap t = absurd t
 within given Library t = absurd t
 within given Help t = absurd t
 within given Explain t = absurd t
@@ -92,3 +94,12 @@ are_sources line e (words, f) =
     sources None false (name ∷ names) t l m a = (omega (arith, l), omega (arith, m), a.1)
     sources (Some image) true names t l m a = (omega (arith, l), omega (arith, m), a)
     sources (Some image) false names t l m a = absurd (cc (t))
+
+-- The program whose run is paused has 1 to 16 files: all names but the first.
+pub are_behind : (line : CommandLine) → line.verb ≡ Snap → IsSpelledLine line → AreFiles (behind_first line.names)
+are_behind line e (words, f) =
+    let s = sized Snap line e (words, f) in behind line.names s.0 s.1 (subst (λ v. AreNames (form_of v).item line.names) e f.named)
+  where
+    behind : (names : List (List ℕ)) → 2 ≤ length names → length names ≤ 17 → AreNames File names → AreFiles (behind_first names)
+    behind [] l m a = absurd (omega (arith, l))
+    behind (name ∷ names) l m a = (omega (arith, l), omega (arith, m), a.1)

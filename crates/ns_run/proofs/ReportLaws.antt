@@ -11,7 +11,7 @@ use Rattle.ns_run.specs.Outcome.{NamesMissing, TellsMissing}
 use Rattle.ns_run_outcome.specs.Outcome.{IsReported, IsEnding, IsMissing, LeavesStreams, Wrote, missing_line}
 use Rattle.ns_run_outcome.specs.declared.report.Report.{Report}
 use Rattle.ns_run_words.specs.Words.{LineReading}
-use Rattle.ns_session_files.specs.Answer.{OfSomeName}
+use Rattle.ns_run_words.specs.Named.{OfSomeName}
 
 -- With a status that a report may have, all is written.
 pub leaves_delivered : (r : Report) (s : Status) (o o' e e' : Option (List ℕ)) → IsEnding s → IsReported r s o o' e e' →

@@ -2,11 +2,12 @@
 use Rattle.std.proofs.Common.{◌≡◌, ℕ, List, Result, Ok, Err, IfOk, ap, sym, subst, ◌∙◌, codes, map}
 use Rattle.ns_base.specs.declared.status.Status.{Status}
 use Rattle.ns_base.specs.declared.status.Status.TheVariants.{Done, ProgramError, Refused, Limit, ReadFault, WriteFault, Memory}
-use Rattle.ns_session_files.specs.Answer.{IsMissingFile, IfRefusal, RefusesAs, TellsOfAll, OfSomeName}
+use Rattle.ns_run_words.specs.Named.{OfSomeName}
+use Rattle.ns_session_files.specs.Answer.{IsMissingFile, IfRefusal, RefusesAs, TellsOfAll}
 use Rattle.ns_session_files.specs.Joint.{Joint, stopped_for}
 use Rattle.ns_session_files.specs.declared.fault.JointFault.{JointFault}
 use Rattle.ns_session_files.specs.declared.fault.JointFault.TheVariants as fault
-use Rattle.ns_session_files.specs.declared.joint.Told.{Told}
+use Rattle.ns_session_files.specs.declared.joint.ToldSession.{ToldSession}
 use Rattle.ns_run_code.specs.Running.{IsRunStatus}
 use Rattle.ns_run_outcome.specs.Outcome.{IsEnding, IsMissing}
 use Rattle.ns_run_outcome.specs.Report.{size_name}
@@ -33,7 +34,7 @@ pub refusals_mean : (joint : Joint) (why : JointFault) (result : Result Report S
 refusals_mean joint why (Ok r) i h = refusal_means joint why r i h
 refusals_mean joint why (Err e) i h = tt
 
-pub run_means : (joint : Joint) (told : Told) (report : Report) → TellsOfAll joint (Ok told) → report ≡ told_jointly told →
+pub run_means : (joint : Joint) (told : ToldSession) (report : Report) → TellsOfAll joint (Ok told) → report ≡ told_jointly told →
     report ≡ of_joint joint
 run_means joint told report t r = r ∙ ap of_joint (sym t)
 

@@ -1,10 +1,10 @@
--- No command but one stores a file.
-use Rattle.std.proofs.Common.{◌≡◌, ℕ, List, [], ◌∷◌, length, map, nat_lt, cond, Bool, true, false, Option, Some, None, codes, refl, ap, ◌∙◌}
+-- No command but two stores a file.
+use Rattle.std.proofs.Common.{◌≡◌, ℕ, List, [], ◌∷◌, ◌++◌, drop, length, map, nat_lt, cond, take, Bool, true, false, Option, Some, None, codes, refl, ap, ◌∙◌}
 use Rattle.ns_base.specs.declared.limits.Limits.{Limits}
 use Rattle.ns_base.specs.declared.place.Place.{Place}
 use Rattle.ns_code.specs.declared.program.CodeProgram.{CodeProgram}
 use Rattle.ns_audit.specs.Image.{AuditedImage, audited_image, answers, no_class, unadmitted, unread}
-use Rattle.ns_run_code.specs.Exec.{Executed, executed, has_run, refused_code, refused_image}
+use Rattle.ns_run_code.specs.Exec.{ImageCode, admitted, image_code, refused_code, refused_image}
 use Rattle.ns_run_code.specs.Listing.{ListedCode, lines, unlisted}
 use Rattle.ns_gen_code.specs.Code.{code_of}
 use Rattle.ns_image.specs.declared.fault.ImageFault.{ImageFault}
@@ -16,7 +16,7 @@ use Rattle.ns_session_files.specs.Joint as joints
 use Rattle.ns_session_files.specs.Making.{Refusal, unchecked, unloaded}
 use Rattle.ns_session_files.specs.Making as making
 use Rattle.ns_lib.specs.Sample.{sample}
-use Rattle.ns_load.specs.Loaded.{Loading, loaded_texts, stopped, units}
+use Rattle.ns_load.specs.Loaded.{Loading, file_names, loaded_texts, stopped, units}
 use Rattle.ns_load.specs.Source.{FileReading, spells, refused, read}
 use Rattle.ns_load.specs.declared.fault.LoadCause.{LoadCause}
 use Rattle.ns_load.specs.declared.fault.LoadCause.TheVariants as cause
@@ -25,20 +25,19 @@ use Rattle.ns_load.specs.declared.fault.LoadFault.TheVariants as fault
 use Rattle.ns_resolved.specs.Classes.{meant_of}
 use Rattle.ns_resolved.specs.Program.{Meant}
 use Rattle.ns_help.specs.Topics.{text_of}
-use Rattle.ns_json.specs.declared.saying.Run.{Run}
 use Rattle.ns_json.specs.declared.saying.Saying.{Saying}
 use Rattle.ns_run_outcome.specs.Report.{refused_file, unsound}
 use Rattle.ns_run_outcome.specs.Styled.{in_json, styled}
 use Rattle.ns_run_outcome.specs.declared.report.Report.{Report}
-use Rattle.ns_run_outcome.specs.declared.run.Telling.{Telling}
 use Rattle.ns_static_rules.specs.Least.{faults, least}
 use Rattle.ns_static_rules.specs.declared.fault.Placed.{Placed}
-use Rattle.ns_run_image.specs.Image.{ImageWork, Executes, Lists, Audits, listing_asked, of_audited, of_executed, of_image, of_image_bytes, of_image_fault, of_listed, of_short, parts_of}
-use Rattle.ns_run.specs.Meaning.{of_joint, of_audit, of_line, of_reading, of_refusal, of_statements, of_topic, telling_of, text_told}
-use Rattle.ns_run_files.specs.Programs.{eval_source, name_of, of_cause, of_checks, of_fault, of_faultless, of_faults, of_format, of_layout, of_least, of_loading, of_sends, of_own_fault, of_run, of_sample, of_show, of_sized, of_source, of_tests, of_texts, of_units, sample_telling}
-use Rattle.ns_run.specs.Outcome.{IsNoBuild, OverTexts, StoresNothing}
+use Rattle.ns_run_image.specs.Image.{ImageWork, Lists, Audits, listing_asked, of_audited, of_code, of_exec, of_image, of_image_bytes, of_image_fault, of_listed, of_short}
+use Rattle.ns_run_input.specs.Input.{RunWork, code_report, input_of, read_then, reads, refuses, with_inputs}
+use Rattle.ns_run.specs.Meaning.{of_joint, of_audit, of_line, of_reading, of_refusal, of_statements, of_topic, run_of_line, text_told}
+use Rattle.ns_run_files.specs.Programs.{eval_source, name_of, of_cause, of_checks, of_fault, of_faultless, of_faults, of_format, of_layout, of_least, of_loading, of_sends, of_own_fault, of_run, of_sample, of_show, of_sized, of_source, of_tests, of_texts, of_units, meant_report, run_of_loading, run_of_texts, sample_run}
+use Rattle.ns_run.specs.Outcome.{OverTexts, StoresNoFile, StoresNothing}
 use Rattle.ns_run_files.specs.Tests.{tests_report}
-use Rattle.ns_run_files.specs.Task.{Task, Checks, Shows, Builds, Runs, Tests}
+use Rattle.ns_run_files.specs.Task.{Task, Checks, Shows, Builds, Tests, Snaps}
 use Rattle.ns_test.specs.Source.{source_tested}
 use Rattle.ns_test.specs.Tests.{Tested, has_no_code, has_not_opened, has_tested, no_test, not_tests}
 use Rattle.ns_tree.specs.Plain as p
@@ -47,9 +46,8 @@ use Rattle.ns_verify.specs.declared.fault.Where.{Where}
 use Rattle.ns_verify.specs.declared.fault.Where.TheVariants as where_at
 use Rattle.ns_run_words.specs.Application.{asked_of}
 use Rattle.ns_run_words.specs.Options.{denied_by, only_among}
-use Rattle.ns_run_words.specs.Words.{CommandLine, LineReading, says, bad, limits_of, nothing_given, quantum_of, reading_of, sample_number}
+use Rattle.ns_run_words.specs.Words.{CommandLine, LineReading, says, bad, limits_of, quantum_of, reading_of, sample_number}
 use Rattle.ns_run_words.specs.declared.form.Verb.{Verb}
-use Rattle.ns_run_words.specs.declared.words.Given.{Given}
 use Rattle.ns_run_words.specs.declared.form.Verb.TheVariants as verb
 
 -- The report stores nothing.
@@ -85,20 +83,36 @@ show_keeps : (trees : List p.SourceUnit) → KeepsNone (of_show trees)
 show_keeps [] = refl
 show_keeps (unit ∷ more) = refl
 
-sized_keeps : (telling : Telling) (limits : Limits) (arguments : List (List ℕ)) (meant : Meant) (kind : Option SizeKind) →
-    KeepsNone (of_sized telling limits arguments meant kind)
-sized_keeps telling limits arguments meant None = refl
-sized_keeps telling limits arguments meant (Some kind) = refl
+-- What is read of an input is no report that stores.
+input_keeps : (name : List ℕ) (text : Option (List ℕ)) (next : List ℕ → Report) → ((read : List ℕ) → KeepsNone (next read)) →
+    KeepsNone (read_then next (input_of name text))
+input_keeps name None next keeps = refl
+input_keeps name (Some text) next keeps =
+    elim (nat_lt 1048576 (length text)) as (λ q. KeepsNone (read_then next (cond q (refuses (refused_file name (codes "TooLong"))) (reads text)))) [
+      | true ↦ refl
+      | false ↦ keeps text
+    ]
 
-run_keeps : (names : List (List ℕ)) (telling : Telling) (limits : Limits) (arguments files : List (List ℕ)) (trees : List p.SourceUnit) (places : List (List Place)) (why : Option Placed)
-    → KeepsNone (of_run names telling limits arguments files trees places why)
-run_keeps names telling limits arguments files trees places None =
-    sized_keeps telling limits arguments (meant_of files trees places) (size_fault (code_of (meant_of files trees places)))
-run_keeps names telling limits arguments files trees places (Some why) = refl
+inputs_keep : (run : List (List ℕ) → Report) (arguments names : List (List ℕ)) (texts : List (Option (List ℕ))) → ((each : List (List ℕ)) → KeepsNone (run each))
+    → KeepsNone (with_inputs run arguments names texts)
+inputs_keep run arguments [] texts keeps = keeps arguments
+inputs_keep run arguments (name ∷ names) [] keeps = refl
+inputs_keep run arguments (name ∷ names) (text ∷ texts) keeps =
+    input_keeps name text (λ read. with_inputs run (arguments ++ read ∷ []) names texts) (λ read. inputs_keep run (arguments ++ read ∷ []) names texts keeps)
+
+sized_keeps : (run : RunWork) (meant : Meant) (kind : Option SizeKind) (texts : List (Option (List ℕ))) → KeepsNone (of_sized run meant kind texts)
+sized_keeps run meant None texts = inputs_keep (meant_report run.telling run.limits meant) run.arguments run.inputs texts (λ each. refl)
+sized_keeps run meant (Some kind) texts = refl
+
+run_keeps : (names : List (List ℕ)) (run : RunWork) (files : List (List ℕ)) (trees : List p.SourceUnit) (places : List (List Place)) (why : Option Placed) (texts : List (Option (List ℕ)))
+    → KeepsNone (of_run names run files trees places why texts)
+run_keeps names run files trees places None texts =
+    sized_keeps run (meant_of files trees places) (size_fault (code_of (meant_of files trees places))) texts
+run_keeps names run files trees places (Some why) texts = refl
 
 tested_keeps : (file : List ℕ) (tests : Tested) → KeepsNone (tests_report file tests)
 tested_keeps file (has_no_code kind) = refl
-tested_keeps file (has_not_opened line status) = refl
+tested_keeps file (has_not_opened line status part) = refl
 tested_keeps file not_tests = refl
 tested_keeps file no_test = refl
 tested_keeps file (has_tested tests) = refl
@@ -109,24 +123,23 @@ tests_keep names limits reversed only files trees places None =
     tested_keeps (name_of names 0) (source_tested (meant_of files trees places) limits reversed only)
 tests_keep names limits reversed only files trees places (Some why) = refl
 
--- The task isn't the one that stores an image.
-abbrev pub IsNoBuilding : Task → Type 0
-IsNoBuilding (Checks all sends) = Unit {0}
-IsNoBuilding Shows = Unit {0}
-IsNoBuilding (Builds name) = ⊥
-IsNoBuilding (Runs telling limits arguments) = Unit {0}
-IsNoBuilding (Tests limits reversed only) = Unit {0}
+-- The task isn't one of those that store an image or a snapshot.
+abbrev pub IsNoStoring : Task → Type 0
+IsNoStoring (Checks all sends) = Unit {0}
+IsNoStoring Shows = Unit {0}
+IsNoStoring (Builds name) = ⊥
+IsNoStoring (Tests limits reversed only) = Unit {0}
+IsNoStoring (Snaps name limits at) = ⊥
 
-units_keep : (t : Task) (names files : List (List ℕ)) (trees : List p.SourceUnit) (places : List (List Place)) → IsNoBuilding t →
+units_keep : (t : Task) (names files : List (List ℕ)) (trees : List p.SourceUnit) (places : List (List Place)) → IsNoStoring t →
     KeepsNone (of_units t names files trees places)
 units_keep (Checks all sends) names files trees places i =
     checks_keep all sends names files trees places _ (least (faults trees places))
 units_keep Shows names files trees places i = show_keeps trees
 units_keep (Builds name) names files trees places i = absurd i
-units_keep (Runs telling limits arguments) names files trees places i =
-    run_keeps names telling limits arguments files trees places (least (faults trees places))
 units_keep (Tests limits reversed only) names files trees places i =
     tests_keep names limits reversed only files trees places (least (faults trees places))
+units_keep (Snaps name limits at) names files trees places i = absurd i
 
 cause_keeps : (file : List ℕ) (why : LoadCause) → KeepsNone (of_cause file why)
 cause_keeps file cause.Missing = refl
@@ -138,12 +151,12 @@ fault_keeps : (names : List (List ℕ)) (why : LoadFault) → KeepsNone (of_faul
 fault_keeps names (fault.At why file) = cause_keeps (name_of names file) why
 fault_keeps names fault.Memory = refl
 
-loading_keeps : (t : Task) (names : List (List ℕ)) (lib : Bool) (loading : Loading) → IsNoBuilding t →
+loading_keeps : (t : Task) (names : List (List ℕ)) (lib : Bool) (loading : Loading) → IsNoStoring t →
     KeepsNone (of_loading t names lib loading)
 loading_keeps t names lib (units trees places) i = units_keep t names _ trees places i
 loading_keeps t names lib (stopped why) i = fault_keeps names why
 
-texts_keep : (t : Task) (names : List (List ℕ)) (lib : Bool) (texts : List (Option (List ℕ))) → IsNoBuilding t →
+texts_keep : (t : Task) (names : List (List ℕ)) (lib : Bool) (texts : List (Option (List ℕ))) → IsNoStoring t →
     KeepsNone (of_texts t names lib texts)
 texts_keep t names lib texts i = loading_keeps t names lib (loaded_texts texts lib) i
 
@@ -168,14 +181,21 @@ format_keeps (name ∷ names) [] = refl
 format_keeps (name ∷ names) (None ∷ texts) = refl
 format_keeps (name ∷ names) (Some source ∷ texts) = source_keeps name source
 
-sample_keeps : (number : Option ℕ) → KeepsNone (of_sample number)
-sample_keeps None = refl
-sample_keeps (Some n) = texts_keep (Runs (sample_telling n) (limits_of nothing_given) []) (codes "sample" ∷ []) false (Some (sample n) ∷ []) tt
+loaded_keeps : (run : RunWork) (names : List (List ℕ)) (lib : Bool) (loading : Loading) (inputs : List (Option (List ℕ))) →
+    KeepsNone (run_of_loading run names lib loading inputs)
+loaded_keeps run names lib (units trees places) inputs = run_keeps names run (file_names names lib) trees places (least (faults trees places)) inputs
+loaded_keeps run names lib (stopped why) inputs = fault_keeps names why
 
-statements_keep : (given : Given) (arguments words : List (List ℕ)) → KeepsNone (of_statements given arguments words)
-statements_keep given arguments [] = refl
-statements_keep given arguments (text ∷ more) =
-    texts_keep (Runs (telling_of given) (limits_of given) arguments) (codes "eval" ∷ []) given.lib (Some (eval_source text) ∷ []) tt
+runs_keep : (run : RunWork) (names : List (List ℕ)) (lib : Bool) (texts inputs : List (Option (List ℕ))) → KeepsNone (run_of_texts run names lib texts inputs)
+runs_keep run names lib texts inputs = loaded_keeps run names lib (loaded_texts texts lib) inputs
+
+sample_keeps : (number : Option ℕ) (texts : List (Option (List ℕ))) → KeepsNone (of_sample number texts)
+sample_keeps None texts = refl
+sample_keeps (Some n) texts = runs_keep (sample_run n) (codes "sample" ∷ []) false (Some (sample n) ∷ []) texts
+
+statements_keep : (run : RunWork) (lib : Bool) (words : List (List ℕ)) (texts : List (Option (List ℕ))) → KeepsNone (of_statements run lib words texts)
+statements_keep run lib [] texts = refl
+statements_keep run lib (text ∷ more) texts = runs_keep run (codes "eval" ∷ []) lib (Some (eval_source text) ∷ []) texts
 
 -- ---- images
 
@@ -191,11 +211,20 @@ image_keeps_none file (images.BadField at) = refl
 image_keeps_none file images.Trailing = refl
 image_keeps_none file images.Memory = refl
 
-executed_keeps : (telling : Telling) (limits : Limits) (file : List ℕ) (done : Executed) (parts : Option Run) →
-    KeepsNone (of_executed telling limits file done parts)
-executed_keeps telling limits file (refused_image why) parts = image_keeps_none file why
-executed_keeps telling limits file (refused_code why at) parts = unsound_keeps file why at
-executed_keeps telling limits file (has_run ran) parts = refl
+code_keeps : (run : RunWork) (file : List ℕ) (code : ImageCode) (inputs : List (Option (List ℕ))) → KeepsNone (of_code run file code inputs)
+code_keeps run file (refused_image why) inputs = image_keeps_none file why
+code_keeps run file (refused_code why at) inputs = unsound_keeps file why at
+code_keeps run file (admitted code) inputs = inputs_keep (code_report run.telling run.limits code) run.arguments run.inputs inputs (λ each. refl)
+
+exec_keeps : (run : RunWork) (names : List (List ℕ)) (texts inputs : List (Option (List ℕ))) → KeepsNone (of_exec run names texts inputs)
+exec_keeps run [] texts inputs = refl
+exec_keeps run (name ∷ names) [] inputs = refl
+exec_keeps run (name ∷ names) (None ∷ texts) inputs = refl
+exec_keeps run (name ∷ names) (Some bytes ∷ texts) inputs =
+    elim (nat_lt 134217728 (length bytes)) as (λ q. KeepsNone (cond q (refused_file name (codes "TooLong")) (of_code run name (image_code bytes) inputs))) [
+      | true ↦ refl
+      | false ↦ code_keeps run name (image_code bytes) inputs
+    ]
 
 listed_keeps : (file : List ℕ) (done : ListedCode) → KeepsNone (of_listed file done)
 listed_keeps file (unlisted why) = image_keeps_none file why
@@ -205,11 +234,9 @@ audited_keeps : (file : List ℕ) (done : AuditedImage) → KeepsNone (of_audite
 audited_keeps file (unread why) = image_keeps_none file why
 audited_keeps file (unadmitted why at) = unsound_keeps file why at
 audited_keeps file no_class = refl
-audited_keeps file (answers line status) = refl
+audited_keeps file (answers line status part) = refl
 
 bytes_keep : (work : ImageWork) (file bytes : List ℕ) → KeepsNone (of_image_bytes work file bytes)
-bytes_keep (Executes telling limits arguments) file bytes =
-    executed_keeps telling limits file (executed bytes limits arguments) (parts_of telling bytes limits arguments)
 bytes_keep (Lists members) file bytes = listed_keeps file (listing_asked members bytes)
 bytes_keep (Audits denied class) file bytes = audited_keeps file (audited_image bytes denied class)
 
@@ -254,22 +281,24 @@ topic_keeps (topic ∷ more) = text_keeps (text_of topic)
 
 -- ---- commands
 
-line_keeps : (each : Verb) (line : CommandLine) (texts : List (Option (List ℕ))) → IsNoBuild each → KeepsNone (of_line each line texts)
+line_keeps : (each : Verb) (line : CommandLine) (texts : List (Option (List ℕ))) → StoresNoFile each → KeepsNone (of_line each line texts)
 line_keeps verb.Check line texts i = texts_keep (Checks line.given.all line.given.sends) line.names line.given.lib texts tt
 line_keeps verb.Show line texts i = texts_keep Shows line.names line.given.lib texts tt
 line_keeps verb.Format line texts i = format_keeps line.names texts
 line_keeps verb.Run line texts i =
-    texts_keep (Runs (telling_of line.given) (limits_of line.given) line.arguments) line.names line.given.lib texts tt
-line_keeps verb.Eval line texts i = statements_keep line.given line.arguments line.names
+    runs_keep (run_of_line line) line.names line.given.lib (take (length line.names) texts) (drop (length line.names) texts)
+line_keeps verb.Eval line texts i = statements_keep (run_of_line line) line.given.lib line.names texts
 line_keeps verb.Build line texts i = absurd i
-line_keeps verb.Exec line texts i = image_keeps (Executes (telling_of line.given) (limits_of line.given) line.arguments) line.names texts
+line_keeps verb.Exec line texts i =
+    exec_keeps (run_of_line line) line.names (take (length line.names) texts) (drop (length line.names) texts)
 line_keeps verb.Listing line texts i = image_keeps (Lists line.given.members) line.names texts
 line_keeps verb.Session line texts i =
-    session_keeps (joint line.given.lib (limits_of line.given) (quantum_of line.given) (map asked_of line.names) texts)
-line_keeps verb.Sample line texts i = sample_keeps (sample_number line.names)
+    session_keeps (joint line.given.json line.given.lib (limits_of line.given) (quantum_of line.given) (map asked_of line.names) texts)
+line_keeps verb.Sample line texts i = sample_keeps (sample_number line.names) texts
 line_keeps verb.Audit line texts i = audit_keeps (denied_by line.options) line.names texts
 line_keeps verb.Test line texts i =
     texts_keep (Tests (limits_of line.given) line.given.reverse (only_among line.options)) line.names line.given.lib texts tt
+line_keeps verb.Snap line texts i = absurd i
 line_keeps verb.Library line texts i = refl
 line_keeps verb.Help line texts i = refl
 line_keeps verb.Explain line texts i = topic_keeps line.names

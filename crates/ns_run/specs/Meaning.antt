@@ -1,33 +1,40 @@
 -- What a command means: what it stores, the bytes that it writes and its status, over the texts of its files.
-use Rattle.std.specs.Prelude.{ℕ, Bool, List, Option, Some, None, map, ◌∷◌, []}
+use Rattle.std.specs.Prelude.{ℕ, Bool, List, Option, Some, None, length, option_map, map, ◌∷◌, ◌++◌, []}
 use Rattle.ns_base.specs.Files.{Files}
 use Rattle.ns_base.specs.declared.limits.Limits.{Limits}
 use Rattle.ns_help.specs.Topics.{text_of}
 use Rattle.ns_help.specs.declared.usage.TheConstants.{HELP, VERSION}
+use Rattle.ns_json.specs.declared.saying.Saying.TheVariants as said
 use Rattle.ns_lib.specs.Collections.{collections}
 use Rattle.ns_run_files.specs.Guard.{of_built_to}
-use Rattle.ns_run_files.specs.Programs.{of_check, of_eval, of_fault, of_format, of_sample, of_texts}
-use Rattle.ns_run_files.specs.Task.{Checks, Shows, Builds, Runs, Tests}
-use Rattle.ns_run_image.specs.Image.{Executes, Lists, Audits, of_image}
+use Rattle.ns_run_files.specs.Programs.{of_check, of_eval, of_fault, of_format, of_sample, of_texts, run_of_texts}
+use Rattle.ns_run_files.specs.Task.{Task, Checks, Shows, Builds, Tests, Snaps}
+use Rattle.ns_run_image.specs.Image.{Lists, Audits, of_exec, of_image}
+use Rattle.ns_run_input.specs.Input.{RunWork, in_parts}
 use Rattle.ns_run_outcome.specs.Report.{bad_word, told, too_large}
 use Rattle.ns_run_outcome.specs.Styled.{styled}
 use Rattle.ns_run_outcome.specs.declared.report.Report.{Report}
 use Rattle.ns_run_outcome.specs.declared.run.Telling.{Telling}
-use Rattle.ns_run_words.specs.Options.{denied_by, only_among}
+use Rattle.ns_run_words.specs.Options.{denied_by, only_among, texts_among}
 use Rattle.ns_run_words.specs.Own.{image_among}
-use Rattle.ns_run_words.specs.Words.{CommandLine, LineReading, says, bad, limits_of, quantum_of, reading_of, sample_number}
+use Rattle.ns_run_words.specs.Words.{CommandLine, LineReading, says, bad, at_of, limits_of, quantum_of, reading_of, sample_number}
 use Rattle.ns_run_words.specs.declared.form.Verb.{Verb}
-use Rattle.ns_run_words.specs.declared.form.Verb.TheVariants.{Check, Show, Format, Run, Eval, Build, Exec, Listing, Session, Sample, Audit, Test, Library, Help, Explain, Version}
+use Rattle.ns_run_words.specs.declared.form.Verb.TheVariants.{Check, Show, Format, Run, Eval, Build, Exec, Listing, Session, Sample, Audit, Test, Snap, Library, Help, Explain, Version}
 use Rattle.ns_run_words.specs.declared.words.Given.{Given}
 use Rattle.ns_session_files.specs.Joint.{Joint, joint_of, has_run, stopped_for}
 use Rattle.ns_session_files.specs.Making.{Refusal, files_named, unchecked, unloaded}
 use Rattle.ns_session_files.specs.Making as making
-use Rattle.ns_session_files.specs.declared.joint.Told.{Told}
+use Rattle.ns_session_files.specs.declared.joint.ToldSession.{ToldSession}
 
--- the image of the program of all files but the first is stored under the name of that; without a name there is none
+-- what is done with the program of all files but the first, of which the name says where something is stored; without a name
+-- there is none
+abbrev pub of_behind_first : (List ℕ → Task) → Bool → (names : List (List ℕ)) → List (Option (List ℕ)) → Report
+of_behind_first task lib [] texts = bad_word 1
+of_behind_first task lib (name ∷ names) texts = of_texts (task name) names lib texts
+
+-- the image of the program of all files but the first is stored under the name of that
 abbrev pub of_building : Bool → List (List ℕ) → List (Option (List ℕ)) → Report
-of_building lib [] texts = bad_word 1
-of_building lib (name ∷ names) texts = of_texts (Builds name) names lib texts
+of_building lib names = of_behind_first Builds lib names
 
 -- the image of a program is stored under the name that an option gives, where no other file stands; or under the first name
 abbrev pub of_build_line : Bool → Option (List ℕ) → List (List ℕ) → List (Option (List ℕ)) → Report
@@ -40,20 +47,22 @@ of_refusal (unloaded names fault) = of_fault names fault
 of_refusal (unchecked names fault) = of_check names (Some fault)
 of_refusal (making.too_large kind) = too_large kind
 
--- A session tells of all its applications in its output, and ends with their status.
-abbrev pub told_jointly : Told → Report
-told_jointly told = record { out = told.out; err = []; status = told.status; stored = None; said = None }
+-- A session tells of all its applications in its output, in parts too where that is asked for, and ends with their status.
+abbrev pub told_jointly : ToldSession → Report
+told_jointly session =
+    record { out = session.told.out; err = []; status = session.told.status; stored = None; said = option_map said.Session session.parts }
 
 abbrev pub of_joint : Joint → Report
 of_joint (stopped_for why) = of_refusal why
 of_joint (has_run told) = told_jointly told
 
--- the session of the applications that these words ask for, over these texts of their files
-abbrev pub of_session : Bool → Limits → ℕ → List (List ℕ) → List (Option (List ℕ)) → Report
-of_session lib limits quantum words texts = of_joint (joint_of lib limits quantum words texts)
+-- the session of the applications that these words ask for, in parts too or not, over these texts of their files
+abbrev pub of_session : Bool → Bool → Limits → ℕ → List (List ℕ) → List (Option (List ℕ)) → Report
+of_session in_parts lib limits quantum words texts = of_joint (joint_of in_parts lib limits quantum words texts)
 
-abbrev pub session_over : Files → Bool → Limits → ℕ → List (List ℕ) → Report
-session_over files lib limits quantum words = of_session lib limits quantum words (map files (files_named words))
+abbrev pub session_over : Files → Bool → Bool → Limits → ℕ → List (List ℕ) → Report
+session_over files in_parts lib limits quantum words =
+    of_session in_parts lib limits quantum words (map files (files_named words))
 
 -- the audit of an image, behind whose name that of a class stands in a line
 abbrev pub of_audit : List (List ℕ) → List (List ℕ) → List (Option (List ℕ)) → Report
@@ -63,24 +72,37 @@ of_audit denied (name ∷ class ∷ names) texts = of_image (Audits denied class
 
 -- what a line asks to be told of its run
 abbrev pub telling_of : Given → Telling
-telling_of given = record { classes = None; stats = given.stats; truth = given.truth; json = given.json }
+telling_of given = record { classes = None; stats = given.stats; trace = given.trace; truth = given.truth; json = given.json }
 
--- the run of the program of these files, as options ask for it, with these arguments
-abbrev pub of_running : Given → (arguments names : List (List ℕ)) → List (Option (List ℕ)) → Report
-of_running given arguments names texts = of_texts (Runs (telling_of given) (limits_of given) arguments) names given.lib texts
+-- a run as options ask for it, with these arguments
+abbrev pub run_asked : Given → (options arguments : List (List ℕ)) → RunWork
+run_asked given options arguments =
+    record { telling = telling_of given; limits = limits_of given; arguments = arguments; inputs = texts_among options }
 
--- the run of the first of these images
-abbrev pub of_executing : Given → (arguments names : List (List ℕ)) → List (Option (List ℕ)) → Report
-of_executing given arguments names texts = of_image (Executes (telling_of given) (limits_of given) arguments) names texts
+-- the run of the program of files of these names, over their texts and, behind them, those of its inputs
+abbrev pub of_running : RunWork → Bool → List (List ℕ) → List (Option (List ℕ)) → Report
+of_running run lib names texts = in_parts (length names) (run_of_texts run names lib) texts
+
+-- the run of the first of these images, over its text and, behind it, those of its inputs
+abbrev pub of_executing : RunWork → List (List ℕ) → List (Option (List ℕ)) → Report
+of_executing run names texts = in_parts (length names) (of_exec run names) texts
 
 -- the tests of the program of these files, as these options ask for them
 abbrev pub of_testing : Given → (options names : List (List ℕ)) → List (Option (List ℕ)) → Report
 of_testing given options names texts = of_texts (Tests (limits_of given) given.reverse (only_among options)) names given.lib texts
 
--- the run of the statements that are the first of these words (there is always one)
-abbrev pub of_statements : Given → (arguments words : List (List ℕ)) → Report
-of_statements given arguments [] = bad_word 1
-of_statements given arguments (text ∷ more) = of_eval (telling_of given) (limits_of given) arguments given.lib text
+-- the run of the program of all files but the first is paused, and its snapshot stored under the name of that
+abbrev pub of_snapping : Given → (names : List (List ℕ)) → List (Option (List ℕ)) → Report
+of_snapping given names = of_behind_first (λ name. Snaps name (limits_of given) (at_of given)) given.lib names
+
+-- the run of the statements that are the first of these words (there is always one), over the texts of its inputs
+abbrev pub of_statements : RunWork → Bool → List (List ℕ) → List (Option (List ℕ)) → Report
+of_statements run lib [] texts = bad_word 1
+of_statements run lib (text ∷ more) texts = of_eval run lib text texts
+
+-- the run that a line asks for
+abbrev pub run_of_line : CommandLine → RunWork
+run_of_line line = run_asked line.given line.options line.arguments
 
 -- the text that is told (there is always one)
 abbrev pub text_told : Option (List ℕ) → Report
@@ -97,15 +119,17 @@ abbrev pub of_line : Verb → CommandLine → List (Option (List ℕ)) → Repor
 of_line Check line texts = of_texts (Checks line.given.all line.given.sends) line.names line.given.lib texts
 of_line Show line texts = of_texts Shows line.names line.given.lib texts
 of_line Format line texts = of_format line.names texts
-of_line Run line texts = of_running line.given line.arguments line.names texts
-of_line Eval line texts = of_statements line.given line.arguments line.names
+of_line Run line texts = of_running (run_of_line line) line.given.lib line.names texts
+of_line Eval line texts = of_statements (run_of_line line) line.given.lib line.names texts
 of_line Build line texts = of_build_line line.given.lib (image_among line.options) line.names texts
-of_line Exec line texts = of_executing line.given line.arguments line.names texts
+of_line Exec line texts = of_executing (run_of_line line) line.names texts
 of_line Listing line texts = of_image (Lists line.given.members) line.names texts
-of_line Session line texts = of_session line.given.lib (limits_of line.given) (quantum_of line.given) line.names texts
-of_line Sample line texts = of_sample (sample_number line.names)
+of_line Session line texts =
+    of_session line.given.json line.given.lib (limits_of line.given) (quantum_of line.given) line.names texts
+of_line Sample line texts = of_sample (sample_number line.names) texts
 of_line Audit line texts = of_audit (denied_by line.options) line.names texts
 of_line Test line texts = of_testing line.given line.options line.names texts
+of_line Snap line texts = of_snapping line.given line.names texts
 of_line Library line texts = told collections
 of_line Help line texts = told HELP.now
 of_line Explain line texts = of_topic line.names
@@ -137,20 +161,21 @@ files_built None names = behind_first names
 files_built (Some image) names = image ∷ names
 
 -- the files that a command reads: those that it names, or that its applications name, but for the one that `build` stores
--- where the first name names it, and the class that `audit` names
+-- where the first name names it, or `snap` stores, and the class that `audit` names; behind those of a run, the texts that its options name
 abbrev pub files_of : Verb → (options names : List (List ℕ)) → List (List ℕ)
 files_of Check options names = names
 files_of Show options names = names
 files_of Format options names = names
-files_of Run options names = names
-files_of Eval options names = []
+files_of Run options names = names ++ texts_among options
+files_of Eval options names = texts_among options
 files_of Build options names = files_built (image_among options) names
-files_of Exec options names = names
+files_of Exec options names = names ++ texts_among options
 files_of Listing options names = names
 files_of Session options names = files_named names
 files_of Sample options names = []
 files_of Audit options names = first_of names
 files_of Test options names = names
+files_of Snap options names = behind_first names
 files_of Library options names = []
 files_of Help options names = []
 files_of Explain options names = []

@@ -7,30 +7,31 @@ use Rattle.ns_run.specs.Meaning.{files_read, meaning_of_texts}
 use Rattle.ns_run_words.specs.Words.{LineReading, says, bad, reading_of}
 use Rattle.ns_run_words.specs.declared.form.Verb.{Verb}
 use Rattle.ns_run_words.specs.declared.form.Verb.TheVariants as verb
-use Rattle.ns_session_files.specs.Answer.{OfSomeTexts, OfSomeName}
+use Rattle.ns_run_words.specs.Named.{OfSomeTexts, OfSomeName}
 
--- The command isn't the one that stores an image.
-abbrev pub IsNoBuild : Verb → Type 0
-IsNoBuild verb.Check = Unit {0}
-IsNoBuild verb.Show = Unit {0}
-IsNoBuild verb.Format = Unit {0}
-IsNoBuild verb.Run = Unit {0}
-IsNoBuild verb.Eval = Unit {0}
-IsNoBuild verb.Build = ⊥
-IsNoBuild verb.Exec = Unit {0}
-IsNoBuild verb.Listing = Unit {0}
-IsNoBuild verb.Session = Unit {0}
-IsNoBuild verb.Sample = Unit {0}
-IsNoBuild verb.Audit = Unit {0}
-IsNoBuild verb.Test = Unit {0}
-IsNoBuild verb.Library = Unit {0}
-IsNoBuild verb.Help = Unit {0}
-IsNoBuild verb.Explain = Unit {0}
-IsNoBuild verb.Version = Unit {0}
+-- The command isn't one of those that store an image or a snapshot.
+abbrev pub StoresNoFile : Verb → Type 0
+StoresNoFile verb.Check = Unit {0}
+StoresNoFile verb.Show = Unit {0}
+StoresNoFile verb.Format = Unit {0}
+StoresNoFile verb.Run = Unit {0}
+StoresNoFile verb.Eval = Unit {0}
+StoresNoFile verb.Build = ⊥
+StoresNoFile verb.Exec = Unit {0}
+StoresNoFile verb.Listing = Unit {0}
+StoresNoFile verb.Session = Unit {0}
+StoresNoFile verb.Sample = Unit {0}
+StoresNoFile verb.Audit = Unit {0}
+StoresNoFile verb.Test = Unit {0}
+StoresNoFile verb.Snap = ⊥
+StoresNoFile verb.Library = Unit {0}
+StoresNoFile verb.Help = Unit {0}
+StoresNoFile verb.Explain = Unit {0}
+StoresNoFile verb.Version = Unit {0}
 
 -- The command of a line that was read so stores nothing.
 abbrev pub StoresNothing : LineReading → Type 0
-StoresNothing (says line) = IsNoBuild line.verb
+StoresNothing (says line) = StoresNoFile line.verb
 StoresNothing (bad word) = Unit {0}
 
 -- There is a text, or none, for each file of the command of these words, and over these its meaning is so.

@@ -1,14 +1,14 @@
 //! The command of a line, to its report.
 
-ghost use Rattle.std.specs.Prelude.{◌≡◌, ◌≤◌, IfOk, IsErrOf, map, length, string_bytes};
+ghost use Rattle.std.specs.Prelude.{◌≡◌, ◌≤◌, ◌++◌, [], IfOk, map, length, string_bytes};
 ghost use Rattle.ns_base.specs.Limits.{InRange};
 ghost use Rattle.ns_help.specs.Topics.{text_of as text_of_lem};
 ghost use Rattle.ns_lib.specs.Collections.{collections as collections_lem};
 ghost use Rattle.ns_run.specs.Meaning as spec;
 ghost use Rattle.ns_run_files.specs.Programs.{of_format, of_sample, of_texts};
 ghost use Rattle.ns_run_files.specs.Task.{Checks};
-ghost use Rattle.ns_run_image.specs.Image.{ImageInRange, Lists, of_image, work_of};
-ghost use Rattle.ns_run_outcome.specs.Outcome.{IsEnding};
+ghost use Rattle.ns_run_image.specs.Image.{Lists, of_image, work_of};
+ghost use Rattle.ns_run_input.specs.Input.{run_of};
 ghost use Rattle.ns_run_outcome.specs.Report.{told as told_lem};
 ghost use Rattle.ns_run_outcome.specs.Stated.{Reports};
 ghost use Rattle.ns_run_words.specs.Application.{AreApplications};
@@ -30,9 +30,12 @@ use ns_run_files::alone::{on_eval, on_sample};
 use ns_run_files::files::on_files;
 use ns_run_files::guard::on_build_to;
 use ns_run_files::layout::on_format;
+use ns_run_files::run::on_run_files;
 use ns_run_files::task::Task;
+use ns_run_image::exec::on_exec;
 use ns_run_image::image::on_image;
 use ns_run_image::task::ImageTask;
+use ns_run_input::task::RunTask;
 use ns_run_outcome::report::{Report, bad_word, told, told_text};
 use ns_run_outcome::run::Telling;
 use ns_run_outcome::stop::{Stop, or_stop};
@@ -61,15 +64,25 @@ pub fn on_line<S: Shelf>(alloc: Global, line: Line<'_>, shelf: &mut S) -> Result
         Verb::Check => on_check(alloc, given, names, shelf),
         Verb::Show => on_files(alloc, Task::Show, given.lib, names, shelf),
         Verb::Format => on_layout(alloc, names, shelf),
-        Verb::Run => on_run(alloc, given, arguments, names, shelf),
-        Verb::Eval => on_statements(alloc, given, arguments, names),
+        Verb::Run => {
+            let task = run_task(given, options, arguments);
+            on_run(alloc, task, given.lib, names, shelf)
+        }
+        Verb::Eval => {
+            let task = run_task(given, options, arguments);
+            on_statements(alloc, task, given.lib, names, shelf)
+        }
         Verb::Build => on_build_line(alloc, given.lib, options, names, shelf),
-        Verb::Exec => on_exec(alloc, given, arguments, names, shelf),
+        Verb::Exec => {
+            let task = run_task(given, options, arguments);
+            on_image_run(alloc, task, names, shelf)
+        }
         Verb::Listing => on_listing(alloc, given.members, names, shelf),
         Verb::Session => on_applications(alloc, given, names, shelf),
-        Verb::Sample => on_number(alloc, names),
+        Verb::Sample => on_number(alloc, names, shelf),
         Verb::Audit => on_audit(alloc, options, names, shelf),
         Verb::Test => on_tests(alloc, given, options, names, shelf),
+        Verb::Snap => on_snapping(alloc, given, names, shelf),
         Verb::Library => or_stop(library(alloc)),
         Verb::Help => or_stop(told_text(alloc, HELP)),
         Verb::Explain => or_stop(on_topic(alloc, names)),
@@ -127,30 +140,40 @@ fn telling_of(given: Given) -> Telling
     Telling {
         classes: None,
         stats: given.stats,
+        trace: given.trace,
         truth: given.truth,
         json: given.json,
+    }
+}
+
+/// A run as options ask for it, with these arguments.
+fn run_task<'a>(given: Given, options: &'a [String], arguments: &'a [String]) -> RunTask<'a>
+    requires { InRange (limits_of given) }
+    ensures is { run_of result ≡ spec.run_asked given (map string_bytes options.now) (map string_bytes arguments.now) }
+    ensures range { InRange result.limits }
+{
+    RunTask {
+        telling: telling_of(given),
+        limits: given.limits(),
+        arguments,
+        options,
     }
 }
 
 /// The report of the run of the program of these files.
 fn on_run<S: Shelf>(
     alloc: Global,
-    given: Given,
-    arguments: &[String],
+    task: RunTask<'_>,
+    lib: bool,
     names: &[String],
     shelf: &mut S,
 ) -> Result<Report, Stop>
     requires files { AreFiles (map string_bytes names.now) }
-    requires range { InRange (limits_of given) }
-    ensures { Reports S.holds S.misses S.faults S.store_faults shelf.old shelf.new (map string_bytes names.now)
-        (spec.of_running given (map string_bytes arguments.now) (map string_bytes names.now)) result }
+    requires range { InRange task.limits }
+    ensures { Reports S.holds S.misses S.faults S.store_faults shelf.old shelf.new
+        (map string_bytes names.now ++ (run_of task.entry).inputs) (spec.of_running (run_of task.entry) lib (map string_bytes names.now)) result }
 {
-    let task = Task::Run {
-        telling: telling_of(given),
-        limits: given.limits(),
-        arguments,
-    };
-    on_files(alloc, task, given.lib, names, shelf)
+    on_run_files(alloc, task, lib, names, shelf)
 }
 
 /// The report of the tests of the program of these files.
@@ -175,58 +198,45 @@ fn on_tests<S: Shelf>(
 }
 
 /// The report of the run of the statements that are the first name.
-fn on_statements(
+fn on_statements<S: Shelf>(
     alloc: Global,
-    given: Given,
-    arguments: &[String],
+    task: RunTask<'_>,
+    lib: bool,
     names: &[String],
+    shelf: &mut S,
 ) -> Result<Report, Stop>
-    requires { InRange (limits_of given) }
-    ensures told { IfOk result (λ r. r ≡ spec.of_statements given (map string_bytes arguments.now) (map string_bytes names.now)) }
-    ensures ending { IfOk result (λ r. IsEnding r.status) }
-    ensures no_read_fault { IsErrOf result Stop.ReadFault → ⊥ }
+    requires one { length names.now ≡ 1 }
+    requires range { InRange task.limits }
+    ensures { Reports S.holds S.misses S.faults S.store_faults shelf.old shelf.new
+        (run_of task.entry).inputs (spec.of_statements (run_of task.entry) lib (map string_bytes names.now)) result }
 {
-    match names {
-        [] => or_stop(bad_word(alloc, 1)),
-        [text, ..] => {
-            let telling = telling_of(given);
-            let limits = given.limits();
-            on_eval(alloc, telling, limits, arguments, given.lib, text.as_str())
-        }
-    }
+    on_eval(alloc, task, lib, names[0].as_str(), shelf)
 }
 
 /// The report of the sample of the number that is the one name.
-fn on_number(alloc: Global, names: &[String]) -> Result<Report, Stop>
-    ensures told { IfOk result (λ r. r ≡ of_sample (sample_number_lem (map string_bytes names.now))) }
-    ensures ending { IfOk result (λ r. IsEnding r.status) }
-    ensures no_read_fault { IsErrOf result Stop.ReadFault → ⊥ }
+fn on_number<S: Shelf>(alloc: Global, names: &[String], shelf: &mut S) -> Result<Report, Stop>
+    ensures { Reports S.holds S.misses S.faults S.store_faults shelf.old shelf.new
+        [] (of_sample (sample_number_lem (map string_bytes names.now))) result }
 {
     match sample_number(names) {
-        Some(n) => on_sample(alloc, n),
+        Some(n) => on_sample(alloc, n, shelf),
         None => or_stop(bad_word(alloc, 1)),
     }
 }
 
 /// The report of the run of the image that is the one name.
-fn on_exec<S: Shelf>(
+fn on_image_run<S: Shelf>(
     alloc: Global,
-    given: Given,
-    arguments: &[String],
+    task: RunTask<'_>,
     names: &[String],
     shelf: &mut S,
 ) -> Result<Report, Stop>
     requires one { length names.now ≡ 1 }
-    requires range { InRange (limits_of given) }
-    ensures { Reports S.holds S.misses S.faults S.store_faults shelf.old shelf.new (map string_bytes names.now)
-        (spec.of_executing given (map string_bytes arguments.now) (map string_bytes names.now)) result }
+    requires range { InRange task.limits }
+    ensures { Reports S.holds S.misses S.faults S.store_faults shelf.old shelf.new
+        (map string_bytes names.now ++ (run_of task.entry).inputs) (spec.of_executing (run_of task.entry) (map string_bytes names.now)) result }
 {
-    let task = ImageTask::Exec {
-        telling: telling_of(given),
-        limits: given.limits(),
-        arguments,
-    };
-    on_first(alloc, task, names, shelf)
+    on_exec(alloc, task, names[0].as_str(), shelf)
 }
 
 /// The report of the session of the applications that these words ask for.
@@ -241,11 +251,12 @@ fn on_applications<S: Shelf>(
     requires range { InRange (limits_of given) }
     requires quantum { 1 ≤ quantum_of given }
     ensures { Reports S.holds S.misses S.faults S.store_faults shelf.old shelf.new (files_named (map string_bytes names.now))
-        (spec.of_session given.lib (limits_of given) (quantum_of given) (map string_bytes names.now)) result }
+        (spec.of_session given.json given.lib (limits_of given) (quantum_of given) (map string_bytes names.now)) result }
 {
+    let Given { json, lib, .. } = given;
     let limits = given.limits();
     let quantum = given.quantum();
-    on_session(alloc, given.lib, limits, quantum, names, shelf)
+    on_session(alloc, json, lib, limits, quantum, names, shelf)
 }
 
 /// The report of the image of a program, which an option names, or the first of the names.
@@ -265,6 +276,25 @@ fn on_build_line<S: Shelf>(
         Some(image) => on_build_to(alloc, lib, image, names, shelf),
         None => on_building(alloc, lib, names, shelf),
     }
+}
+
+/// The report of the snapshot of the program of all files but the first, which names the snapshot.
+fn on_snapping<S: Shelf>(
+    alloc: Global,
+    given: Given,
+    names: &[String],
+    shelf: &mut S,
+) -> Result<Report, Stop>
+    requires behind { AreFiles (spec.behind_first (map string_bytes names.now)) }
+    requires range { InRange (limits_of given) }
+    ensures { Reports S.holds S.misses S.faults S.store_faults shelf.old shelf.new
+        (spec.behind_first (map string_bytes names.now)) (spec.of_snapping given (map string_bytes names.now)) result }
+{
+    let name = names[0].as_str();
+    let limits = given.limits();
+    let at = given.at();
+    let task = Task::Snap { name, limits, at };
+    on_files(alloc, task, given.lib, &names[1..], shelf)
 }
 
 /// The report of the image of the program of all files but the first, which names the image.
@@ -289,8 +319,7 @@ fn on_first<S: Shelf>(
     names: &[String],
     shelf: &mut S,
 ) -> Result<Report, Stop>
-    requires one { length names.now ≡ 1 }
-    requires range { ImageInRange (work_of task) }
+    requires { length names.now ≡ 1 }
     ensures { Reports S.holds S.misses S.faults S.store_faults shelf.old shelf.new
         (map string_bytes names.now) (of_image (work_of task.entry) (map string_bytes names.now)) result }
 {

@@ -39,7 +39,7 @@ pub fn nspk<S: Shelf, O: Sink, E: Sink>(
     // Over any shelf there are texts of the command's files, over which its meaning says how all is left.
     ensures texts { OverTexts (map string_bytes words.now) (λ report. Leaves report result
         (S.holds shelf.old) (S.holds shelf.new) (O.written out.old) (O.written out.new) (E.written err.old) (E.written err.new)) }
-    // No command but `build` changes a file or stores one.
+    // No command but `build` and `snap` changes a file or stores one.
     ensures only_read { StoresNothing (reading_of (map string_bytes words.now)) → OnlyRead S.holds S.misses S.faults S.store_faults shelf.old shelf.new }
 
     // Each fault has its cause.

@@ -4,7 +4,7 @@ use Rattle.std.specs.Prelude.{nat_lt}
 use Rattle.ns_base.specs.declared.limits.Limits.{Limits}
 use Rattle.ns_code.specs.declared.program.CodeProgram.{CodeProgram}
 use Rattle.ns_run_code.specs.Build.{image, image_too_large, most_bytes, of_size}
-use Rattle.ns_run_code.specs.Exec.{of_code, of_read, executed, has_run}
+use Rattle.ns_run_code.specs.Exec.{of_code, of_read, executed, run_of}
 use Rattle.ns_run_code.specs.ImageLaws.{WasBuilt, HoldsCode}
 use Rattle.ns_gen_code.specs.Code.{code_of}
 use Rattle.ns_gen_code.specs.Sizes.{size_fault}
@@ -34,7 +34,7 @@ holds_code program bytes read built =
 pub runs_so : (program : Meant) (bytes : List ℕ) (limits : Limits) (arguments : List (List ℕ)) → WasBuilt program bytes →
     HoldsCode program bytes
     → machine_run (code_of program) limits arguments ≡ meant_run program limits arguments
-    → executed bytes limits arguments ≡ has_run (meant_run program limits arguments)
+    → executed bytes limits arguments ≡ Some (meant_run program limits arguments)
 runs_so program bytes limits arguments built holds same =
-    ap (of_read limits arguments) holds.read
-    ∙ (ap (of_code limits arguments (code_of program)) built.sound ∙ ap has_run same)
+    ap (λ read. run_of (of_read read) limits arguments) holds.read
+    ∙ (ap (λ fault. run_of (of_code (code_of program) fault) limits arguments) built.sound ∙ ap Some same)

@@ -1,4 +1,4 @@
--- What `exec` makes of the bytes of an image: they are read, the code is verified, and it is run.
+-- What becomes of the bytes of an image: they are read, the code is verified, and where it is admitted it can be run.
 use Rattle.std.specs.Prelude.{ℕ, List, Option, Some, None, Result, Ok, Err}
 use Rattle.ns_base.specs.declared.limits.Limits.{Limits}
 use Rattle.ns_code.specs.declared.program.CodeProgram.{CodeProgram}
@@ -11,22 +11,32 @@ use Rattle.ns_verify.specs.declared.fault.Fault.{Fault}
 use Rattle.ns_verify.specs.declared.fault.VerifyCause.{VerifyCause}
 use Rattle.ns_verify.specs.declared.fault.Where.{Where}
 
--- bytes that are no image, code that isn't admitted, or a run
-pub data Executed : Type 0 where
-  refused_image : (fault : ImageFault) → Executed
-  refused_code : (cause : VerifyCause) (at : Where) → Executed
-  has_run : (ran : Ran) → Executed
+-- bytes that are no image, code that isn't admitted, or code that is
+pub data ImageCode : Type 0 where
+  refused_image : (fault : ImageFault) → ImageCode
+  refused_code : (cause : VerifyCause) (at : Where) → ImageCode
+  admitted : (code : CodeProgram) → ImageCode
 
--- the run of code, of which this is the first fault
-abbrev pub of_code : Limits → List (List ℕ) → CodeProgram → Option Fault → Executed
-of_code limits arguments code (Some fault) = refused_code fault.cause fault.at
-of_code limits arguments code None = has_run (machine_run code limits arguments)
+-- code, of which this is the first fault
+abbrev pub of_code : CodeProgram → Option Fault → ImageCode
+of_code code (Some fault) = refused_code fault.cause fault.at
+of_code code None = admitted code
 
--- the run of what was read
-abbrev pub of_read : Limits → List (List ℕ) → Result CodeProgram ImageFault → Executed
-of_read limits arguments (Err fault) = refused_image fault
-of_read limits arguments (Ok code) = of_code limits arguments code (fault_of code)
+-- the code that was read
+abbrev pub of_read : Result CodeProgram ImageFault → ImageCode
+of_read (Err fault) = refused_image fault
+of_read (Ok code) = of_code code (fault_of code)
 
--- the run of the code of an image within these limits with these arguments
-abbrev pub executed : List ℕ → Limits → List (List ℕ) → Executed
-executed bytes limits arguments = of_read limits arguments (read_image bytes)
+-- the code of an image of these bytes
+abbrev pub image_code : List ℕ → ImageCode
+image_code bytes = of_read (read_image bytes)
+
+-- the run of the code of an image within these limits with these arguments, where it is admitted
+abbrev pub run_of : ImageCode → Limits → List (List ℕ) → Option Ran
+run_of (refused_image fault) limits arguments = None
+run_of (refused_code cause at) limits arguments = None
+run_of (admitted code) limits arguments = Some (machine_run code limits arguments)
+
+-- the run of an image of these bytes
+abbrev pub executed : List ℕ → Limits → List (List ℕ) → Option Ran
+executed bytes limits arguments = run_of (image_code bytes) limits arguments

@@ -1,5 +1,5 @@
 -- What is said of images by the laws about them.
-use Rattle.std.specs.Prelude.{◌≡◌, ℕ, List, Ok}
+use Rattle.std.specs.Prelude.{◌≡◌, ℕ, List, Ok, Some}
 use Rattle.ns_base.specs.declared.limits.Limits.{Limits}
 use Rattle.ns_base.specs.Limits.{InRange}
 use Rattle.ns_code.specs.Fits.{Fits}
@@ -13,7 +13,7 @@ use Rattle.ns_scope.specs.Whole.{IsWhole}
 use Rattle.ns_scope.specs.declared.program.Program.{Program}
 use Rattle.ns_verify.specs.Verify.{IsSound}
 use Rattle.ns_run_code.specs.Build.{built_of, image}
-use Rattle.ns_run_code.specs.Exec.{executed, has_run}
+use Rattle.ns_run_code.specs.Exec.{executed}
 
 -- A program was built into an image of these bytes: its code is admitted, and fits its fields.
 pub record WasBuilt (program : Meant) (bytes : List ℕ) : Type 0 where
@@ -33,4 +33,4 @@ BuiltIsRead = (program : Meant) (bytes : List ℕ) → WasBuilt program bytes �
 abbrev pub BuiltRunsAsMeant : Type 0
 BuiltRunsAsMeant =
     (program : Program) (bytes : List ℕ) (limits : Limits) (arguments : List (List ℕ)) → IsWhole program → WasBuilt (meant program) bytes → InRange limits
-    → executed bytes limits arguments ≡ has_run (meant_run (meant program) limits arguments)
+    → executed bytes limits arguments ≡ Some (meant_run (meant program) limits arguments)

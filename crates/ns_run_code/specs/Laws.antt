@@ -1,5 +1,6 @@
 -- What is said of the runs of code by the laws about them.
 use Rattle.std.specs.Prelude.{◌≡◌, ℕ, List}
+use Rattle.ns_base.specs.Limits.{InRange}
 use Rattle.ns_base.specs.declared.limits.Limits.{Limits}
 use Rattle.ns_code.specs.declared.program.CodeProgram.{CodeProgram}
 use Rattle.ns_machine_moves.specs.Falling.{run_left}
@@ -34,3 +35,8 @@ CodeEnds code =
 abbrev pub CodeRunsAsMeant : Meant → Type 0
 CodeRunsAsMeant meant =
     (limits : Limits) (arguments : List (List ℕ)) → MayRun meant limits → machine_run (code_of meant) limits arguments ≡ meant_run meant limits arguments
+
+-- The runs of this code, at all limits and with all arguments, are those that the source means.
+abbrev pub RunsAsSourceMeans : Meant → CodeProgram → Type 0
+RunsAsSourceMeans meant code =
+    (limits : Limits) (arguments : List (List ℕ)) → InRange limits → machine_run code limits arguments ≡ meant_run meant limits arguments

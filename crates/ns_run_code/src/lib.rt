@@ -1,4 +1,4 @@
-//! What commands do with a program and with code: the run, the build, the run of an image, and the listing.
+//! What commands do with a program and with code: the admitted code of either, its run, the build, and the listing.
 //! `specs/Run.antt` says what a program's run tells, and `specs/Exec.antt` what comes of the bytes of an image.
 //! Stands between link, image, machine and ns_run.
 #![tactic(auto)]

@@ -3,3 +3,4 @@ pub mod GuardLaws
 pub mod LayoutLaws
 pub mod TextLaws
 pub mod SendLaws
+pub mod RunLaws

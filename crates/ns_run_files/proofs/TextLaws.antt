@@ -24,7 +24,7 @@ use Rattle.ns_scope.specs.Whole.{NamesFile}
 use Rattle.ns_tree.specs.Plain as p
 
 -- A word that can name a file does so.
-name_is_file : (name : List ℕ) → IsUtf8 name → is_file_name name ≡ true → NamesFile name
+pub name_is_file : (name : List ℕ) → IsUtf8 name → is_file_name name ≡ true → NamesFile name
 name_is_file [] u e = absurd (cc (e))
 name_is_file (b ∷ bs) u e = (u, (λ h. cc (h)), grind (arith, nat_tests, e))
 
@@ -34,7 +34,7 @@ names_are_files (name ∷ names) u a =
     All-cons NamesFile name names (name_is_file name (All-head IsUtf8 name names u) a.0) (names_are_files names (All-tail IsUtf8 name names u) a.1)
 
 -- A refusal of texts is what they are loaded as.
-texts_refused : (texts : List (Option (List ℕ))) (lib : Bool) (fault : LoadFault) → IsRefusal fault → IsFaultOfTexts texts lib fault →
+pub texts_refused : (texts : List (Option (List ℕ))) (lib : Bool) (fault : LoadFault) → IsRefusal fault → IsFaultOfTexts texts lib fault →
     loaded_texts texts lib ≡ stopped fault
 texts_refused texts lib (At Missing k) i t = t
 texts_refused texts lib (At TooLong k) i t = t

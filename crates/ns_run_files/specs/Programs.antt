@@ -14,7 +14,6 @@ use Rattle.ns_gen_code.specs.Sizes.{size_fault}
 use Rattle.ns_gen_code.specs.declared.size.SizeKind.{SizeKind}
 use Rattle.ns_json.specs.declared.saying.Fault.{Fault}
 use Rattle.ns_json.specs.declared.saying.FilePlace.{FilePlace}
-use Rattle.ns_json.specs.declared.saying.Run.{Run}
 use Rattle.ns_json.specs.declared.saying.Saying.TheVariants.{Faulty, Searched}
 use Rattle.ns_json.specs.declared.saying.Unanswered.{Unanswered}
 use Rattle.ns_lib.specs.Sample.{sample}
@@ -31,11 +30,12 @@ use Rattle.ns_resolved.specs.Program.{Meant}
 use Rattle.ns_run_code.specs.Build.{Built, built_of, image, image_too_large}
 use Rattle.ns_run_code.specs.Build as built
 use Rattle.ns_run_code.specs.Run.{meant_run}
-use Rattle.ns_run_told.specs.Told.{code_told}
-use Rattle.ns_run_files.specs.Task.{Task, Checks, Shows, Builds, Runs, Tests}
+use Rattle.ns_run_input.specs.Input.{RunWork, parts_of, trace_of, traced_report, with_inputs}
+use Rattle.ns_run_snap.specs.Snapped.{Snapped, snapped_of, snapshot, snapshot_too_large}
+use Rattle.ns_run_snap.specs.Snapped as snapped
+use Rattle.ns_run_files.specs.Task.{Task, Checks, Shows, Builds, Tests, Snaps}
 use Rattle.ns_run_files.specs.Tests.{tests_report}
 use Rattle.ns_run_outcome.specs.Report.{bad_word, checked, never_told, refused, refused_file, refused_size, refused_text, spelling_name, static_name, stores, told, too_large}
-use Rattle.ns_run_outcome.specs.Run.{run_report}
 use Rattle.ns_run_outcome.specs.declared.report.Report.{Report}
 use Rattle.ns_run_outcome.specs.declared.run.Telling.{Telling}
 use Rattle.ns_run_words.specs.Words.{limits_of, nothing_given}
@@ -133,25 +133,26 @@ abbrev pub of_show : List p.SourceUnit → Report
 of_show [] = never_told
 of_show (unit ∷ more) = told (printed (flat unit))
 
--- the run of some code in parts, where it is asked for
-abbrev pub parts_of : Telling → CodeProgram → Limits → List (List ℕ) → Option Run
-parts_of telling code limits arguments = if telling.json then Some (code_told code limits arguments) else None
+-- the run of a program within these limits with these arguments: the code of what is meant decides on its parts alone
+abbrev pub meant_report : Telling → Limits → Meant → List (List ℕ) → Report
+meant_report telling limits meant arguments =
+    traced_report telling limits (meant_run meant limits arguments) (trace_of telling (code_of meant) limits arguments)
+    (parts_of telling (code_of meant) limits arguments)
 
--- the run of a program, of which this size is too large: the code of what is meant decides on sizes alone
-abbrev pub of_sized : Telling → Limits → List (List ℕ) → Meant → Option SizeKind → Report
-of_sized telling limits arguments meant None =
-    run_report telling limits (meant_run meant limits arguments) (parts_of telling (code_of meant) limits arguments)
-of_sized telling limits arguments meant (Some kind) = too_large kind
+-- the run of a program, of which this size is too large, over the texts of its inputs
+abbrev pub of_sized : RunWork → Meant → Option SizeKind → List (Option (List ℕ)) → Report
+of_sized run meant None texts = with_inputs (meant_report run.telling run.limits meant) run.arguments run.inputs texts
+of_sized run meant (Some kind) texts = too_large kind
 
 -- the run of a program without static faults
-abbrev pub of_meant : Telling → Limits → List (List ℕ) → Meant → Report
-of_meant telling limits arguments meant = of_sized telling limits arguments meant (size_fault (code_of meant))
+abbrev pub of_meant : RunWork → Meant → List (Option (List ℕ)) → Report
+of_meant run meant texts = of_sized run meant (size_fault (code_of meant)) texts
 
 -- the run of units of files of these names, of which this is the least static fault
-abbrev pub of_run : List (List ℕ) → Telling → Limits → List (List ℕ) → List (List ℕ) → List p.SourceUnit → List (List Place) →
-    Option Placed → Report
-of_run names telling limits arguments files trees places None = of_meant telling limits arguments (meant_of files trees places)
-of_run names telling limits arguments files trees places (Some fault) = of_check names (Some fault)
+abbrev pub of_run : List (List ℕ) → RunWork → List (List ℕ) → List p.SourceUnit → List (List Place) → Option Placed →
+    List (Option (List ℕ)) → Report
+of_run names run files trees places None texts = of_meant run (meant_of files trees places) texts
+of_run names run files trees places (Some fault) texts = of_check names (Some fault)
 
 -- the tests of units of files of these names, of which this is the least static fault
 abbrev pub of_tests : List (List ℕ) → Limits → Bool → Option (List ℕ) → List (List ℕ) → List p.SourceUnit → List (List Place) →
@@ -171,16 +172,27 @@ abbrev pub of_build : List (List ℕ) → List ℕ → List (List ℕ) → List 
 of_build names name files trees places None = of_built name (built_of (meant_of files trees places))
 of_build names name files trees places (Some fault) = of_check names (Some fault)
 
+-- A snapshot is stored under its name; one that would be too large is refused, as a size of the program is.
+abbrev pub of_snapped : List ℕ → Snapped → Report
+of_snapped name (snapshot bytes) = stores name bytes
+of_snapped name (snapped.too_large kind) = too_large kind
+of_snapped name snapshot_too_large = refused_size (codes "TooLarge(Snapshot)")
+
+-- the snapshot of the run of units of files of these names, of which this is the least static fault, after so many steps
+abbrev pub of_snap : List (List ℕ) → List ℕ → Limits → ℕ → List (List ℕ) → List p.SourceUnit → List (List Place) → Option Placed → Report
+of_snap names name limits at files trees places None = of_snapped name (snapped_of (meant_of files trees places) limits at)
+of_snap names name limits at files trees places (Some fault) = of_check names (Some fault)
+
 -- what is done with the units of files of these names, of which the first are those that the command names
 abbrev pub of_units : Task → List (List ℕ) → List (List ℕ) → List p.SourceUnit → List (List Place) → Report
 of_units (Checks all sends) names files trees places =
     of_checks all sends names files trees places (in_order order_of (faults trees places)) (least (faults trees places))
 of_units Shows names files trees places = of_show trees
 of_units (Builds name) names files trees places = of_build names name files trees places (least (faults trees places))
-of_units (Runs telling limits arguments) names files trees places =
-    of_run names telling limits arguments files trees places (least (faults trees places))
 of_units (Tests limits reversed only) names files trees places =
     of_tests names limits reversed only files trees places (least (faults trees places))
+of_units (Snaps name limits at) names files trees places =
+    of_snap names name limits at files trees places (least (faults trees places))
 
 -- the refusal of a file (none that is told fails to be read)
 abbrev pub of_cause : List ℕ → LoadCause → Report
@@ -206,13 +218,23 @@ of_texts task names lib texts = of_loading task names lib (loaded_texts texts li
 abbrev pub of_files : Task → List (List ℕ) → Bool → Files → Report
 of_files task names lib files = of_texts task names lib (map files names)
 
--- what is done with a text alone, under that name, and with the library where it is asked for
-abbrev pub of_text : Task → List ℕ → Bool → List ℕ → Report
-of_text task name lib text = of_texts task (name ∷ []) lib (Some text ∷ [])
+-- the run of what was loaded, over the texts of its inputs
+abbrev pub run_of_loading : RunWork → List (List ℕ) → Bool → Loading → List (Option (List ℕ)) → Report
+run_of_loading run names lib (units trees places) inputs =
+    of_run names run (file_names names lib) trees places (least (faults trees places)) inputs
+run_of_loading run names lib (stopped fault) inputs = of_fault names fault
+
+-- the run of the program of these texts of files of these names, over the texts of its inputs
+abbrev pub run_of_texts : RunWork → List (List ℕ) → Bool → List (Option (List ℕ)) → List (Option (List ℕ)) → Report
+run_of_texts run names lib texts inputs = run_of_loading run names lib (loaded_texts texts lib) inputs
+
+-- the run of a text alone, under that name
+abbrev pub run_of_text : RunWork → List ℕ → Bool → List ℕ → List (Option (List ℕ)) → Report
+run_of_text run name lib text inputs = run_of_texts run (name ∷ []) lib (Some text ∷ []) inputs
 
 -- what a sample is asked to tell: its classes are counted
 abbrev pub sample_telling : ℕ → Telling
-sample_telling n = record { classes = Some n; stats = false; truth = false; json = false }
+sample_telling n = record { classes = Some n; stats = false; trace = false; truth = false; json = false }
 
 -- the refusal of one file
 abbrev pub of_own_fault : List ℕ → LoadFault → Report
@@ -239,10 +261,15 @@ of_format [] texts = bad_word 1
 of_format (name ∷ names) [] = bad_word 1
 of_format (name ∷ names) (text ∷ texts) = of_format_file name text
 
--- the sample of that number is run within the default limits, and its classes are counted; without a number there is none
-abbrev pub of_sample : Option ℕ → Report
-of_sample None = bad_word 1
-of_sample (Some n) = of_text (Runs (sample_telling n) (limits_of nothing_given) []) (codes "sample") false (sample n)
+-- the run of a sample
+abbrev pub sample_run : ℕ → RunWork
+sample_run n = record { telling = sample_telling n; limits = limits_of nothing_given; arguments = []; inputs = [] }
+
+-- the sample of that number is run within the default limits, and its classes are counted; without a number there is none. It has no
+-- inputs, so that there are no texts
+abbrev pub of_sample : Option ℕ → List (Option (List ℕ)) → Report
+of_sample None texts = bad_word 1
+of_sample (Some n) texts = run_of_text (sample_run n) (codes "sample") false (sample n) texts
 
 -- the source of a class whose application answers what these statements do
 abbrev pub eval_source : List ℕ → List ℕ
@@ -250,6 +277,6 @@ eval_source text =
     codes "class Eval packageUsing: m = (| manifest = m. |) (public main: platform args: args = (^[" ++ 10 ∷ [] ++ text ++ 10 ∷ []
     ++ codes "] value))" ++ 10 ∷ []
 
--- the run of these statements
-abbrev pub of_eval : Telling → Limits → List (List ℕ) → Bool → List ℕ → Report
-of_eval telling limits arguments lib text = of_text (Runs telling limits arguments) (codes "eval") lib (eval_source text)
+-- the run of these statements, over the texts of its inputs
+abbrev pub of_eval : RunWork → Bool → List ℕ → List (Option (List ℕ)) → Report
+of_eval run lib text inputs = run_of_text run (codes "eval") lib (eval_source text) inputs

@@ -17,7 +17,7 @@ ghost use Rattle.ns_run_words.specs.Forms.{AreFiles};
 
 use crate::build::on_build;
 use crate::checks::on_checks;
-use crate::run::on_run;
+use crate::snap::on_snap;
 use crate::task::Task;
 use crate::testing::on_tests;
 use ns_base::no_memory::NoMemory;
@@ -97,7 +97,7 @@ fn on_texts<S: Shelf>(
 }
 
 /// The report of files that are no program.
-fn on_fault(alloc: Global, names: &[String], fault: LoadFault) -> Result<Report, Stop>
+pub fn on_fault(alloc: Global, names: &[String], fault: LoadFault) -> Result<Report, Stop>
     ensures told { IfOk result (λ r. r ≡ spec.of_fault (map string_bytes names.now) fault) }
     ensures refusal { IfOk result (λ _. IsRefusal fault) }
     ensures read_fault { IsErrOf result Stop.ReadFault → IsReadFault fault }
@@ -149,16 +149,12 @@ fn on_program(
         Task::Check { all, sends } => on_checks(alloc, all, sends, names, program),
         Task::Show => on_show(alloc, program.units.as_slice()),
         Task::Build { image } => on_build(alloc, names, image, program),
-        Task::Run {
-            telling,
-            limits,
-            arguments,
-        } => on_run(alloc, names, telling, limits, arguments, program),
         Task::Test {
             limits,
             reversed,
             only,
         } => on_tests(alloc, names, limits, reversed, only, program),
+        Task::Snap { name, limits, at } => on_snap(alloc, names, name, limits, at, program),
     }
 }
 

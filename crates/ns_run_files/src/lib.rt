@@ -1,6 +1,6 @@
 //! What a command does with a program: its files, or one text alone, to the report.
 //! `specs/Programs.antt` says what is stored, what is written and the status, over the texts of the files (`of_texts`).
-//! Stands between load, static, print, test, run_code, ns_run_outcome and ns_run.
+//! Stands between load, static, print, test, run_code, ns_run_input and ns_run.
 #![tactic(auto)]
 
 pub mod alone;
@@ -10,7 +10,8 @@ pub mod files;
 pub mod guard;
 pub mod layout;
 mod parts;
-mod run;
+pub mod run;
 mod sends;
+mod snap;
 pub mod task;
 mod testing;

@@ -1,7 +1,6 @@
-//! What a command does with a program.
+//! What a command does with a program, but for its run.
 
 use ns_base::limits::Limits;
-use ns_run_outcome::run::Telling;
 
 /// What is done with a program.
 #[derive(Drop)]
@@ -18,17 +17,18 @@ pub enum Task<'a> {
     Build {
         image: &'a str,
     },
-    /// It is run within these limits, with these arguments, and told as it is asked.
-    Run {
-        telling: Telling,
-        limits: Limits,
-        arguments: &'a [String],
-    },
     /// Its tests are run within these limits, each alone: all in the order of the text, or in the
     /// reverse one, or the one of this name.
     Test {
         limits: Limits,
         reversed: bool,
         only: Option<&'a [u8]>,
+    },
+    /// Its run within these limits is paused after so many steps, and the snapshot of that stored under
+    /// this name.
+    Snap {
+        name: &'a str,
+        limits: Limits,
+        at: u64,
     },
 }

@@ -4,7 +4,7 @@ ghost use Rattle.std.specs.Prelude.{◌≡◌, IfOk, List, map, option_map, stri
 ghost use Rattle.ns_base.specs.Limits.{InRange};
 ghost use Rattle.ns_resolved.specs.Classes.{meant};
 ghost use Rattle.ns_run_files.specs.Programs as spec;
-ghost use Rattle.ns_run_files.specs.Tests.{tests_report};
+ghost use Rattle.ns_run_files.specs.Tests.{tests_report, tests_told as told_lem};
 ghost use Rattle.ns_scope.specs.Whole.{IsWhole};
 ghost use Rattle.ns_static.specs.Check.{fault_of};
 ghost use Rattle.ns_test.specs.Source.{source_tested};
@@ -16,6 +16,7 @@ use ns_base::limits::Limits;
 use ns_base::no_memory::NoMemory;
 use ns_base::status::Status;
 use ns_base::text::Text;
+use ns_json::saying::{Run, Saying, Tests};
 use ns_run_outcome::cause::size_name;
 use ns_run_outcome::report::{Report, refused_file, refused_size};
 use ns_scope::program::Program;
@@ -63,7 +64,9 @@ fn tested(
     match test_source(alloc, checked, limits, reversed, only) {
         Ok(tests) => counted(alloc, tests),
         Err(TestFault::TooLarge(kind)) => refused_size(alloc, size_name(kind)),
-        Err(TestFault::Opening { line, status }) => Ok(opened_alone(alloc, line, status)),
+        Err(TestFault::Opening { line, status, part }) => Ok(opened_alone(
+            alloc, line, status, part,
+        )),
         Err(TestFault::NotTests) => refused_file(alloc, file, "NotTests"),
         Err(TestFault::NoTest) => refused_file(alloc, file, "NoTest"),
         Err(TestFault::Memory) => Err(NoMemory),
@@ -71,15 +74,15 @@ fn tested(
 }
 
 /// The report of an opening that ended without a value.
-fn opened_alone(alloc: Global, line: Text, status: Status) -> Report
-    ensures { (file : List ℕ) → result ≡ tests_report file (has_not_opened line status) }
+fn opened_alone(alloc: Global, line: Text, status: Status, part: Run) -> Report
+    ensures { (file : List ℕ) → result ≡ tests_report file (has_not_opened line status part) }
 {
     Report {
         out: Text::from_vec(Vec::new(alloc)),
         err: line,
         status,
         stored: None,
-        said: None,
+        said: Some(Saying::Ran { run: part }),
     }
 }
 
@@ -88,12 +91,33 @@ fn counted(alloc: Global, tests: TestReport) -> Result<Report, NoMemory>
     ensures { (file : List ℕ) → IfOk result (λ r. r ≡ tests_report file (has_tested tests)) }
 {
     let status = report_status(&tests);
-    let out = written(alloc, tests)?;
+    let out = written(alloc, &tests)?;
     Ok(Report {
         out,
         err: Text::from_vec(Vec::new(alloc)),
         status,
         stored: None,
-        said: None,
+        said: Some(Saying::Tested {
+            tests: tests_told(tests),
+        }),
     })
+}
+
+/// A report of tests in parts.
+fn tests_told(report: TestReport) -> Tests
+    ensures { result ≡ told_lem report }
+{
+    let TestReport {
+        parts,
+        passed,
+        failed,
+        errors,
+        ..
+    } = report;
+    Tests {
+        tests: parts,
+        passed: passed as u64,
+        failed: failed as u64,
+        errors: errors as u64,
+    }
 }

@@ -1,30 +1,23 @@
 -- What is told of images.
-use Rattle.std.proofs.Common.{◌≡◌, ℕ, ◌+◌, ◌<◌, List, [], ◌∷◌, ◌++◌, length, map, take, nat_eq, nat_lt, cond, Bool, true, false, Option, Some, None, option_map, codes, refl, ap, sym, subst, ◌∙◌, arith, inl, inr, append_assoc, Result, Ok, Err, IfOk, MatchResult, ◌≤◌}
+use Rattle.std.proofs.Common.{◌≡◌, ℕ, ◌+◌, List, [], ◌∷◌, ◌++◌, length, take, nat_lt, cond, Bool, true, false, Option, Some, None, option_map, codes, refl, ap, sym, ◌∙◌, append_assoc, Ok, Err, ◌≤◌}
 use Rattle.std.specs.Fmt.{decimal}
 use Rattle.std.proofs.lemmas.List.{take_all}
 use Rattle.ns_audit.specs.Audit.{audited}
-use Rattle.ns_audit.specs.Image.{answer_line, answer_status, audited_image, called_from, denied_in}
+use Rattle.ns_audit.specs.Image.{answer_line, answer_part, answer_status, audited_image, called_from, denied_in}
 use Rattle.ns_audit.specs.Image as audits
 use Rattle.ns_audit.specs.declared.answer.Audit.{Audit}
 use Rattle.ns_audit.specs.declared.answer.Audit.TheVariants.{Yes, Sends, Performs}
-use Rattle.ns_base.specs.declared.limits.Limits.{Limits}
 use Rattle.ns_code.specs.declared.program.CodeProgram.{CodeProgram}
-use Rattle.ns_run_code.specs.Exec.{executed, of_code, of_read}
 use Rattle.ns_run_code.specs.Listing.{listed}
 use Rattle.ns_run_code.specs.Listing as listing
 use Rattle.ns_image.specs.Reading.{read_image}
 use Rattle.ns_image.specs.declared.fault.ImageFault.{ImageFault}
 use Rattle.ns_image.specs.declared.fault.ImageFault.TheVariants as fault
-use Rattle.ns_run_code.specs.Machine.{begins_with, end_of, machine_run, rested}
-use Rattle.ns_machine_moves.specs.State.{ending_of}
 use Rattle.ns_json.specs.declared.saying.Refused.TheVariants as what
-use Rattle.ns_json.specs.declared.saying.Run.{Run}
 use Rattle.ns_run_outcome.specs.Report.{place_in, place_text, refusal, refused_file, told, unsound, verify_name}
-use Rattle.ns_run_outcome.specs.Run.{run_report}
-use Rattle.ns_run_outcome.specs.declared.run.Telling.{Telling}
 use Rattle.ns_run_outcome.specs.laws.Cut.{cut_same}
-use Rattle.ns_run_outcome.specs.laws.Plain.{IsPlainFor, begins_so, line_plain_for, refused_plain, run_plain, told_plain_for}
-use Rattle.ns_run_image.specs.Image.{ImageWork, Executes, Lists, Audits, audit_report, listing_asked, of_audited, of_exec, of_executed, of_image_bytes, of_image_fault, of_image_file, of_listed, of_members, of_short, parts_of}
+use Rattle.ns_run_outcome.specs.laws.Plain.{IsPlainFor, begins_so, line_plain_for, refused_plain, told_plain_for}
+use Rattle.ns_run_image.specs.Image.{ImageWork, Lists, Audits, audit_report, listing_asked, of_audited, of_image_bytes, of_image_fault, of_image_file, of_listed, of_members, of_short}
 use Rattle.ns_verify.specs.Verify.{fault_of}
 use Rattle.ns_verify.specs.declared.fault.Fault.{Fault}
 use Rattle.ns_verify.specs.declared.fault.VerifyCause.{VerifyCause}
@@ -65,26 +58,6 @@ unsound_plain file why at =
     line_plain_for (refusal (verify_name why) (place_in file at)) file (verify_name why ++ place_text at)
     (ap begins_so (append_assoc (verify_name why) (place_text at) (10 ∷ [])) ∙ verify_begins why (place_text at ++ 10 ∷ []))
 
-pub run_plain_for : (file : List ℕ) (telling : Telling) (code : CodeProgram) (limits : Limits) (arguments : List (List ℕ)) (parts : Option Run) →
-    IsPlainFor file (run_report telling limits (machine_run code limits arguments) parts)
-run_plain_for file telling code limits arguments parts =
-    let plain = run_plain telling limits (machine_run code limits arguments) parts (end_of (ending_of (rested code (begins_with code limits arguments)))) refl in
-    record { ends = plain.ends; says = plain.says file }
-
-code_plain : (file : List ℕ) (telling : Telling) (limits : Limits) (arguments : List (List ℕ)) (code : CodeProgram) (why : Option Fault) (parts : Option Run) →
-    IsPlainFor file (of_executed telling limits file (of_code limits arguments code why) parts)
-code_plain file telling limits arguments code (Some why) parts = unsound_plain file why.cause why.at
-code_plain file telling limits arguments code None parts = run_plain_for file telling code limits arguments parts
-
-pub exec_plain : (file bytes : List ℕ) (telling : Telling) (limits : Limits) (arguments : List (List ℕ)) →
-    IsPlainFor file (of_exec telling limits arguments file bytes)
-exec_plain file bytes telling limits arguments =
-    let parts = parts_of telling bytes limits arguments in
-    elim (read_image bytes) as (λ r. IsPlainFor file (of_executed telling limits file (of_read limits arguments r) parts)) [
-      | Ok code ↦ code_plain file telling limits arguments code (fault_of code) parts
-      | Err why ↦ image_plain file why
-    ]
-
 pub list_plain : (file bytes : List ℕ) → IsPlainFor file (of_listed file (listed bytes))
 list_plain file bytes =
     elim (read_image bytes) as (λ r. IsPlainFor file (of_listed file (listing.of_read r))) [
@@ -104,7 +77,7 @@ asked_plain true file bytes = members_plain file bytes
 asked_plain false file bytes = list_plain file bytes
 
 answer_plain : (file : List ℕ) (code : CodeProgram) (answer : Audit) →
-    IsPlainFor file (audit_report (answer_line code answer) (answer_status answer))
+    IsPlainFor file (audit_report (answer_line code answer) (answer_status answer) (answer_part code answer))
 answer_plain file code Yes = record { ends = tt; says = λ m. cc (m.0) }
 answer_plain file code (Sends body at) = record { ends = tt; says = λ m. cc (m.0) }
 answer_plain file code (Performs body at) = record { ends = tt; says = λ m. cc (m.0) }
@@ -128,7 +101,6 @@ audit_plain file bytes denied class =
     ]
 
 pub bytes_plain : (work : ImageWork) (file bytes : List ℕ) → IsPlainFor file (of_image_bytes work file bytes)
-bytes_plain (Executes telling limits arguments) file bytes = exec_plain file bytes telling limits arguments
 bytes_plain (Lists members) file bytes = asked_plain members file bytes
 bytes_plain (Audits denied class) file bytes = audit_plain file bytes denied class
 

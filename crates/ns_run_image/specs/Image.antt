@@ -1,43 +1,33 @@
 -- What a command does with an image.
-use Rattle.std.specs.Prelude.{ℕ, Bool, List, [], ◌∷◌, ◌++◌, Option, Some, None, Result, Ok, Err, codes, length, nat_lt, map, string_bytes, if◌then◌else◌}
+use Rattle.std.specs.Prelude.{ℕ, Bool, List, [], ◌∷◌, Option, Some, None, Result, Ok, Err, codes, length, nat_lt, map, string_bytes, if◌then◌else◌}
 use Rattle.ns_audit.specs.Image.{AuditedImage, audited_image, answers, no_class, unadmitted, unread}
-use Rattle.ns_base.specs.Limits.{InRange}
-use Rattle.ns_base.specs.declared.limits.Limits.{Limits}
 use Rattle.ns_base.specs.declared.status.Status.{Status}
 use Rattle.ns_code.specs.declared.program.CodeProgram.{CodeProgram}
 use Rattle.ns_image.specs.Reading.{read_image}
 use Rattle.ns_image_members.specs.Members.{members_listing}
-use Rattle.ns_run_code.specs.Exec.{Executed, executed, has_run, refused_code, refused_image}
+use Rattle.ns_run_code.specs.Exec.{ImageCode, admitted, image_code, refused_code, refused_image}
 use Rattle.ns_run_code.specs.Listing.{ListedCode, listed, lines, unlisted}
 use Rattle.ns_image.specs.declared.fault.ImageFault.{ImageFault}
-use Rattle.ns_json.specs.declared.saying.Run.{Run}
+use Rattle.ns_json.specs.declared.saying.Audit.{Audit}
+use Rattle.ns_json.specs.declared.saying.Saying.TheVariants.{Audited}
 use Rattle.ns_image.specs.declared.fault.ImageFault.TheVariants.{NotAnImage, BadVersion, Truncated, BadField, Trailing, Memory}
 use Rattle.ns_run_outcome.specs.Report.{bad_field, bad_word, never_told, refused_file, told, unsound}
 use Rattle.ns_run_outcome.specs.declared.report.Report.{Report}
-use Rattle.ns_run_outcome.specs.Run.{run_report}
-use Rattle.ns_run_told.specs.Told.{image_told}
-use Rattle.ns_run_outcome.specs.declared.run.Telling.{Telling}
+use Rattle.ns_run_input.specs.Input.{RunWork, code_run}
 use Rattle.ns_run_image.specs.declared.task.ImageTask as tasks
-use Rattle.ns_run_image.specs.declared.task.ImageTask.TheVariants.{Exec, Listing, Audit}
+use Rattle.ns_run_image.specs.declared.task.ImageTask.TheVariants.{Listing}
+use Rattle.ns_run_image.specs.declared.task.ImageTask.TheVariants as task
 use Rattle.ns_run_words.specs.Options.{denied_by}
 
--- An image is run within limits, with arguments, and told as it is asked; or it is listed, with the members of its classes or without; or the module of a class in it is audited for selectors.
+-- An image is listed, with the members of its classes or without; or the module of a class in it is audited for selectors.
 pub data ImageWork : Type 0 where
-  Executes : (telling : Telling) (limits : Limits) (arguments : List (List ℕ)) → ImageWork
   Lists : (members : Bool) → ImageWork
   Audits : (denied : List (List ℕ)) (class : List ℕ) → ImageWork
 
 -- the work that the code's stands for
 abbrev pub work_of : tasks.ImageTask → ImageWork
-work_of (Exec telling limits arguments) = Executes telling limits (map string_bytes arguments.now)
 work_of (Listing members) = Lists members
-work_of (Audit options class) = Audits (denied_by (map string_bytes options.now)) class.now
-
--- The limits of a run are in their ranges.
-abbrev pub ImageInRange : ImageWork → Type 0
-ImageInRange (Executes telling limits arguments) = InRange limits
-ImageInRange (Lists members) = Unit {0}
-ImageInRange (Audits denied class) = Unit {0}
+work_of (task.Audit options class) = Audits (denied_by (map string_bytes options.now)) class.now
 
 -- the refusal of bytes that are no image: why, and at which byte where a field is bad (no image wants memory)
 abbrev pub of_image_fault : List ℕ → ImageFault → Report
@@ -48,24 +38,31 @@ of_image_fault file (BadField at) = bad_field file at
 of_image_fault file Trailing = refused_file file (codes "Trailing")
 of_image_fault file Memory = never_told
 
--- the run of an image of these bytes in parts, where it is asked for
-abbrev pub parts_of : Telling → List ℕ → Limits → List (List ℕ) → Option Run
-parts_of telling bytes limits arguments = if telling.json then image_told bytes limits arguments else None
+-- the run of the code of the image of that name, over the texts of its inputs; or why there is none
+abbrev pub of_code : RunWork → List ℕ → ImageCode → List (Option (List ℕ)) → Report
+of_code run file (refused_image fault) inputs = of_image_fault file fault
+of_code run file (refused_code cause at) inputs = unsound file cause at
+of_code run file (admitted code) inputs = code_run run code inputs
 
--- an image that was run, or why it wasn't; its run may be told in parts too
-abbrev pub of_executed : Telling → Limits → List ℕ → Executed → Option Run → Report
-of_executed telling limits file (refused_image fault) parts = of_image_fault file fault
-of_executed telling limits file (refused_code cause at) parts = unsound file cause at
-of_executed telling limits file (has_run ran) parts = run_report telling limits ran parts
+-- the run of an image of these bytes, if they aren't too many
+abbrev pub of_exec_bytes : RunWork → List ℕ → List ℕ → List (Option (List ℕ)) → Report
+of_exec_bytes run file bytes inputs =
+    if nat_lt 134217728 (length bytes) then refused_file file (codes "TooLong") else of_code run file (image_code bytes) inputs
 
--- the run of the image of that name, of which these are the bytes
-abbrev pub of_exec : Telling → Limits → List (List ℕ) → List ℕ → List ℕ → Report
-of_exec telling limits arguments file bytes =
-    of_executed telling limits file (executed bytes limits arguments) (parts_of telling bytes limits arguments)
+-- the run of the image of that name, of which this is the file
+abbrev pub of_exec_file : RunWork → List ℕ → Option (List ℕ) → List (Option (List ℕ)) → Report
+of_exec_file run file None inputs = refused_file file (codes "Missing")
+of_exec_file run file (Some bytes) inputs = of_exec_bytes run file bytes inputs
+
+-- the run of the first of these images (there is always one), over the texts of its inputs
+abbrev pub of_exec : RunWork → List (List ℕ) → List (Option (List ℕ)) → List (Option (List ℕ)) → Report
+of_exec run [] texts inputs = bad_word 1
+of_exec run (name ∷ names) [] inputs = bad_word 1
+of_exec run (name ∷ names) (text ∷ texts) inputs = of_exec_file run name text inputs
 
 -- An audit writes its line.
-abbrev pub audit_report : List ℕ → Status → Report
-audit_report line status = record { out = line; err = []; status = status; stored = None; said = None }
+abbrev pub audit_report : List ℕ → Status → Audit → Report
+audit_report line status part = record { out = line; err = []; status = status; stored = None; said = Some (Audited part) }
 
 abbrev pub of_listed : List ℕ → ListedCode → Report
 of_listed file (unlisted fault) = of_image_fault file fault
@@ -84,11 +81,10 @@ abbrev pub of_audited : List ℕ → AuditedImage → Report
 of_audited file (unread fault) = of_image_fault file fault
 of_audited file (unadmitted cause at) = unsound file cause at
 of_audited file no_class = refused_file file (codes "NoClass")
-of_audited file (answers line status) = audit_report line status
+of_audited file (answers line status part) = audit_report line status part
 
 -- what is done with these bytes of the image of that name
 abbrev pub of_image_bytes : ImageWork → List ℕ → List ℕ → Report
-of_image_bytes (Executes telling limits arguments) file bytes = of_exec telling limits arguments file bytes
 of_image_bytes (Lists members) file bytes = of_listed file (listing_asked members bytes)
 of_image_bytes (Audits denied class) file bytes = of_audited file (audited_image bytes denied class)
 

@@ -1,7 +1,6 @@
 //! What a command does with an image.
 
-ghost use Rattle.std.specs.Prelude.{◌≡◌, ◌∷◌, [], IfOk, map, string_bytes, true};
-ghost use Rattle.ns_base.specs.Limits.{InRange};
+ghost use Rattle.std.specs.Prelude.{◌≡◌, ◌∷◌, [], IfOk, map, string_bytes};
 ghost use Rattle.ns_run_code.specs.Listing.{listed};
 ghost use Rattle.ns_image.specs.Reading.{read_image};
 ghost use Rattle.ns_image.specs.declared.fault.ImageFault.{ImageFault};
@@ -12,20 +11,15 @@ ghost use Rattle.ns_run_words.specs.Options.{denied_by};
 
 use crate::task::ImageTask;
 use ns_audit::image::{AuditFault, AuditTold, audit_image};
-use ns_base::limits::Limits;
 use ns_base::no_memory::NoMemory;
 use ns_base::shelf::{Shelf, ShelfFault};
 use ns_base::text::Text;
 use ns_image::fault::ImageFault;
 use ns_image_members::list::list_members;
-use ns_load::names::names_of;
-use ns_run_code::exec::{ExecFault, exec};
+use ns_json::saying::Saying;
 use ns_run_code::listing::{ListFault, listing_of, read_code};
 use ns_run_outcome::report::{Report, bad_field, refused_file, told, unsound};
-use ns_run_outcome::run::{Telling, run_report};
 use ns_run_outcome::stop::{Stop, or_stop};
-use ns_run_told::image;
-use ns_run_told::told::ToldRun;
 use ns_run_words::options::denied_texts;
 use std::alloc::Global;
 
@@ -39,7 +33,6 @@ pub fn on_image<S: Shelf>(
     name: &str,
     shelf: &mut S,
 ) -> Result<Report, Stop>
-    requires { spec.ImageInRange (spec.work_of task) }
     ensures { Reports S.holds S.misses S.faults S.store_faults shelf.old shelf.new
         (name.now ∷ []) (spec.of_image (spec.work_of task.entry) (name.now ∷ [])) result }
 {
@@ -58,79 +51,14 @@ fn on_bytes(
     name: &str,
     bytes: &[u8],
 ) -> Result<Report, NoMemory>
-    requires { spec.ImageInRange (spec.work_of task) }
     ensures { IfOk result (λ r. r ≡ spec.of_short (spec.work_of task.entry) name.now bytes.now) }
 {
     if IMAGE_BYTES < bytes.len() {
         return refused_file(alloc, name, "TooLong");
     }
     match task {
-        ImageTask::Exec {
-            telling,
-            limits,
-            arguments,
-        } => on_exec(alloc, telling, limits, arguments, name, bytes),
         ImageTask::Listing { members } => on_asked(alloc, members, name, bytes),
         ImageTask::Audit { options, class } => on_audit(alloc, options, class, name, bytes),
-    }
-}
-
-/// The report of the run of an image.
-fn on_exec(
-    alloc: Global,
-    telling: Telling,
-    limits: Limits,
-    arguments: &[String],
-    name: &str,
-    bytes: &[u8],
-) -> Result<Report, NoMemory>
-    requires { InRange limits }
-    ensures { IfOk result (λ r. r ≡ spec.of_exec telling limits (map string_bytes arguments.now) name.now bytes.now) }
-{
-    let arguments = names_of(alloc, arguments)?;
-    executed_text(alloc, telling, limits, arguments.as_slice(), name, bytes)
-}
-
-fn executed_text(
-    alloc: Global,
-    telling: Telling,
-    limits: Limits,
-    arguments: &[Text],
-    name: &str,
-    bytes: &[u8],
-) -> Result<Report, NoMemory>
-    requires { InRange limits }
-    ensures { IfOk result (λ r. r ≡ spec.of_exec telling limits arguments.now name.now bytes.now) }
-{
-    if telling.json {
-        return executed_in_parts(alloc, telling, limits, arguments, name, bytes);
-    }
-    match exec(alloc, bytes, limits, arguments) {
-        Ok(ran) => run_report(alloc, telling, limits, ran, None),
-        Err(ExecFault::Image(fault)) => refused_image(alloc, name, fault),
-        Err(ExecFault::Unsound { cause, at }) => unsound(alloc, name, cause, at),
-        Err(ExecFault::Memory) => Err(NoMemory),
-    }
-}
-
-/// The report of such a run, which is told in parts too.
-fn executed_in_parts(
-    alloc: Global,
-    telling: Telling,
-    limits: Limits,
-    arguments: &[Text],
-    name: &str,
-    bytes: &[u8],
-) -> Result<Report, NoMemory>
-    requires range { InRange limits }
-    requires asked { telling.json ≡ true }
-    ensures { IfOk result (λ r. r ≡ spec.of_exec telling limits arguments.now name.now bytes.now) }
-{
-    match image::exec(alloc, bytes, limits, arguments) {
-        Ok(ToldRun { ran, parts }) => run_report(alloc, telling, limits, ran, Some(parts)),
-        Err(ExecFault::Image(fault)) => refused_image(alloc, name, fault),
-        Err(ExecFault::Unsound { cause, at }) => unsound(alloc, name, cause, at),
-        Err(ExecFault::Memory) => Err(NoMemory),
     }
 }
 
@@ -204,20 +132,20 @@ fn audited_texts(
 
 /// The report of an audit.
 fn audit_report(alloc: Global, told: AuditTold) -> Report
-    ensures { result ≡ spec.audit_report told.line told.status }
+    ensures { result ≡ spec.audit_report told.line told.status told.part }
 {
-    let AuditTold { line, status } = told;
+    let AuditTold { line, status, part } = told;
     Report {
         out: line,
         err: Text::from_vec(Vec::new(alloc)),
         status,
         stored: None,
-        said: None,
+        said: Some(Saying::Audited { audit: part }),
     }
 }
 
 /// The report of bytes that are no image.
-fn refused_image(alloc: Global, name: &str, fault: ImageFault) -> Result<Report, NoMemory>
+pub fn refused_image(alloc: Global, name: &str, fault: ImageFault) -> Result<Report, NoMemory>
     ensures { IfOk result (λ r. r ≡ spec.of_image_fault name.now fault) }
 {
     match fault {

@@ -8,6 +8,7 @@ use Rattle.ns_base.specs.declared.status.Status.TheVariants.{Done, ProgramError,
 use Rattle.ns_json.specs.declared.saying.Run.{Run}
 use Rattle.ns_json.specs.declared.saying.Saying.{Saying}
 use Rattle.ns_json.specs.declared.saying.Saying.TheVariants as said
+use Rattle.ns_json.specs.declared.saying.Trace.{Trace}
 use Rattle.ns_run_code.specs.declared.run.Ran.{Ran}
 use Rattle.ns_run_outcome.specs.declared.report.Report.{Report}
 use Rattle.ns_run_outcome.specs.declared.run.Telling.{Telling}
@@ -32,7 +33,7 @@ stats used limits =
     codes "used" ++ used_of (codes "steps") used.steps limits.steps ++ used_of (codes "cells") used.cells limits.cells
     ++ used_of (codes "depth") used.depth limits.depth ++ used_of (codes "out") used.out limits.out ++ 10 ∷ []
 
--- the report line of a run, and behind it the line on what was used where that is asked for
+-- the report line of a run with what is told behind it, and then the line on what was used where that is asked for
 abbrev pub with_stats : Bool → Counters → Limits → List ℕ → List ℕ
 with_stats asked used limits line = if asked then line ++ stats used limits else line
 
@@ -60,16 +61,17 @@ abbrev pub limits_told : Bool → Limits → Option Limits
 limits_told asked limits = if asked then Some limits else None
 
 -- what is told of a run in parts
-abbrev pub parts_told : Telling → Limits → Run → Saying
-parts_told telling limits parts = said.Ran (record parts { limits = limits_told telling.stats limits })
+abbrev pub parts_told : Telling → Limits → Option Trace → Run → Saying
+parts_told telling limits trace parts = said.Ran (record parts { limits = limits_told telling.stats limits; trace = trace })
 
--- A run writes what its program printed, and then its report line. It is told in parts too where that is asked for.
-abbrev pub run_report : Telling → Limits → Ran → Option Run → Report
-run_report telling limits ran parts =
+-- A run writes what its program printed, and then its report line, with these lines of its trace behind it. It is told in parts too
+-- where that is asked for.
+abbrev pub run_report : Telling → Limits → Ran → List ℕ → Option Trace → Option Run → Report
+run_report telling limits ran lines trace parts =
     record {
       out = with_summary telling.classes ran.counters.steps ran.output;
-      err = with_stats telling.stats ran.counters limits ran.line;
+      err = with_stats telling.stats ran.counters limits (ran.line ++ lines);
       status = status_told telling.truth ran.line ran.status;
       stored = None;
-      said = option_map (parts_told telling limits) parts;
+      said = option_map (parts_told telling limits trace) parts;
     }

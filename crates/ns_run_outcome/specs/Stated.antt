@@ -3,7 +3,7 @@ use Rattle.std.specs.Prelude.{◌≡◌, ℕ, List, map, Option, Some, Result, I
 use Rattle.ns_base.specs.Count.{Rose}
 use Rattle.ns_base.specs.Files.{Files}
 use Rattle.ns_base.specs.Shelf.{OnlyRead}
-use Rattle.ns_session_files.specs.Answer.{OfSomeTexts, OfSomeName}
+use Rattle.ns_run_words.specs.Named.{OfSomeTexts, OfSomeName}
 use Rattle.ns_run_outcome.specs.Outcome.{IsEnding, IsMissing}
 use Rattle.ns_run_outcome.specs.declared.report.Report.{Report}
 use Rattle.ns_run_outcome.specs.declared.stop.Stop.TheVariants.{ReadFault}

@@ -8,7 +8,7 @@ use ns_base::limits::Limits;
 use ns_base::no_memory::NoMemory;
 use ns_base::status::Status;
 use ns_base::text::Text;
-use ns_json::saying::{Run, Saying};
+use ns_json::saying::{Run, Saying, Trace};
 use ns_run_code::run::Ran;
 use ns_world::ending::Counters;
 use std::alloc::Global;
@@ -20,21 +20,26 @@ pub struct Telling {
     pub classes: Option<u32>,
     /// Whether what was used is told behind the report line.
     pub stats: bool,
+    /// Whether the sends that were open at the end are told there too.
+    pub trace: bool,
     /// Whether the run is done only where its answer is true.
     pub truth: bool,
     /// Whether it is told in parts.
     pub json: bool,
 }
 
-/// The report of a run within these limits, which may be told in parts too.
+/// The report of a run within these limits, with these lines of its trace behind its own. It may be told in parts too, and then its
+/// trace is.
 pub fn run_report(
     alloc: Global,
     telling: Telling,
     limits: Limits,
     ran: Ran,
+    lines: &[u8],
+    trace: Option<Trace>,
     parts: Option<Run>,
 ) -> Result<Report, NoMemory>
-    ensures { IfOk result (λ r. r ≡ spec.run_report telling limits ran parts) }
+    ensures { IfOk result (λ r. r ≡ spec.run_report telling limits ran lines.now trace parts) }
 {
     let Telling {
         classes,
@@ -50,25 +55,32 @@ pub fn run_report(
     } = ran;
     let status = status_told(truth, line.bytes(), status);
     let out = with_summary(alloc, classes, counters.steps, output)?;
+    let line = with_line(line, lines)?;
     let err = with_stats(alloc, stats, counters, limits, line)?;
     Ok(Report {
         out,
         err,
         status,
         stored: None,
-        said: parts_told(telling, limits, parts),
+        said: parts_told(telling, limits, trace, parts),
     })
 }
 
 /// What is told of a run in parts, where it is.
-fn parts_told(telling: Telling, limits: Limits, parts: Option<Run>) -> Option<Saying>
-    ensures { result ≡ option_map (spec.parts_told telling limits) parts }
+fn parts_told(
+    telling: Telling,
+    limits: Limits,
+    trace: Option<Trace>,
+    parts: Option<Run>,
+) -> Option<Saying>
+    ensures { result ≡ option_map (spec.parts_told telling limits trace) parts }
 {
     match parts {
         None => None,
         Some(run) => Some(Saying::Ran {
             run: Run {
                 limits: limits_told(telling.stats, limits),
+                trace,
                 ..run
             },
         }),
@@ -107,7 +119,7 @@ fn summary(alloc: Global, classes: u32, steps: u64) -> Result<String, NoMemory>
     Ok(format!(in alloc; "classes {classes} steps {steps}\n")?)
 }
 
-/// The report line of a run, and behind it the line on what was used where that is asked for.
+/// The report line of a run with what is told behind it, and then the line on what was used where that is asked for.
 fn with_stats(
     alloc: Global,
     asked: bool,

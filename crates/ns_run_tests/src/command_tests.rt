@@ -91,6 +91,21 @@ const DONE: &[Row] = &[
             0,
         ),
     ),
+    (
+        &[
+            "eval",
+            "--text=Empty.ns",
+            "--text=H.ns",
+            "(args at: 3) size",
+            "--",
+            "x",
+        ],
+        ("", "=> 119\n", 0),
+    ),
+    (
+        &["run", "--text=Super.ns", "Words.ns", "--", "x"],
+        ("class B = () (a = (^super))\n", "=> 2\n", 0),
+    ),
     (&["eval", "--true", "1 < 2"], ("", "=> true\n", 0)),
     (&["eval", "--true", "2 < 1"], ("", "=> false\n", 1)),
     (&["check", "H.ns"], ("ok\n", "", 0)),
@@ -112,6 +127,14 @@ const DONE: &[Row] = &[
         &["show", "Lines.ns"],
         (
             "class Lines packageUsing: m = ( ) ( public main: p args: a = ( p console printLine: 'it''s' .\np console printLine: '' .\np console printLine: 'c' ) )\n",
+            "",
+            0,
+        ),
+    ),
+    (
+        &["format", "Lines.ns"],
+        (
+            "class Lines packageUsing: m = () (\npublic main: p args: a = (p console printLine: 'it''s'.\n    p console printLine:''. p console printLine: 'c')\n)\n",
             "",
             0,
         ),
@@ -313,6 +336,13 @@ const REFUSED_FILES: &[Row] = &[
     (&["list", "a.img"], ("", "a.img: Missing\n", 2)),
     (&["list", "Empty.ns"], ("", "Empty.ns: NotAnImage\n", 2)),
     (&["run", "Z.ns"], ("", "Z.ns: Missing\n", 2)),
+    (&["run", "--text=T", "Z.ns"], ("", "Z.ns: Missing\n", 2)),
+    (&["run", "--text=T", "H.ns"], ("", "T: Missing\n", 2)),
+    (&["eval", "--text=T", "3"], ("", "T: Missing\n", 2)),
+    (
+        &["eval", "--text=T", "super"],
+        ("", "eval:2:1: BareReceiver\n", 2),
+    ),
     (
         &["run", "--lib", "H.ns", "Z.ns"],
         ("", "Z.ns: Missing\n", 2),

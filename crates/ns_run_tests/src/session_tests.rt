@@ -35,6 +35,10 @@ app 1
 B.ns:1:60: NotUnderstood Platform console
 ";
 
+/// What the first tells alone, in JSON.
+const TOLD_IN_PARTS: &str =
+    "[{\"status\":\"done\",\"answer\":\"object A\",\"output\":\"a\\u000a\",\"steps\":4,\"cells\":11,\"depth\":0,\"out\":2}]\n";
+
 const ROWS: &[Row] = &[
     Row {
         words: TWO,
@@ -42,6 +46,24 @@ const ROWS: &[Row] = &[
         out: &[],
         err: &[],
         want: (TOLD, "", 1),
+    },
+    Row {
+        words: &["session", "--json", "c=A.ns"],
+        shelf: &[],
+        out: &[],
+        err: &[],
+        want: (TOLD_IN_PARTS, "", 0),
+    },
+    Row {
+        words: &["session", "--json", "c=A.ns", "=C.ns"],
+        shelf: &[],
+        out: &[],
+        err: &[],
+        want: (
+            "{\"status\":\"refused\",\"cause\":\"Missing\",\"file\":\"C.ns\"}\n",
+            "",
+            2,
+        ),
     },
     Row {
         words: TWO,

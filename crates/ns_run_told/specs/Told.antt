@@ -1,5 +1,5 @@
 -- The parts of what is told of a run that has ended (this profile).
-use Rattle.std.specs.Prelude.{ℕ, ◌-◌, List, [], length, take, drop, Option, Some, None, Result, Ok, Err}
+use Rattle.std.specs.Prelude.{ℕ, ◌-◌, List, [], length, take, drop, Option, Some, None}
 use Rattle.std.specs.List.{slice_index_or}
 use Rattle.ns_base.specs.declared.limits.Limits.{Limits}
 use Rattle.ns_base.specs.declared.place.Place.{Place}
@@ -15,8 +15,6 @@ use Rattle.ns_mirror.specs.Naming.{class_text}
 use Rattle.ns_actions.specs.Report.{kind_text, limit_text, value_text}
 use Rattle.ns_machine_moves.specs.State.{State, ending_of, world_of}
 use Rattle.ns_run_code.specs.Machine.{begins_with, end_of, rested}
-use Rattle.ns_image.specs.Reading.{read_image}
-use Rattle.ns_image.specs.declared.fault.ImageFault.{ImageFault}
 use Rattle.ns_json.specs.declared.saying.End.{End}
 use Rattle.ns_json.specs.declared.saying.End.TheVariants.{Done, Error, Limit}
 use Rattle.ns_json.specs.declared.saying.FilePlace.{FilePlace}
@@ -60,15 +58,6 @@ run_told code state = told_with code state (end_of (ending_of state))
 -- what is told of the run of some code within these limits with these arguments
 abbrev pub code_told : CodeProgram → Limits → List (List ℕ) → Run
 code_told code limits arguments = run_told code (rested code (begins_with code limits arguments))
-
--- what is told of the run of what was read of an image, where that is code
-abbrev pub told_of_read : Limits → List (List ℕ) → Result CodeProgram ImageFault → Option Run
-told_of_read limits arguments (Err fault) = None
-told_of_read limits arguments (Ok code) = Some (code_told code limits arguments)
-
--- what is told of the run of an image of these bytes
-abbrev pub image_told : List ℕ → Limits → List (List ℕ) → Option Run
-image_told bytes limits arguments = told_of_read limits arguments (read_image bytes)
 
 -- what stands in a report line between its first three bytes and its line feed: the text of a value
 abbrev pub text_in : List ℕ → List ℕ

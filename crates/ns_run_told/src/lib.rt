@@ -4,8 +4,6 @@
 #![tactic(auto)]
 
 pub mod end;
-pub mod image;
 pub mod laws;
 pub mod names;
-pub mod source;
 pub mod told;

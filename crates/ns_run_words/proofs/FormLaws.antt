@@ -4,11 +4,12 @@ use Rattle.std.proofs.Common.{◌≤◌, ◌+◌, arith, ap, sym, ◌∙◌, inl
 use Rattle.std.proofs.lemmas.Bool.Decides.{nat_tests}
 use Rattle.ns_run_words.proofs.PartLaws.{arguments_read, dashes_are_no_item, dashes_are_no_option, name_is_no_option, names_read, options_read}
 use Rattle.ns_run_words.specs.Forms.{AreArguments, AreNames, IsForm, IsOneOf}
+use Rattle.ns_run_words.specs.Options.{arguments_of}
 use Rattle.ns_run_words.specs.Own.{least_of}
 use Rattle.ns_run_words.specs.Table.{form_of, verb_of, words_of}
 use Rattle.ns_run_words.specs.Words.{CommandLine, Options, Names, Arguments, after_verb, bad, says, nothing_given, option_or, part_or, read_from, reading_of, with_name, with_option}
 use Rattle.ns_run_words.specs.declared.form.Verb.{Verb}
-use Rattle.ns_run_words.specs.declared.form.Verb.TheVariants.{Check, Show, Format, Run, Eval, Build, Exec, Listing, Session, Sample, Audit, Test, Library, Help, Explain, Version}
+use Rattle.ns_run_words.specs.declared.form.Verb.TheVariants.{Check, Show, Format, Run, Eval, Build, Exec, Listing, Session, Sample, Audit, Test, Snap, Library, Help, Explain, Version}
 use Rattle.ns_run_words.specs.declared.words.Given.{Given}
 
 -- The first word of a form names its command.
@@ -37,6 +38,8 @@ first_names Audit first (inl e) = ap verb_of e
 first_names Audit first (inr none) = absurd none
 first_names Test first (inl e) = ap verb_of e
 first_names Test first (inr none) = absurd none
+first_names Snap first (inl e) = ap verb_of e
+first_names Snap first (inr none) = absurd none
 first_names Library first (inl e) = ap verb_of e
 first_names Library first (inr none) = absurd none
 first_names Help first (inl e) = ap verb_of e
@@ -67,7 +70,7 @@ is_last None last arguments a = inl a
 is_last (Some m) last arguments (inl a) = inl a
 is_last (Some m) last arguments (inr a) = inr (m, refl, a.0, a.1)
 
-pub last_read : (verb : Verb) (given : Given) (options names last arguments : List (List ℕ)) (k : ℕ) → least_of (form_of verb) given ≤ length names → IsLast (form_of verb).arguments last arguments
+pub last_read : (verb : Verb) (given : Given) (options names last arguments : List (List ℕ)) (k : ℕ) → least_of (form_of verb) given ≤ length names → IsLast (arguments_of (form_of verb) given) last arguments
     → read_from verb (Names given options names) k last ≡ says (record { verb = verb; given = given; options = options; names = names; arguments = arguments })
 last_read verb given options names last arguments k e (inl (l, a)) =
     let enough : nat_le (least_of (form_of verb) given) (length names) ≡ true = grind (arith, nat_tests) in
@@ -81,7 +84,7 @@ last_read verb given options names last arguments k e (inr (m, s, l, few)) =
     dashes : nat_le (least_of (form_of verb) given) (length names) ≡ true → read_from verb (Names given options names) k (codes "--" ∷ arguments) ≡ read_from verb (Arguments given options names []) (k + 1) arguments
     dashes enough = rw (dashes_are_no_item (form_of verb).item, enough, s) refl
 
-pub names_behind_options : (verb : Verb) (given : Given) (options names last arguments : List (List ℕ)) (k : ℕ) → AreNames (form_of verb).item names → IsLast (form_of verb).arguments last arguments
+pub names_behind_options : (verb : Verb) (given : Given) (options names last arguments : List (List ℕ)) (k : ℕ) → AreNames (form_of verb).item names → IsLast (arguments_of (form_of verb) given) last arguments
     → read_from verb (Options given options) k (names ++ last) ≡ read_from verb (Names given options []) k (names ++ last)
 names_behind_options verb given options [] last arguments k a (inl (l, s)) =
     ap (read_from verb (Options given options) k) l ∙ sym (ap (read_from verb (Names given options []) k) l)
@@ -95,7 +98,8 @@ names_behind_options verb given options (w ∷ ws) last arguments k a s =
 -- The words of a form are read as what they spell.
 pub form_is_read : (words : List (List ℕ)) (line : CommandLine) → IsForm words line → reading_of words ≡ says line
 form_is_read words line f =
-    let last : IsLast (form_of line.verb).arguments f.last line.arguments = is_last (form_of line.verb).arguments f.last line.arguments f.ends in
+    let most : Option ℕ = arguments_of (form_of line.verb) line.given in
+    let last : IsLast most f.last line.arguments = is_last most f.last line.arguments f.ends in
     let k : ℕ = 1 + length line.options in
     ap reading_of f.spelled
     ∙ word_is_read line.verb f.first (line.options ++ line.names ++ f.last) f.named_by

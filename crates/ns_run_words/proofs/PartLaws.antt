@@ -10,10 +10,10 @@ use Rattle.ns_help.specs.Topics.{text_of}
 use Rattle.ns_run_words.specs.Application.{is_application}
 use Rattle.ns_run_words.specs.FileName.{is_file_name}
 use Rattle.ns_run_words.specs.Forms.{AreNames, all_given}
-use Rattle.ns_run_words.specs.Options.{denial_where, run_where, tests_where, value_behind, with_denied, with_only}
+use Rattle.ns_run_words.specs.Options.{arguments_of, denial_where, run_where, tests_where, value_behind, with_denied, with_only, with_text}
 use Rattle.ns_run_words.specs.Own.{check_where, json_where, least_of, listing_where, most_of, own_option, to_where, with_to}
 use Rattle.ns_run_words.specs.Table.{form_of}
-use Rattle.ns_run_words.specs.Words.{Options, Names, Arguments, bad, says, given_or, has_needed, is_item, limit_where, number_given, number_of, option_or, part_or, quantum_where, read_from, with_cells, with_depth, with_limit, with_name, with_option, with_out, with_quantum, with_steps}
+use Rattle.ns_run_words.specs.Words.{Options, Names, Arguments, at_given, at_where, bad, says, given_or, has_needed, is_item, limit_where, number_given, number_of, option_or, part_or, quantum_where, read_from, steps_of, with_at, with_cells, with_depth, with_limit, with_name, with_option, with_out, with_quantum, with_steps}
 use Rattle.ns_run_words.specs.declared.form.Form.{Form}
 use Rattle.ns_run_words.specs.declared.form.Item.{Item}
 use Rattle.ns_run_words.specs.declared.form.Item.TheVariants.{File, Number, Application, Text, Topic}
@@ -62,9 +62,10 @@ pub no_denial : (takes : Bool) (given : Given) (word : List ℕ) → BeginsOther
 no_denial false given word n = refl
 no_denial true given word n = ap (with_denied given) (no_value (codes "--deny=") word (n 100 (codes "eny=")))
 
-pub no_run : (takes : Bool) (given : Given) (word : List ℕ) → IsOther word → run_where takes given word ≡ None
-no_run false given word o = refl
-no_run true given word o = rw (o 115 (codes "tats"), o 116 (codes "rue")) refl
+pub no_run : (takes : Bool) (given : Given) (word : List ℕ) → IsOther word → BeginsOtherwise word → run_where takes given word ≡ None
+no_run false given word o n = refl
+no_run true given word o n =
+    rw (o 115 (codes "tats"), o 116 (codes "race"), o 116 (codes "rue")) (ap (with_text given) (no_value (codes "--text=") word (n 116 (codes "ext="))))
 
 pub no_check : (takes : Bool) (given : Given) (word : List ℕ) → IsOther word → check_where takes given word ≡ None
 no_check false given word o = refl
@@ -90,16 +91,26 @@ no_own form given word o n =
     ∙ ap (λ q. or_else q (json_where form.json given word)) (no_image form.to given word n)
     ∙ no_json form.json given word o
 
+pub no_pause : (takes : Bool) (given : Given) (word : List ℕ) → BeginsOtherwise word → at_where takes given word ≡ None
+no_pause false given word n = refl
+no_pause true given word n = ap (with_at given) (none given.at)
+  where
+    none : (at : Option ℕ) → at_given at word ≡ None
+    none (Some steps) = refl
+    none None = ap (option_and_then steps_of) (no_value (codes "--at=") word (n 97 (codes "t=")))
+
 pub no_option : (form : Form) (given : Given) (word : List ℕ) → IsOther word → BeginsOtherwise word → with_option form given word ≡ None
 no_option form given word o n =
-    let others = given_or (own_option form given word) (limit_where form.greatest given word) in
+    let last = given_or (at_where form.at given word) (limit_where form.greatest given word) in
+    let others = given_or (own_option form given word) last in
     let runs = given_or (run_where form.runs given word) others in
     rw (o 108 (codes "ib"))
     (ap (λ q. given_or q (given_or (tests_where form.tests given word) (given_or (denial_where form.denies given word) runs))) (no_quantum form.quantum given word n)
     ∙ ap (λ q. given_or q (given_or (denial_where form.denies given word) runs)) (no_test form.tests given word o n)
     ∙ ap (λ q. given_or q runs) (no_denial form.denies given word n)
-    ∙ ap (λ q. given_or q others) (no_run form.runs given word o)
-    ∙ ap (λ q. given_or q (limit_where form.greatest given word)) (no_own form given word o n)
+    ∙ ap (λ q. given_or q others) (no_run form.runs given word o n)
+    ∙ ap (λ q. given_or q last) (no_own form given word o n)
+    ∙ ap (λ q. given_or q (limit_where form.greatest given word)) (no_pause form.at given word n)
     ∙ no_limit_where form.greatest given word n)
 
 -- A name has no dash in front.
@@ -236,7 +247,7 @@ names_read verb given options before (w ∷ ws) words k d a l =
 
 -- ---- arguments
 
-pub arguments_read : (verb : Verb) (given : Given) (options names before words : List (List ℕ)) (k m : ℕ) → (form_of verb).arguments ≡ Some m → least_of (form_of verb) given ≤ length names → length before + length words ≤ m
+pub arguments_read : (verb : Verb) (given : Given) (options names before words : List (List ℕ)) (k m : ℕ) → arguments_of (form_of verb) given ≡ Some m → least_of (form_of verb) given ≤ length names → length before + length words ≤ m
     → read_from verb (Arguments given options names before) k words ≡ says (record { verb = verb; given = given; options = options; names = names; arguments = before ++ words })
 arguments_read verb given options names before [] k m a e l =
     let enough : nat_le (least_of (form_of verb) given) (length names) ≡ true = grind (arith, nat_tests) in
@@ -252,7 +263,7 @@ arguments_read verb given options names before (w ∷ ws) k m a e l =
     first r = rw (a, r) refl
 
 -- The first argument that is too many is a bad word.
-pub arguments_past : (verb : Verb) (given : Given) (options names before words : List (List ℕ)) (k m : ℕ) → (form_of verb).arguments ≡ Some m → length before ≤ m → m < length before + length words
+pub arguments_past : (verb : Verb) (given : Given) (options names before words : List (List ℕ)) (k m : ℕ) → arguments_of (form_of verb) given ≡ Some m → length before ≤ m → m < length before + length words
     → (j : ℕ) → j + length before ≡ k + m → read_from verb (Arguments given options names before) k words ≡ bad j
 arguments_past verb given options names before [] k m a b l j e = absurd (omega (arith, b, l))
 arguments_past verb given options names before (w ∷ ws) k m a b l j e =

@@ -8,14 +8,14 @@ use Rattle.ns_base.specs.Limits.{InRange, IsFrom1To}
 use Rattle.ns_base.specs.declared.limits.Limits.{Limits}
 use Rattle.ns_run_words.specs.Forms.{IsForm, all_given}
 use Rattle.ns_base.specs.Spelling.{is_identifier, is_selector}
-use Rattle.ns_run_words.specs.Options.{denial_where, run_where, tests_where, value_behind, with_denied, with_only, with_reverse, with_stats, with_truth}
+use Rattle.ns_run_words.specs.Options.{denial_where, run_where, tests_where, value_behind, with_denied, with_only, with_reverse, with_stats, with_text, with_trace, with_truth}
 use Rattle.ns_run_words.specs.Own.{check_where, json_where, listing_where, own_option, to_where, with_all, with_json, with_members, with_sends, with_to}
 use Rattle.ns_run_words.specs.FileName.{is_file_name}
 use Rattle.ns_run_words.specs.Table.{form_of}
-use Rattle.ns_run_words.specs.Words.{CommandLine, begins_bad, in_range, limits_of, nothing_given, number_given, number_of, value_from, given_or, limit_where, quantum_of, quantum_where, with_cells, with_depth, with_lib, with_limit, with_option, with_out, with_quantum, with_steps}
+use Rattle.ns_run_words.specs.Words.{CommandLine, at_given, at_where, begins_bad, in_range, limits_of, nothing_given, number_given, number_of, value_from, given_or, limit_where, quantum_of, quantum_where, with_at, with_cells, with_depth, with_lib, with_limit, with_option, with_out, with_quantum, with_steps}
 use Rattle.ns_run_words.specs.declared.form.Form.{Form}
 use Rattle.ns_run_words.specs.declared.form.Verb.{Verb}
-use Rattle.ns_run_words.specs.declared.form.Verb.TheVariants.{Check, Show, Format, Run, Eval, Build, Exec, Listing, Session, Sample, Audit, Test, Library, Help, Explain, Version}
+use Rattle.ns_run_words.specs.declared.form.Verb.TheVariants.{Check, Show, Format, Run, Eval, Build, Exec, Listing, Session, Sample, Audit, Test, Snap, Library, Help, Explain, Version}
 use Rattle.ns_run_words.specs.declared.words.Given.{Given}
 
 -- The number, where there is one, is from 1 to the greatest.
@@ -158,20 +158,37 @@ pub denial_within : (takes : Bool) (given : Given) (word : List ℕ) → AreWith
 denial_within false given word a = tt
 denial_within true given word a = denied_within given (value_behind (codes "--deny=") word) a
 
+pub text_within : (given : Given) (name : Option (List ℕ)) → AreWithin given → IsFine (with_text given name)
+text_within given None a = tt
+text_within given (Some name) a =
+    elim (is_file_name name) as (λ q. IsFine (cond q (cond (nat_lt given.texts 255) (Some (record given { texts = given.texts + 1 })) None) None)) [
+      | false ↦ tt
+      | true ↦ elim (nat_lt given.texts 255) as (λ q. IsFine (cond q (Some (record given { texts = given.texts + 1 })) None)) [
+        | true ↦ record { steps = a.steps; cells = a.cells; depth = a.depth; out = a.out; quantum = a.quantum }
+        | false ↦ tt
+      ]
+    ]
+
 pub run_within : (takes : Bool) (given : Given) (word : List ℕ) → AreWithin given → IsFine (run_where takes given word)
 run_within false given word a = tt
 run_within true given word a =
-    elim (bytes_eq word (codes "--stats")) as (λ q. IsFine (cond q (with_stats given) (cond (bytes_eq word (codes "--true")) (with_truth given) None))) [
+    elim (bytes_eq word (codes "--stats")) as (λ q. IsFine (cond q (with_stats given) (cond (bytes_eq word (codes "--trace")) (with_trace given) (cond (bytes_eq word (codes "--true")) (with_truth given) (with_text given (value_behind (codes "--text=") word)))))) [
       | true ↦ elim given.stats as (λ q. IsFine (cond q None (Some (record given { stats = true })))) [
         | true ↦ tt
         | false ↦ record { steps = a.steps; cells = a.cells; depth = a.depth; out = a.out; quantum = a.quantum }
       ]
-      | false ↦ elim (bytes_eq word (codes "--true")) as (λ q. IsFine (cond q (with_truth given) None)) [
-        | true ↦ elim given.truth as (λ q. IsFine (cond q None (Some (record given { truth = true })))) [
+      | false ↦ elim (bytes_eq word (codes "--trace")) as (λ q. IsFine (cond q (with_trace given) (cond (bytes_eq word (codes "--true")) (with_truth given) (with_text given (value_behind (codes "--text=") word))))) [
+        | true ↦ elim given.trace as (λ q. IsFine (cond q None (Some (record given { trace = true })))) [
           | true ↦ tt
           | false ↦ record { steps = a.steps; cells = a.cells; depth = a.depth; out = a.out; quantum = a.quantum }
         ]
-        | false ↦ tt
+        | false ↦ elim (bytes_eq word (codes "--true")) as (λ q. IsFine (cond q (with_truth given) (with_text given (value_behind (codes "--text=") word)))) [
+          | true ↦ elim given.truth as (λ q. IsFine (cond q None (Some (record given { truth = true })))) [
+            | true ↦ tt
+            | false ↦ record { steps = a.steps; cells = a.cells; depth = a.depth; out = a.out; quantum = a.quantum }
+          ]
+          | false ↦ text_within given (value_behind (codes "--text=") word) a
+        ]
       ]
     ]
 
@@ -239,6 +256,14 @@ own_within form given word a =
     (either_within _ _ (listing_within form.members given word a)
     (either_within _ _ (to_within form.to given word a) (json_within form.json given word a)))
 
+pub pause_within : (takes : Bool) (given : Given) (word : List ℕ) → AreWithin given → IsFine (at_where takes given word)
+pause_within false given word a = tt
+pause_within true given word a = within (at_given given.at word)
+  where
+    within : (at : Option ℕ) → IsFine (with_at given at)
+    within None = tt
+    within (Some n) = record { steps = a.steps; cells = a.cells; depth = a.depth; out = a.out; quantum = a.quantum }
+
 pub option_within : (form : Form) (given : Given) (word : List ℕ) → IsSmall form.greatest → AreWithin given → IsFine (with_option form given word)
 option_within form given word s a =
     elim (bytes_eq word (codes "--lib")) as (λ q. IsFine (cond q (cond form.lib (with_lib given) None)
@@ -246,7 +271,8 @@ option_within form given word s a =
     (given_or (tests_where form.tests given word)
     (given_or (denial_where form.denies given word)
     (given_or (run_where form.runs given word)
-    (given_or (own_option form given word) (limit_where form.greatest given word)))))))) [
+    (given_or (own_option form given word)
+    (given_or (at_where form.at given word) (limit_where form.greatest given word))))))))) [
       | true ↦ elim form.lib as (λ q. IsFine (cond q (with_lib given) None)) [
         | true ↦ lib_within given a
         | false ↦ tt
@@ -256,7 +282,8 @@ option_within form given word s a =
           (one_within _ _ (tests_within form.tests given word a)
           (one_within _ _ (denial_within form.denies given word a)
           (one_within _ _ (run_within form.runs given word a)
-          (one_within _ _ (own_within form given word a) (where_within form.greatest given word s a)))))
+          (one_within _ _ (own_within form given word a)
+          (one_within _ _ (pause_within form.at given word a) (where_within form.greatest given word s a))))))
     ]
 
 pub all_within : (form : Form) (given last : Given) (options : List (List ℕ)) → IsSmall form.greatest → AreWithin given → all_given form given options ≡ Some last → AreWithin last
@@ -284,6 +311,7 @@ forms_small Session = ((omega arith, omega arith), (omega arith, omega arith), (
 forms_small Sample = tt
 forms_small Audit = tt
 forms_small Test = ((omega arith, omega arith), (omega arith, omega arith), (omega arith, omega arith), (omega arith, omega arith))
+forms_small Snap = ((omega arith, omega arith), (omega arith, omega arith), (omega arith, omega arith), (omega arith, omega arith))
 forms_small Library = tt
 forms_small Help = tt
 forms_small Explain = tt

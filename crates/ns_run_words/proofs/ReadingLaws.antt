@@ -5,18 +5,20 @@ use Rattle.std.proofs.Math.Seq.{take-append-add}
 use Rattle.std.proofs.lemmas.Bool.Decides.{nat_tests}
 use Rattle.std.proofs.lemmas.List.{append-nil, length-append}
 use Rattle.std.proofs.lemmas.Slice.Eq.{bytes_eq-Decides}
+use Rattle.std.specs.Option.{is_some}
 use Rattle.std.specs.Str.{bytes_eq}
 use Rattle.ns_run_words.proofs.FormLaws.{form_is_read, word_is_read}
 use Rattle.ns_run_words.proofs.PartLaws.{all_given_append, length_one, names_append}
 use Rattle.ns_run_words.specs.Forms.{AreArguments, AreNames, Begins, IsForm, IsOneOf, IsReadingOf, all_given}
+use Rattle.ns_run_words.specs.Options.{arguments_of}
 use Rattle.ns_run_words.specs.Own.{least_of, most_of}
 use Rattle.ns_run_words.specs.Table.{form_of, verb_of, words_of}
-use Rattle.ns_run_words.specs.Words.{CommandLine, ReadSoFar, Options, Names, Arguments, LineReading, bad, bad_of, says, arguments_behind, first_bad, given_of, has_needed, has_room, is_item, line_of, names_read, nothing_given, option_or, part_or, read_from, reading_of, with_argument, with_dashes, with_name, with_option, with_word}
+use Rattle.ns_run_words.specs.Words.{CommandLine, ReadSoFar, Options, Names, Arguments, LineReading, at_given, bad, bad_of, says, arguments_behind, first_bad, given_of, has_needed, has_room, is_item, limit_where, given_or, line_of, names_read, nothing_given, option_or, part_or, read_from, reading_of, with_argument, with_at, with_dashes, with_name, with_option, with_word}
 use Rattle.ns_run_words.specs.declared.form.Form.{Form}
 use Rattle.ns_run_words.specs.declared.form.Item.{Item}
 use Rattle.ns_run_words.specs.declared.form.Item.TheVariants.{File, Number, Application, Text, Topic}
 use Rattle.ns_run_words.specs.declared.form.Verb.{Verb}
-use Rattle.ns_run_words.specs.declared.form.Verb.TheVariants.{Check, Show, Format, Run, Eval, Build, Exec, Listing, Session, Sample, Audit, Test, Library, Help, Explain, Version}
+use Rattle.ns_run_words.specs.declared.form.Verb.TheVariants.{Check, Show, Format, Run, Eval, Build, Exec, Listing, Session, Sample, Audit, Test, Snap, Library, Help, Explain, Version}
 use Rattle.ns_run_words.specs.declared.words.Given.{Given}
 
 -- ---- what was read so far
@@ -31,7 +33,7 @@ pub record AreNamed (form : Form) (words : List (List ℕ)) (given : Given) (opt
 
 -- The form takes `--` behind so many names, and so many arguments behind it.
 abbrev pub TakesArguments : Form → Given → List (List ℕ) → List (List ℕ) → Type 0
-TakesArguments form given names arguments = (m : ℕ) × (form.arguments ≡ Some m) × (least_of form given ≤ length names) × (length arguments ≤ m)
+TakesArguments form given names arguments = (m : ℕ) × (arguments_of form given ≡ Some m) × (least_of form given ≤ length names) × (length arguments ≤ m)
 
 -- The words spell what was read, and the form can go on behind them.
 abbrev pub IsPart : Form → List (List ℕ) → ReadSoFar → Type 0
@@ -45,7 +47,7 @@ IsPart form words (Arguments given options names arguments) =
 pub argument_more : (form : Form) (words : List (List ℕ)) (given : Given) (options names arguments : List (List ℕ)) (w : List ℕ) (next : ReadSoFar) → IsPart form words (Arguments given options names arguments)
     → with_argument form given options names arguments w ≡ Some next → IsPart form (words ++ w ∷ []) next
 argument_more form words given options names arguments w next (front, s, n, (m, a, e, l)) h =
-    elim (has_room form.arguments (length arguments)) as (λ q. has_room form.arguments (length arguments) ≡ q → cond q (Some (Arguments given options names (arguments ++ w ∷ []))) None ≡ Some next → IsPart form (words ++ w ∷ []) next) [
+    elim (has_room (arguments_of form given) (length arguments)) as (λ q. has_room (arguments_of form given) (length arguments) ≡ q → cond q (Some (Arguments given options names (arguments ++ w ∷ []))) None ≡ Some next → IsPart form (words ++ w ∷ []) next) [
       | false ↦ λ r k. absurd (cc (k))
       | true ↦ λ r k.
           let room : nat_lt (length arguments) m ≡ true = sym (ap (λ o. has_room o (length arguments)) a) ∙ r in
@@ -57,25 +59,25 @@ argument_more form words given options names arguments w next (front, s, n, (m, 
 pub dashes_more : (form : Form) (words : List (List ℕ)) (given : Given) (options names : List (List ℕ)) (w : List ℕ) (next : ReadSoFar) → AreNamed form words given options names
     → with_dashes given options names (arguments_behind form given (length names) w) ≡ Some next → IsPart form (words ++ w ∷ []) next
 dashes_more form words given options names w next n h =
-    elim (bytes_eq w (codes "--")) as (λ q. bytes_eq w (codes "--") ≡ q → with_dashes given options names (cond (q && nat_le (least_of form given) (length names)) form.arguments None) ≡ Some next → IsPart form (words ++ w ∷ []) next) [
+    elim (bytes_eq w (codes "--")) as (λ q. bytes_eq w (codes "--") ≡ q → with_dashes given options names (cond (q && nat_le (least_of form given) (length names)) (arguments_of form given) None) ≡ Some next → IsPart form (words ++ w ∷ []) next) [
       | false ↦ λ e k. absurd (cc (k))
       | true ↦ λ e k.
           let dashes : w ≡ codes "--" = (bytes_eq-Decides w (codes "--")).0 e in
           enough dashes k
     ] refl h
   where
-    taken : (o : Option ℕ) → w ≡ codes "--" → least_of form given ≤ length names → form.arguments ≡ o → with_dashes given options names o ≡ Some next → IsPart form (words ++ w ∷ []) next
+    taken : (o : Option ℕ) → w ≡ codes "--" → least_of form given ≤ length names → arguments_of form given ≡ o → with_dashes given options names o ≡ Some next → IsPart form (words ++ w ∷ []) next
     taken None e l a k = absurd (cc (k))
     taken (Some m) e l a k =
         let is : Arguments given options names [] ≡ next = cc (k) in
         subst (IsPart form (words ++ w ∷ [])) is (words, ap (λ v. words ++ v ∷ []) e, n, (m, a, l, omega arith))
 
-    enough : w ≡ codes "--" → with_dashes given options names (cond (nat_le (least_of form given) (length names)) form.arguments None) ≡ Some next → IsPart form (words ++ w ∷ []) next
+    enough : w ≡ codes "--" → with_dashes given options names (cond (nat_le (least_of form given) (length names)) (arguments_of form given) None) ≡ Some next → IsPart form (words ++ w ∷ []) next
     enough e k =
-        elim (nat_le (least_of form given) (length names)) as (λ q. nat_le (least_of form given) (length names) ≡ q → with_dashes given options names (cond q form.arguments None) ≡ Some next → IsPart form (words ++ w ∷ []) next) [
+        elim (nat_le (least_of form given) (length names)) as (λ q. nat_le (least_of form given) (length names) ≡ q → with_dashes given options names (cond q (arguments_of form given) None) ≡ Some next → IsPart form (words ++ w ∷ []) next) [
           | false ↦ λ r j. absurd (cc (j))
           | true ↦ λ r j.
-              let l : least_of form given ≤ length names = grind (arith, nat_tests, r) in taken form.arguments e l refl j
+              let l : least_of form given ≤ length names = grind (arith, nat_tests, r) in taken (arguments_of form given) e l refl j
         ] refl k
 
 pub name_more : (form : Form) (words : List (List ℕ)) (given : Given) (options names : List (List ℕ)) (w : List ℕ) (next : ReadSoFar) → AreNamed form words given options names
@@ -165,6 +167,7 @@ fill_item Session = refl
 fill_item Sample = refl
 fill_item Audit = refl
 fill_item Test = refl
+fill_item Snap = refl
 fill_item Library = refl
 fill_item Help = refl
 fill_item Explain = refl
@@ -195,6 +198,7 @@ least_is_less Session given = omega arith
 least_is_less Sample given = omega arith
 least_is_less Audit given = omega arith
 least_is_less Test given = omega arith
+least_is_less Snap given = omega arith
 least_is_less Library given = omega arith
 least_is_less Help given = omega arith
 least_is_less Explain given = omega arith
@@ -225,6 +229,7 @@ enough_needs verb given names (inl e) l = none verb (subst (λ x. least_of (form
     none Sample m = refl
     none Audit m = absurd (omega (arith, m))
     none Test m = refl
+    none Snap m = absurd (omega (arith, m))
     none Library m = refl
     none Help m = refl
     none Explain m = refl
@@ -250,15 +255,19 @@ filled_begin verb first o words given options names n d =
         enough = omega (arith, size);
         few = omega (arith, size, n.few, least_is_less verb given);
         named = both_named (form_of verb).item names more n.named (fill_named (form_of verb).item (least_of (form_of verb) given - length names) (fill_item verb));
-        ends = no_arguments (form_of verb).arguments;
+        ends = no_arguments (arguments_of (form_of verb) given);
       },
     )
 
 -- A form that needs an option takes this one, where it has none yet.
-abbrev pub denial : List ℕ
-denial = codes "--deny=a"
+abbrev pub needed_option : Form → List ℕ
+needed_option form = cond form.at (codes "--at=1") (codes "--deny=a")
 
-pub denial_given : (verb : Verb) (given : Given) → has_needed (form_of verb) given ≡ false → with_option (form_of verb) given denial ≡ Some (record given { denied = given.denied + 1 })
+-- what is given with it
+abbrev pub with_needed : Form → Given → Given
+with_needed form given = cond form.at (record given { at = Some 1 }) (record given { denied = given.denied + 1 })
+
+pub denial_given : (verb : Verb) (given : Given) → has_needed (form_of verb) given ≡ false → with_option (form_of verb) given (needed_option (form_of verb)) ≡ Some (with_needed (form_of verb) given)
 denial_given Check given h = absurd (cc (h))
 denial_given Show given h = absurd (cc (h))
 denial_given Format given h = absurd (cc (h))
@@ -272,12 +281,17 @@ denial_given Sample given h = absurd (cc (h))
 denial_given Audit given h =
     let few : nat_lt given.denied 16 ≡ true = grind (arith, nat_tests, h) in rw few refl
 denial_given Test given h = absurd (cc (h))
+denial_given Snap given h =
+    elim given.at as (λ o. is_some o ≡ false → given_or (with_at given (at_given o (codes "--at=1"))) (limit_where (form_of Snap).greatest given (codes "--at=1")) ≡ Some (record given { at = Some 1 })) [
+      | None ↦ λ k. refl
+      | Some n ↦ λ k. absurd (cc (k))
+    ] h
 denial_given Library given h = absurd (cc (h))
 denial_given Help given h = absurd (cc (h))
 denial_given Explain given h = absurd (cc (h))
 denial_given Version given h = absurd (cc (h))
 
-pub denial_serves : (verb : Verb) (given : Given) → has_needed (form_of verb) (record given { denied = given.denied + 1 }) ≡ true
+pub denial_serves : (verb : Verb) (given : Given) → has_needed (form_of verb) (with_needed (form_of verb) given) ≡ true
 denial_serves Check given = refl
 denial_serves Show given = refl
 denial_serves Format given = refl
@@ -290,6 +304,7 @@ denial_serves Session given = refl
 denial_serves Sample given = refl
 denial_serves Audit given = grind (arith, nat_tests)
 denial_serves Test given = refl
+denial_serves Snap given = refl
 denial_serves Library given = refl
 denial_serves Help given = refl
 denial_serves Explain given = refl
@@ -301,7 +316,8 @@ fewer_begin words w (more, line, f) = (w ∷ more, line, subst (λ x. IsForm x l
 
 pub denied_begin : (verb : Verb) (first : List ℕ) → IsOneOf first (words_of verb) → (words : List (List ℕ)) (given : Given) (options names : List (List ℕ)) → AreNamed (form_of verb) words given options names → names ≡ [] → has_needed (form_of verb) given ≡ false → Begins (first ∷ words)
 denied_begin verb first o words given options names n none h =
-    let next : Given = record given { denied = given.denied + 1 } in
+    let next : Given = with_needed (form_of verb) given in
+    let denial = needed_option (form_of verb) in
     let one : all_given (form_of verb) given (denial ∷ []) ≡ Some next = rw (denial_given verb given h) refl in
     let named : AreNamed (form_of verb) (words ++ denial ∷ []) next (options ++ denial ∷ []) [] =
     record {
@@ -341,7 +357,7 @@ part_begins verb first o words (Arguments given options names arguments) (front,
         enough = e;
         few = n.few;
         named = n.named;
-        ends = some_arguments (form_of verb).arguments m arguments a l;
+        ends = some_arguments (arguments_of (form_of verb) given) m arguments a l;
       },
     )
 
@@ -360,7 +376,7 @@ named_form verb first o words given options names n l =
       enough = l;
       few = n.few;
       named = n.named;
-      ends = no_arguments (form_of verb).arguments;
+      ends = no_arguments (arguments_of (form_of verb) given);
     }
 
 pub part_form : (verb : Verb) (first : List ℕ) → IsOneOf first (words_of verb) → (words : List (List ℕ)) (part : ReadSoFar) → IsPart (form_of verb) words part → least_of (form_of verb) (given_of part) ≤ length (names_read part) → IsForm (first ∷ words) (line_of verb part)
@@ -378,7 +394,7 @@ part_form verb first o words (Arguments given options names arguments) (front, s
       enough = e;
       few = n.few;
       named = n.named;
-      ends = some_arguments (form_of verb).arguments m arguments a few;
+      ends = some_arguments (arguments_of (form_of verb) given) m arguments a few;
     }
 
 -- ---- the first bad word
@@ -456,13 +472,14 @@ by_verb w P some none =
     test (codes "sample") _ _ (λ is. some Sample (inl is)) λ i.
     test (codes "audit") _ _ (λ is. some Audit (inl is)) λ j.
     test (codes "test") _ _ (λ is. some Test (inl is)) λ k.
+    test (codes "snap") _ _ (λ is. some Snap (inl is)) λ u.
     test (codes "library") _ _ (λ is. some Library (inl is)) λ l.
     test (codes "--help") _ _ (λ is. some Help (inl is)) λ m.
     test (codes "-h") _ _ (λ is. some Help (inr (inl is))) λ n.
     test (codes "help") _ _ (λ is. some Explain (inl is)) λ q.
     test (codes "--version") _ _ (λ is. some Version (inl is)) λ r.
     test (codes "-V") _ _ (λ is. some Version (inr (inl is))) λ s.
-    none (all a b t c d e f g h i j k l m n q r s)
+    none (all a b t c d e f g h i j k u l m n q r s)
   where
     test : (text : List ℕ) (x y : Option Verb) → (w ≡ text → P x) → (bytes_eq w text ≡ false → P y) → P (cond (bytes_eq w text) x y)
     test text x y f g =
@@ -471,41 +488,43 @@ by_verb w P some none =
           | false ↦ g
         ] refl
 
-    all : bytes_eq w (codes "check") ≡ false → bytes_eq w (codes "show") ≡ false → bytes_eq w (codes "format") ≡ false → bytes_eq w (codes "run") ≡ false → bytes_eq w (codes "eval") ≡ false → bytes_eq w (codes "build") ≡ false → bytes_eq w (codes "exec") ≡ false → bytes_eq w (codes "list") ≡ false → bytes_eq w (codes "session") ≡ false → bytes_eq w (codes "sample") ≡ false → bytes_eq w (codes "audit") ≡ false → bytes_eq w (codes "test") ≡ false → bytes_eq w (codes "library") ≡ false → bytes_eq w (codes "--help") ≡ false → bytes_eq w (codes "-h") ≡ false → bytes_eq w (codes "help") ≡ false → bytes_eq w (codes "--version") ≡ false → bytes_eq w (codes "-V") ≡ false → (verb : Verb) → IsOneOf w (words_of verb) → ⊥
-    all a b t c d e f g h i j k l m n q r s Check (inl is) = apart w (codes "check") a is
-    all a b t c d e f g h i j k l m n q r s Check (inr void) = void
-    all a b t c d e f g h i j k l m n q r s Show (inl is) = apart w (codes "show") b is
-    all a b t c d e f g h i j k l m n q r s Show (inr void) = void
-    all a b t c d e f g h i j k l m n q r s Format (inl is) = apart w (codes "format") t is
-    all a b t c d e f g h i j k l m n q r s Format (inr void) = void
-    all a b t c d e f g h i j k l m n q r s Run (inl is) = apart w (codes "run") c is
-    all a b t c d e f g h i j k l m n q r s Run (inr void) = void
-    all a b t c d e f g h i j k l m n q r s Eval (inl is) = apart w (codes "eval") d is
-    all a b t c d e f g h i j k l m n q r s Eval (inr void) = void
-    all a b t c d e f g h i j k l m n q r s Build (inl is) = apart w (codes "build") e is
-    all a b t c d e f g h i j k l m n q r s Build (inr void) = void
-    all a b t c d e f g h i j k l m n q r s Exec (inl is) = apart w (codes "exec") f is
-    all a b t c d e f g h i j k l m n q r s Exec (inr void) = void
-    all a b t c d e f g h i j k l m n q r s Listing (inl is) = apart w (codes "list") g is
-    all a b t c d e f g h i j k l m n q r s Listing (inr void) = void
-    all a b t c d e f g h i j k l m n q r s Session (inl is) = apart w (codes "session") h is
-    all a b t c d e f g h i j k l m n q r s Session (inr void) = void
-    all a b t c d e f g h i j k l m n q r s Sample (inl is) = apart w (codes "sample") i is
-    all a b t c d e f g h i j k l m n q r s Sample (inr void) = void
-    all a b t c d e f g h i j k l m n q r s Audit (inl is) = apart w (codes "audit") j is
-    all a b t c d e f g h i j k l m n q r s Audit (inr void) = void
-    all a b t c d e f g h i j k l m n q r s Test (inl is) = apart w (codes "test") k is
-    all a b t c d e f g h i j k l m n q r s Test (inr void) = void
-    all a b t c d e f g h i j k l m n q r s Library (inl is) = apart w (codes "library") l is
-    all a b t c d e f g h i j k l m n q r s Library (inr void) = void
-    all a b t c d e f g h i j k l m n q r s Help (inl is) = apart w (codes "--help") m is
-    all a b t c d e f g h i j k l m n q r s Help (inr (inl is)) = apart w (codes "-h") n is
-    all a b t c d e f g h i j k l m n q r s Help (inr (inr void)) = void
-    all a b t c d e f g h i j k l m n q r s Explain (inl is) = apart w (codes "help") q is
-    all a b t c d e f g h i j k l m n q r s Explain (inr void) = void
-    all a b t c d e f g h i j k l m n q r s Version (inl is) = apart w (codes "--version") r is
-    all a b t c d e f g h i j k l m n q r s Version (inr (inl is)) = apart w (codes "-V") s is
-    all a b t c d e f g h i j k l m n q r s Version (inr (inr void)) = void
+    all : bytes_eq w (codes "check") ≡ false → bytes_eq w (codes "show") ≡ false → bytes_eq w (codes "format") ≡ false → bytes_eq w (codes "run") ≡ false → bytes_eq w (codes "eval") ≡ false → bytes_eq w (codes "build") ≡ false → bytes_eq w (codes "exec") ≡ false → bytes_eq w (codes "list") ≡ false → bytes_eq w (codes "session") ≡ false → bytes_eq w (codes "sample") ≡ false → bytes_eq w (codes "audit") ≡ false → bytes_eq w (codes "test") ≡ false → bytes_eq w (codes "snap") ≡ false → bytes_eq w (codes "library") ≡ false → bytes_eq w (codes "--help") ≡ false → bytes_eq w (codes "-h") ≡ false → bytes_eq w (codes "help") ≡ false → bytes_eq w (codes "--version") ≡ false → bytes_eq w (codes "-V") ≡ false → (verb : Verb) → IsOneOf w (words_of verb) → ⊥
+    all a b t c d e f g h i j k u l m n q r s Check (inl is) = apart w (codes "check") a is
+    all a b t c d e f g h i j k u l m n q r s Check (inr void) = void
+    all a b t c d e f g h i j k u l m n q r s Show (inl is) = apart w (codes "show") b is
+    all a b t c d e f g h i j k u l m n q r s Show (inr void) = void
+    all a b t c d e f g h i j k u l m n q r s Format (inl is) = apart w (codes "format") t is
+    all a b t c d e f g h i j k u l m n q r s Format (inr void) = void
+    all a b t c d e f g h i j k u l m n q r s Run (inl is) = apart w (codes "run") c is
+    all a b t c d e f g h i j k u l m n q r s Run (inr void) = void
+    all a b t c d e f g h i j k u l m n q r s Eval (inl is) = apart w (codes "eval") d is
+    all a b t c d e f g h i j k u l m n q r s Eval (inr void) = void
+    all a b t c d e f g h i j k u l m n q r s Build (inl is) = apart w (codes "build") e is
+    all a b t c d e f g h i j k u l m n q r s Build (inr void) = void
+    all a b t c d e f g h i j k u l m n q r s Exec (inl is) = apart w (codes "exec") f is
+    all a b t c d e f g h i j k u l m n q r s Exec (inr void) = void
+    all a b t c d e f g h i j k u l m n q r s Listing (inl is) = apart w (codes "list") g is
+    all a b t c d e f g h i j k u l m n q r s Listing (inr void) = void
+    all a b t c d e f g h i j k u l m n q r s Session (inl is) = apart w (codes "session") h is
+    all a b t c d e f g h i j k u l m n q r s Session (inr void) = void
+    all a b t c d e f g h i j k u l m n q r s Sample (inl is) = apart w (codes "sample") i is
+    all a b t c d e f g h i j k u l m n q r s Sample (inr void) = void
+    all a b t c d e f g h i j k u l m n q r s Audit (inl is) = apart w (codes "audit") j is
+    all a b t c d e f g h i j k u l m n q r s Audit (inr void) = void
+    all a b t c d e f g h i j k u l m n q r s Test (inl is) = apart w (codes "test") k is
+    all a b t c d e f g h i j k u l m n q r s Test (inr void) = void
+    all a b t c d e f g h i j k u l m n q r s Snap (inl is) = apart w (codes "snap") u is
+    all a b t c d e f g h i j k u l m n q r s Snap (inr void) = void
+    all a b t c d e f g h i j k u l m n q r s Library (inl is) = apart w (codes "library") l is
+    all a b t c d e f g h i j k u l m n q r s Library (inr void) = void
+    all a b t c d e f g h i j k u l m n q r s Help (inl is) = apart w (codes "--help") m is
+    all a b t c d e f g h i j k u l m n q r s Help (inr (inl is)) = apart w (codes "-h") n is
+    all a b t c d e f g h i j k u l m n q r s Help (inr (inr void)) = void
+    all a b t c d e f g h i j k u l m n q r s Explain (inl is) = apart w (codes "help") q is
+    all a b t c d e f g h i j k u l m n q r s Explain (inr void) = void
+    all a b t c d e f g h i j k u l m n q r s Version (inl is) = apart w (codes "--version") r is
+    all a b t c d e f g h i j k u l m n q r s Version (inr (inl is)) = apart w (codes "-V") s is
+    all a b t c d e f g h i j k u l m n q r s Version (inr (inr void)) = void
 
 pub begins_nothing : Begins []
 begins_nothing =

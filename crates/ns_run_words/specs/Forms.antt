@@ -1,5 +1,6 @@
 -- The forms of a command line as relations, apart from how words are read.
 use Rattle.std.specs.Prelude.{◌≡◌, ◌⊎◌, ℕ, ◌+◌, ◌<◌, ◌≤◌, List, [], ◌∷◌, ◌++◌, Option, Some, None, true, option_and_then, codes, take, length}
+use Rattle.ns_run_words.specs.Options.{arguments_of}
 use Rattle.ns_run_words.specs.Own.{least_of, most_of}
 use Rattle.ns_run_words.specs.Table.{form_of, words_of}
 use Rattle.ns_run_words.specs.Words.{CommandLine, LineReading, says, bad, has_needed, is_item, nothing_given, with_option}
@@ -44,7 +45,7 @@ pub record IsForm (words : List (List ℕ)) (line : CommandLine) : Type 0 where
   pub enough : least_of (form_of line.verb) line.given ≤ length line.names
   pub few : length line.names ≤ most_of (form_of line.verb) line.given
   pub named : AreNames (form_of line.verb).item line.names
-  pub ends : AreArguments (form_of line.verb).arguments last line.arguments
+  pub ends : AreArguments (arguments_of (form_of line.verb) line.given) last line.arguments
 
 -- The line is what some words spell.
 abbrev pub IsSpelledLine : CommandLine → Type 0

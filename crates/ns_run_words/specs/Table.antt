@@ -5,7 +5,7 @@ use Rattle.ns_base.specs.declared.limits.Limits.{Limits}
 use Rattle.ns_run_words.specs.declared.form.Form.{Form}
 use Rattle.ns_run_words.specs.declared.form.Item.TheVariants.{File, Number, Application, Text, Topic}
 use Rattle.ns_run_words.specs.declared.form.Verb.{Verb}
-use Rattle.ns_run_words.specs.declared.form.Verb.TheVariants.{Check, Show, Format, Run, Eval, Build, Exec, Listing, Session, Sample, Audit, Test, Library, Help, Explain, Version}
+use Rattle.ns_run_words.specs.declared.form.Verb.TheVariants.{Check, Show, Format, Run, Eval, Build, Exec, Listing, Session, Sample, Audit, Test, Snap, Library, Help, Explain, Version}
 
 -- the greatest limits of a run
 abbrev pub greatest : Limits
@@ -29,6 +29,7 @@ names_alone least most =
       checks = false;
       members = false;
       to = false;
+      at = false;
       item = File;
       least = least;
       most = most;
@@ -45,7 +46,8 @@ run_of form = record form { greatest = Some greatest; runs = true; json = true; 
 
 -- the form of each command: the greatest limits that its options can give, where it takes these; whether it takes
 -- `--quantum=N`, `--lib`, the options of tests, denials, the options of runs and of checks, `--json`, `--members`, and `--to=IMAGE`, which
--- takes the place of the first name; what each name is; the fewest names and the most; how many arguments
+-- takes the place of the first name; whether `--at=N` must be there; what each name is; the fewest names and the most; how many arguments,
+-- with texts among them
 abbrev pub form_of : Verb → Form
 form_of Check = record of_program { checks = true; json = true }
 form_of Show = names_alone 1 1
@@ -55,10 +57,12 @@ form_of Eval = run_of (record (names_alone 1 1) { lib = true; item = Text })
 form_of Build = record (names_alone 2 17) { lib = true; to = true; json = true }
 form_of Exec = run_of (names_alone 1 1)
 form_of Listing = record (names_alone 1 1) { members = true }
-form_of Session = record (names_alone 1 16) { greatest = Some greatest_of_many; quantum = true; lib = true; item = Application }
+form_of Session =
+    record (names_alone 1 16) { greatest = Some greatest_of_many; quantum = true; lib = true; json = true; item = Application }
 form_of Sample = record (names_alone 1 1) { item = Number 1000 }
-form_of Audit = record (names_alone 2 2) { denies = true }
-form_of Test = record of_program { greatest = Some greatest; tests = true }
+form_of Audit = record (names_alone 2 2) { denies = true; json = true }
+form_of Test = record of_program { greatest = Some greatest; tests = true; json = true }
+form_of Snap = record (names_alone 2 17) { greatest = Some greatest; lib = true; at = true }
 form_of Library = names_alone 0 0
 form_of Help = names_alone 0 0
 form_of Explain = record (names_alone 0 1) { item = Topic }
@@ -78,6 +82,7 @@ words_of Session = codes "session" ∷ []
 words_of Sample = codes "sample" ∷ []
 words_of Audit = codes "audit" ∷ []
 words_of Test = codes "test" ∷ []
+words_of Snap = codes "snap" ∷ []
 words_of Library = codes "library" ∷ []
 words_of Help = codes "--help" ∷ codes "-h" ∷ []
 words_of Explain = codes "help" ∷ []
@@ -108,5 +113,6 @@ verb_of word =
     else (if bytes_eq word (codes "sample") then Some Sample
     else (if bytes_eq word (codes "audit") then Some Audit
     else (if bytes_eq word (codes "test") then Some Test
+    else (if bytes_eq word (codes "snap") then Some Snap
     else (if bytes_eq word (codes "library") then Some Library
-    else telling_verb_of word))))))))))))
+    else telling_verb_of word)))))))))))))

@@ -7,7 +7,7 @@ use Rattle.ns_base.specs.declared.limits.Limits.{Limits}
 use Rattle.ns_help.specs.Topics.{text_of}
 use Rattle.ns_run_words.specs.Application.{is_application}
 use Rattle.ns_run_words.specs.FileName.{is_file_name, is_text}
-use Rattle.ns_run_words.specs.Options.{denial_where, run_where, tests_where}
+use Rattle.ns_run_words.specs.Options.{arguments_of, denial_where, run_where, tests_where, value_behind}
 use Rattle.ns_run_words.specs.Own.{least_of, most_of, own_option}
 use Rattle.ns_run_words.specs.Table.{form_of, verb_of}
 use Rattle.ns_run_words.specs.declared.form.Form.{Form}
@@ -55,6 +55,10 @@ begins_bad (d ∷ ds) = nat_eq d 48
 abbrev pub number_of : ℕ → List ℕ → Option ℕ
 number_of greatest text = if begins_bad text then None else option_and_then (in_range greatest) (value_from 0 text)
 
+-- a number of steps: 0, or one from 1 on
+abbrev pub steps_of : List ℕ → Option ℕ
+steps_of text = if bytes_eq text (codes "0") then Some 0 else number_of 1000000000000 text
+
 -- ---- options
 
 -- no option
@@ -71,12 +75,15 @@ nothing_given =
       only = false;
       denied = 0;
       stats = false;
+      trace = false;
       truth = false;
       json = false;
       all = false;
       sends = false;
       members = false;
       to = false;
+      at = None;
+      texts = 0;
     }
 
 -- the number that a word gives which begins with an option's name, where that option wasn't given before
@@ -125,12 +132,25 @@ abbrev pub quantum_where : Bool → Given → List ℕ → Option Given
 quantum_where takes given word =
     if takes then with_quantum given (number_given (codes "--quantum=") 1000000 given.quantum word) else None
 
+-- the steps behind which a run is paused, as a word gives them that is this option, where they weren't given before
+abbrev pub at_given : Option ℕ → List ℕ → Option ℕ
+at_given (Some n) word = None
+at_given None word = option_and_then steps_of (value_behind (codes "--at=") word)
+
+abbrev pub with_at : Given → Option ℕ → Option Given
+with_at given None = None
+with_at given (Some n) = Some (record given { at = Some n })
+
+-- what is given with a word more that is the option of a pause
+abbrev pub at_where : Bool → Given → List ℕ → Option Given
+at_where takes given word = if takes then with_at given (at_given given.at word) else None
+
 -- the first that is there
 abbrev pub given_or : Option Given → Option Given → Option Given
 given_or (Some given) other = Some given
 given_or None other = other
 
--- what is given with one word more: an option that the form takes, and that wasn't given before, or one more denial
+-- what is given with one word more: an option that the form takes, and that wasn't given before, or one more denial or text
 abbrev pub with_option : Form → Given → List ℕ → Option Given
 with_option form given word =
     if bytes_eq word (codes "--lib") then (if form.lib then with_lib given else None)
@@ -138,11 +158,12 @@ with_option form given word =
     (given_or (tests_where form.tests given word)
     (given_or (denial_where form.denies given word)
     (given_or (run_where form.runs given word)
-    (given_or (own_option form given word) (limit_where form.greatest given word)))))
+    (given_or (own_option form given word)
+    (given_or (at_where form.at given word) (limit_where form.greatest given word))))))
 
 -- whether the options are there without which the form takes no name
 abbrev pub has_needed : Form → Given → Bool
-has_needed form given = if form.denies then nat_lt 0 given.denied else true
+has_needed form given = if form.denies then nat_lt 0 given.denied else (if form.at then is_some given.at else true)
 
 -- the limits that are given, and the defaults of the others
 abbrev pub limits_of : Given → Limits
@@ -157,6 +178,10 @@ limits_of given =
 -- the steps of a turn that are given, or the default
 abbrev pub quantum_of : Given → ℕ
 quantum_of given = unwrap_or given.quantum 1000
+
+-- the steps behind which a run is paused
+abbrev pub at_of : Given → ℕ
+at_of given = unwrap_or given.at 0
 
 -- ---- one word
 
@@ -177,12 +202,12 @@ has_room (Some most) count = nat_lt count most
 -- what is read with an argument more
 abbrev pub with_argument : Form → Given → List (List ℕ) → List (List ℕ) → List (List ℕ) → List ℕ → Option ReadSoFar
 with_argument form given options names arguments word =
-    if has_room form.arguments (length arguments) then Some (Arguments given options names (arguments ++ word ∷ [])) else None
+    if has_room (arguments_of form given) (length arguments) then Some (Arguments given options names (arguments ++ word ∷ [])) else None
 
 -- how many arguments may stand behind the word, where it is `--` and the form takes it behind so many names
 abbrev pub arguments_behind : Form → Given → ℕ → List ℕ → Option ℕ
 arguments_behind form given count word =
-    if bytes_eq word (codes "--") && nat_le (least_of form given) count then form.arguments else None
+    if bytes_eq word (codes "--") && nat_le (least_of form given) count then arguments_of form given else None
 
 -- what is read with `--` behind the names, where so many arguments may stand behind it
 abbrev pub with_dashes : Given → List (List ℕ) → List (List ℕ) → Option ℕ → Option ReadSoFar

@@ -32,6 +32,8 @@ pub enum Verb {
     Audit,
     /// Runs the tests of a program.
     Test,
+    /// Stores the snapshot of a run that is paused.
+    Snap,
     /// Writes the source of the library.
     Library,
     /// Tells how the program is used.
@@ -57,7 +59,7 @@ pub enum Item {
     Topic,
 }
 
-/// What may stand behind the first word: options, in any order and each at most once, but for denials; then
+/// What may stand behind the first word: options, in any order and each at most once, but for denials and texts; then
 /// names; then `--` and arguments.
 #[derive(Clone, Copy)]
 pub struct Form {
@@ -71,7 +73,7 @@ pub struct Form {
     pub tests: bool,
     /// Whether `--deny=SELECTOR` is to be given, from once to 16 times.
     pub denies: bool,
-    /// Whether `--stats` and `--true` can be given.
+    /// Whether `--stats`, `--trace`, `--true` and `--text=FILE` can be given, the last up to 255 times.
     pub runs: bool,
     /// Whether `--json` can be given.
     pub json: bool,
@@ -81,13 +83,15 @@ pub struct Form {
     pub members: bool,
     /// Whether `--to=IMAGE` can be given, which stands for the first of the names.
     pub to: bool,
+    /// Whether `--at=N` must be given.
+    pub at: bool,
     /// What each name is.
     pub item: Item,
     /// The fewest names.
     pub least: u64,
     /// The most names.
     pub most: u64,
-    /// The most arguments, where `--` is taken.
+    /// The most arguments, where `--` is taken. Each text is one of them.
     pub arguments: Option<u64>,
 }
 
@@ -132,9 +136,11 @@ pub fn form_of(verb: Verb) -> Form
         // The image, and the name of a class.
         Verb::Audit => Form {
             denies: true,
+            json: true,
             ..names(2, 2)
         },
         Verb::Test => tests(),
+        Verb::Snap => snap(),
         Verb::Library => names(0, 0),
         Verb::Help => names(0, 0),
         Verb::Explain => Form {
@@ -187,6 +193,7 @@ fn session() -> Form
         greatest: Some(GREATEST_OF_MANY),
         quantum: true,
         lib: true,
+        json: true,
         item: Item::Application,
         ..names(1, 16)
     }
@@ -199,7 +206,20 @@ fn tests() -> Form
     Form {
         greatest: Some(Limits::GREATEST),
         tests: true,
+        json: true,
         ..program()
+    }
+}
+
+/// The form of the snapshot of a paused run: the snapshot, and 1 to 16 files behind it.
+fn snap() -> Form
+    ensures { result ≡ spec.form_of Verb.Snap }
+{
+    Form {
+        greatest: Some(Limits::GREATEST),
+        lib: true,
+        at: true,
+        ..names(2, 17)
     }
 }
 
@@ -218,6 +238,7 @@ fn names(least: u64, most: u64) -> Form
         checks: false,
         members: false,
         to: false,
+        at: false,
         item: Item::File,
         least,
         most,
@@ -264,6 +285,9 @@ pub fn verb_of(word: &[u8]) -> Option<Verb>
     }
     if word == b"test".as_slice() {
         return Some(Verb::Test);
+    }
+    if word == b"snap".as_slice() {
+        return Some(Verb::Snap);
     }
     if word == b"library".as_slice() {
         return Some(Verb::Library);

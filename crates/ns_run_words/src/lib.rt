@@ -8,4 +8,5 @@ pub mod form;
 pub mod laws;
 pub mod options;
 pub mod own;
+mod pause;
 pub mod words;

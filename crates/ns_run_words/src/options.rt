@@ -1,9 +1,11 @@
 //! The options of tests, of audits and of runs.
 
 ghost use Rattle.std.specs.Prelude.{◌≡◌, IfOk, Some, codes, drop, length, map, option_map, string_bytes};
+ghost use Rattle.ns_run_words.specs.Options.{value_behind as value_behind_lem};
 ghost use Rattle.ns_run_words.specs.Options as spec;
 
-use crate::words::Given;
+use crate::form::Form;
+use crate::words::{Given, is_file_name};
 use ns_base::no_memory::NoMemory;
 use ns_base::spelled::{is_identifier, is_selector};
 use ns_base::text::Text;
@@ -92,10 +94,16 @@ pub fn run_where(takes: bool, given: Given, word: &[u8]) -> Option<Given>
     if word == b"--stats".as_slice() {
         return with_stats(given);
     }
+    if word == b"--trace".as_slice() {
+        return with_trace(given);
+    }
     if word == b"--true".as_slice() {
         return with_truth(given);
     }
-    None
+    match value_behind(b"--text=", word) {
+        Some(name) => with_text(given, name),
+        None => None,
+    }
 }
 
 fn with_stats(given: Given) -> Option<Given>
@@ -106,6 +114,19 @@ fn with_stats(given: Given) -> Option<Given>
     } else {
         Some(Given {
             stats: true,
+            ..given
+        })
+    }
+}
+
+fn with_trace(given: Given) -> Option<Given>
+    ensures { result ≡ spec.with_trace given }
+{
+    if given.trace {
+        None
+    } else {
+        Some(Given {
+            trace: true,
             ..given
         })
     }
@@ -124,6 +145,37 @@ fn with_truth(given: Given) -> Option<Given>
     }
 }
 
+/// What is given with one more file of a text, of at most 255.
+fn with_text(given: Given, name: &[u8]) -> Option<Given>
+    ensures { result ≡ spec.with_text given (Some name.now) }
+{
+    if is_file_name(name) && given.texts < 255 {
+        Some(Given {
+            texts: given.texts + 1,
+            ..given
+        })
+    } else {
+        None
+    }
+}
+
+/// The most arguments behind what is given, where the form takes any: each text is one of them.
+pub fn arguments_of(form: Form, given: Given) -> Option<u64>
+    ensures { result ≡ spec.arguments_of form given }
+{
+    match form.arguments {
+        Some(most) => Some(most.saturating_sub(given.texts)),
+        None => None,
+    }
+}
+
+/// The file of a text that a word names which is the option of texts.
+pub fn text_in(option: &str) -> Option<&str>
+    ensures { option_map (λ name. name.now) result ≡ value_behind_lem (codes "--text=") option.now }
+{
+    option.strip_prefix("--text=")
+}
+
 /// The one test that options name, if they name one.
 pub fn only_among(options: &[String]) -> Option<&[u8]>
     ensures { option_map (λ name. name.now) result ≡ spec.only_among (map string_bytes options.now) }
@@ -137,27 +189,18 @@ pub fn only_among(options: &[String]) -> Option<&[u8]>
     None
 }
 
-/// The selectors that options deny, each of which is a denial.
+/// The selectors that options deny.
 pub fn denied_texts(alloc: Global, options: &[String]) -> Result<Vec<Text>, NoMemory>
     ensures { IfOk result (λ denied. denied.items ≡ spec.denied_by (map string_bytes options.now)) }
 {
-    let mut denied = Vec::with_capacity(alloc, options.len())?;
+    let mut denied = Vec::new(alloc);
     'options: for option in options {
-        denied.push(denied_text(alloc, option.as_bytes())?)?;
+        match value_behind(b"--deny=", option.as_bytes()) {
+            Some(text) => denied.push(Text::of(alloc, text)?)?,
+            None => (),
+        }
     }
     Ok(denied)
-}
-
-/// What stands behind the name of the option of a denial.
-fn denied_text(alloc: Global, option: &[u8]) -> Result<Text, NoMemory>
-    ensures { IfOk result (λ text. text ≡ drop (length (codes "--deny=")) option.now) }
-{
-    let name = b"--deny=".len();
-    if option.len() < name {
-        return Text::of(alloc, b"");
-    }
-    let (_, text) = option.split_at(name);
-    Text::of(alloc, text)
 }
 
 /// What stands behind the name of an option, in a word that begins with it.

@@ -5,14 +5,16 @@ ghost use Rattle.ns_base.specs.Limits.{InRange};
 ghost use Rattle.ns_run_words.specs.FileName as file_name;
 ghost use Rattle.ns_run_words.specs.Forms.{IsSpelledLine};
 ghost use Rattle.ns_run_words.specs.Line.{line_seen, seen};
+ghost use Rattle.ns_run_words.specs.Options.{arguments_of as arguments_of_lem};
 ghost use Rattle.ns_run_words.specs.Own.{least_of as least_of_lem};
 ghost use Rattle.ns_run_words.specs.Table.{form_of as form_of_lem};
 ghost use Rattle.ns_run_words.specs.Words as spec;
 
 use crate::application::application_of;
 use crate::form::{Form, Item, Verb, form_of, verb_of};
-use crate::options::{denial_where, run_where, tests_where};
+use crate::options::{arguments_of, denial_where, run_where, tests_where};
 use crate::own::{least_of, most_of, own_option};
+use crate::pause::at_where;
 use ns_base::limits::Limits;
 use ns_base::spelling::is_digit;
 use ns_help::topics::text_of;
@@ -34,6 +36,8 @@ pub struct Given {
     pub denied: u64,
     /// Whether what a run used is to be told.
     pub stats: bool,
+    /// Whether the sends that were open at the end of a run are to be told.
+    pub trace: bool,
     /// Whether a run is done only where its answer is true.
     pub truth: bool,
     /// Whether all is told as one line of JSON.
@@ -46,6 +50,10 @@ pub struct Given {
     pub members: bool,
     /// Whether an option names the image.
     pub to: bool,
+    /// The steps behind which a run is paused.
+    pub at: Option<u64>,
+    /// How many texts are named.
+    pub texts: u64,
 }
 
 impl Given {
@@ -66,6 +74,13 @@ impl Given {
         ensures { result ≡ spec.quantum_of self.now }
     {
         self.quantum.unwrap_or(1_000)
+    }
+
+    /// The steps behind which a run is paused.
+    pub fn at(&self) -> u64
+        ensures { result ≡ spec.at_of self.now }
+    {
+        self.at.unwrap_or(0)
     }
 }
 
@@ -144,12 +159,15 @@ fn nothing_given() -> Given
         only: false,
         denied: 0,
         stats: false,
+        trace: false,
         truth: false,
         json: false,
         all: false,
         sends: false,
         members: false,
         to: false,
+        at: None,
+        texts: 0,
     }
 }
 
@@ -238,10 +256,10 @@ fn ended<'a>(
 /// many names.
 fn arguments_behind(form: Form, given: Given, count: u64, word: &[u8]) -> Option<u64>
     ensures is { result ≡ spec.arguments_behind form given count word.now }
-    ensures taken { IfSome result (λ most. (form.arguments ≡ Some most) × (nat_le (least_of_lem form given) count ≡ true)) }
+    ensures taken { IfSome result (λ most. (arguments_of_lem form given ≡ Some most) × (nat_le (least_of_lem form given) count ≡ true)) }
 {
     if word == b"--".as_slice() && least_of(form, given) <= count {
-        form.arguments
+        arguments_of(form, given)
     } else {
         None
     }
@@ -257,7 +275,7 @@ fn arguments<'a>(
     number: u64,
     words: &'a [String],
 ) -> Result<Line<'a>, BadWord>
-    requires most { (form_of_lem verb).arguments ≡ Some most }
+    requires most { arguments_of_lem (form_of_lem verb) given ≡ Some most }
     requires enough { nat_le (least_of_lem (form_of_lem verb) given) (length names.now) ≡ true }
     requires number { number + length words.now ≤ 18446744073709551615 }
     ensures { seen result ≡ spec.read_from verb (spec.Arguments given (map string_bytes options.now) (map string_bytes names.now) [])
@@ -279,7 +297,10 @@ fn arguments<'a>(
 fn has_needed(form: Form, given: Given) -> bool
     ensures { result ≡ spec.has_needed form given }
 {
-    !form.denies || 0 < given.denied
+    if form.denies {
+        return 0 < given.denied;
+    }
+    !form.at || given.at.is_some()
 }
 
 /// Whether a word can be such a name.
@@ -309,7 +330,7 @@ fn is_text(word: &[u8]) -> bool
     word.is_empty() || word[0] != b'-'
 }
 
-/// What is given with one word more: an option that the form takes, and that was not given before, or one more denial.
+/// What is given with one word more: an option that the form takes, and that was not given before, or one more denial or text.
 fn with_option(form: Form, given: Given, word: &[u8]) -> Option<Given>
     requires { IfSome form.greatest InRange }
     ensures { result ≡ spec.with_option form given word.now }
@@ -330,6 +351,9 @@ fn with_option(form: Form, given: Given, word: &[u8]) -> Option<Given>
         return Some(more);
     }
     if let Some(more) = own_option(form, given, word) {
+        return Some(more);
+    }
+    if let Some(more) = at_where(form.at, given, word) {
         return Some(more);
     }
     limit_where(form.greatest, given, word)
@@ -421,7 +445,7 @@ fn number_given(name: &[u8], greatest: u64, before: Option<u64>, word: &[u8]) ->
 }
 
 /// The decimal number without a leading zero, from 1 to the greatest.
-fn number(greatest: u64, text: &[u8]) -> Option<u64>
+pub fn number(greatest: u64, text: &[u8]) -> Option<u64>
     requires { greatest ≤ 1000000000000 }
     ensures is { result ≡ spec.number_of greatest text.now }
     ensures range { IfSome result (λ n. (1 ≤ n) × (n ≤ greatest)) }

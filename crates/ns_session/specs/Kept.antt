@@ -13,6 +13,10 @@ abbrev pub member_shown : MachineView → Grants → Limits → MemberView
 member_shown machine grants limits =
     record { application = record { code = machine.code; grants = grants; limits = limits }; state = machine.state }
 
+-- the machine in which an application runs, as it shows itself
+abbrev pub machine_of : MemberView → MachineView
+machine_of member = record { code = member.application.code; grants = member.application.grants; state = member.state }
+
 -- The machine has these grants, it stands where turns lead, its ending is kept beside it, and without the board it stands
 -- where its run on its own does.
 pub record IsMember (machine : MachineView) (grants : Grants) (limits : Limits) (ending : Option Ending) : Type 0 where

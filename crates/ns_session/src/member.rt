@@ -5,6 +5,7 @@ ghost use Rattle.std.specs.Option.{option_copied};
 ghost use Rattle.ns_base.specs.Limits.{InRange};
 ghost use Rattle.ns_machine_moves.specs.State.{ending_of};
 ghost use Rattle.ns_machine.specs.Turned.{turn_at};
+ghost use Rattle.ns_session.specs.Kept.{machine_of};
 ghost use Rattle.ns_session.specs.Member.{starting, transcript_of, report_of, line_of, TurnOf, LentTurn, OwnTurn, StandsAlone};
 ghost use Rattle.ns_session.specs.Reached.{left_for};
 
@@ -89,6 +90,13 @@ impl Member {
         ensures { option_copied result ≡ ending_of self.now.state }
     {
         self.ending.as_ref()
+    }
+
+    /// The machine in which it runs.
+    pub fn machine(&self) -> &Machine
+        ensures { result.now ≡ machine_of self.now }
+    {
+        &self.machine
     }
 
     /// What it has printed.

@@ -3,6 +3,7 @@
 ghost use Rattle.std.specs.Prelude.{◌≡◌, ◌≤◌, ◌<◌, ◌↔◌, [], length, slice_get, option_map, IfOk, OnOk, OnErr, IsErr, IsErrOf};
 ghost use Rattle.std.specs.Option.{option_copied};
 ghost use Rattle.ns_base.specs.Limits.{InRange};
+ghost use Rattle.ns_session.specs.Kept.{machine_of};
 ghost use Rattle.ns_session.specs.Member.{transcript_of};
 ghost use Rattle.ns_session.specs.Session.{added, Plays, OthersStay, BoardStays, ending_in, report_in, line_in, AnswersTurn, IsAloneAt};
 ghost use Rattle.ns_session.specs.Reached.{left_of};
@@ -17,6 +18,7 @@ use ns_base::no_memory::NoMemory;
 use ns_base::text::Text;
 use ns_facets::board::Board;
 use ns_facets::row::Grants;
+use ns_machine::machine::Machine;
 use ns_machine::stage::Turn;
 use ns_verify::verify::Verified;
 use ns_world::ending::Ending;
@@ -118,6 +120,17 @@ impl Session {
                 member.stands_alone();
                 member.ending()
             }
+            None => None,
+        }
+    }
+
+    /// The machine in which an application runs, if it is there: it tells the application's code, its ending, what it has
+    /// printed and what it has used.
+    pub fn machine(&self, k: u32) -> Option<&Machine>
+        ensures { option_map (λ machine. machine.now) result ≡ option_map machine_of (slice_get self.now.members k) }
+    {
+        match self.members.get(k as usize) {
+            Some(member) => Some(member.machine()),
             None => None,
         }
     }

@@ -1,4 +1,5 @@
 pub mod KeepingLaws
 pub mod MakingLaws
+pub mod PartLaws
 pub mod StandingLaws
 pub mod TellingLaws

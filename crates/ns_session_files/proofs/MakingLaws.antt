@@ -20,7 +20,8 @@ use Rattle.ns_session.specs.Member.{Application, MemberView, starting}
 use Rattle.ns_session.specs.Session.{SessionView, added}
 use Rattle.ns_run_words.specs.Application.{Asked, all_name_files, are_few}
 use Rattle.ns_run_words.specs.FileName.{is_file_name}
-use Rattle.ns_session_files.specs.Answer.{AreAdmitted, IsCodeOf, IsFaultOfMaking, IsMadeAs, IsWithAll, AddsAll, OfSomeName, OfSomeTexts, with_all}
+use Rattle.ns_run_words.specs.Named.{OfSomeName, OfSomeTexts}
+use Rattle.ns_session_files.specs.Answer.{AreAdmitted, IsCodeOf, IsFaultOfMaking, IsMadeAs, IsWithAll, AddsAll, with_all}
 use Rattle.ns_session_files.specs.Making.{Making, Source, all_made, application_of, behind, files_asked, made, made_of, of_least, of_loading, of_source, refused, then_made}
 use Rattle.ns_session_files.specs.declared.fault.JointFault.{JointFault}
 use Rattle.ns_session_files.specs.declared.fault.JointFault.TheVariants as fault

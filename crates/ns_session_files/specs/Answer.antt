@@ -1,6 +1,5 @@
 -- What answers say of the applications of a session.
-use Rattle.std.specs.Prelude.{◌≡◌, ℕ, List, [], ◌∷◌, ◌++◌, map, length, string_bytes, Option, Result, Ok, Err, slice_get, IsSome, IsSomeAnd}
-use Rattle.ns_base.specs.Files.{Files}
+use Rattle.std.specs.Prelude.{◌≡◌, ℕ, List, [], ◌∷◌, ◌++◌, map, string_bytes, Result, Ok, Err}
 use Rattle.ns_base.specs.declared.limits.Limits.{Limits}
 use Rattle.ns_code.specs.Fits.{Fits}
 use Rattle.ns_code.specs.declared.program.CodeProgram.{CodeProgram}
@@ -18,7 +17,7 @@ use Rattle.ns_session_files.specs.Joint.{Joint, has_run, stopped_for}
 use Rattle.ns_session_files.specs.Making.{Making, Refusal, Source, application_of, made, refused, too_large, unchecked, unloaded}
 use Rattle.ns_session_files.specs.declared.fault.JointFault.{JointFault}
 use Rattle.ns_session_files.specs.declared.fault.JointFault.TheVariants as fault
-use Rattle.ns_session_files.specs.declared.joint.Told.{Told}
+use Rattle.ns_session_files.specs.declared.joint.ToldSession.{ToldSession}
 
 -- ---- faults
 
@@ -119,23 +118,9 @@ abbrev pub AddsAll : Limits → Making → SessionView → SessionView → Resul
 AddsAll limits making old new (Ok _) = IsWithAll limits making old new
 AddsAll limits making old new (Err why) = IsFaultOfMaking making why
 
--- ---- files
-
--- There is a text, or none, for each of these names, and of these this is so.
-abbrev pub OfSomeTexts : List (List ℕ) → (List (Option (List ℕ)) → Type 0) → Type 0
-OfSomeTexts names P = (texts : List (Option (List ℕ))) × (length texts ≡ length names) × P texts
-
--- Some of these names is such.
-abbrev pub OfSomeName : List (List ℕ) → (List ℕ → Type 0) → Type 0
-OfSomeName names P = (k : ℕ) × IsSomeAnd (slice_get names k) P
-
--- One of these files is there.
-abbrev pub SomeIsThere : Files → List (List ℕ) → Type 0
-SomeIsThere files names = OfSomeName names (λ file. IsSome (files file))
-
 -- ---- the session
 
 -- All have run, or there is a refusal.
-abbrev pub TellsOfAll : Joint → Result Told JointFault → Type 0
+abbrev pub TellsOfAll : Joint → Result ToldSession JointFault → Type 0
 TellsOfAll joint (Ok told) = joint ≡ has_run told
 TellsOfAll joint (Err why) = IfRefusal (λ refusal. joint ≡ stopped_for refusal) why

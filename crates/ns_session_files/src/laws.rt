@@ -2,7 +2,7 @@
 
 ghost use Rattle.std.specs.Prelude.{ℕ};
 ghost use Rattle.ns_base.specs.declared.limits.Limits.{Limits};
-ghost use Rattle.ns_session_files.specs.Laws.{AppliesAsMeant, KeepsApplications};
+ghost use Rattle.ns_session_files.specs.Laws.{AppliesAsMeant, KeepsApplications, PartsTellRuns};
 
 /// Under the round robin a session has the same applications, in their order.
 #[tactic(auto, using(crate::proofs::KeepingLaws::keeps_applications))]
@@ -18,4 +18,12 @@ pub fn applications_run_as_their_sources_mean()
 {
     ns_session::laws::applications_mean_their_sources();
     ns_link::laws::the_machine_does_what_is_meant();
+}
+
+/// What an application tells in parts its lines tell too. So one that has ended and isn't granted the board tells in parts what
+/// its source means on its own.
+pub fn parts_tell_runs()
+    ensures { PartsTellRuns }
+{
+    ns_run_told::laws::lines_tell_ends();
 }

@@ -7,5 +7,6 @@ pub mod fault;
 pub mod joint;
 pub mod laws;
 mod making;
+mod parts;
 pub mod source;
 mod telling;

@@ -31,5 +31,5 @@ error_line : verdict_line Erred (codes "testC") (codes "limit: steps") ≡ codes
 error_line = refl
 
 -- an error is no failure
-one_of_each : counted [] (Erred ∷ Passed ∷ Failed ∷ Erred ∷ []) ≡ record { lines = []; tests = 4; passed = 1; failed = 1; errors = 2 }
+one_of_each : counted [] [] (Erred ∷ Passed ∷ Failed ∷ Erred ∷ []) ≡ record { lines = []; parts = []; tests = 4; passed = 1; failed = 1; errors = 2 }
 one_of_each = refl

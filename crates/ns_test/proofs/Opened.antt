@@ -12,7 +12,7 @@ use Rattle.ns_gen_code.specs.Sizes.{size_fault}
 use Rattle.ns_gen_code.specs.declared.size.SizeKind.{SizeKind}
 use Rattle.ns_machine_moves.specs.State.{State, ending_of, world_of}
 use Rattle.ns_resolved.specs.Program.{Meant}
-use Rattle.ns_run_code.specs.Machine.{end_of, told_at}
+use Rattle.ns_run_code.specs.Machine.{end_of}
 use Rattle.ns_world.specs.Heap.{Heap}
 use Rattle.ns_world.specs.World.{World}
 use Rattle.ns_world.specs.declared.ending.Ending.{Ending}
@@ -50,17 +50,17 @@ answers_none code state value ended is limits reversed only =
 
 -- an opening that ended without a value has stopped
 has_stopped : (code : CodeProgram) (limits : Limits) (reversed : Bool) (only : Option (List ℕ)) (state : State) (ending : Ending)
-    → ((value : Value) → ending ≡ Done value → ⊥) → of_ending code limits reversed only state ending ≡ stopped_at (told_at code state)
+    → ((value : Value) → ending ≡ Done value → ⊥) → of_ending code limits reversed only state ending ≡ stopped_at code state
 has_stopped code limits reversed only state (Done value) other = absurd (other value refl)
 has_stopped code limits reversed only state (Error error) other = refl
 has_stopped code limits reversed only state (Limit limit) other = refl
 
 pub answers_stop : (code own : CodeProgram) (state : State) (ending : Ending) (fault : TestFault) → own ≡ code
     → ending_of state ≡ Some ending → ((value : Value) → ending ≡ Done value → ⊥)
-    → Tells (stopped_at (told_at own state)) (Err fault) → AnswersFault code state fault
+    → Tells (stopped_at own state) (Err fault) → AnswersFault code state fault
 answers_stop code own state ending fault same ended other tells limits reversed only =
     let here = ends_so code limits reversed only state ending ended ∙ has_stopped code limits reversed only state ending other in
-    let mine = subst (λ (each : CodeProgram). Tells (stopped_at (told_at each state)) (Err fault)) same tells in
+    let mine = subst (λ (each : CodeProgram). Tells (stopped_at each state) (Err fault)) same tells in
     subst (λ (tested : Tested). Tells tested (Err fault)) (sym here) mine
 
 -- what is said of the fault of an answer is said of each fault that it is

@@ -6,7 +6,7 @@ use Rattle.ns_machine.specs.Machine.{MachineView}
 use Rattle.ns_machine_moves.specs.State.{State}
 use Rattle.ns_run_code.specs.Run.{granted}
 use Rattle.ns_test.specs.declared.alone.TestResult.{TestResult}
-use Rattle.ns_test.specs.Alone.{line_at, run_alone, verdict_at}
+use Rattle.ns_test.specs.Alone.{line_at, part_at, run_alone, verdict_at}
 
 -- a machine that sends a name on
 abbrev sending : (CodeProgram → List ℕ → State → State) → List ℕ → MachineView → MachineView
@@ -32,7 +32,12 @@ alone code limits name = record { code = code; grants = granted; state = run_alo
 
 -- what is told of a test of that name by its machine
 abbrev pub told_in : MachineView → List ℕ → TestResult
-told_in machine name = record { verdict = verdict_at machine.state; line = line_at machine.code name machine.state }
+told_in machine name =
+    record {
+      verdict = verdict_at machine.state;
+      line = line_at machine.code name machine.state;
+      part = part_at machine.code name machine.state;
+    }
 
 -- what is told by a machine and of a name is told by the same machine and of the same name
 pub told_same : {T E : Type 0} (tell : MachineView → List ℕ → T) (stands : List ℕ → MachineView) (result : Result T E)

@@ -11,7 +11,12 @@ use Rattle.ns_world.specs.declared.ending.Ending.TheVariants.{Done, Error, Limit
 use Rattle.ns_machine_moves.specs.Starts.{begun}
 use Rattle.ns_machine_moves.specs.State.{State, ending_of}
 use Rattle.ns_machine.specs.Asking.{named}
+use Rattle.ns_json.specs.declared.saying.End.{End}
+use Rattle.ns_json.specs.declared.saying.Outcome.{Outcome}
+use Rattle.ns_json.specs.declared.saying.Outcome.TheVariants as outcome
+use Rattle.ns_json.specs.declared.saying.Test.{Test}
 use Rattle.ns_run_code.specs.Machine.{end_of, rested, told_at}
+use Rattle.ns_run_told.specs.Told.{run_told}
 use Rattle.ns_test.specs.declared.report.Verdict.{Verdict}
 use Rattle.ns_test.specs.declared.report.Verdict.TheVariants.{Passed, Failed, Erred}
 use Rattle.ns_test.specs.Opening.{opened}
@@ -55,13 +60,26 @@ verdict_line Passed name report = codes "pass " ++ name ++ 10 ∷ []
 verdict_line Failed name report = codes "fail " ++ name ++ 10 ∷ []
 verdict_line Erred name report = codes "error " ++ name ++ 32 ∷ report
 
+-- how a test went in parts, whose run ended so
+abbrev pub outcome_of : Verdict → End → Outcome
+outcome_of Passed end = outcome.Passed
+outcome_of Failed end = outcome.Failed
+outcome_of Erred end = outcome.Erred end
+
+-- the test of that name in parts, whose run stands there
+abbrev pub part_at : CodeProgram → List ℕ → State → Test
+part_at code name state = record { name = name; outcome = outcome_of (verdict_at state) (run_told code state).end }
+
 -- the line of a test of that name whose run stands there
 abbrev pub line_at : CodeProgram → List ℕ → State → List ℕ
 line_at code name state = verdict_line (verdict_at state) name (told_at code state).line
 
--- how the test of a selector goes, and its line: nothing here names another test
+-- how the test of a selector goes, its line and its parts: nothing here names another test
 abbrev pub test_verdict : CodeProgram → Limits → Sel → Verdict
 test_verdict code limits sel = verdict_at (run_alone code limits (selector_text code sel.0))
 
 abbrev pub test_line : CodeProgram → Limits → Sel → List ℕ
 test_line code limits sel = line_at code (selector_text code sel.0) (run_alone code limits (selector_text code sel.0))
+
+abbrev pub test_part : CodeProgram → Limits → Sel → Test
+test_part code limits sel = part_at code (selector_text code sel.0) (run_alone code limits (selector_text code sel.0))

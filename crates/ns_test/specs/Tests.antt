@@ -12,13 +12,15 @@ use Rattle.ns_gen_code.specs.declared.size.SizeKind.{SizeKind}
 use Rattle.ns_world.specs.declared.ending.Ending.{Ending}
 use Rattle.ns_world.specs.declared.ending.Ending.TheVariants.{Done, Error, Limit}
 use Rattle.ns_machine_moves.specs.State.{State, ending_of, world_of}
+use Rattle.ns_json.specs.declared.saying.Run.{Run}
+use Rattle.ns_json.specs.declared.saying.Test.{Test}
 use Rattle.ns_run_code.specs.Machine.{end_of, told_at}
-use Rattle.ns_run_code.specs.declared.run.Ran.{Ran}
+use Rattle.ns_run_told.specs.Told.{run_told}
 use Rattle.ns_test.specs.declared.report.TestReport.{TestReport}
 use Rattle.ns_test.specs.declared.report.Verdict.{Verdict}
 use Rattle.ns_test.specs.declared.report.Verdict.TheVariants.{Passed, Failed, Erred}
 use Rattle.ns_test.specs.Opening.{opened, tests_class, tests_of}
-use Rattle.ns_test.specs.Alone.{test_line, test_verdict}
+use Rattle.ns_test.specs.Alone.{test_line, test_part, test_verdict}
 
 -- ---- which tests
 
@@ -57,11 +59,12 @@ is_erred Passed = false
 is_erred Failed = false
 is_erred Erred = true
 
--- the report of tests with these lines, which went so
-abbrev pub counted : List ℕ → List Verdict → TestReport
-counted lines verdicts =
+-- the report of tests with these lines and parts, which went so
+abbrev pub counted : List ℕ → List Test → List Verdict → TestReport
+counted lines parts verdicts =
     record {
       lines = lines;
+      parts = parts;
       tests = length verdicts;
       passed = count_by is_passed verdicts;
       failed = count_by is_failed verdicts;
@@ -70,7 +73,8 @@ counted lines verdicts =
 
 -- the report of these tests, each run on its own
 abbrev pub reported : CodeProgram → Limits → List Sel → TestReport
-reported code limits tests = counted (flat_map (test_line code limits) tests) (map (test_verdict code limits) tests)
+reported code limits tests =
+    counted (flat_map (test_line code limits) tests) (map (test_part code limits) tests) (map (test_verdict code limits) tests)
 
 -- ---- all of it
 
@@ -78,7 +82,7 @@ reported code limits tests = counted (flat_map (test_line code limits) tests) (m
 -- the name that is asked for; or there is a report
 pub data Tested : Type 0 where
   has_no_code : (kind : SizeKind) → Tested
-  has_not_opened : (line : List ℕ) (status : Status) → Tested
+  has_not_opened : (line : List ℕ) (status : Status) (part : Run) → Tested
   not_tests : Tested
   no_test : Tested
   has_tested : (report : TestReport) → Tested
@@ -93,15 +97,15 @@ abbrev pub of_class : CodeProgram → Limits → Bool → Option (List ℕ) → 
 of_class code limits reversed only None = not_tests
 of_class code limits reversed only (Some class) = of_asked code limits (asked_for code reversed only (tests_of code class))
 
--- what is told of an opening without a value
-abbrev pub stopped_at : Ran → Tested
-stopped_at ran = has_not_opened ran.line ran.status
+-- what is told of an opening that came to rest there without a value, and of its run in parts
+abbrev pub stopped_at : CodeProgram → State → Tested
+stopped_at code state = has_not_opened (told_at code state).line (told_at code state).status (run_told code state)
 
 -- what comes of an opening that ended so
 abbrev pub of_ending : CodeProgram → Limits → Bool → Option (List ℕ) → State → Ending → Tested
 of_ending code limits reversed only state (Done value) = of_class code limits reversed only (tests_class code (world_of state).cells value)
-of_ending code limits reversed only state (Error error) = stopped_at (told_at code state)
-of_ending code limits reversed only state (Limit limit) = stopped_at (told_at code state)
+of_ending code limits reversed only state (Error error) = stopped_at code state
+of_ending code limits reversed only state (Limit limit) = stopped_at code state
 
 -- what comes of an opening that came to rest there
 abbrev pub of_opening : CodeProgram → Limits → Bool → Option (List ℕ) → State → Tested

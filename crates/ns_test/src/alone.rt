@@ -9,6 +9,8 @@ ghost use Rattle.ns_machine_report.specs.Ending.{IsLiveEnding};
 ghost use Rattle.ns_run_code.specs.Machine.{rested};
 ghost use Rattle.ns_run_code.specs.Run.{granted};
 ghost use Rattle.ns_run_code.specs.Running.{HasAnEnd};
+ghost use Rattle.ns_run_told.specs.Told.{told_end as told_end_lem};
+ghost use Rattle.ns_json.specs.declared.saying.Outcome.TheVariants as outcomes;
 ghost use Rattle.ns_test.specs.Alone as spec;
 ghost use Rattle.ns_test.specs.Stated.{IsTest};
 
@@ -18,19 +20,22 @@ use ns_base::limits::Limits;
 use ns_base::no_memory::NoMemory;
 use ns_base::selector::Sel;
 use ns_base::text::Text;
+use ns_json::saying::{Outcome, Test};
 use ns_machine::machine::Machine;
 use ns_machine_report::output::put;
 use ns_run_code::laws::runs_end_at_rest;
+use ns_run_told::end::told_end;
 use ns_verify::verify::Verified;
 use ns_world::ending::Ending;
 use ns_world::value::Value;
 use std::alloc::Global;
 
-/// What is told of one test: how it went, and its line.
+/// What is told of one test: how it went, its line, and its parts.
 #[derive(Drop)]
 pub struct TestResult {
     pub verdict: Verdict,
     pub line: Text,
+    pub part: Test,
 }
 
 /// What is told of the test of a selector, in code with a class whose factory is `new`: its run is one of its own.
@@ -46,6 +51,7 @@ pub fn test_alone(
     ensures { IfOk result (λ told. told ≡ record {
       verdict = spec.test_verdict code.now limits sel;
       line = spec.test_line code.now limits sel;
+      part = spec.test_part code.now limits sel;
     }) }
 {
     let name = code.code().selector_text(sel);
@@ -118,6 +124,7 @@ fn result_at(alloc: Global, machine: &Machine, name: &[u8]) -> Result<TestResult
     ensures { IfOk result (λ told. told ≡ record {
       verdict = spec.verdict_at machine.now.state;
       line = spec.line_at machine.now.code name.now machine.now.state;
+      part = spec.part_at machine.now.code name.now machine.now.state;
     }) }
 {
     match machine.ending() {
@@ -138,12 +145,46 @@ fn result_so(
     ensures { IfOk result (λ told. told ≡ record {
       verdict = spec.verdict_at machine.now.state;
       line = spec.line_at machine.now.code name.now machine.now.state;
+      part = spec.part_at machine.now.code name.now machine.now.state;
     }) }
 {
     let verdict = verdict_of(ending);
     let report = machine.report(alloc, &ending, machine.code().files.as_slice())?;
     let line = verdict_line(alloc, verdict, name, report.as_slice())?;
-    Ok(TestResult { verdict, line })
+    let outcome = outcome_of(alloc, machine, verdict, ending)?;
+    let name = Text::of(alloc, name)?;
+    Ok(TestResult {
+        verdict,
+        line,
+        part: Test { name, outcome },
+    })
+}
+
+/// How a test went in parts, whose run in this machine ended so.
+fn outcome_of(
+    alloc: Global,
+    machine: &Machine,
+    verdict: Verdict,
+    ending: Ending,
+) -> Result<Outcome, NoMemory>
+    requires { IsLiveEnding (world_of machine.now.state).cells machine.now.code ending }
+    ensures { IfOk result (λ outcome. outcome ≡ spec.outcome_of verdict
+        (told_end_lem (world_of machine.now.state).cells machine.now.code machine.now.code.files ending)) }
+{
+    match verdict {
+        Verdict::Passed => Ok(Outcome::Passed),
+        Verdict::Failed => Ok(Outcome::Failed),
+        Verdict::Erred => erred(alloc, machine, ending),
+    }
+}
+
+fn erred(alloc: Global, machine: &Machine, ending: Ending) -> Result<Outcome, NoMemory>
+    requires { IsLiveEnding (world_of machine.now.state).cells machine.now.code ending }
+    ensures { IfOk result (λ outcome. outcome ≡ outcomes.Erred
+        (told_end_lem (world_of machine.now.state).cells machine.now.code machine.now.code.files ending)) }
+{
+    let end = told_end(alloc, machine, ending)?;
+    Ok(Outcome::Erred { end })
 }
 
 /// How a test went that ended so.

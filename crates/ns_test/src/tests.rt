@@ -6,7 +6,6 @@ ghost use Rattle.ns_code.specs.Selector.{selector_text};
 ghost use Rattle.ns_machine.specs.Asking.{HasSelector};
 ghost use Rattle.ns_machine_moves.specs.State.{ending_of, world_of};
 ghost use Rattle.ns_machine_report.specs.Ending.{IsLiveEnding};
-ghost use Rattle.ns_run_code.specs.Machine.{told_at};
 ghost use Rattle.ns_run_code.specs.Running.{HasAnEnd};
 ghost use Rattle.ns_world.specs.Lawful.{IsLiveValue};
 ghost use Rattle.ns_world.specs.declared.ending.Ending.TheVariants.{Done};
@@ -15,18 +14,21 @@ ghost use Rattle.ns_test.specs.Stated.{AnswersClass, AnswersFault, IsTest, Tells
 ghost use Rattle.ns_test.specs.Tests as spec;
 ghost use Rattle.ns_test.specs.declared.report.TestFault.{TestFault as FaultValue};
 
-use crate::alone::test_alone;
+use crate::alone::{TestResult, test_alone};
 use crate::opening;
 use crate::report::{TestFault, TestReport, Verdict};
+use ns_base::items::Items;
 use ns_base::limits::Limits;
 use ns_base::no_memory::NoMemory;
 use ns_base::selector::Sel;
 use ns_base::text::Text;
 use ns_code::class::ClassCode;
 use ns_code::program::CodeProgram;
+use ns_json::saying::Test;
 use ns_machine::machine::Machine;
 use ns_machine_report::output::put;
 use ns_run_code::code::finished;
+use ns_run_told::told::told_run;
 use ns_verify::verify::Verified;
 use ns_world::ending::Ending;
 use ns_world::value::Value;
@@ -147,14 +149,15 @@ fn class_of_tests<'a>(
 /// What is told of an opening without a value.
 fn stopped(alloc: Global, machine: &Machine) -> TestFault
     requires { HasAnEnd machine.now.state }
-    ensures { Tells (spec.stopped_at (told_at machine.now.code machine.now.state)) (Err result) }
+    ensures { Tells (spec.stopped_at machine.now.code machine.now.state) (Err result) }
 {
-    match finished(alloc, machine) {
-        Ok(ran) => TestFault::Opening {
+    match (finished(alloc, machine), told_run(alloc, machine)) {
+        (Ok(ran), Ok(part)) => TestFault::Opening {
             line: ran.line,
             status: ran.status,
+            part,
         },
-        Err(NoMemory) => TestFault::Memory,
+        _ => TestFault::Memory,
     }
 }
 
@@ -251,21 +254,28 @@ fn report_on(
     ensures { IfOk result (λ report. report ≡ spec.reported code.now limits tests.now) }
 {
     let mut lines = Vec::new(alloc);
+    let mut parts = Vec::new(alloc);
     let mut verdicts = Vec::new(alloc);
     'tests: for sel in tests {
-        let told = test_alone(alloc, code, limits, *sel)?;
-        put(&mut lines, told.line.bytes())?;
-        verdicts.push(told.verdict)?;
+        let TestResult {
+            verdict,
+            line,
+            part,
+        } = test_alone(alloc, code, limits, *sel)?;
+        put(&mut lines, line.bytes())?;
+        parts.push(part)?;
+        verdicts.push(verdict)?;
     }
-    Ok(counted(lines, verdicts.as_slice()))
+    Ok(counted(lines, parts, verdicts.as_slice()))
 }
 
-/// The report of tests with these lines, which went so.
-fn counted(lines: Vec<u8>, verdicts: &[Verdict]) -> TestReport
-    ensures { result ≡ spec.counted lines.items verdicts.now }
+/// The report of tests with these lines and parts, which went so.
+fn counted(lines: Vec<u8>, parts: Vec<Test>, verdicts: &[Verdict]) -> TestReport
+    ensures { result ≡ spec.counted lines.items parts.items verdicts.now }
 {
     TestReport {
         lines: Text::from_vec(lines),
+        parts: Items::from_vec(parts),
         tests: verdicts.len(),
         passed: passed(verdicts),
         failed: failed(verdicts),

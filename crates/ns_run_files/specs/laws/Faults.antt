@@ -15,7 +15,7 @@ use Rattle.ns_run_outcome.specs.laws.Plain.{file_plain, spelling_ends, text_plai
 use Rattle.ns_run_files.specs.Programs.{name_of, of_cause, of_fault, of_files, of_loading}
 use Rattle.ns_run_files.specs.Refusal.{IsReadFault, IsRefusal}
 use Rattle.ns_run_files.specs.Task.{Task}
-use Rattle.ns_session_files.specs.Answer.{OfSomeName}
+use Rattle.ns_run_words.specs.Named.{OfSomeName}
 
 -- A refusal that is told is what the files are loaded as.
 pub refusal_is : (names : List (List ℕ)) (lib : Bool) (files : Files) (fault : LoadFault) → IsRefusal fault →

@@ -15,21 +15,21 @@ use Rattle.ns_gen_code.specs.Sizes.{size_fault}
 use Rattle.ns_gen_code.specs.declared.size.SizeKind.{SizeKind}
 use Rattle.ns_machine_moves.specs.State.{State, ending_of}
 use Rattle.ns_machine_moves.specs.State as states
-use Rattle.ns_model.specs.Whole.{ran}
+use Rattle.ns_json.specs.declared.saying.Saying.{Saying}
+use Rattle.ns_json.specs.declared.saying.Saying.TheVariants as said
 use Rattle.ns_resolved.specs.Classes.{meant_of}
 use Rattle.ns_resolved.specs.Program.{Meant}
-use Rattle.ns_resolved.specs.Tables.{tables}
 use Rattle.ns_run_code.specs.Build.{Built, built_of, image, image_too_large, too_large}
 use Rattle.ns_run_code.specs.Machine.{end_of, told_at}
-use Rattle.ns_run_code.specs.Run.{granted, meant_run}
-use Rattle.ns_run_files.specs.Programs.{fault_line, name_of, of_build, of_built, of_check, of_checks, of_faultless, of_faults, of_least, of_run, of_sends, of_show, of_sized, of_tests, of_units, parts_of, sends_report}
-use Rattle.ns_run_files.specs.Task.{Task, Checks, Shows, Builds, Runs, Tests}
-use Rattle.ns_run_files.specs.Tests.{tests_report}
+use Rattle.ns_run_files.specs.Programs.{fault_line, name_of, of_build, of_built, of_check, of_checks, of_faultless, of_faults, of_least, of_sends, of_show, of_snap, of_snapped, of_tests, of_units, sends_report}
+use Rattle.ns_run_files.specs.Task.{Task, Checks, Shows, Builds, Tests, Snaps}
+use Rattle.ns_run_files.specs.Tests.{tests_report, tests_told}
+use Rattle.ns_run_snap.specs.Snapped.{Snapped, snapped_of, snapshot, snapshot_too_large}
+use Rattle.ns_run_snap.specs.Snapped as snapped
 use Rattle.ns_run_outcome.specs.Outcome.{missing_line}
 use Rattle.ns_run_outcome.specs.Report.{size_name, static_name}
 use Rattle.ns_run_outcome.specs.declared.report.Report.{Report}
-use Rattle.ns_run_outcome.specs.declared.run.Telling.{Telling}
-use Rattle.ns_run_outcome.specs.laws.Plain.{IsPlain, checked_plain, ending_plain, file_plain, not_this, run_plain, size_ends, size_plain, static_ends, text_plain, told_plain}
+use Rattle.ns_run_outcome.specs.laws.Plain.{IsPlain, checked_plain, ending_plain, file_plain, not_this, size_ends, size_plain, static_ends, text_plain, told_plain}
 use Rattle.ns_sends.specs.Unanswered.{unanswered}
 use Rattle.ns_sends.specs.declared.sent.SentAt.{SentAt}
 use Rattle.ns_static_rules.specs.declared.fault.Placed.{Placed}
@@ -41,13 +41,6 @@ use Rattle.ns_test.specs.declared.report.TestReport.{TestReport}
 use Rattle.ns_tree.specs.Plain as p
 use Rattle.ns_world.specs.declared.ending.Ending.{Ending}
 use Rattle.ns_world.specs.declared.ending.Ending.TheVariants as ending
-
-pub sized_plain : (telling : Telling) (limits : Limits) (arguments : List (List ℕ)) (meant : Meant) (kind : Option SizeKind) →
-    IsPlain (of_sized telling limits arguments meant kind)
-sized_plain telling limits arguments meant None =
-    run_plain telling limits (meant_run meant limits arguments) (parts_of telling (code_of meant) limits arguments)
-    (ran meant (tables meant) granted arguments limits).ending refl
-sized_plain telling limits arguments meant (Some kind) = size_plain (size_name kind) (size_ends kind)
 
 pub show_plain : (units : List p.SourceUnit) → IsPlain (of_show units)
 show_plain [] = told_plain []
@@ -100,19 +93,13 @@ checks_plain false sends names files trees places each least = least_plain sends
 checks_plain true sends names files trees places each least =
     faults_plain names each (of_least sends names files trees places least) (least_plain sends names files trees places least)
 
--- ---- runs
-
-pub program_plain :
-    (names : List (List ℕ)) (telling : Telling) (limits : Limits) (arguments : List (List ℕ)) (files : List (List ℕ)) (trees : List p.SourceUnit) (places : List (List Place)) (least : Option Placed) →
-    IsPlain (of_run names telling limits arguments files trees places least)
-program_plain names telling limits arguments files trees places None =
-    sized_plain telling limits arguments (meant_of files trees places) (size_fault (code_of (meant_of files trees places)))
-program_plain names telling limits arguments files trees places (Some fault) = check_plain names (Some fault)
+-- ---- tests
 
 -- The report of tests with these counts.
 tested_plain : (file : List ℕ) (tests : TestReport) → IsPlain (tests_report file (has_tested tests))
 tested_plain file tests =
-    elim (nat_eq tests.failed 0 && nat_eq tests.errors 0) as (λ b. IsPlain (record { out = written tests; err = []; status = cond b Done ProgramError; stored = None; said = None })) [
+    let told : Option Saying = Some (said.Tested (tests_told tests)) in
+    elim (nat_eq tests.failed 0 && nat_eq tests.errors 0) as (λ b. IsPlain (record { out = written tests; err = []; status = cond b Done ProgramError; stored = None; said = told })) [
       | true ↦ record { ends = tt; says = λ name m. cc (m.0) }
       | false ↦ record { ends = tt; says = λ name m. cc (m.0) }
     ]
@@ -128,8 +115,8 @@ class_plain :
 class_plain file code limits reversed only None = file_plain file (codes "NotTests") (λ front. refl)
 class_plain file code limits reversed only (Some class) = asked_plain file code limits (asked_for code reversed only (tests_of code class))
 
-stopped_plain : (file : List ℕ) (code : CodeProgram) (state : State) → IsPlain (tests_report file (stopped_at (told_at code state)))
-stopped_plain file code state = ending_plain (tests_report file (stopped_at (told_at code state))) (end_of (ending_of state)) refl
+stopped_plain : (file : List ℕ) (code : CodeProgram) (state : State) → IsPlain (tests_report file (stopped_at code state))
+stopped_plain file code state = ending_plain (tests_report file (stopped_at code state)) (end_of (ending_of state)) refl
 
 opened_plain :
     (file : List ℕ) (code : CodeProgram) (limits : Limits) (reversed : Bool) (only : Option (List ℕ)) (state : State) (e : Ending) →
@@ -164,11 +151,22 @@ pub build_plain :
 build_plain names name files trees places None = built_plain name (built_of (meant_of files trees places))
 build_plain names name files trees places (Some fault) = check_plain names (Some fault)
 
+pub snapped_plain : (name : List ℕ) (made : Snapped) → IsPlain (of_snapped name made)
+snapped_plain name (snapshot bytes) = record { ends = tt; says = λ file m. cc (m.0) }
+snapped_plain name (snapped.too_large kind) = size_plain (size_name kind) (size_ends kind)
+snapped_plain name snapshot_too_large = size_plain (codes "TooLarge(Snapshot)") (λ front. refl)
+
+pub snap_plain :
+    (names : List (List ℕ)) (name : List ℕ) (limits : Limits) (at : ℕ) (files : List (List ℕ)) (trees : List p.SourceUnit) (places : List (List Place)) (least : Option Placed) →
+    IsPlain (of_snap names name limits at files trees places least)
+snap_plain names name limits at files trees places None = snapped_plain name (snapped_of (meant_of files trees places) limits at)
+snap_plain names name limits at files trees places (Some fault) = check_plain names (Some fault)
+
 -- The report of units is plain.
 pub units_plain : (t : Task) (names files : List (List ℕ)) (trees : List p.SourceUnit) (places : List (List Place)) →
     IsPlain (of_units t names files trees places)
 units_plain (Checks all sends) names files trees places = checks_plain all sends names files trees places _ _
 units_plain Shows names files trees places = show_plain trees
 units_plain (Builds name) names files trees places = build_plain names name files trees places _
-units_plain (Runs telling limits arguments) names files trees places = program_plain names telling limits arguments files trees places _
 units_plain (Tests limits reversed only) names files trees places = tests_plain names limits reversed only files trees places _
+units_plain (Snaps name limits at) names files trees places = snap_plain names name limits at files trees places _

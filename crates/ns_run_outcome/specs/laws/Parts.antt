@@ -14,7 +14,7 @@ use Rattle.ns_run_outcome.specs.declared.report.Report.{Report}
 use Rattle.ns_run_outcome.specs.declared.stop.Stop.{Stop}
 use Rattle.ns_run_outcome.specs.declared.stop.Stop.TheVariants as stop
 use Rattle.ns_run_outcome.specs.laws.Plain.{made_so, some_of, stop_keeps}
-use Rattle.ns_session_files.specs.Answer.{OfSomeName, OfSomeTexts}
+use Rattle.ns_run_words.specs.Named.{OfSomeName, OfSomeTexts}
 
 -- What is so of what is there.
 pub of_answer : {X : Type 0} (o : Option X) (x : X) (P : X → Type 0) → o ≡ Some x → IfSome o P → P x

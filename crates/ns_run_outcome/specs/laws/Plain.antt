@@ -14,6 +14,7 @@ use Rattle.ns_gen_code.specs.declared.size.SizeKind.TheVariants as size
 use Rattle.ns_json.specs.declared.saying.Refused.TheVariants as what
 use Rattle.ns_json.specs.declared.saying.Run.{Run}
 use Rattle.ns_json.specs.declared.saying.Saying.{Saying}
+use Rattle.ns_json.specs.declared.saying.Trace.{Trace}
 use Rattle.ns_load.specs.declared.fault.SpellingCause.{SpellingCause}
 use Rattle.ns_load.specs.declared.fault.SpellingCause.TheVariants as spelling
 use Rattle.ns_model.specs.Whole.{status_of}
@@ -29,7 +30,7 @@ use Rattle.ns_static_rules.specs.declared.fault.Many.{Many}
 use Rattle.ns_static_rules.specs.declared.fault.Many.TheVariants as many
 use Rattle.ns_static_rules.specs.declared.fault.StaticCause.{StaticCause}
 use Rattle.ns_static_rules.specs.declared.fault.StaticCause.TheVariants as static
-use Rattle.ns_session_files.specs.Answer.{OfSomeName}
+use Rattle.ns_run_words.specs.Named.{OfSomeName}
 use Rattle.ns_world.specs.declared.ending.Ending.{Ending}
 use Rattle.ns_world.specs.declared.ending.Ending.TheVariants as ending
 
@@ -162,13 +163,13 @@ ending_plain report e h =
     let ended : Ended report.status = subst Ended (sym h) (ending_ended e) in status_plain report ended.ends ended.refuses_none
 
 -- Nor does the report of a run.
-pub run_plain : (telling : Telling) (limits : Limits) (ran : Ran) (parts : Option Run) (e : Ending) → ran.status ≡ status_of e
-    → IsPlain (run_report telling limits ran parts)
-run_plain telling limits ran parts e h =
+pub run_plain : (telling : Telling) (limits : Limits) (ran : Ran) (lines : List ℕ) (trace : Option Trace) (parts : Option Run) (e : Ending) →
+    ran.status ≡ status_of e → IsPlain (run_report telling limits ran lines trace parts)
+run_plain telling limits ran lines trace parts e h =
     let ended : Ended (status_told telling.truth ran.line ran.status) =
     subst (λ s. Ended (status_told telling.truth ran.line s)) (sym h) (told_ended telling.truth ran.line e)
     in
-    status_plain (run_report telling limits ran parts) ended.ends ended.refuses_none
+    status_plain (run_report telling limits ran lines trace parts) ended.ends ended.refuses_none
 
 -- ---- a report that ends as one may, and doesn't say that this file isn't there
 

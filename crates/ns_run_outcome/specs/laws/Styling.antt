@@ -10,7 +10,7 @@ use Rattle.ns_run_outcome.specs.Styled.{IsStyled, in_json, styled}
 use Rattle.ns_run_outcome.specs.declared.report.Report.{Report}
 use Rattle.ns_run_outcome.specs.declared.stop.Stop.{Stop}
 use Rattle.ns_run_outcome.specs.laws.Parts.{whatever_texts}
-use Rattle.ns_session_files.specs.Answer.{OfSomeName, OfSomeTexts}
+use Rattle.ns_run_words.specs.Named.{OfSomeName, OfSomeTexts}
 
 -- ---- one report
 

@@ -1,14 +1,14 @@
+use Rattle.std.proofs.Common.{◌++◌}
 use Rattle.ns_help.specs.declared.usage.TheConstants.{HELP, VERSION}
 use Rattle.ns_lib.specs.Collections.{collections}
-use Rattle.ns_run.proofs.LineLaws.{are_applications, are_sources}
+use Rattle.ns_run.proofs.LineLaws.{are_applications, are_behind, are_sources}
 use Rattle.ns_run.proofs.PartLaws.{topic_ends, verb_reports}
 use Rattle.ns_run.proofs.line.on_line.Goals as goal
-use Rattle.ns_run.specs.Meaning.{of_statements, of_topic}
-use Rattle.ns_run_files.specs.Programs.{of_sample}
+use Rattle.ns_run.specs.Meaning.{of_executing, of_running, of_statements, of_topic, run_of_line}
+use Rattle.ns_run_input.specs.Input.{RunWork}
 use Rattle.ns_run_outcome.specs.Report.{told}
-use Rattle.ns_run_outcome.specs.laws.Parts.{fixed_reports, made_reports}
+use Rattle.ns_run_outcome.specs.laws.Parts.{made_reports, same_reports}
 use Rattle.ns_run_words.specs.Line.{line_seen}
-use Rattle.ns_run_words.specs.Words.{sample_number}
 use Rattle.ns_run_words.specs.declared.form.Verb.TheVariants as verb
 
 pub returns-in-Check : goal.returns-in-Check
@@ -21,20 +21,26 @@ pub returns-in-Format : goal.returns-in-Format
 returns-in-Format g c = verb_reports _ _ _ _ _ _ (line_seen c.args.line) verb.Format _ c.in-Format.is c.on_layout.ensures
 
 pub returns-in-Run : goal.returns-in-Run
-returns-in-Run g c = verb_reports _ _ _ _ _ _ (line_seen c.args.line) verb.Run _ c.in-Run.is c.on_run.ensures
+returns-in-Run g c =
+    let line = line_seen c.args.line in
+    verb_reports _ _ _ _ _ _ line verb.Run _ c.in-Run.is
+    (same_reports _ _ _ _ _ _ (λ (run : RunWork). line.names ++ run.inputs) (λ run. of_running run line.given.lib line.names) _ (run_of_line line) c.on_run.result c.run_task-task.ensures.is c.on_run.ensures)
 
 pub returns-in-Eval : goal.returns-in-Eval
 returns-in-Eval g c =
     let line = line_seen c.args.line in
     verb_reports _ _ _ _ _ _ line verb.Eval _ c.in-Eval.is
-    (fixed_reports _ _ _ _ c.args.shelf.now (of_statements line.given line.arguments line.names) c.on_statements.result c.on_statements.ensures.told c.on_statements.ensures.ending
-    c.on_statements.ensures.no_read_fault)
+    (same_reports _ _ _ _ _ _ (λ (run : RunWork). run.inputs) (λ run. of_statements run line.given.lib line.names) _ (run_of_line line) c.on_statements.result c.run_task-task-in-Eval.ensures.is
+    c.on_statements.ensures)
 
 pub returns-in-Build : goal.returns-in-Build
 returns-in-Build g c = verb_reports _ _ _ _ _ _ (line_seen c.args.line) verb.Build _ c.in-Build.is c.on_build_line.ensures
 
 pub returns-in-Exec : goal.returns-in-Exec
-returns-in-Exec g c = verb_reports _ _ _ _ _ _ (line_seen c.args.line) verb.Exec _ c.in-Exec.is c.on_exec.ensures
+returns-in-Exec g c =
+    let line = line_seen c.args.line in
+    verb_reports _ _ _ _ _ _ line verb.Exec _ c.in-Exec.is
+    (same_reports _ _ _ _ _ _ (λ (run : RunWork). line.names ++ run.inputs) (λ run. of_executing run line.names) _ (run_of_line line) c.on_image_run.result c.run_task-task-in-Exec.ensures.is c.on_image_run.ensures)
 
 pub returns-in-Listing : goal.returns-in-Listing
 returns-in-Listing g c = verb_reports _ _ _ _ _ _ (line_seen c.args.line) verb.Listing _ c.in-Listing.is c.on_listing.ensures
@@ -43,17 +49,16 @@ pub returns-in-Session : goal.returns-in-Session
 returns-in-Session g c = verb_reports _ _ _ _ _ _ (line_seen c.args.line) verb.Session _ c.in-Session.is c.on_applications.ensures
 
 pub returns-in-Sample : goal.returns-in-Sample
-returns-in-Sample g c =
-    let line = line_seen c.args.line in
-    verb_reports _ _ _ _ _ _ line verb.Sample _ c.in-Sample.is
-    (fixed_reports _ _ _ _ c.args.shelf.now (of_sample (sample_number line.names)) c.on_number.result c.on_number.ensures.told c.on_number.ensures.ending
-    c.on_number.ensures.no_read_fault)
+returns-in-Sample g c = verb_reports _ _ _ _ _ _ (line_seen c.args.line) verb.Sample _ c.in-Sample.is c.on_number.ensures
 
 pub returns-in-Audit : goal.returns-in-Audit
 returns-in-Audit g c = verb_reports _ _ _ _ _ _ (line_seen c.args.line) verb.Audit _ c.in-Audit.is c.on_audit.ensures
 
 pub returns-in-Test : goal.returns-in-Test
 returns-in-Test g c = verb_reports _ _ _ _ _ _ (line_seen c.args.line) verb.Test _ c.in-Test.is c.on_tests.ensures
+
+pub returns-in-Snap : goal.returns-in-Snap
+returns-in-Snap g c = verb_reports _ _ _ _ _ _ (line_seen c.args.line) verb.Snap _ c.in-Snap.is c.on_snapping.ensures
 
 pub returns-in-Library : goal.returns-in-Library
 returns-in-Library g c =
@@ -79,6 +84,9 @@ returns-in-Version g c =
 
 pub on_applications-requires-clause-asked : goal.on_applications-requires-clause-asked
 on_applications-requires-clause-asked g c = are_applications (line_seen c.args.line) c.in-Session.is c.requires.form
+
+pub on_snapping-requires-clause-behind : goal.on_snapping-requires-clause-behind
+on_snapping-requires-clause-behind g c = are_behind (line_seen c.args.line) c.in-Snap.is c.requires.form
 
 pub on_build_line-requires : goal.on_build_line-requires
 on_build_line-requires g c = are_sources (line_seen c.args.line) c.in-Build.is c.requires.form

@@ -6,7 +6,7 @@ use Rattle.ns_run_image.specs.Image.{of_image, of_short, work_of}
 use Rattle.ns_run_outcome.specs.Outcome.{IsEnding, IsMissing}
 use Rattle.ns_run_outcome.specs.laws.Parts.{load_fails, load_misses, missing_reports, never_unread, no_memory_reports, of_answer, one_name, unread_reports}
 use Rattle.ns_run_outcome.specs.laws.Plain.{made_so}
-use Rattle.ns_session_files.specs.Answer.{OfSomeName}
+use Rattle.ns_run_words.specs.Named.{OfSomeName}
 
 pub returns-in-Ok : goal.returns-in-Ok
 returns-in-Ok g c =

@@ -1,6 +1,7 @@
 use Rattle.std.proofs.Common.{◌∙◌, ◌-◌, List, Ok, drop, take, length, map, string_bytes, subst, sym, IsSome}
 use Rattle.ns_run_words.specs.Application.{asked_of}
-use Rattle.ns_session_files.specs.Answer.{IsFaultOfMaking, AddsAll, OfSomeName, OfSomeTexts}
+use Rattle.ns_run_words.specs.Named.{OfSomeName, OfSomeTexts}
+use Rattle.ns_session_files.specs.Answer.{IsFaultOfMaking, AddsAll}
 use Rattle.ns_session_files.specs.Making.{all_made, files_asked, made_of}
 use Rattle.ns_session_files.proofs.MakingLaws.{cons_of, first_texts, next_texts, next_told, some_back, some_front}
 use Rattle.ns_session_files.proofs.making.+make_all.Goals as goal

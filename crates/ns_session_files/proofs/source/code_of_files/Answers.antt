@@ -2,7 +2,8 @@ use Rattle.std.proofs.Common.{◌≡◌, ◌∙◌, ap, map, string_bytes, subst
 use Rattle.std.specs.Prelude.{All}
 use Rattle.ns_load.specs.Loaded.{loaded_texts}
 use Rattle.ns_run_words.specs.Application.{all_name_files, names_in}
-use Rattle.ns_session_files.specs.Answer.{IsMadeAs, OfSomeTexts}
+use Rattle.ns_run_words.specs.Named.{OfSomeTexts}
+use Rattle.ns_session_files.specs.Answer.{IsMadeAs}
 use Rattle.ns_session_files.specs.Making.{of_loading}
 use Rattle.ns_session_files.proofs.MakingLaws.{all_named, few_named, memory_texts}
 use Rattle.ns_session_files.proofs.source.code_of_files.Goals as goal

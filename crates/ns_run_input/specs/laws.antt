@@ -1,0 +1,3 @@
+-- Laws of these definitions, for the crates above.
+pub mod Behind
+pub mod Inputs

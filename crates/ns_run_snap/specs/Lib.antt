@@ -1,0 +1,3 @@
+pub mod Snapped
+pub mod Resumed
+pub mod Laws

@@ -1,0 +1,4 @@
+pub mod Before
+pub mod Trace
+pub mod Nearing
+pub mod Laws
