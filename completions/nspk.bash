@@ -6,7 +6,7 @@ _nspk() {
   local limits='--steps= --cells= --depth= --out=' options= sources= before= joined= one
   COMPREPLY=()
   if [ "$COMP_CWORD" = 1 ]; then
-    COMPREPLY=($(compgen -W 'check show format run eval build exec list session audit test sample library help --version' -- "$word"))
+    COMPREPLY=($(compgen -W 'check show format run eval build exec list session audit test snap sample library help --version' -- "$word"))
     return
   fi
   # Behind `--` stand arguments of the program, which may be anything.
@@ -16,14 +16,15 @@ _nspk() {
   case $command in
     check) options='--lib --all --sends --json' sources=yes ;;
     show | format) sources=yes ;;
-    run) options="--lib $limits --stats --true --json --" sources=yes ;;
-    eval) options="--lib $limits --stats --true --json --" ;;
+    run) options="--lib $limits --text= --trace --stats --true --json --" sources=yes ;;
+    eval) options="--lib $limits --text= --trace --stats --true --json --" ;;
     build) options='--lib --json --to=' ;;
-    exec) options="$limits --stats --true --json --" ;;
+    exec) options="$limits --text= --trace --stats --true --json --" ;;
     list) options=--members ;;
-    session) options="--lib $limits --quantum=" sources=yes ;;
-    audit) options=--deny= ;;
-    test) options="--lib $limits --reverse --only=" sources=yes ;;
+    session) options="--lib $limits --quantum= --json" sources=yes ;;
+    audit) options='--deny= --json' ;;
+    test) options="--lib $limits --reverse --only= --json" sources=yes ;;
+    snap) options="--lib $limits --at=" ;;
     *) return ;;
   esac
   # Bash cuts words at an equals sign. Before it stand grants, an option whose value is a file, or one whose value nobody can guess.
@@ -32,7 +33,7 @@ _nspk() {
   elif [ "$last" = = ]; then
     before=${COMP_WORDS[COMP_CWORD - 2]}
   fi
-  case $before in --to) ;; --*) return ;; esac
+  case $before in --to) ;; --text) sources= ;; --*) return ;; esac
   case $word in
     -*)
       COMPREPLY=($(compgen -W "$options" -- "$word"))
