@@ -45,7 +45,7 @@ use Rattle.ns_actors.proofs.Turning.{OnlyStage, ran_stage, turn_keeps}
 -- ---- what an ended run has
 
 -- the world of a valid state is lawful
-lawful_of : (code : CodeProgram) (grants : Grants) (state : State) → Valid code grants state → IsLawful (world_of state) code
+pub lawful_of : (code : CodeProgram) (grants : Grants) (state : State) → Valid code grants state → IsLawful (world_of state) code
 lawful_of code grants (Unbegun arguments p) valid = valid.0.lawful
 lawful_of code grants (Going phase frames p) valid = valid.0.world.lawful
 lawful_of code grants (Pends phase pending frames p) valid = valid.0.world.lawful
@@ -96,14 +96,15 @@ answered_now actor v e =
 ended_still : (actor : ActorView) (ending : Ending) → ending_of actor.state ≡ Some ending → is_still actor.state ≡ true
 ended_still actor ending e = answered_still actor.state (subst (λ (o : Option Ending). IsSome o) (sym e) refl)
 
--- where a send begins, the world is the same and something was begun
-record Begins (state later : State) : Type 0 where
-  world : world_of later ≡ world_of state
-  has : HasBegun later
+-- where a send begins, the world is the same, something was begun, and it goes on
+pub record Begins (state later : State) : Type 0 where
+  pub world : world_of later ≡ world_of state
+  pub has : HasBegun later
+  pub on : is_still later ≡ false
 
-begins : (receiver : Value) (sel : Sel) (arguments : List Value) (state : State) → is_idle state ≡ true → Begins state (begun receiver sel arguments state)
-begins receiver sel arguments (Unbegun args p) idle = record { world = refl; has = tt }
-begins receiver sel arguments (Ended (Done v) phase p) idle = record { world = refl; has = tt }
+pub begins : (receiver : Value) (sel : Sel) (arguments : List Value) (state : State) → is_idle state ≡ true → Begins state (begun receiver sel arguments state)
+begins receiver sel arguments (Unbegun args p) idle = record { world = refl; has = tt; on = refl }
+begins receiver sel arguments (Ended (Done v) phase p) idle = record { world = refl; has = tt; on = refl }
 begins receiver sel arguments (Ended (Error error) phase p) idle = absurd (cc (idle))
 begins receiver sel arguments (Ended (Limit limit) phase p) idle = absurd (cc (idle))
 begins receiver sel arguments (Going phase frames p) idle = absurd (cc (idle))

@@ -13,4 +13,5 @@ pub mod Kept
 pub mod Views
 pub mod Rounding
 pub mod Short
+pub mod Reaching
 pub mod Examples

@@ -8,7 +8,7 @@ use Rattle.ns_machine_moves.specs.Doubling.{times}
 use Rattle.ns_machine_moves.specs.laws.Doubling.{leads}
 use Rattle.ns_actors.specs.Actor.{ActorView, Stage, Opening, Between, Sending, Holding, Stopped}
 use Rattle.ns_actors.specs.Rounds.{all_rest, at_rest, power_of_rounds, rests_at, round_from, round_of, rounds}
-use Rattle.ns_actors.specs.Turn.{ActorsView, next_taken, settled, turn_at, turn_for, with_actor}
+use Rattle.ns_actors.specs.Turn.{ActorsView, next_taken, settled, turn_at, turn_for, turn_of, with_actor}
 use Rattle.ns_actors.proofs.Lists.{none_past}
 
 -- ---- actors that rest
@@ -48,17 +48,22 @@ itself_set [] k x e = refl
 itself_set (y ∷ ys) zero x e = ap (λ z. z ∷ ys) (sym (same_Some y x e))
 itself_set (y ∷ ys) (suc k) x e = ap (λ more. y ∷ more) (itself_set ys k x e)
 
-turn_rests : (k steps : ℕ) (view : ActorsView) → at_rest view ≡ true → (o : Option ActorView) → slice_get view.actors k ≡ o → (turn_for o k steps view).view ≡ view
-turn_rests k steps view rest None got = refl
-turn_rests k steps view rest (Some actor) got =
-    let here = rest_there view.actors k actor rest got in
-    ap (λ (a : ActorView). settled a.stage k a view) (rested_turn actor.stage k steps (length view.actors) actor here)
-    ∙ (settled_rest actor.stage k actor view here ∙ ap (λ (xs : List ActorView). record view { actors = xs }) (itself_set view.actors k actor got))
+-- a turn of one that rests changes nothing
+pub turn_rests : (k steps : ℕ) (view : ActorsView) (actor : ActorView) → slice_get view.actors k ≡ Some actor → rests_at actor.stage actor ≡ true
+    → (turn_of k steps view).view ≡ view
+turn_rests k steps view actor got rest =
+    ap (λ (o : Option ActorView). (turn_for o k steps view).view) got
+    ∙ (ap (λ (a : ActorView). settled a.stage k a view) (rested_turn actor.stage k steps (length view.actors) actor rest)
+    ∙ (settled_rest actor.stage k actor view rest ∙ ap (λ (xs : List ActorView). record view { actors = xs }) (itself_set view.actors k actor got)))
+
+turn_among : (k steps : ℕ) (view : ActorsView) → at_rest view ≡ true → (o : Option ActorView) → slice_get view.actors k ≡ o → (turn_of k steps view).view ≡ view
+turn_among k steps view rest None got = ap (λ (o : Option ActorView). (turn_for o k steps view).view) got
+turn_among k steps view rest (Some actor) got = turn_rests k steps view actor got (rest_there view.actors k actor rest got)
 
 from_rests : (steps more k : ℕ) (view : ActorsView) → at_rest view ≡ true → round_from steps more k view ≡ view
 from_rests steps zero k view rest = refl
 from_rests steps (suc more) k view rest =
-    ap (λ (v : ActorsView). round_from steps more (k + 1) v) (turn_rests k steps view rest (slice_get view.actors k) refl) ∙ from_rests steps more (k + 1) view rest
+    ap (λ (v : ActorsView). round_from steps more (k + 1) v) (turn_among k steps view rest (slice_get view.actors k) refl) ∙ from_rests steps more (k + 1) view rest
 
 pub round_rests : (steps : ℕ) (view : ActorsView) → at_rest view ≡ true → round_of steps view ≡ view
 round_rests steps view rest = from_rests steps (length view.actors) 0 view rest

@@ -3,16 +3,22 @@ use Rattle.std.specs.Prelude.{◌≡◌, ◌<◌, ℕ, suc, ◌^◌, [], length,
 use Rattle.std.specs.Option.{ForSome}
 use Rattle.ns_code.specs.declared.program.CodeProgram.{CodeProgram}
 use Rattle.ns_base.specs.declared.limits.Limits.{Limits}
+use Rattle.ns_code.specs.Selector.{has_name}
+use Rattle.ns_machine_moves.specs.Charging.{will_charge}
 use Rattle.ns_machine_moves.specs.Doubling.{times}
+use Rattle.ns_machine_moves.specs.State.{State, world_of}
+use Rattle.ns_machine_moves.specs.Turn.{is_still}
 use Rattle.ns_session.specs.Member.{Application, MayStart}
+use Rattle.ns_session.specs.Reached.{StateIsReached}
 use Rattle.ns_actors.specs.declared.letter.Letter.{Letter}
-use Rattle.ns_actors.specs.Actor.{ActorView}
+use Rattle.ns_actors.specs.Actor.{ActorView, Between}
+use Rattle.ns_actors.specs.Alone.{letters_at}
 use Rattle.ns_world.specs.Heap.{Heap, heap_size}
 use Rattle.ns_world.specs.declared.value.Value.{Value}
 use Rattle.ns_actors.specs.Outbox.{outbox}
-use Rattle.ns_actors.specs.Rounds.{at_rest, power_of_rounds, round_of, rounds}
-use Rattle.ns_actors.specs.Stated.{AreActors, BoxesAgree, LetterIsGood, OthersReceive, PostsAlone, StandsAlone}
-use Rattle.ns_actors.specs.Turn.{ActorsView, added, host_number, held_after, posted, turn_of}
+use Rattle.ns_actors.specs.Rounds.{at_rest, power_of_rounds, rests_at, round_of, rounds}
+use Rattle.ns_actors.specs.Stated.{AreActors, BoxesAgree, IsActor, LetterIsGood, OthersReceive, PostsAlone, StandsAlone}
+use Rattle.ns_actors.specs.Turn.{ActorsView, added, host_number, held_after, posted, sending, turn_of}
 
 -- A turn of one actor changes no other, but for letters behind its box.
 abbrev pub TurnsKeepOthers : Type 0
@@ -79,7 +85,13 @@ HeldTurnsKeepActors = (k steps : ℕ) (view : ActorsView) → AreActors view →
 
 -- ---- rounds
 
--- A round of actors that rest changes nothing.
+-- A turn of an actor that rests changes nothing.
+abbrev pub RestingTurnsStay : Type 0
+RestingTurnsStay =
+    (k steps : ℕ) (view : ActorsView) (actor : ActorView) → slice_get view.actors k ≡ Some actor → rests_at actor.stage actor ≡ true
+    → (turn_of k steps view).view ≡ view
+
+-- So a round of actors that rest changes nothing.
 abbrev pub RestingRoundsStay : Type 0
 RestingRoundsStay = (steps : ℕ) (view : ActorsView) → at_rest view ≡ true → round_of steps view ≡ view
 
@@ -94,8 +106,36 @@ RoundsEnd =
     (limits : Limits) (view : ActorsView) (left : ActorsView → ℕ) → RoundsLower left view → left view < 2 ^ power_of_rounds (length view.actors) limits
     → at_rest (rounds limits view) ≡ true
 
+-- ---- outboxes
+
 -- An outbox has at most as many letters as the world has cells.
 abbrev pub OutboxesAreShort : Type 0
 OutboxesAreShort =
     (code : CodeProgram) (heap : Heap) (value : Value) (k count : ℕ) (letters : List Letter) → outbox code heap value k count ≡ Some letters
     → length letters ≤ heap_size heap
+
+-- So the one with which a reached run has ended has at most as many as its limit on cells.
+abbrev pub EndsAreShort : Type 0
+EndsAreShort =
+    (application : Application) (state : State) (k count : ℕ) (letters : List Letter) → StateIsReached application state
+    → letters_at application k count state ≡ Some letters → length letters ≤ application.limits.cells
+
+-- A reached run has used no more steps than its limit.
+abbrev pub StepsAreWithin : Type 0
+StepsAreWithin =
+    (application : Application) (state : State) → StateIsReached application state → (world_of state).steps ≤ application.limits.steps
+
+-- ---- sends
+
+-- A send begins: it waits in a state that is reached, nothing has changed in the world, and its first move charges a step.
+pub record SendBegins (application : Application) (old new : State) : Type 0 where
+  pub reached : StateIsReached application new
+  pub world : world_of new ≡ world_of old
+  pub on : is_still new ≡ false
+  pub charges : will_charge application.code new ≡ true
+
+abbrev pub SendsBegin : Type 0
+SendsBegin =
+    (k count : ℕ) (behaviour : Value) (letter : Letter) (actor : ActorView) → IsActor k count actor → actor.stage ≡ Between behaviour
+    → slice_get actor.box actor.taken ≡ Some letter → has_name actor.application.code letter.sel ≡ true
+    → SendBegins actor.application actor.state (sending behaviour letter actor).state

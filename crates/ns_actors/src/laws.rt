@@ -1,7 +1,9 @@
 //! Laws of turns of actors. Each function does nothing but name the laws that it rests on, and its contract is the law.
 
-ghost use Rattle.ns_actors.specs.Laws.{nobody, TurnsKeepOthers, AddingKeepsBoxes, PostingKeepsBoxes, TurnsKeepBoxes, HeldTurnsKeepBoxes, AllAlone, AddingKeepsAlone, PostingKeepsAlone, TurnsKeepAlone, HeldTurnsKeepAlone};
-ghost use Rattle.ns_actors.specs.Laws.{AddingKeepsActors, PostingKeepsActors, TurnsKeepActors, HeldTurnsKeepActors, RestingRoundsStay, RoundsEnd, OutboxesAreShort};
+ghost use Rattle.ns_actors.specs.Laws.{nobody, TurnsKeepOthers, AddingKeepsBoxes, PostingKeepsBoxes, TurnsKeepBoxes, HeldTurnsKeepBoxes};
+ghost use Rattle.ns_actors.specs.Laws.{AllAlone, AddingKeepsAlone, PostingKeepsAlone, TurnsKeepAlone, HeldTurnsKeepAlone};
+ghost use Rattle.ns_actors.specs.Laws.{AddingKeepsActors, PostingKeepsActors, TurnsKeepActors, HeldTurnsKeepActors};
+ghost use Rattle.ns_actors.specs.Laws.{RestingTurnsStay, RestingRoundsStay, RoundsEnd, OutboxesAreShort, EndsAreShort, SendsBegin, StepsAreWithin};
 ghost use Rattle.ns_actors.specs.Stated.{AreActors, BoxesAgree};
 
 /// A turn of one actor changes no other, but for letters that come behind its box.
@@ -49,14 +51,29 @@ pub fn actors_stay_actors()
     ns_session::laws::begun_runs_stay_begun();
 }
 
-/// A round of actors that rest changes nothing; and where each other round leaves less to do, and at first there is less than two
-/// to the power of the rounds, they end where all rest.
+/// A turn of an actor that rests, and so a round of actors that rest, changes nothing; and where each other round leaves less to do,
+/// and at first there is less than two to the power of the rounds, they end where all rest.
 pub fn rounds_come_to_rest()
+    ensures turn { RestingTurnsStay }
     ensures stay { RestingRoundsStay }
     ensures end { RoundsEnd }
 {}
 
-/// An outbox has at most as many letters as the world has cells.
+/// Where an actor takes a letter that its code names, a send begins: its run is reached, and its first move charges a step.
+pub fn sends_begin_in_reach()
+    ensures { SendsBegin }
+{
+    ns_machine_moves::valid_world::sends_of_a_host_are_valid();
+}
+
+/// An outbox has at most as many letters as the world has cells; so the one with which a run has ended has at most as many as the
+/// run's limit on cells.
 pub fn outboxes_are_short()
-    ensures { OutboxesAreShort }
+    ensures world { OutboxesAreShort }
+    ensures limit { EndsAreShort }
+{}
+
+/// A run that was reached has used no more steps than its limit.
+pub fn steps_are_within()
+    ensures { StepsAreWithin }
 {}

@@ -167,7 +167,7 @@ module _ (code : CodeProgram) (grants : Grants) (known : Known code grants) wher
         by true e = e
         by false e = stopped e led.done
 
-    turn_is_made : Turns code steps state (turned code steps state)
+    pub turn_is_made : Turns code steps state (turned code steps state)
     turn_is_made =
         let led = leads (is_over code) (moved_on code) 0 power (at_turn steps state) in
         turn_made code led.count steps state last led.is (over led)

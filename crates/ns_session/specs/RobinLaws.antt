@@ -19,6 +19,10 @@ abbrev pub TurnsAreTurned : CodeProgram → Grants → Type 0
 TurnsAreTurned code grants =
     (steps : ℕ) (old new : State) → Valid code grants old → Turns code steps old new → new ≡ turned code steps old
 
+-- And what the function gives some turn leaves.
+abbrev pub TurnsAreMade : CodeProgram → Grants → Type 0
+TurnsAreMade code grants = (steps : ℕ) (state : State) → Valid code grants state → Turns code steps state (turned code steps state)
+
 -- So does the turn of an application beside a shared board, whether it is granted or not.
 abbrev pub TurnsAreTurnedBeside : Application → Type 0
 TurnsAreTurnedBeside application =

@@ -5,11 +5,21 @@ ghost use Rattle.std.specs.Prelude.{ℕ};
 ghost use Rattle.ns_code.specs.declared.program.CodeProgram.{CodeProgram};
 ghost use Rattle.ns_facets.specs.declared.row.Grants.{Grants};
 ghost use Rattle.ns_session.specs.Member.{Application};
-ghost use Rattle.ns_session.specs.RobinLaws.{TurnsAreTurned, TurnsAreTurnedBeside, RoundRobinIsRobin, SessionsRun};
+ghost use Rattle.ns_session.specs.RobinLaws.{TurnsAreMade, TurnsAreTurned, TurnsAreTurnedBeside, RoundRobinIsRobin, SessionsRun};
 
 /// In a valid state a turn leaves one state, which a function gives.
 pub fn turns_are_a_function()
     ensures { (code : CodeProgram) (grants : Grants) → TurnsAreTurned code grants }
+{
+    ns_machine_moves::laws::turns_add();
+    ns_machine_moves::valid_frames::moves_keep_valid();
+    ns_machine_moves::falling::moves_lower();
+    ns_machine_moves::falling::left_is_below_a_power();
+}
+
+/// And what the function gives some turn leaves.
+pub fn turns_are_made()
+    ensures { (code : CodeProgram) (grants : Grants) → TurnsAreMade code grants }
 {
     ns_machine_moves::laws::turns_add();
     ns_machine_moves::valid_frames::moves_keep_valid();
