@@ -6,7 +6,7 @@ use Rattle.std.proofs.lemmas.List.{append-nil, map_push}
 use Rattle.ns_base.specs.Spelling.{is_selector}
 use Rattle.ns_code.specs.Selector.{text_arity}
 use Rattle.ns_facets.specs.declared.board.Plain.{Plain}
-use Rattle.ns_letters.specs.Letters.{takes_one}
+use Rattle.ns_actors_calls.specs.Letters.{takes_one}
 use Rattle.ns_session.specs.Member.{Application, MayStart}
 use Rattle.ns_actors.specs.declared.letter.Letter.{Letter}
 use Rattle.ns_actors.specs.declared.turn.ActorTurn.{ActorTurn}
@@ -14,9 +14,9 @@ use Rattle.ns_actors.specs.Actor.{ActorView, starting}
 use Rattle.ns_actors.specs.Laws.{nobody, AddingKeepsActors, HeldTurnsKeepActors, PostingKeepsActors, TurnsKeepActors, TurnsKeepOthers}
 use Rattle.ns_actors.specs.Stated.{AreActors, LetterIsGood, OthersReceive}
 use Rattle.ns_actors.specs.Turn.{ActorsView, added, held_after, held_for, host_number, posted, receiving, turn_taken}
-use Rattle.ns_actor_steps.specs.declared.actor.Actor.{Actor}
+use Rattle.ns_actors_calls.specs.declared.actor.Actor.{Actor}
 use Rattle.ns_actors_calls.specs.Posting.{HasTurned}
-use Rattle.ns_actor_steps.specs.Shown.{shown}
+use Rattle.ns_actors_calls.specs.Shown.{shown}
 use Rattle.ns_actors_calls.specs.Seen.{seen}
 
 -- ---- none

@@ -1,4 +1,7 @@
 pub mod Lists
+pub mod Reading
+pub mod Running
+pub mod Taking
 pub mod Refused
 pub mod Told
 pub mod Ready

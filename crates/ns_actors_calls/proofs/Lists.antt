@@ -1,10 +1,19 @@
 -- Elements of lists that are there.
-use Rattle.std.proofs.Common.{◌≡◌, ◌<◌, ◌≤◌, ℕ, ◌+◌, List, ◌∷◌, refl, sym, ap, ◌∙◌, subst, Option, Some, None, true, nat_lt, slice_get, get_or, length, drop}
+use Rattle.std.proofs.Common.{◌≡◌, ◌<◌, ◌≤◌, ℕ, ◌+◌, List, [], ◌∷◌, refl, sym, ap, ◌∙◌, subst, arith, Option, Some, None, true, nat_lt, slice_get, get_or, length, drop}
 use Rattle.std.specs.Prelude.{slice_set}
 use Rattle.std.proofs.lemmas.Bool.{ltb-true}
 use Rattle.std.proofs.lemmas.List.{drop_more, get_or-set_same, length-set, set-get_or}
 use Rattle.std.proofs.lemmas.Option.{get_or_from_slice_get, same_Some, slice_get-get_or, slice_get_past, slice_get_read, slice_get_within}
 use Rattle.std.specs.Option.{ForSome}
+
+-- An element that is there.
+pub record IsThere {A : Type 0} (xs : List A) (k : ℕ) : Type 0 where
+  pub element : A
+  pub is : slice_get xs k ≡ Some element
+
+pub there_is : {A : Type 0} (xs : List A) (k : ℕ) → k < length xs → IsThere xs k
+there_is [] k within = absurd (omega (arith, within))
+there_is (x ∷ xs) k within = record { element = get_or (x ∷ xs) k x; is = slice_get-get_or (x ∷ xs) k x within }
 
 module _ {A : Type 0} where
   -- an element is the first of those from its place on

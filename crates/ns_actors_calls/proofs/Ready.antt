@@ -3,13 +3,13 @@ use Rattle.std.proofs.Common.{◌≡◌, ◌<◌, ℕ, zero, suc, ◌+◌, List,
 use Rattle.std.specs.Prelude.{slice_set}
 use Rattle.std.proofs.lemmas.List.{append-nil, drop-set-lt, drop_all, length-take-le, map-set, map_push, take_all, take_more_set}
 use Rattle.std.proofs.lemmas.Option.{same_Some}
-use Rattle.ns_letters.specs.Letters.{LettersView}
+use Rattle.ns_actors_calls.specs.Letters.{LettersView}
 use Rattle.ns_actors.specs.declared.letter.Letter.{Letter}
 use Rattle.ns_actors.specs.Actor.{ActorView}
 use Rattle.ns_actors.specs.Turn.{delivered, letters_to, receiving}
-use Rattle.ns_actor_steps.specs.declared.actor.Actor.{Actor}
+use Rattle.ns_actors_calls.specs.declared.actor.Actor.{Actor}
 use Rattle.ns_actors_calls.specs.Posting.{AreReady}
-use Rattle.ns_actor_steps.specs.Shown.{shown}
+use Rattle.ns_actors_calls.specs.Shown.{shown}
 use Rattle.ns_actors_calls.proofs.Lists.{drop_got, set_same}
 use Rattle.ns_actors_calls.proofs.Told.{get_shown}
 

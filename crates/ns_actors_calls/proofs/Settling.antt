@@ -7,10 +7,10 @@ use Rattle.ns_world.specs.declared.value.Value.{Value}
 use Rattle.ns_actors.specs.declared.letter.Letter.{Letter}
 use Rattle.ns_actors.specs.Actor.{ActorView, Stage, Opening, Between, Sending, Holding, Stopped}
 use Rattle.ns_actors.specs.Turn.{delivered, posted, settled}
-use Rattle.ns_actor_steps.specs.declared.actor.Actor.{Actor}
+use Rattle.ns_actors_calls.specs.declared.actor.Actor.{Actor}
 use Rattle.ns_actors_calls.specs.Posting.{alone, posted_at, posted_from, settled_at, settled_of}
-use Rattle.ns_actor_steps.specs.Shown.{shown}
-use Rattle.ns_actor_steps.specs.Steps.{HoldsNone, HoldsOutbox, outbox_at}
+use Rattle.ns_actors_calls.specs.Shown.{shown}
+use Rattle.ns_actors_calls.specs.Steps.{HoldsNone, HoldsOutbox, outbox_at}
 use Rattle.ns_actors_calls.specs.Seen.{seen}
 use Rattle.ns_actors_calls.proofs.Lists.{set_same}
 use Rattle.ns_actors_calls.proofs.Told.{get_shown}

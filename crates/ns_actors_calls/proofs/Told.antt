@@ -6,8 +6,8 @@ use Rattle.std.proofs.lemmas.Option.{slice_get-map}
 use Rattle.ns_actors.specs.declared.letter.Letter.{Letter}
 use Rattle.ns_actors.specs.Actor.{ActorView}
 use Rattle.ns_actors.specs.Turn.{ActorsView, host_number}
-use Rattle.ns_actor_steps.specs.declared.actor.Actor.{Actor}
-use Rattle.ns_actor_steps.specs.Shown.{shown}
+use Rattle.ns_actors_calls.specs.declared.actor.Actor.{Actor}
+use Rattle.ns_actors_calls.specs.Shown.{shown}
 use Rattle.ns_actors_calls.specs.Seen.{posted_in, seen}
 
 -- one that is there, or isn't

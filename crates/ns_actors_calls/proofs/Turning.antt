@@ -8,9 +8,9 @@ use Rattle.ns_actors.specs.Actor.{ActorView, Stage, Opening, Between, Sending, H
 use Rattle.ns_actors.specs.Laws.{HeldTurnsKeepActors}
 use Rattle.ns_actors.specs.Stated.{AreActors, IsActor}
 use Rattle.ns_actors.specs.Turn.{ActorsView, Taken, answering, delivered, held_after, held_for, settled, turn_for, turn_of, turn_taken}
-use Rattle.ns_actor_steps.specs.declared.actor.Actor.{Actor}
+use Rattle.ns_actors_calls.specs.declared.actor.Actor.{Actor}
 use Rattle.ns_actors_calls.specs.Posting.{HasTurned, alone, settled_at, settled_of}
-use Rattle.ns_actor_steps.specs.Shown.{shown}
+use Rattle.ns_actors_calls.specs.Shown.{shown}
 use Rattle.ns_actors_calls.specs.Seen.{seen}
 use Rattle.ns_actors_calls.proofs.Lists.{set_got}
 use Rattle.ns_actors_calls.proofs.Told.{get_shown, length_shown}

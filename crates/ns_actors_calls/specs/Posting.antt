@@ -5,7 +5,7 @@ use Rattle.ns_actors.specs.declared.letter.Letter.{Letter}
 use Rattle.ns_actors.specs.declared.turn.ActorTurn.{ActorTurn}
 use Rattle.ns_actors.specs.Actor.{ActorView}
 use Rattle.ns_actors.specs.Turn.{ActorsView, letters_to, posted_by, settled, turn_of}
-use Rattle.ns_actor_steps.specs.declared.actor.Actor.{Actor}
+use Rattle.ns_actors_calls.specs.declared.actor.Actor.{Actor}
 
 -- What comes next to each of these actors, of which the first has that number, is what these letters have for it.
 abbrev pub AreReady : ℕ → List Letter → List Actor → Type 0

@@ -5,20 +5,22 @@ ghost use Rattle.std.specs.Prelude.{option_map, option_and_then, IfOk, OnOk, OnE
 ghost use Rattle.ns_base.specs.Limits.{InRange};
 ghost use Rattle.ns_actors.specs.Actor.{report_of, transcript_of};
 ghost use Rattle.ns_actors.specs.Rounds.{at_rest};
-ghost use Rattle.ns_actor_steps.specs.Shown.{stop_of};
-ghost use Rattle.ns_actors_calls.specs.Seen.{box_in, posted_in};
+ghost use Rattle.ns_actors_calls.specs.Shown.{stop_of};
+ghost use Rattle.ns_actors_calls.specs.Seen.{box_in, machine_of, posted_in};
 ghost use Rattle.ns_actors_calls.specs.Posting.{HasTurned};
 ghost use Rattle.ns_actors.specs.Stated.{AreActors, OthersReceive};
 ghost use Rattle.ns_actors.specs.Turn.{added, held_after, host_number, posted, turn_of};
-ghost use Rattle.ns_letters.specs.Letters.{takes_one};
+ghost use Rattle.ns_actors_calls.specs.Letters.{takes_one};
 ghost use Rattle.ns_actors.specs.Laws.{nobody};
 ghost use Rattle.ns_actors.specs.declared.fault.AddFault.TheVariants as add_fault;
 ghost use Rattle.ns_actors.specs.declared.fault.PostFault.TheVariants as post_fault;
 ghost use Rattle.ns_actors.specs.declared.fault.TurnFault.TheVariants as turn_fault;
 
+use crate::actor::Actor;
+use crate::letter::takes_one;
+use crate::letters::Letters;
 use crate::posting::deliver;
 use crate::turns::{all_rest, turn_of};
-use ns_actor_steps::actor::Actor;
 use ns_actors::fault::{AddFault, PostFault, TurnFault};
 use ns_actors::laws::{actors_stay_actors, turns_keep_others};
 use ns_actors::letter::{HOST, Letter};
@@ -28,8 +30,7 @@ use ns_base::no_memory::NoMemory;
 use ns_base::text::Text;
 use ns_facets::board::Plain;
 use ns_facets::row::Grants;
-use ns_letters::letter::takes_one;
-use ns_letters::letters::Letters;
+use ns_machine::machine::Machine;
 use ns_verify::verify::Verified;
 use std::alloc::Global;
 use std::marker::Model;
@@ -167,6 +168,16 @@ impl Actors {
     {
         match self.actors.get(k as usize) {
             Some(actor) => Some(actor.taken),
+            None => None,
+        }
+    }
+
+    /// The machine in which an actor runs, if it is there: it tells the actor's code, its ending, and what it has printed.
+    pub fn machine(&self, k: u32) -> Option<&Machine>
+        ensures { option_map (λ machine. machine.now) result ≡ option_map machine_of (slice_get self.now.actors k) }
+    {
+        match self.actors.get(k as usize) {
+            Some(actor) => Some(&actor.machine),
             None => None,
         }
     }

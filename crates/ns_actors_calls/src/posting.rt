@@ -6,16 +6,16 @@ ghost use Rattle.ns_actors.specs.declared.letter.Letter.{Letter as LetterValue};
 ghost use Rattle.ns_actors.specs.Stated.{IsActor};
 ghost use Rattle.ns_actors.specs.Turn.{delivered, host_number, posted};
 ghost use Rattle.ns_actors_calls.specs.Posting.{AreReady, posted_at, settled_at};
-ghost use Rattle.ns_actor_steps.specs.Shown.{shown};
-ghost use Rattle.ns_actor_steps.specs.Steps.{HoldsOutbox};
+ghost use Rattle.ns_actors_calls.specs.Shown.{shown};
+ghost use Rattle.ns_actors_calls.specs.Steps.{HoldsOutbox};
 ghost use Rattle.ns_actors_calls.specs.Seen.{seen};
 
-use ns_actor_steps::actor::Actor;
+use crate::actor::Actor;
+use crate::letter::{letter_of, letters_to};
+use crate::letters::Letters;
 use ns_actors::letter::{HOST, Letter};
 use ns_base::no_memory::NoMemory;
 use ns_facets::board::Plain;
-use ns_letters::letter::{letter_of, letters_to};
-use ns_letters::letters::Letters;
 use ns_world::value::Value;
 use std::alloc::Global;
 

@@ -6,11 +6,11 @@ ghost use Rattle.ns_actors.specs.Rounds.{all_rest};
 ghost use Rattle.ns_actors.specs.Stated.{AreActors};
 ghost use Rattle.ns_actors.specs.Turn.{held_after};
 ghost use Rattle.ns_actors_calls.specs.Posting.{HasTurned};
-ghost use Rattle.ns_actor_steps.specs.Shown.{shown};
+ghost use Rattle.ns_actors_calls.specs.Shown.{shown};
 ghost use Rattle.ns_actors_calls.specs.Seen.{seen};
 
+use crate::actor::Actor;
 use crate::posting::settle;
-use ns_actor_steps::actor::Actor;
 use ns_actors::laws::actors_stay_actors;
 use ns_actors::turn::ActorTurn;
 use ns_base::no_memory::NoMemory;

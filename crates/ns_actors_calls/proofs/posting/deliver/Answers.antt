@@ -1,5 +1,5 @@
 use Rattle.std.proofs.Common.{List, ap, refl, subst}
-use Rattle.ns_letters.specs.Letters.{LettersView}
+use Rattle.ns_actors_calls.specs.Letters.{LettersView}
 use Rattle.ns_actors.specs.declared.letter.Letter.{Letter}
 use Rattle.ns_actors.specs.Turn.{host_number}
 use Rattle.ns_actors_calls.specs.Posting.{AreReady}

@@ -1,8 +1,8 @@
 use Rattle.std.proofs.Common.{◌<◌, ◌≤◌, ◌∙◌, ap, arith, get_or, length, subst}
 use Rattle.std.proofs.lemmas.List.{take_all}
 use Rattle.std.proofs.lemmas.Option.{slice_get-get_or}
-use Rattle.ns_letters.specs.Letters.{LettersView}
-use Rattle.ns_actor_steps.specs.Shown.{shown}
+use Rattle.ns_actors_calls.specs.Letters.{LettersView}
+use Rattle.ns_actors_calls.specs.Shown.{shown}
 use Rattle.ns_actors_calls.specs.Posting.{AreReady}
 use Rattle.ns_actors_calls.proofs.Ready.{coming_is, coming_unseen, expects_more, expects_none, shown_set}
 use Rattle.ns_actors_calls.proofs.posting.expect.Goals as goal

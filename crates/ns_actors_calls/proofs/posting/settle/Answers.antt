@@ -1,7 +1,7 @@
 use Rattle.std.proofs.Common.{get_or, length, slice_get}
 use Rattle.std.proofs.lemmas.Option.{slice_get-get_or}
-use Rattle.ns_actor_steps.specs.Shown.{shown}
-use Rattle.ns_actor_steps.specs.Steps.{HoldsOutbox}
+use Rattle.ns_actors_calls.specs.Shown.{shown}
+use Rattle.ns_actors_calls.specs.Steps.{HoldsOutbox}
 use Rattle.ns_actors_calls.proofs.Lists.{all_got}
 use Rattle.ns_actors_calls.proofs.Settling.{none_settles}
 use Rattle.ns_actors_calls.proofs.posting.settle.Goals as goal

@@ -1,8 +1,8 @@
 use Rattle.std.proofs.Common.{◌∙◌, List, ap, map}
 use Rattle.ns_actors.specs.Rounds.{all_rest, at_rest}
 use Rattle.ns_actors.specs.Turn.{ActorsView}
-use Rattle.ns_actor_steps.specs.declared.actor.Actor.{Actor}
-use Rattle.ns_actor_steps.specs.Shown.{shown}
+use Rattle.ns_actors_calls.specs.declared.actor.Actor.{Actor}
+use Rattle.ns_actors_calls.specs.Shown.{shown}
 use Rattle.ns_actors_calls.proofs.actors.Actors.at_rest.Goals as goal
 
 pub returns : goal.returns

@@ -1,5 +1,5 @@
 use Rattle.std.proofs.Common.{ap, subst, sym}
-use Rattle.ns_letters.specs.Letters.{LettersView}
+use Rattle.ns_actors_calls.specs.Letters.{LettersView}
 use Rattle.ns_actors.specs.Stated.{AreActors}
 use Rattle.ns_actors_calls.proofs.Keeping.{none_seen}
 use Rattle.ns_actors_calls.proofs.actors.Actors.new.Goals as goal

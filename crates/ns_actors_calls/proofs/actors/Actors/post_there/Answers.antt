@@ -4,8 +4,8 @@ use Rattle.std.proofs.lemmas.Result.{on_err_weaker, on_ok_weaker}
 use Rattle.ns_actors.specs.declared.letter.Letter.{Letter}
 use Rattle.ns_actors.specs.Stated.{AreActors}
 use Rattle.ns_actors.specs.Turn.{host_number, posted}
-use Rattle.ns_actor_steps.specs.declared.actor.Actor.{Actor}
-use Rattle.ns_actor_steps.specs.Shown.{shown}
+use Rattle.ns_actors_calls.specs.declared.actor.Actor.{Actor}
+use Rattle.ns_actors_calls.specs.Shown.{shown}
 use Rattle.ns_actors_calls.specs.Seen.{seen}
 use Rattle.ns_actors_calls.proofs.Keeping.{lent_are, posted_or_kept}
 use Rattle.ns_actors_calls.proofs.Told.{count_seen, length_shown}

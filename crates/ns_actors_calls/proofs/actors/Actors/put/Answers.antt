@@ -4,8 +4,8 @@ use Rattle.ns_verify.specs.Verify.{IsSound}
 use Rattle.ns_session.specs.Member.{Application, MayStart}
 use Rattle.ns_actors.specs.Stated.{AreActors}
 use Rattle.ns_actors.specs.Turn.{added}
-use Rattle.ns_actor_steps.specs.declared.actor.Actor.{Actor}
-use Rattle.ns_actor_steps.specs.Shown.{shown}
+use Rattle.ns_actors_calls.specs.declared.actor.Actor.{Actor}
+use Rattle.ns_actors_calls.specs.Shown.{shown}
 use Rattle.ns_actors_calls.specs.Seen.{seen}
 use Rattle.ns_actors_calls.proofs.Keeping.{one_more, one_more_kept}
 use Rattle.ns_actors_calls.proofs.Refused.{also_refused}

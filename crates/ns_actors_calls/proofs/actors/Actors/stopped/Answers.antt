@@ -1,5 +1,5 @@
 use Rattle.std.proofs.Common.{◌∙◌}
-use Rattle.ns_actor_steps.specs.Shown.{stop_of}
+use Rattle.ns_actors_calls.specs.Shown.{stop_of}
 use Rattle.ns_actors_calls.proofs.Lists.{looked_past, looked_up}
 use Rattle.ns_actors_calls.proofs.Told.{none_then, then_told}
 use Rattle.ns_actors_calls.proofs.actors.Actors.stopped.Goals as goal

@@ -3,7 +3,7 @@ use Rattle.std.proofs.lemmas.List.{with_items_is}
 use Rattle.std.proofs.lemmas.Result.{IfOk-weaker, on_err_weaker}
 use Rattle.ns_actors.specs.Stated.{AreActors}
 use Rattle.ns_actors.specs.Turn.{held_after}
-use Rattle.ns_actor_steps.specs.declared.actor.Actor.{Actor}
+use Rattle.ns_actors_calls.specs.declared.actor.Actor.{Actor}
 use Rattle.ns_actors_calls.specs.Seen.{seen}
 use Rattle.ns_actors_calls.proofs.Keeping.{has_turned_as, lent_are, others_as, others_receive, turned_or_held}
 use Rattle.ns_actors_calls.proofs.actors.Actors.turn_there.Goals as goal

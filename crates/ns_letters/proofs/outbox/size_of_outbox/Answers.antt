@@ -1,7 +1,0 @@
-use Rattle.std.proofs.Common.{◌∙◌, sym}
-use Rattle.ns_letters.proofs.Reading.{whole_size}
-use Rattle.ns_letters.proofs.outbox.size_of_outbox.Goals as goal
-
-pub returns-in_default : goal.returns-in_default
-returns-in_default c from =
-    whole_size c.args.code.now c.args.world.now.world.cells from c.args.count c.args.value c.in_default.not-Nil ∙ sym c.size_of_letters.ensures
