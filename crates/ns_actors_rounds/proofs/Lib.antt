@@ -2,3 +2,11 @@ pub mod Lists
 pub mod Starting
 pub mod Rounding
 pub mod Texts
+pub mod Falling
+pub mod Delivering
+pub mod Lowering
+pub mod Resting
+pub mod Enough
+pub mod Programs
+pub mod PartLaws
+pub mod SourceLaws

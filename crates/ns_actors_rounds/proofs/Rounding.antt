@@ -9,7 +9,7 @@ use Rattle.ns_actors.specs.Turn.{ActorsView, delivered, settled, turn_for, turn_
 
 -- ---- a turn leaves as many actors
 
-length_delivered : (number : ℕ) (letters : List Letter) (actors : List ActorView) → length (delivered number letters actors) ≡ length actors
+pub length_delivered : (number : ℕ) (letters : List Letter) (actors : List ActorView) → length (delivered number letters actors) ≡ length actors
 length_delivered number letters [] = refl
 length_delivered number letters (actor ∷ actors) = ap suc (length_delivered (number + 1) letters actors)
 

@@ -13,7 +13,7 @@ replicate_more (suc n) x =
     ap (λ xs. x ∷ xs) (replicate_more n x) ∙ ap (λ (m : ℕ). replicate m x) next
 
 -- one more has started
-started_more : (code : CodeProgram) (limits : Limits) (n : ℕ) → added (actor_of code limits) (started code limits n) ≡ started code limits (n + 1)
+pub started_more : (code : CodeProgram) (limits : Limits) (n : ℕ) → added (actor_of code limits) (started code limits n) ≡ started code limits (n + 1)
 started_more code limits n =
     ap (λ (actors : List ActorView). record { actors = actors; host = [] }) (replicate_more n (starting (actor_of code limits)))
 

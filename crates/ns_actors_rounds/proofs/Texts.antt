@@ -10,7 +10,7 @@ use Rattle.ns_actors.specs.Actor.{ActorView, Stage, Opening, Between, Sending, H
 use Rattle.ns_actors.specs.declared.told.Acted.{Acted}
 use Rattle.ns_actors.specs.Rounds.{actor_text, report_or, status_at, status_of, stop_text, text_from, told_of}
 use Rattle.ns_actors.specs.Turn.{ActorsView}
-use Rattle.ns_actor_steps.specs.Shown.{stop_at, stop_of}
+use Rattle.ns_actors_calls.specs.Shown.{stop_at, stop_of}
 use Rattle.ns_actors_rounds.specs.Told.{printed_text, report_text, taken_text, text_at, why_text}
 use Rattle.ns_actors_rounds.proofs.Lists.{drop_there, there_is}
 

@@ -4,7 +4,7 @@ use Rattle.std.specs.Fmt.{decimal}
 use Rattle.ns_actors.specs.declared.turn.Stop.{Stop}
 use Rattle.ns_actors.specs.Actor.{ActorView, report_of, transcript_of}
 use Rattle.ns_actors.specs.Rounds.{report_or}
-use Rattle.ns_actor_steps.specs.Shown.{stop_of}
+use Rattle.ns_actors_calls.specs.Shown.{stop_of}
 
 -- its number, and how many letters it has taken
 abbrev pub taken_text : ℕ → Option ℕ → List ℕ

@@ -2,7 +2,7 @@
 
 ghost use Rattle.std.specs.Prelude.{◌≡◌, ◌≤◌, true, length, IfOk, OnOk};
 ghost use Rattle.ns_base.specs.Limits.{InRange};
-ghost use Rattle.ns_letters.specs.Letters.{takes_one};
+ghost use Rattle.ns_actors_calls.specs.Letters.{takes_one};
 ghost use Rattle.ns_actors.specs.Rounds as spec;
 ghost use Rattle.ns_actors.specs.Turn.{posted};
 
