@@ -26,12 +26,12 @@ use Rattle.ns_frozen_valid.proofs.Linked.{chain_stays, chain_beside, newest, new
 
 -- ---- one more at the end
 
-got_left : {A : Type 0} (xs : List A) (y : A) (k : ℕ) → k < length xs → slice_get (xs ++ y ∷ []) k ≡ slice_get xs k
+pub got_left : {A : Type 0} (xs : List A) (y : A) (k : ℕ) → k < length xs → slice_get (xs ++ y ∷ []) k ≡ slice_get xs k
 got_left [] y k h = absurd (omega (arith, h))
 got_left (x ∷ xs) y zero h = refl
 got_left (x ∷ xs) y (suc k) h = got_left xs y k (omega (arith, h))
 
-got_end : {A : Type 0} (xs : List A) (y : A) → slice_get (xs ++ y ∷ []) (length xs) ≡ Some y
+pub got_end : {A : Type 0} (xs : List A) (y : A) → slice_get (xs ++ y ∷ []) (length xs) ≡ Some y
 got_end [] y = refl
 got_end (x ∷ xs) y = got_end xs y
 
@@ -44,7 +44,7 @@ or_end : (xs : List ℕ) (y : ℕ) → get_or (xs ++ y ∷ []) (length xs) 0 ≡
 or_end [] y = refl
 or_end (x ∷ xs) y = or_end xs y
 
-one_longer : {A : Type 0} (xs : List A) (y : A) → length (xs ++ y ∷ []) ≡ suc (length xs)
+pub one_longer : {A : Type 0} (xs : List A) (y : A) → length (xs ++ y ∷ []) ≡ suc (length xs)
 one_longer [] y = refl
 one_longer (x ∷ xs) y = ap (λ n. suc n) (one_longer xs y)
 
@@ -77,6 +77,7 @@ past_more code cell heap chains are absent = record {
   rising = are.rising;
   as_many = are.as_many;
   below = λ place h. omega (arith, are.below place h, size_above cell);
+  few = are.few;
   there = λ place h. are.there place h ∙ ap Some (sym (chain_stays code cell heap (get_or chains.numbers.items place 0) (are.below place h)));
   absent = absent;
 }
@@ -124,6 +125,8 @@ class_more code heap chains after decl base number encl holder over are size num
   as_many = ap length kept ∙ (one_longer cs c ∙ (ap (λ n. suc n) are.as_many ∙ sym (ap length numbers ∙ one_longer ns number)));
   below = subst (λ (xs : List ℕ). (place : ℕ) → place < length xs → get_or xs place 0 < heap_size (cell ∷ heap)) (sym numbers)
       (each_more (λ k v. v < heap_size (cell ∷ heap)) ns number (λ k h. omega (arith, are.below k h)) (omega (arith, size)));
+  few = subst (λ (xs : List ℕ). (place : ℕ) → place < length xs → place ≤ get_or xs place 0) (sym numbers)
+      (each_more (λ k v. k ≤ v) ns number are.few (last_few (length ns) refl));
   there = subst (λ (xs : List ℕ). (place : ℕ) → place < length xs → slice_get after.chains.items place ≡ Some (chain_at code (cell ∷ heap) (get_or xs place 0))) (sym numbers)
       (each_more (λ k v. slice_get after.chains.items k ≡ Some (chain_at code (cell ∷ heap) v)) ns number before last);
   absent = absent;
@@ -140,6 +143,10 @@ class_more code heap chains after decl base number encl holder over are size num
 
     cell : Cell
     cell = ClassCell decl base encl holder over
+
+    last_few : (n : ℕ) → length ns ≡ n → length ns ≤ number
+    last_few zero e = omega (arith, e)
+    last_few (suc n) e = omega (arith, e, are.few n (omega (arith, e)), are.below n (omega (arith, e)), size)
 
     here : chain_at code (cell ∷ heap) number ≡ c
     here = subst (λ (n : ℕ). chain_at code (cell ∷ heap) n ≡ c) size (newest code heap decl base encl holder over)
@@ -186,6 +193,7 @@ built_starts code cells chains numbers kept = record {
     rising = subst IsRising (sym numbers) (λ i j h within. absurd (omega (arith, within)));
     as_many = ap length kept ∙ sym (ap length numbers);
     below = λ place h. absurd (omega (arith, h, ap length numbers));
+    few = λ place h. absurd (omega (arith, h, ap length numbers));
     there = λ place h. absurd (omega (arith, h, ap length numbers));
     absent = λ class small none. refl;
   };

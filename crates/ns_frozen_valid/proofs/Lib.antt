@@ -5,6 +5,7 @@ pub mod Stands
 pub mod Built
 pub mod Outwards
 pub mod Walked
+pub mod Kept
 pub mod Gone
 pub mod Framed
 pub mod Ended

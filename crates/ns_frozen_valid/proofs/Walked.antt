@@ -1,7 +1,7 @@
 -- The classes of a chain, from a class upwards.
 use Rattle.std.proofs.Common.{◌≡◌, ℕ, zero, suc, ◌<◌, ◌≤◌, List, [], ◌∷◌, ◌+◌, length, refl, ap, sym, ◌∙◌, subst, arith, Option, Some, None, Bool, true, false, cond, eqb, ltb, ◌||◌, option_map}
 use Rattle.std.specs.Prelude.{not, ◌==◌, nat_lt}
-use Rattle.std.specs.List.{list_any, list_all}
+use Rattle.std.specs.List.{list_any}
 use Rattle.std.proofs.lemmas.Bool.{eqb-true, ltb-true, ltb-false}
 use Rattle.ns_code.specs.declared.program.CodeProgram.{CodeProgram}
 use Rattle.ns_world.specs.declared.value.Value.{Value}
@@ -14,11 +14,8 @@ use Rattle.ns_world.specs.laws.Changing.{differs}
 use Rattle.ns_frozen.specs.Freezing.{cell_frozen}
 use Rattle.ns_frozen.specs.Live.{has_chain}
 use Rattle.ns_frozen_valid.specs.Chain.{links_of, links_before, more_links, next_links}
+use Rattle.ns_frozen_valid.specs.Keepers.{rest_of}
 use Rattle.ns_frozen_valid.proofs.Linked.{Below, below_raised, below_over, chain_below, chain_told, class_linked}
-
--- the chain above a class
-abbrev pub rest_of : Heap → ℕ → List ℕ
-rest_of heap class = cond (ltb (superclass_of heap class) class) (chain_of heap (superclass_of heap class)) []
 
 -- the chain of a class goes on with its superclass's, where that was made before it
 pub chain_goes_on : (heap : Heap) (class : ℕ) → class ≤ no_class → is_class (find_cell heap class) ≡ true → chain_of heap class ≡ class ∷ rest_of heap class
@@ -231,18 +228,3 @@ pub holder_nowhere : (code : CodeProgram) (heap : Heap) (class at above holder :
     → above ≡ superclass_of heap at → at ≤ above → holder < at → false ≡ holds holder (chain_of heap class)
 holder_nowhere code heap class at above holder small walks is h lower =
     sym (walk_top code heap class at above (holds holder) small walks is h ∙ rw (differs at holder (λ q. absurd (omega (arith, lower, q)))) refl)
-
--- ---- what holds of each class
-
-pub each_on : (code : CodeProgram) (heap : Heap) (class at above : ℕ) (test : ℕ → Bool) → at ≤ no_class → Walks code heap class at (list_all test)
-    → above ≡ superclass_of heap at → above < at → test at ≡ true → Walks code heap class above (list_all test)
-each_on code heap class at above test small walks is h holds =
-    walks_on code heap class at above (list_all test) small walks is h (rw holds refl)
-
-pub each_top : (code : CodeProgram) (heap : Heap) (class at above : ℕ) (test : ℕ → Bool) → at ≤ no_class → Walks code heap class at (list_all test)
-    → above ≡ superclass_of heap at → at ≤ above → test at ≡ true → true ≡ list_all test (chain_of heap class)
-each_top code heap class at above test small walks is h holds = sym (walk_top code heap class at above (list_all test) small walks is h ∙ rw holds refl)
-
-pub each_not : (code : CodeProgram) (heap : Heap) (class at : ℕ) (test : ℕ → Bool) → at ≤ no_class → Walks code heap class at (list_all test)
-    → test at ≡ false → false ≡ list_all test (chain_of heap class)
-each_not code heap class at test small walks fails = sym (walk_here code heap class at (list_all test) small walks ∙ rw fails refl)

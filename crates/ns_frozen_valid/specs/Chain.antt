@@ -1,5 +1,5 @@
 -- What is kept of the chain of a class.
-use Rattle.std.specs.Prelude.{◌≡◌, ℕ, ◌+◌, ◌<◌, nat_lt, nat_le, length, get_or, slice_get, Some, None, ◌==◌, ◌||◌, if◌then◌else◌}
+use Rattle.std.specs.Prelude.{◌≡◌, ℕ, ◌+◌, ◌<◌, ◌≤◌, nat_lt, nat_le, length, get_or, slice_get, Some, None, ◌==◌, ◌||◌, if◌then◌else◌}
 use Rattle.ns_code.specs.declared.program.CodeProgram.{CodeProgram}
 use Rattle.ns_world.specs.declared.value.Value.{Value}
 use Rattle.ns_world.specs.declared.value.Value.TheVariants.{Ref}
@@ -54,6 +54,7 @@ pub record AreChains (code : CodeProgram) (heap : Heap) (chains : Chains) : Type
   pub rising : AreRising chains
   pub as_many : length chains.chains.items ≡ length chains.numbers.items
   pub below : (place : ℕ) → place < length chains.numbers.items → get_or chains.numbers.items place 0 < heap_size heap
+  pub few : (place : ℕ) → place < length chains.numbers.items → place ≤ get_or chains.numbers.items place 0
   pub there : (place : ℕ) → place < length chains.numbers.items
       → slice_get chains.chains.items place ≡ Some (chain_at code heap (get_or chains.numbers.items place 0))
   pub absent : (class : ℕ) → class < number_end → IsPlaceOf chains.numbers.items class None → chain_at code heap class ≡ no_chain

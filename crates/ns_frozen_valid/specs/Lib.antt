@@ -4,6 +4,7 @@ pub mod Selectors
 pub mod Bodies
 pub mod Stands
 pub mod Above
+pub mod Keepers
 pub mod Seen
 pub mod Kinds
 pub mod Environments

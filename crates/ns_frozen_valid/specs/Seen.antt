@@ -8,6 +8,7 @@ use Rattle.ns_frozen_valid.specs.Numbers.{numbers_from}
 use Rattle.ns_frozen_valid.specs.Chain.{AreChains}
 use Rattle.ns_frozen_valid.specs.Selectors.{AreSelectors}
 use Rattle.ns_frozen_valid.specs.Bodies.{AreBodies}
+use Rattle.ns_frozen_valid.specs.Keepers.{AreKeepers}
 
 -- the heap for which the cells stand
 abbrev pub heap_of : Seen → Heap
@@ -20,3 +21,4 @@ pub record IsSeen (seen : Seen) : Type 0 where
   pub chains : AreChains seen.code.now (heap_of seen) seen.chains
   pub selectors : AreSelectors seen.code.now seen.selectors
   pub bodies : AreBodies seen.code.now seen.bodies
+  pub keepers : AreKeepers seen.code.now (heap_of seen) seen.chains.numbers.items seen.keepers.items

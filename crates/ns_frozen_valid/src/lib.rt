@@ -14,6 +14,7 @@ pub mod fault;
 mod first;
 mod frames;
 mod homes;
+mod keepers;
 mod kernel;
 mod kinds;
 mod numbers;

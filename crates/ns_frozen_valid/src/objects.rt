@@ -1,12 +1,11 @@
 //! Objects, whose words are those of the classes in their chain.
 
-ghost use Rattle.std.specs.Prelude.{◌≡◌, ◌≤◌, true, option_map};
-ghost use Rattle.std.specs.List.{list_all, slice_index_or};
+ghost use Rattle.std.specs.Prelude.{◌≡◌, ◌≤◌, option_map};
+ghost use Rattle.std.specs.List.{slice_index_or};
 ghost use Rattle.ns_world.specs.declared.value.Value.TheVariants as value;
 ghost use Rattle.ns_world.specs.Heap as heap;
 ghost use Rattle.ns_frozen_valid.specs.Kinds as kinds;
 ghost use Rattle.ns_frozen.specs.Cells as spec;
-ghost use Rattle.ns_frozen.specs.Live as live;
 ghost use Rattle.ns_frozen_valid.specs.Seen.{IsSeen, heap_of};
 
 use crate::seen::Seen;
@@ -27,46 +26,8 @@ impl Seen<'_> {
             && self.are_kept(number, class, words)
     }
 
-    /// Whether the words for the nested classes of each class in a chain are so.
-    fn are_kept(&self, number: u128, class: u32, words: &[Value]) -> bool
-        requires seen { IsSeen self.now }
-        requires chain { live.has_chain self.now.code.now (heap_of self.now) class ≡ true }
-        ensures { result ≡ list_all (spec.are_kept_of self.now.code.now (heap_of self.now) number words.now) (heap.chain_of (heap_of self.now) class) }
-    {
-        let mut at = class;
-        'links: while self.are_kept_of(number, words, at) {
-            let above = self.superclass(at);
-            if at <= above {
-                return true;
-            }
-            at = above;
-        }
-        false
-    }
-
-    /// Whether those of one class are.
-    #[tactic(auto, using(crate::proofs::Built::class_few))]
-    fn are_kept_of(&self, number: u128, words: &[Value], holder: u32) -> bool
-        requires seen { IsSeen self.now }
-        ensures { result ≡ spec.are_kept_of self.now.code.now (heap_of self.now) number words.now holder }
-    {
-        match self
-            .code
-            .classes
-            .as_slice()
-            .get(self.declaration(holder) as usize)
-        {
-            Some(class) => {
-                let first = self.layout(self.superclass(holder))
-                    + class.slots.as_slice().len() as u64;
-                self.are_kept_from(number, holder, words, first, class.nested.as_slice())
-            }
-            None => false,
-        }
-    }
-
     /// Whether words from one on are those for nested classes.
-    fn are_kept_from(
+    pub fn are_kept_from(
         &self,
         number: u128,
         holder: u32,

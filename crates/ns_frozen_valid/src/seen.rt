@@ -1,6 +1,6 @@
 //! The cells of a frozen state, each found by its number, and the code that they are of.
 
-ghost use Rattle.std.specs.Prelude.{◌≡◌, ◌≤◌, IfOk, option_map};
+ghost use Rattle.std.specs.Prelude.{◌≡◌, ◌≤◌, IfOk, length, option_map};
 ghost use Rattle.ns_code.specs.Fits.{Fits};
 ghost use Rattle.ns_verify.specs.Verify.{IsSound};
 ghost use Rattle.ns_code.specs.Selector.{is_selector_number, selector_arity};
@@ -13,6 +13,7 @@ ghost use Rattle.ns_frozen_valid.specs.Seen as spec;
 
 use crate::bodies::Bodies;
 use crate::chain::{Chain, Chains};
+use crate::keepers::Keeper;
 use crate::numbers::{cell_at, numbers_of, place_of};
 use crate::selectors::Selectors;
 use ns_base::items::Items;
@@ -22,8 +23,8 @@ use ns_code::program::CodeProgram;
 use ns_frozen::cell::CellData;
 use std::alloc::Global;
 
-/// Code and cells, with what is found of them once: the number of each cell, the chain of each class, and what is asked of
-/// selectors and bodies.
+/// Code and cells, with what is found of them once: the number of each cell, the chain of each class, what is asked of
+/// selectors and bodies, and which classes have words in their instances.
 #[derive(Drop)]
 pub struct Seen<'a> {
     pub code: &'a CodeProgram,
@@ -32,6 +33,7 @@ pub struct Seen<'a> {
     pub chains: Chains,
     pub selectors: Selectors,
     pub bodies: Bodies,
+    pub keepers: Vec<Keeper>,
 }
 
 impl<'a> Seen<'a> {
@@ -46,6 +48,24 @@ impl<'a> Seen<'a> {
         ensures seen { IfOk result (λ seen. spec.IsSeen seen) }
         ensures these { IfOk result (λ seen. (seen.code.now ≡ code.now) × (seen.cells.now ≡ cells.now)) }
     {
+        let mut seen = Seen::begin(alloc, code, cells)?;
+        seen.find_keepers()?;
+        Ok(seen)
+    }
+
+    /// The same, where nothing is kept of classes yet.
+    #[tactic(auto, using(crate::proofs::Kept::none_kept))]
+    fn begin(
+        alloc: Global,
+        code: &'a CodeProgram,
+        cells: &'a [CellData],
+    ) -> Result<Seen<'a>, NoMemory>
+        requires sound { IsSound code.now }
+        requires fits { Fits code.now }
+        ensures seen { IfOk result (λ seen. spec.IsSeen seen) }
+        ensures none { IfOk result (λ seen. length seen.keepers.items ≡ 0) }
+        ensures these { IfOk result (λ seen. (seen.code.now ≡ code.now) × (seen.cells.now ≡ cells.now)) }
+    {
         let numbers = numbers_of(alloc, cells)?;
         let chains = Chains::of(alloc, code, cells)?;
         let selectors = Selectors::of(alloc, code)?;
@@ -57,6 +77,7 @@ impl<'a> Seen<'a> {
             chains,
             selectors,
             bodies,
+            keepers: Vec::new(alloc),
         })
     }
 

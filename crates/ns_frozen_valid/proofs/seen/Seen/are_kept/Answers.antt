@@ -1,28 +1,25 @@
-use Rattle.std.proofs.Common.{refl, sym, ◌∙◌, arith}
-use Rattle.ns_frozen.specs.Cells.{are_kept_of}
+use Rattle.std.proofs.Common.{ℕ, ◌≡◌, Option, Some, true, subst, ap, sym, ◌∙◌, arith}
+use Rattle.ns_world.specs.Heap.{chain_of}
+use Rattle.ns_frozen.specs.Live.{has_chain}
+use Rattle.ns_frozen_valid.specs.Keepers.{are_kept}
+use Rattle.ns_frozen_valid.specs.Numbers.{IsPlaceOf}
 use Rattle.ns_frozen_valid.specs.Seen.{heap_of}
-use Rattle.ns_frozen_valid.proofs.Walked.{each_on, each_top, each_not}
+use Rattle.ns_frozen_valid.proofs.Kept.{class_there}
 use Rattle.ns_frozen_valid.proofs.seen.Seen.are_kept.Goals as goal
 
-pub links-init : goal.links-init
-links-init c = record { low = omega arith; chain = c.requires.chain; same = refl }
+pub are_kept_at-requires-clause-chained : goal.are_kept_at-requires-clause-chained
+are_kept_at-requires-clause-chained c =
+    let at = subst (λ (o : Option ℕ). IsPlaceOf c.args.self.now.chains.numbers.items c.args.class o) c.in-Some.is c.place.ensures in
+    (at.0, subst (λ (n : ℕ). has_chain c.args.self.now.code.now (heap_of c.args.self.now) n ≡ true) (sym at.1) c.requires.chain)
 
-pub returns-then-at-above : goal.returns-then-at-above
-returns-then-at-above c =
-    each_top c.args.self.now.code.now (heap_of c.args.self.now) c.args.class c.links.at c.superclass-above.result
-    (are_kept_of c.args.self.now.code.now (heap_of c.args.self.now) c.args.number c.args.words.now)
-    (omega (arith, c.links.invariant.low, c.ranges.class.fits)) c.links.invariant c.superclass-above.ensures (omega arith)
-    (sym c.are_kept_of.ensures ∙ c.links-test.true)
+pub returns-in-Some : goal.returns-in-Some
+returns-in-Some c =
+    let at = subst (λ (o : Option ℕ). IsPlaceOf c.args.self.now.chains.numbers.items c.args.class o) c.in-Some.is c.place.ensures in
+    c.are_kept_at.ensures
+    ∙ ap (λ (n : ℕ). are_kept c.args.self.now.code.now (heap_of c.args.self.now) c.args.number c.args.words.now (chain_of (heap_of c.args.self.now) n)) at.1
 
-pub links-preserved : goal.links-preserved
-links-preserved c =
-    each_on c.args.self.now.code.now (heap_of c.args.self.now) c.args.class c.links.at c.superclass-above.result
-    (are_kept_of c.args.self.now.code.now (heap_of c.args.self.now) c.args.number c.args.words.now)
-    (omega (arith, c.links.invariant.low, c.ranges.class.fits)) c.links.invariant c.superclass-above.ensures (omega arith)
-    (sym c.are_kept_of.ensures ∙ c.links-test.true)
-
-pub returns : goal.returns
-returns c =
-    each_not c.args.self.now.code.now (heap_of c.args.self.now) c.args.class c.links.at
-    (are_kept_of c.args.self.now.code.now (heap_of c.args.self.now) c.args.number c.args.words.now)
-    (omega (arith, c.links.invariant.low, c.ranges.class.fits)) c.links.invariant (sym c.are_kept_of.ensures ∙ c.links-test.false)
+pub returns-in-None : goal.returns-in-None
+returns-in-None c =
+    absurd (class_there c.args.self.now.code.now (heap_of c.args.self.now) c.args.self.now.chains c.args.class c.requires.seen.chains
+    (omega (arith, c.ranges.class.fits)) c.requires.chain
+    (subst (λ (o : Option ℕ). IsPlaceOf c.args.self.now.chains.numbers.items c.args.class o) c.in-None.is c.place.ensures))
