@@ -1,0 +1,4 @@
+pub mod Beginning
+pub mod Keeping
+pub mod Positions
+pub mod PutBack
