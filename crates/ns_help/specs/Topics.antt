@@ -2,12 +2,12 @@
 use Rattle.std.specs.Prelude.{ℕ, List, [], ◌∷◌, Option, Some, None, codes, if◌then◌else◌}
 use Rattle.std.specs.Option.{option_or}
 use Rattle.std.specs.Str.{bytes_eq}
-use Rattle.ns_help.specs.declared.commands.TheConstants.{CHECK, SHOW, FORMAT, RUN, EVAL, BUILD, EXEC, LIST, SESSION, SAMPLE, AUDIT, TEST, SNAP, LIBRARY, HELP}
+use Rattle.ns_help.specs.declared.commands.TheConstants.{CHECK, SHOW, FORMAT, RUN, EVAL, BUILD, EXEC, LIST, SESSION, SAMPLE, ACTORS, AUDIT, TEST, SNAP, RESUME, LIBRARY, HELP}
 use Rattle.ns_help.specs.declared.sources.TheConstants.{MISSING, TOO_LONG, EXISTS, BAD_BYTE, BIG_NUMBER, UNCLOSED_COMMENT, UNCLOSED_STRING, TOO_DEEP, SYNTAX}
 use Rattle.ns_help.specs.declared.programs.TheConstants.{DUPLICATE_MEMBER, DUPLICATE_LOCAL, FIXED_LOCAL, BAD_RETURN, BARE_RECEIVER, NO_SUCH_OUTER, BAD_CASCADE, PLAIN_TOO_LARGE, TOO_MANY, TOP_SUPER, DUPLICATE_TOP, TOO_LARGE}
 use Rattle.ns_help.specs.declared.errors.TheConstants.{NOT_UNDERSTOOD, NOT_PUBLIC, OVERFLOW, ZERO_DIVIDE, WRONG_KIND, OUT_OF_RANGE, MUST_BE_BOOLEAN, DEAD_RETURN, WRONG_ARITY, NOT_A_CLASS, KERNEL_SUPER, INIT_MISMATCH, FIXED_SLOT, CHAIN_LIMIT}
 use Rattle.ns_help.specs.declared.limits.TheConstants.{STEPS, CELLS, DEPTH, OUT}
-use Rattle.ns_help.specs.declared.images.TheConstants.{NOT_AN_IMAGE, BAD_VERSION, TRUNCATED, BAD_FIELD, TRAILING, BAD_JUMP, BAD_HEIGHT, BAD_SLOT, BAD_SCOPE, BAD_LITERAL, NO_RETURN, NOT_TESTS, NO_TEST, NO_CLASS}
+use Rattle.ns_help.specs.declared.images.TheConstants.{NOT_AN_IMAGE, BAD_VERSION, TRUNCATED, BAD_FIELD, TRAILING, BAD_JUMP, BAD_HEIGHT, BAD_SLOT, BAD_SCOPE, BAD_LITERAL, NO_RETURN, NOT_TESTS, NO_TEST, NO_CLASS, BAD_OUTBOX, NOT_A_SNAPSHOT, BAD_IMAGE, BAD_LIMITS, BAD_CELL, BAD_FRAME, BAD_REST}
 
 -- the text of the first of these names that is the word
 abbrev pub found : List ℕ → List (List ℕ × List ℕ) → Option (List ℕ)
@@ -27,9 +27,11 @@ commands =
     ∷ (codes "list", LIST.now)
     ∷ (codes "session", SESSION.now)
     ∷ (codes "sample", SAMPLE.now)
+    ∷ (codes "actors", ACTORS.now)
     ∷ (codes "audit", AUDIT.now)
     ∷ (codes "test", TEST.now)
     ∷ (codes "snap", SNAP.now)
+    ∷ (codes "resume", RESUME.now)
     ∷ (codes "library", LIBRARY.now)
     ∷ (codes "help", HELP.now)
     ∷ []
@@ -93,7 +95,7 @@ limits =
     ∷ (codes "out", OUT.now)
     ∷ []
 
--- what is told of a cause for which an image, an audit or tests are refused
+-- what is told of a cause for which an image, an audit, tests, an outbox or a snapshot are refused
 abbrev pub images : List (List ℕ × List ℕ)
 images =
     (codes "NotAnImage", NOT_AN_IMAGE.now)
@@ -110,6 +112,13 @@ images =
     ∷ (codes "NotTests", NOT_TESTS.now)
     ∷ (codes "NoTest", NO_TEST.now)
     ∷ (codes "NoClass", NO_CLASS.now)
+    ∷ (codes "BadOutbox", BAD_OUTBOX.now)
+    ∷ (codes "NotASnapshot", NOT_A_SNAPSHOT.now)
+    ∷ (codes "BadImage", BAD_IMAGE.now)
+    ∷ (codes "BadLimits", BAD_LIMITS.now)
+    ∷ (codes "BadCell", BAD_CELL.now)
+    ∷ (codes "BadFrame", BAD_FRAME.now)
+    ∷ (codes "BadRest", BAD_REST.now)
     ∷ []
 
 -- the text on a word, if there is one

@@ -65,6 +65,12 @@ pub const SAMPLE: &str = "nspk sample N
 Makes the sample of N classes, runs it, and writes the steps that it took.
 ";
 
+/// What `actors` does.
+pub const ACTORS: &str = "nspk actors [OPTION ..] COUNT SELECTOR NUMBER FILE ..
+Runs COUNT actors of one program, which send each other letters. The first
+letter is SELECTOR with NUMBER, to actor 0.
+";
+
 /// What `audit` does.
 pub const AUDIT: &str = "nspk audit --deny=SELECTOR .. IMAGE CLASS
 Says whether the code of CLASS in IMAGE, with all that is nested in it, sends
@@ -81,6 +87,11 @@ Options: --lib --reverse --only=NAME --steps=N --cells=N --depth=N --out=N
 /// What `snap` does.
 pub const SNAP: &str = "nspk snap --at=N [OPTION ..] SNAP FILE ..
 Runs as run does for N steps, and stores the state as SNAP.
+";
+
+/// What `resume` does.
+pub const RESUME: &str = "nspk resume SNAP
+Runs a state that was stored by snap to its end.
 ";
 
 /// What `library` does.
@@ -128,6 +139,9 @@ pub fn commands_text(word: &[u8]) -> Option<&'static str>
     if word == b"sample".as_slice() {
         return Some(SAMPLE);
     }
+    if word == b"actors".as_slice() {
+        return Some(ACTORS);
+    }
     if word == b"audit".as_slice() {
         return Some(AUDIT);
     }
@@ -136,6 +150,9 @@ pub fn commands_text(word: &[u8]) -> Option<&'static str>
     }
     if word == b"snap".as_slice() {
         return Some(SNAP);
+    }
+    if word == b"resume".as_slice() {
+        return Some(RESUME);
     }
     if word == b"library".as_slice() {
         return Some(LIBRARY);

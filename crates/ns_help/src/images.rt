@@ -1,4 +1,4 @@
-//! What the refusals of images, audits and tests mean.
+//! What the refusals of images, audits, tests and snapshots mean.
 
 ghost use Rattle.std.specs.Prelude.{◌≡◌, option_map};
 ghost use Rattle.ns_help.specs.Topics as spec;
@@ -75,7 +75,46 @@ pub const NO_CLASS: &str =
     "NoClass: the image has no top-level class of the name that `audit` was given.
 ";
 
-/// What is told of a cause for which an image, an audit or tests are refused, if the word is one.
+/// What `BadOutbox` means.
+pub const BAD_OUTBOX: &str =
+    "BadOutbox: what the actor answered to a letter is neither nil nor an array of
+letters: arrays of an actor's number, a symbol of one argument, and nil, a
+boolean or an Integer.
+";
+
+/// What `NotASnapshot` means.
+pub const NOT_A_SNAPSHOT: &str = "NotASnapshot: the file is no snapshot. Make it by `nspk snap`.
+";
+
+/// What `BadImage` means.
+pub const BAD_IMAGE: &str =
+    "BadImage: the image within the snapshot isn't one, or its code is refused.
+Make the snapshot again.
+";
+
+/// What `BadLimits` means.
+pub const BAD_LIMITS: &str =
+    "BadLimits: the snapshot's limits aren't within what `nspk` allows, or its
+counters have passed them.
+";
+
+/// What `BadCell` means.
+pub const BAD_CELL: &str =
+    "BadCell: no run makes a cell as this one of the snapshot. Don't trust it.
+";
+
+/// What `BadFrame` means.
+pub const BAD_FRAME: &str =
+    "BadFrame: no run makes a frame as this one of the snapshot. Don't trust it.
+";
+
+/// What `BadRest` means.
+pub const BAD_REST: &str =
+    "BadRest: what the snapshot says beside its cells and frames is in no run.
+Don't trust it.
+";
+
+/// What is told of a cause for which an image, an audit, tests or a snapshot are refused, if the word is one.
 pub fn images_text(word: &[u8]) -> Option<&'static str>
     ensures { option_map (λ text. text.now) result ≡ spec.found word.now spec.images }
 {
@@ -120,6 +159,27 @@ pub fn images_text(word: &[u8]) -> Option<&'static str>
     }
     if word == b"NoClass".as_slice() {
         return Some(NO_CLASS);
+    }
+    if word == b"BadOutbox".as_slice() {
+        return Some(BAD_OUTBOX);
+    }
+    if word == b"NotASnapshot".as_slice() {
+        return Some(NOT_A_SNAPSHOT);
+    }
+    if word == b"BadImage".as_slice() {
+        return Some(BAD_IMAGE);
+    }
+    if word == b"BadLimits".as_slice() {
+        return Some(BAD_LIMITS);
+    }
+    if word == b"BadCell".as_slice() {
+        return Some(BAD_CELL);
+    }
+    if word == b"BadFrame".as_slice() {
+        return Some(BAD_FRAME);
+    }
+    if word == b"BadRest".as_slice() {
+        return Some(BAD_REST);
     }
     None
 }

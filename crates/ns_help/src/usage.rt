@@ -17,6 +17,9 @@ usage:
   nspk list [--members] IMAGE                writes the code of IMAGE
   nspk session [OPTION ..] GRANTS=FILE[+FILE ..] ..
                                              runs up to 16 applications in turns
+  nspk actors [OPTION ..] COUNT SELECTOR NUMBER FILE ..
+                                             runs COUNT actors of one program, of
+                                             which the first gets a letter
   nspk audit [--json] --deny=SELECTOR .. IMAGE CLASS
                                              says whether the module CLASS of IMAGE
                                              can send a SELECTOR
@@ -24,6 +27,7 @@ usage:
                                              alone
   nspk snap [OPTION ..] --at=N SNAP FILE ..  stores as SNAP the run of the files,
                                              paused after N steps
+  nspk resume SNAP                           runs on from SNAP
   nspk sample N                              runs a program of N classes: 1 to 1000
   nspk library                               writes the source of the library
   nspk help [COMMAND | CAUSE]                tells this, or of COMMAND or CAUSE
@@ -44,10 +48,10 @@ in any order, and each at most once but for --text and --deny:
   --stats    tells what was used; run, eval, exec
   --true     status 1 where the answer isn't true; run, eval, exec
   --json     tells it all as one line of JSON; check, run, eval, exec, build,
-             session, audit, test
+             session, actors, audit, test
   --quantum=N  with turns of N steps: 1 to 1000000, without it 1000; with
              session alone, where each application has at most 4000000 cells
-             and 10000 frames
+             and 10000 frames, as each of the actors has
   --deny=SELECTOR  one of at most 16 selectors, with audit alone, which wants one
   --at=N     paused after N steps: 0 to 1000000000000, with snap alone, which wants
              it

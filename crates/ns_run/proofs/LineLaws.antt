@@ -1,17 +1,23 @@
 -- What the lines of forms say.
-use Rattle.std.proofs.Common.{◌≡◌, ◌≤◌, ◌-◌, ℕ, Bool, true, false, cond, List, [], ◌∷◌, Option, Some, None, arith, length, refl, sym, subst}
+use Rattle.std.proofs.Common.{◌≡◌, ◌≤◌, ◌+◌, ◌-◌, ℕ, ℤ, Bool, true, false, cond, List, [], ◌∷◌, Option, Some, None, ap, arith, drop, get_or, length, refl, sym, subst, take, take_all, ◌∙◌}
+use Rattle.std.proofs.lemmas.Bool.Decides.{nat_tests}
 use Rattle.std.specs.Option.{is_some}
-use Rattle.ns_run.specs.Meaning.{behind_first, sources_of}
+use Rattle.std.specs.Prelude.{IsSome}
+use Rattle.ns_run.specs.Letter.{HasLetter}
+use Rattle.ns_run.specs.Meaning.{behind_first, behind_letter, sources_of}
 use Rattle.ns_run_words.specs.Application.{AreApplications}
-use Rattle.ns_run_words.specs.Forms.{AreFiles, AreNames, IsSpelledLine}
+use Rattle.ns_run_words.specs.Forms.{AreFiles, AreItems, AreNames, IsSpelledLine}
+use Rattle.ns_run_words.specs.Letter.{PostedLetter, letter_to}
 use Rattle.ns_run_words.specs.Own.{image_among, least_of, most_of}
-use Rattle.ns_run_words.specs.Table.{form_of}
-use Rattle.ns_run_words.specs.Words.{CommandLine}
+use Rattle.ns_run_words.specs.Table.{form_of, item_at}
+use Rattle.ns_run_words.specs.Words.{CommandLine, integer_of, is_item, number_of, takes_one}
 use Rattle.ns_run_words.specs.declared.form.Item.TheVariants.{File, Application}
+use Rattle.ns_run_words.specs.declared.form.Form.{Form}
+use Rattle.ns_run_words.specs.declared.form.Item.{Item}
 use Rattle.ns_run_words.specs.declared.form.Verb.{Verb}
 use Rattle.ns_run_words.specs.declared.words.Given.{Given}
 use Rattle.ns_run_words.specs.laws.Image.{image_is_given}
-use Rattle.ns_run_words.specs.declared.form.Verb.TheVariants.{Check, Show, Format, Run, Eval, Build, Exec, Listing, Session, Sample, Audit, Test, Snap, Library, Help, Explain, Version}
+use Rattle.ns_run_words.specs.declared.form.Verb.TheVariants.{Check, Show, Format, Run, Eval, Build, Exec, Listing, Session, Sample, Actors, Audit, Test, Snap, Resume, Library, Help, Explain, Version}
 
 -- The command works on files.
 abbrev pub TakesFiles : Verb → Type 0
@@ -25,32 +31,43 @@ TakesFiles Exec = Unit {0}
 TakesFiles Listing = Unit {0}
 TakesFiles Session = ⊥
 TakesFiles Sample = ⊥
+TakesFiles Actors = ⊥
 TakesFiles Audit = ⊥
 TakesFiles Test = Unit {0}
 TakesFiles Snap = ⊥
+TakesFiles Resume = Unit {0}
 TakesFiles Library = ⊥
 TakesFiles Help = ⊥
 TakesFiles Explain = ⊥
 TakesFiles Version = ⊥
 
+-- Names of a form that are all of one kind.
+all_of : (form : Form) (item : Item) (count : ℕ) (names : List (List ℕ)) → ((count : ℕ) → item_at form count ≡ item) → AreNames form count names → AreItems item names
+all_of form item count [] e a = tt
+all_of form item count (name ∷ names) e a =
+    (subst (λ (i : Item). is_item i name ≡ true) (e count) a.0, all_of form item (count + 1) names e a.1)
+
 -- Its form takes 1 to 16 names, and each is that of a file.
 abbrev pub NamesFiles : Given → Verb → Type 0
-NamesFiles given verb = (1 ≤ least_of (form_of verb) given) × (most_of (form_of verb) given ≤ 16) × ((form_of verb).item ≡ File)
+NamesFiles given verb =
+    (1 ≤ least_of (form_of verb) given) × (most_of (form_of verb) given ≤ 16) × ((count : ℕ) → item_at (form_of verb) count ≡ File)
 
 pub within : (given : Given) (verb : Verb) → TakesFiles verb → NamesFiles given verb
-within given Check t = (omega arith, omega arith, refl)
-within given Show t = (omega arith, omega arith, refl)
-within given Format t = (omega arith, omega arith, refl)
-within given Run t = (omega arith, omega arith, refl)
+within given Check t = (omega arith, omega arith, λ count. refl)
+within given Show t = (omega arith, omega arith, λ count. refl)
+within given Format t = (omega arith, omega arith, λ count. refl)
+within given Run t = (omega arith, omega arith, λ count. refl)
 within given Eval t = absurd t
 within given Build t = absurd t
-within given Exec t = (omega arith, omega arith, refl)
-within given Listing t = (omega arith, omega arith, refl)
+within given Exec t = (omega arith, omega arith, λ count. refl)
+within given Listing t = (omega arith, omega arith, λ count. refl)
 within given Session t = absurd t
 within given Sample t = absurd t
+within given Actors t = absurd t
 within given Audit t = absurd t
-within given Test t = (omega arith, omega arith, refl)
+within given Test t = (omega arith, omega arith, λ count. refl)
 within given Snap t = absurd t
+within given Resume t = (omega arith, omega arith, λ count. refl)
 within given Library t = absurd t
 within given Help t = absurd t
 within given Explain t = absurd t
@@ -60,13 +77,14 @@ within given Version t = absurd t
 pub are_files : (verb : Verb) (line : CommandLine) → line.verb ≡ verb → TakesFiles verb → IsSpelledLine line → AreFiles line.names
 are_files verb line e t (words, f) =
     let w : NamesFiles line.given line.verb = subst (NamesFiles line.given) (sym e) (within line.given verb t) in
-    (omega (arith, w.0, f.enough), omega (arith, w.1, f.few), subst (λ item. AreNames item line.names) w.2 f.named)
+    (omega (arith, w.0, f.enough), omega (arith, w.1, f.few), all_of (form_of line.verb) File 0 line.names w.2 f.named)
 
 -- The names of a session are at most 16 applications.
 pub are_applications : (line : CommandLine) → line.verb ≡ Session → IsSpelledLine line → AreApplications line.names
-are_applications line e (words, f) = all line.names (subst (λ verb. AreNames (form_of verb).item line.names) e f.named)
+are_applications line e (words, f) =
+    all line.names (all_of (form_of Session) Application 0 line.names (λ count. refl) (subst (λ verb. AreNames (form_of verb) 0 line.names) e f.named))
   where
-    all : (names : List (List ℕ)) → AreNames Application names → AreApplications names
+    all : (names : List (List ℕ)) → AreItems Application names → AreApplications names
     all [] a = tt
     all (name ∷ names) a = (a.0, all names a.1)
 
@@ -85,9 +103,9 @@ sized verb line e (words, f) = (
 pub are_sources : (line : CommandLine) → line.verb ≡ Build → IsSpelledLine line → AreFiles (sources_of (image_among line.options) line.names)
 are_sources line e (words, f) =
     let s = sized Build line e (words, f) in
-    sources (image_among line.options) line.given.to line.names (image_is_given line e (words, f)) s.0 s.1 (subst (λ v. AreNames (form_of v).item line.names) e f.named)
+    sources (image_among line.options) line.given.to line.names (image_is_given line e (words, f)) s.0 s.1 (all_of (form_of Build) File 0 line.names (λ count. refl) (subst (λ v. AreNames (form_of v) 0 line.names) e f.named))
   where
-    sources : (image : Option (List ℕ)) (to : Bool) (names : List (List ℕ)) → to ≡ is_some image → cond to (2 - 1) 2 ≤ length names → length names ≤ cond to (17 - 1) 17 → AreNames File names →
+    sources : (image : Option (List ℕ)) (to : Bool) (names : List (List ℕ)) → to ≡ is_some image → cond to (2 - 1) 2 ≤ length names → length names ≤ cond to (17 - 1) 17 → AreItems File names →
         AreFiles (sources_of image names)
     sources None true names t l m a = absurd (cc (t))
     sources None false [] t l m a = absurd (omega (arith, l))
@@ -98,8 +116,65 @@ are_sources line e (words, f) =
 -- The program whose run is paused has 1 to 16 files: all names but the first.
 pub are_behind : (line : CommandLine) → line.verb ≡ Snap → IsSpelledLine line → AreFiles (behind_first line.names)
 are_behind line e (words, f) =
-    let s = sized Snap line e (words, f) in behind line.names s.0 s.1 (subst (λ v. AreNames (form_of v).item line.names) e f.named)
+    let s = sized Snap line e (words, f) in
+    behind line.names s.0 s.1 (all_of (form_of Snap) File 0 line.names (λ count. refl) (subst (λ v. AreNames (form_of v) 0 line.names) e f.named))
   where
-    behind : (names : List (List ℕ)) → 2 ≤ length names → length names ≤ 17 → AreNames File names → AreFiles (behind_first names)
+    behind : (names : List (List ℕ)) → 2 ≤ length names → length names ≤ 17 → AreItems File names → AreFiles (behind_first names)
     behind [] l m a = absurd (omega (arith, l))
     behind (name ∷ names) l m a = (omega (arith, l), omega (arith, m), a.1)
+
+-- The program of actors has 1 to 16 files: all names but the three of the letter.
+pub are_behind_letter : (line : CommandLine) → line.verb ≡ Actors → IsSpelledLine line → AreFiles (behind_letter line.names)
+are_behind_letter line e (words, f) =
+    let s = sized Actors line e (words, f) in behind line.names s.0 s.1 (subst (λ v. AreNames (form_of v) 0 line.names) e f.named)
+  where
+    -- those behind the third are files
+    files : (count : ℕ) (names : List (List ℕ)) → 3 ≤ count → AreNames (form_of Actors) count names → AreItems File names
+    files count [] l a = tt
+    files count (name ∷ names) l a =
+        (subst (λ (item : Item). is_item item name ≡ true) (a_file count l) a.0, files (count + 1) names (omega (arith, l)) a.1)
+      where
+        a_file : (count : ℕ) → 3 ≤ count → item_at (form_of Actors) count ≡ File
+        a_file count l = grind (arith, nat_tests)
+
+    behind : (names : List (List ℕ)) → 4 ≤ length names → length names ≤ 19 → AreNames (form_of Actors) 0 names → AreFiles (behind_letter names)
+    behind [] l m a = absurd (omega (arith, l))
+    behind (count ∷ []) l m a = absurd (omega (arith, l))
+    behind (count ∷ sel ∷ []) l m a = absurd (omega (arith, l))
+    behind (count ∷ sel ∷ argument ∷ names) l m a = (omega (arith, l), omega (arith, m), files 3 names (omega arith) (a.1.1.1))
+
+-- The first three are a letter.
+pub has_letter : (line : CommandLine) → line.verb ≡ Actors → IsSpelledLine line → HasLetter line.names
+has_letter line e (words, f) =
+    let s = sized Actors line e (words, f) in begins line.names s.0 (subst (λ v. AreNames (form_of v) 0 line.names) e f.named)
+  where
+    is_there : (count : Option ℕ) (sel : List ℕ) (argument : Option ℤ) → is_some count ≡ true → takes_one sel ≡ true → is_some argument ≡ true
+        → IsSome (letter_to count sel argument)
+    is_there None sel argument c t a = absurd (cc (c))
+    is_there (Some count) sel None c t a = absurd (cc (a))
+    is_there (Some count) sel (Some number) c t a =
+        let letter : PostedLetter = record { count = count; sel = sel; number = number } in
+        subst (λ (b : Bool). IsSome (cond b (Some letter) None)) (sym t) refl
+
+    begins : (names : List (List ℕ)) → 4 ≤ length names → AreNames (form_of Actors) 0 names → HasLetter names
+    begins [] l a = absurd (omega (arith, l))
+    begins (count ∷ []) l a = absurd (omega (arith, l))
+    begins (count ∷ sel ∷ []) l a = absurd (omega (arith, l))
+    begins (count ∷ sel ∷ argument ∷ names) l a = is_there (number_of 16 count) sel (integer_of argument) a.0 a.1.0 (a.1.1.0)
+
+-- A letter is three names.
+pub three_names : (names : List (List ℕ)) → HasLetter names → 3 ≤ length names
+three_names [] h = absurd h
+three_names (count ∷ []) h = absurd h
+three_names (count ∷ sel ∷ []) h = absurd h
+three_names (count ∷ sel ∷ argument ∷ names) h = omega arith
+
+-- Names that begin with these three are these three and the others.
+pub begins_with_three : {A : Type 0} (names : List A) (count sel argument : A) → 3 ≤ length names → count ≡ get_or names 0 count
+    → sel ≡ get_or names 1 sel → argument ≡ get_or names 2 argument → count ∷ sel ∷ argument ∷ take (length names - 3) (drop 3 names) ≡ names
+begins_with_three [] count sel argument l c s a = absurd (omega (arith, l))
+begins_with_three (x ∷ []) count sel argument l c s a = absurd (omega (arith, l))
+begins_with_three (x ∷ y ∷ []) count sel argument l c s a = absurd (omega (arith, l))
+begins_with_three (x ∷ y ∷ z ∷ names) count sel argument l c s a =
+    ap (λ others. count ∷ sel ∷ argument ∷ others) (take_all (length (x ∷ y ∷ z ∷ names) - 3) names (omega arith))
+    ∙ (ap (λ first. first ∷ sel ∷ argument ∷ names) c ∙ (ap (λ second. x ∷ second ∷ argument ∷ names) s ∙ ap (λ third. x ∷ y ∷ third ∷ names) a))

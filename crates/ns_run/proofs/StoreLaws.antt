@@ -31,13 +31,18 @@ use Rattle.ns_run_outcome.specs.Styled.{in_json, styled}
 use Rattle.ns_run_outcome.specs.declared.report.Report.{Report}
 use Rattle.ns_static_rules.specs.Least.{faults, least}
 use Rattle.ns_static_rules.specs.declared.fault.Placed.{Placed}
-use Rattle.ns_run_image.specs.Image.{ImageWork, Lists, Audits, listing_asked, of_audited, of_code, of_exec, of_image, of_image_bytes, of_image_fault, of_listed, of_short}
+use Rattle.ns_run_image.specs.Image.{ImageWork, Lists, Audits, Resumes, listing_asked, of_audited, of_code, of_exec, of_image, of_image_bytes, of_image_fault, of_listed, of_resumed, of_short, of_snap_fault}
 use Rattle.ns_run_input.specs.Input.{RunWork, code_report, input_of, read_then, reads, refuses, with_inputs}
-use Rattle.ns_run.specs.Meaning.{of_joint, of_audit, of_line, of_reading, of_refusal, of_statements, of_topic, run_of_line, text_told}
+use Rattle.ns_run_snap.specs.Resumed.{Resumed, resumed}
+use Rattle.ns_run_snap.specs.Resumed as resumes
+use Rattle.ns_snapshot.specs.declared.fault.SnapFault.{SnapFault}
+use Rattle.ns_snapshot.specs.declared.fault.SnapFault.TheVariants as snap
+use Rattle.ns_run.specs.Meaning.{of_acting, of_joint, of_audit, of_letter, of_line, of_reading, of_refusal, of_statements, of_topic, run_of_line, text_told}
 use Rattle.ns_run_files.specs.Programs.{eval_source, name_of, of_cause, of_checks, of_fault, of_faultless, of_faults, of_format, of_layout, of_least, of_loading, of_sends, of_own_fault, of_run, of_sample, of_show, of_sized, of_source, of_tests, of_texts, of_units, meant_report, run_of_loading, run_of_texts, sample_run}
 use Rattle.ns_run.specs.Outcome.{OverTexts, StoresNoFile, StoresNothing}
+use Rattle.ns_run_files.specs.laws.Programs.{acts_store_none}
 use Rattle.ns_run_files.specs.Tests.{tests_report}
-use Rattle.ns_run_files.specs.Task.{Task, Checks, Shows, Builds, Tests, Snaps}
+use Rattle.ns_run_files.specs.Task.{Task, Checks, Shows, Builds, Acts, Tests, Snaps}
 use Rattle.ns_test.specs.Source.{source_tested}
 use Rattle.ns_test.specs.Tests.{Tested, has_no_code, has_not_opened, has_tested, no_test, not_tests}
 use Rattle.ns_tree.specs.Plain as p
@@ -45,10 +50,12 @@ use Rattle.ns_verify.specs.declared.fault.VerifyCause.{VerifyCause}
 use Rattle.ns_verify.specs.declared.fault.Where.{Where}
 use Rattle.ns_verify.specs.declared.fault.Where.TheVariants as where_at
 use Rattle.ns_run_words.specs.Application.{asked_of}
+use Rattle.ns_run_words.specs.Letter.{PostedLetter, letter_in}
 use Rattle.ns_run_words.specs.Options.{denied_by, only_among}
 use Rattle.ns_run_words.specs.Words.{CommandLine, LineReading, says, bad, limits_of, quantum_of, reading_of, sample_number}
 use Rattle.ns_run_words.specs.declared.form.Verb.{Verb}
 use Rattle.ns_run_words.specs.declared.form.Verb.TheVariants as verb
+use Rattle.ns_run_words.specs.declared.words.Given.{Given}
 
 -- The report stores nothing.
 abbrev pub KeepsNone : Report → Type 0
@@ -128,6 +135,7 @@ abbrev pub IsNoStoring : Task → Type 0
 IsNoStoring (Checks all sends) = Unit {0}
 IsNoStoring Shows = Unit {0}
 IsNoStoring (Builds name) = ⊥
+IsNoStoring (Acts limits count sel number) = Unit {0}
 IsNoStoring (Tests limits reversed only) = Unit {0}
 IsNoStoring (Snaps name limits at) = ⊥
 
@@ -137,6 +145,8 @@ units_keep (Checks all sends) names files trees places i =
     checks_keep all sends names files trees places _ (least (faults trees places))
 units_keep Shows names files trees places i = show_keeps trees
 units_keep (Builds name) names files trees places i = absurd i
+units_keep (Acts limits count sel number) names files trees places i =
+    acts_store_none names limits count sel number files trees places (least (faults trees places))
 units_keep (Tests limits reversed only) names files trees places i =
     tests_keep names limits reversed only files trees places (least (faults trees places))
 units_keep (Snaps name limits at) names files trees places i = absurd i
@@ -236,9 +246,26 @@ audited_keeps file (unadmitted why at) = unsound_keeps file why at
 audited_keeps file no_class = refl
 audited_keeps file (answers line status part) = refl
 
+snap_keeps_none : (file : List ℕ) (why : SnapFault) → KeepsNone (of_snap_fault file why)
+snap_keeps_none file snap.NotASnapshot = refl
+snap_keeps_none file snap.BadVersion = refl
+snap_keeps_none file snap.Truncated = refl
+snap_keeps_none file (snap.BadField at) = refl
+snap_keeps_none file snap.Trailing = refl
+snap_keeps_none file snap.BadImage = refl
+snap_keeps_none file (snap.BadCell k) = refl
+snap_keeps_none file (snap.BadFrame k) = refl
+snap_keeps_none file snap.BadRest = refl
+snap_keeps_none file snap.Memory = refl
+
+resumed_keeps : (file : List ℕ) (done : Resumed) → KeepsNone (of_resumed file done)
+resumed_keeps file (resumes.refused why) = snap_keeps_none file why
+resumed_keeps file (resumes.has_run ran) = refl
+
 bytes_keep : (work : ImageWork) (file bytes : List ℕ) → KeepsNone (of_image_bytes work file bytes)
 bytes_keep (Lists members) file bytes = listed_keeps file (listing_asked members bytes)
 bytes_keep (Audits denied class) file bytes = audited_keeps file (audited_image bytes denied class)
+bytes_keep Resumes file bytes = resumed_keeps file (resumed bytes)
 
 short_keeps : (work : ImageWork) (file bytes : List ℕ) → KeepsNone (of_short work file bytes)
 short_keeps work file bytes =
@@ -279,6 +306,17 @@ topic_keeps : (names : List (List ℕ)) → KeepsNone (of_topic names)
 topic_keeps [] = refl
 topic_keeps (topic ∷ more) = text_keeps (text_of topic)
 
+letter_keeps : (given : Given) (letter : Option PostedLetter) (files : List (List ℕ)) (texts : List (Option (List ℕ))) → KeepsNone (of_letter given letter files texts)
+letter_keeps given None files texts = refl
+letter_keeps given (Some letter) files texts =
+    texts_keep (Acts (limits_of given) letter.count letter.sel letter.number) files given.lib texts tt
+
+acting_keeps : (given : Given) (names : List (List ℕ)) (texts : List (Option (List ℕ))) → KeepsNone (of_acting given names texts)
+acting_keeps given [] texts = refl
+acting_keeps given (count ∷ []) texts = refl
+acting_keeps given (count ∷ sel ∷ []) texts = refl
+acting_keeps given (count ∷ sel ∷ argument ∷ files) texts = letter_keeps given (letter_in count sel argument) files texts
+
 -- ---- commands
 
 line_keeps : (each : Verb) (line : CommandLine) (texts : List (Option (List ℕ))) → StoresNoFile each → KeepsNone (of_line each line texts)
@@ -295,10 +333,12 @@ line_keeps verb.Listing line texts i = image_keeps (Lists line.given.members) li
 line_keeps verb.Session line texts i =
     session_keeps (joint line.given.json line.given.lib (limits_of line.given) (quantum_of line.given) (map asked_of line.names) texts)
 line_keeps verb.Sample line texts i = sample_keeps (sample_number line.names) texts
+line_keeps verb.Actors line texts i = acting_keeps line.given line.names texts
 line_keeps verb.Audit line texts i = audit_keeps (denied_by line.options) line.names texts
 line_keeps verb.Test line texts i =
     texts_keep (Tests (limits_of line.given) line.given.reverse (only_among line.options)) line.names line.given.lib texts tt
 line_keeps verb.Snap line texts i = absurd i
+line_keeps verb.Resume line texts i = image_keeps Resumes line.names texts
 line_keeps verb.Library line texts i = refl
 line_keeps verb.Help line texts i = refl
 line_keeps verb.Explain line texts i = topic_keeps line.names

@@ -8,18 +8,19 @@ use Rattle.ns_json.specs.declared.saying.Saying.TheVariants as said
 use Rattle.ns_lib.specs.Collections.{collections}
 use Rattle.ns_run_files.specs.Guard.{of_built_to}
 use Rattle.ns_run_files.specs.Programs.{of_check, of_eval, of_fault, of_format, of_sample, of_texts, run_of_texts}
-use Rattle.ns_run_files.specs.Task.{Task, Checks, Shows, Builds, Tests, Snaps}
-use Rattle.ns_run_image.specs.Image.{Lists, Audits, of_exec, of_image}
+use Rattle.ns_run_files.specs.Task.{Task, Checks, Shows, Builds, Acts, Tests, Snaps}
+use Rattle.ns_run_image.specs.Image.{Lists, Audits, Resumes, of_exec, of_image}
 use Rattle.ns_run_input.specs.Input.{RunWork, in_parts}
 use Rattle.ns_run_outcome.specs.Report.{bad_word, told, too_large}
 use Rattle.ns_run_outcome.specs.Styled.{styled}
 use Rattle.ns_run_outcome.specs.declared.report.Report.{Report}
 use Rattle.ns_run_outcome.specs.declared.run.Telling.{Telling}
+use Rattle.ns_run_words.specs.Letter.{PostedLetter, letter_in}
 use Rattle.ns_run_words.specs.Options.{denied_by, only_among, texts_among}
 use Rattle.ns_run_words.specs.Own.{image_among}
 use Rattle.ns_run_words.specs.Words.{CommandLine, LineReading, says, bad, at_of, limits_of, quantum_of, reading_of, sample_number}
 use Rattle.ns_run_words.specs.declared.form.Verb.{Verb}
-use Rattle.ns_run_words.specs.declared.form.Verb.TheVariants.{Check, Show, Format, Run, Eval, Build, Exec, Listing, Session, Sample, Audit, Test, Snap, Library, Help, Explain, Version}
+use Rattle.ns_run_words.specs.declared.form.Verb.TheVariants.{Check, Show, Format, Run, Eval, Build, Exec, Listing, Session, Sample, Actors, Audit, Test, Snap, Resume, Library, Help, Explain, Version}
 use Rattle.ns_run_words.specs.declared.words.Given.{Given}
 use Rattle.ns_session_files.specs.Joint.{Joint, joint_of, has_run, stopped_for}
 use Rattle.ns_session_files.specs.Making.{Refusal, files_named, unchecked, unloaded}
@@ -63,6 +64,26 @@ of_session in_parts lib limits quantum words texts = of_joint (joint_of in_parts
 abbrev pub session_over : Files → Bool → Bool → Limits → ℕ → List (List ℕ) → Report
 session_over files in_parts lib limits quantum words =
     of_session in_parts lib limits quantum words (map files (files_named words))
+
+-- the files of a program of actors, behind their letter
+abbrev pub behind_letter : List (List ℕ) → List (List ℕ)
+behind_letter [] = []
+behind_letter (count ∷ []) = []
+behind_letter (count ∷ sel ∷ []) = []
+behind_letter (count ∷ sel ∷ argument ∷ files) = files
+
+-- so many actors of the program of these files, of which the first gets this letter (there is always one)
+abbrev pub of_letter : Given → Option PostedLetter → (files : List (List ℕ)) → List (Option (List ℕ)) → Report
+of_letter given None files texts = bad_word 1
+of_letter given (Some letter) files texts =
+    of_texts (Acts (limits_of given) letter.count letter.sel letter.number) files given.lib texts
+
+-- the actors that a line asks for, whose letter stands in front of the files
+abbrev pub of_acting : Given → (names : List (List ℕ)) → List (Option (List ℕ)) → Report
+of_acting given [] texts = bad_word 1
+of_acting given (count ∷ []) texts = bad_word 1
+of_acting given (count ∷ sel ∷ []) texts = bad_word 1
+of_acting given (count ∷ sel ∷ argument ∷ files) texts = of_letter given (letter_in count sel argument) files texts
 
 -- the audit of an image, behind whose name that of a class stands in a line
 abbrev pub of_audit : List (List ℕ) → List (List ℕ) → List (Option (List ℕ)) → Report
@@ -127,9 +148,11 @@ of_line Listing line texts = of_image (Lists line.given.members) line.names text
 of_line Session line texts =
     of_session line.given.json line.given.lib (limits_of line.given) (quantum_of line.given) line.names texts
 of_line Sample line texts = of_sample (sample_number line.names) texts
+of_line Actors line texts = of_acting line.given line.names texts
 of_line Audit line texts = of_audit (denied_by line.options) line.names texts
 of_line Test line texts = of_testing line.given line.options line.names texts
 of_line Snap line texts = of_snapping line.given line.names texts
+of_line Resume line texts = of_image Resumes line.names texts
 of_line Library line texts = told collections
 of_line Help line texts = told HELP.now
 of_line Explain line texts = of_topic line.names
@@ -173,9 +196,11 @@ files_of Exec options names = names ++ texts_among options
 files_of Listing options names = names
 files_of Session options names = files_named names
 files_of Sample options names = []
+files_of Actors options names = behind_letter names
 files_of Audit options names = first_of names
 files_of Test options names = names
 files_of Snap options names = behind_first names
+files_of Resume options names = names
 files_of Library options names = []
 files_of Help options names = []
 files_of Explain options names = []

@@ -1,9 +1,10 @@
 //! The command of a line, to its report.
 
-ghost use Rattle.std.specs.Prelude.{◌≡◌, ◌≤◌, ◌++◌, [], IfOk, map, length, string_bytes};
+ghost use Rattle.std.specs.Prelude.{◌≡◌, ◌≤◌, ◌++◌, [], IfOk, Some, map, length, string_bytes};
 ghost use Rattle.ns_base.specs.Limits.{InRange};
 ghost use Rattle.ns_help.specs.Topics.{text_of as text_of_lem};
 ghost use Rattle.ns_lib.specs.Collections.{collections as collections_lem};
+ghost use Rattle.ns_run.specs.Letter.{HasLetter};
 ghost use Rattle.ns_run.specs.Meaning as spec;
 ghost use Rattle.ns_run_files.specs.Programs.{of_format, of_sample, of_texts};
 ghost use Rattle.ns_run_files.specs.Task.{Checks};
@@ -13,6 +14,7 @@ ghost use Rattle.ns_run_outcome.specs.Report.{told as told_lem};
 ghost use Rattle.ns_run_outcome.specs.Stated.{Reports};
 ghost use Rattle.ns_run_words.specs.Application.{AreApplications};
 ghost use Rattle.ns_run_words.specs.Forms.{AreFiles, IsSpelledLine};
+ghost use Rattle.ns_run_words.specs.Letter.{MayAct, letter_seen};
 ghost use Rattle.ns_run_words.specs.Line.{line_seen};
 ghost use Rattle.ns_run_words.specs.Options.{denied_by};
 ghost use Rattle.ns_run_words.specs.Own.{image_among as image_among_lem};
@@ -40,6 +42,7 @@ use ns_run_outcome::report::{Report, bad_word, told, told_text};
 use ns_run_outcome::run::Telling;
 use ns_run_outcome::stop::{Stop, or_stop};
 use ns_run_words::form::Verb;
+use ns_run_words::letter::{Letter, letter_in};
 use ns_run_words::options::only_among;
 use ns_run_words::own::image_among;
 use ns_run_words::words::{Given, Line, sample_number};
@@ -80,9 +83,11 @@ pub fn on_line<S: Shelf>(alloc: Global, line: Line<'_>, shelf: &mut S) -> Result
         Verb::Listing => on_listing(alloc, given.members, names, shelf),
         Verb::Session => on_applications(alloc, given, names, shelf),
         Verb::Sample => on_number(alloc, names, shelf),
+        Verb::Actors => on_actors(alloc, given, names, shelf),
         Verb::Audit => on_audit(alloc, options, names, shelf),
         Verb::Test => on_tests(alloc, given, options, names, shelf),
         Verb::Snap => on_snapping(alloc, given, names, shelf),
+        Verb::Resume => on_first(alloc, ImageTask::Resume, names, shelf),
         Verb::Library => or_stop(library(alloc)),
         Verb::Help => or_stop(told_text(alloc, HELP)),
         Verb::Explain => or_stop(on_topic(alloc, names)),
@@ -174,6 +179,55 @@ fn on_run<S: Shelf>(
         (map string_bytes names.now ++ (run_of task.entry).inputs) (spec.of_running (run_of task.entry) lib (map string_bytes names.now)) result }
 {
     on_run_files(alloc, task, lib, names, shelf)
+}
+
+/// The report of the actors of a program, whose letter stands in front of the files.
+fn on_actors<S: Shelf>(
+    alloc: Global,
+    given: Given,
+    names: &[String],
+    shelf: &mut S,
+) -> Result<Report, Stop>
+    requires letter { HasLetter (map string_bytes names.now) }
+    requires files { AreFiles (spec.behind_letter (map string_bytes names.now)) }
+    requires range { InRange (limits_of given) }
+    ensures { Reports S.holds S.misses S.faults S.store_faults shelf.old shelf.new
+        (spec.behind_letter (map string_bytes names.now)) (spec.of_acting given (map string_bytes names.now)) result }
+{
+    match names {
+        [count, sel, argument, files @ ..] => {
+            match letter_in(count.as_bytes(), sel.as_bytes(), argument.as_bytes()) {
+                Some(letter) => on_letter(alloc, given, letter, files, shelf),
+                None => unreachable!(),
+            }
+        }
+        _ => unreachable!(),
+    }
+}
+
+/// The report of the actors of the program of these files, of which the first gets that letter.
+fn on_letter<S: Shelf>(
+    alloc: Global,
+    given: Given,
+    letter: Letter<'_>,
+    files: &[String],
+    shelf: &mut S,
+) -> Result<Report, Stop>
+    requires files { AreFiles (map string_bytes files.now) }
+    requires range { InRange (limits_of given) }
+    requires may { MayAct letter.count letter.sel.now }
+    ensures { Reports S.holds S.misses S.faults S.store_faults shelf.old shelf.new (map string_bytes files.now)
+        (spec.of_letter given (Some (letter_seen letter.entry)) (map string_bytes files.now)) result }
+{
+    let limits = given.limits();
+    let Letter { count, sel, number } = letter;
+    let task = Task::Act {
+        limits,
+        count,
+        sel,
+        number,
+    };
+    on_files(alloc, task, given.lib, files, shelf)
 }
 
 /// The report of the tests of the program of these files.

@@ -123,8 +123,8 @@ pub fn refuse_cut<O: Sink, E: Sink>(
     }
 }
 
-/// The report of the command of these words.
-fn work<S: Shelf>(alloc: Global, line: &[String], shelf: &mut S) -> Result<Report, Stop>
+/// The report of the command of these words, of which nothing is stored or written yet.
+pub fn work<S: Shelf>(alloc: Global, line: &[String], shelf: &mut S) -> Result<Report, Stop>
     ensures { Reports S.holds S.misses S.faults S.store_faults shelf.old shelf.new
         (spec.files_read (reading_of (map string_bytes line.now))) (spec.meaning_of_texts (map string_bytes line.now)) result }
 {

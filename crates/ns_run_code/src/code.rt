@@ -22,7 +22,7 @@ use ns_world::ending::Ending;
 use std::alloc::Global;
 
 /// What a command grants to a run: the console, the kernel and mirrors.
-const GRANTED: Grants = Grants {
+pub const GRANTED: Grants = Grants {
     console: true,
     kernel: true,
     mirrors: true,

@@ -18,7 +18,7 @@ use Rattle.ns_run_outcome.specs.declared.stop.Stop.{Stop}
 use Rattle.ns_run_outcome.specs.declared.stop.Stop.TheVariants as stop
 use Rattle.ns_run_outcome.specs.laws.Plain.{stop_keeps}
 use Rattle.ns_run_words.specs.FileName.{is_file_name}
-use Rattle.ns_run_words.specs.Forms.{AreNames}
+use Rattle.ns_run_words.specs.Forms.{AreItems}
 use Rattle.ns_run_words.specs.declared.form.Item.TheVariants.{File}
 use Rattle.ns_scope.specs.Whole.{NamesFile}
 use Rattle.ns_tree.specs.Plain as p
@@ -28,7 +28,7 @@ pub name_is_file : (name : List ℕ) → IsUtf8 name → is_file_name name ≡ t
 name_is_file [] u e = absurd (cc (e))
 name_is_file (b ∷ bs) u e = (u, (λ h. cc (h)), grind (arith, nat_tests, e))
 
-pub names_are_files : (names : List (List ℕ)) → All IsUtf8 names → AreNames File names → All NamesFile names
+pub names_are_files : (names : List (List ℕ)) → All IsUtf8 names → AreItems File names → All NamesFile names
 names_are_files [] u a = All-nil NamesFile
 names_are_files (name ∷ names) u a =
     All-cons NamesFile name names (name_is_file name (All-head IsUtf8 name names u) a.0) (names_are_files names (All-tail IsUtf8 name names u) a.1)

@@ -1,6 +1,7 @@
 -- What is done with a program: what is stored, the bytes that are written and the status, over the texts of its files.
-use Rattle.std.specs.Prelude.{ℕ, Bool, false, List, Option, Some, None, codes, flat_map, map, ◌++◌, ◌∷◌, [], length, nat_lt, slice_get, if◌then◌else◌}
+use Rattle.std.specs.Prelude.{ℕ, ℤ, Bool, false, List, Option, Some, None, codes, flat_map, map, ◌++◌, ◌∷◌, [], length, nat_lt, slice_get, if◌then◌else◌}
 use Rattle.std.specs.Fmt.{decimal}
+use Rattle.ns_actors_rounds.specs.Source.{source_acted}
 use Rattle.ns_base.specs.Files.{Files}
 use Rattle.ns_base.specs.declared.limits.Limits.{Limits}
 use Rattle.ns_base.specs.declared.place.Place.{Place}
@@ -33,7 +34,8 @@ use Rattle.ns_run_code.specs.Run.{meant_run}
 use Rattle.ns_run_input.specs.Input.{RunWork, parts_of, trace_of, traced_report, with_inputs}
 use Rattle.ns_run_snap.specs.Snapped.{Snapped, snapped_of, snapshot, snapshot_too_large}
 use Rattle.ns_run_snap.specs.Snapped as snapped
-use Rattle.ns_run_files.specs.Task.{Task, Checks, Shows, Builds, Tests, Snaps}
+use Rattle.ns_run_files.specs.Acts.{acts_report}
+use Rattle.ns_run_files.specs.Task.{Task, Checks, Shows, Builds, Acts, Tests, Snaps}
 use Rattle.ns_run_files.specs.Tests.{tests_report}
 use Rattle.ns_run_outcome.specs.Report.{bad_word, checked, never_told, refused, refused_file, refused_size, refused_text, spelling_name, static_name, stores, told, too_large}
 use Rattle.ns_run_outcome.specs.declared.report.Report.{Report}
@@ -154,6 +156,13 @@ abbrev pub of_run : List (List ℕ) → RunWork → List (List ℕ) → List p.S
 of_run names run files trees places None texts = of_meant run (meant_of files trees places) texts
 of_run names run files trees places (Some fault) texts = of_check names (Some fault)
 
+-- so many actors of the units of files of these names, of which this is the least static fault; the first gets a letter
+abbrev pub of_acts : List (List ℕ) → Limits → ℕ → List ℕ → ℤ → List (List ℕ) → List p.SourceUnit → List (List Place) →
+    Option Placed → Report
+of_acts names limits count sel number files trees places None =
+    acts_report (source_acted (meant_of files trees places) limits count sel number)
+of_acts names limits count sel number files trees places (Some fault) = of_check names (Some fault)
+
 -- the tests of units of files of these names, of which this is the least static fault
 abbrev pub of_tests : List (List ℕ) → Limits → Bool → Option (List ℕ) → List (List ℕ) → List p.SourceUnit → List (List Place) →
     Option Placed → Report
@@ -189,6 +198,8 @@ of_units (Checks all sends) names files trees places =
     of_checks all sends names files trees places (in_order order_of (faults trees places)) (least (faults trees places))
 of_units Shows names files trees places = of_show trees
 of_units (Builds name) names files trees places = of_build names name files trees places (least (faults trees places))
+of_units (Acts limits count sel number) names files trees places =
+    of_acts names limits count sel number files trees places (least (faults trees places))
 of_units (Tests limits reversed only) names files trees places =
     of_tests names limits reversed only files trees places (least (faults trees places))
 of_units (Snaps name limits at) names files trees places =

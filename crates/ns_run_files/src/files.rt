@@ -15,6 +15,7 @@ ghost use Rattle.ns_tree.specs.Flat.{flat};
 ghost use Rattle.ns_tree.specs.PlainOf.{unit_of};
 ghost use Rattle.ns_run_words.specs.Forms.{AreFiles};
 
+use crate::acting::on_acts;
 use crate::build::on_build;
 use crate::checks::on_checks;
 use crate::snap::on_snap;
@@ -149,6 +150,12 @@ fn on_program(
         Task::Check { all, sends } => on_checks(alloc, all, sends, names, program),
         Task::Show => on_show(alloc, program.units.as_slice()),
         Task::Build { image } => on_build(alloc, names, image, program),
+        Task::Act {
+            limits,
+            count,
+            sel,
+            number,
+        } => on_acts(alloc, names, limits, count, sel, number, program),
         Task::Test {
             limits,
             reversed,

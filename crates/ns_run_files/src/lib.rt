@@ -3,6 +3,7 @@
 //! Stands between load, static, print, test, run_code, ns_run_input and ns_run.
 #![tactic(auto)]
 
+mod acting;
 pub mod alone;
 mod build;
 mod checks;

@@ -17,6 +17,14 @@ pub enum Task<'a> {
     Build {
         image: &'a str,
     },
+    /// So many of its actors have rounds, each within these limits, until all rest; the first gets a letter of this selector and
+    /// number.
+    Act {
+        limits: Limits,
+        count: u32,
+        sel: &'a [u8],
+        number: i64,
+    },
     /// Its tests are run within these limits, each alone: all in the order of the text, or in the
     /// reverse one, or the one of this name.
     Test {

@@ -14,10 +14,20 @@ use Rattle.ns_image.specs.Reading.{read_image}
 use Rattle.ns_image.specs.declared.fault.ImageFault.{ImageFault}
 use Rattle.ns_image.specs.declared.fault.ImageFault.TheVariants as fault
 use Rattle.ns_json.specs.declared.saying.Refused.TheVariants as what
-use Rattle.ns_run_outcome.specs.Report.{place_in, place_text, refusal, refused_file, told, unsound, verify_name}
+use Rattle.ns_run_outcome.specs.Report.{place_in, place_text, refusal, refused_file, unsound, verify_name}
 use Rattle.ns_run_outcome.specs.laws.Cut.{cut_same}
-use Rattle.ns_run_outcome.specs.laws.Plain.{IsPlainFor, begins_so, line_plain_for, refused_plain, told_plain_for}
-use Rattle.ns_run_image.specs.Image.{ImageWork, Lists, Audits, audit_report, listing_asked, of_audited, of_image_bytes, of_image_fault, of_image_file, of_listed, of_members, of_short}
+use Rattle.ns_run_code.specs.Machine.{end_of, rested}
+use Rattle.ns_machine_moves.specs.Starts.{started}
+use Rattle.ns_machine_moves.specs.State.{State, ending_of}
+use Rattle.ns_run_outcome.specs.Run.{run_report}
+use Rattle.ns_run_outcome.specs.laws.Plain.{IsPlainFor, begins_so, line_plain_for, refused_plain, run_plain, told_plain_for}
+use Rattle.ns_run_image.specs.Image.{ImageWork, Lists, Audits, Resumes, audit_report, listing_asked, of_audited, of_image_bytes, of_image_fault, of_image_file, of_listed, of_members, of_resumed, of_short, of_snap_fault, plain_telling}
+use Rattle.ns_run_snap.specs.Resumed.{of_read as of_snap_read, resumed, run_on}
+use Rattle.ns_run_words.specs.Words.{limits_of, nothing_given}
+use Rattle.ns_frozen.specs.Thawing.{thawed}
+use Rattle.ns_snapshot.specs.Snapshot.{read_snapshot}
+use Rattle.ns_snapshot.specs.declared.fault.SnapFault.{SnapFault}
+use Rattle.ns_snapshot.specs.declared.fault.SnapFault.TheVariants as snap
 use Rattle.ns_verify.specs.Verify.{fault_of}
 use Rattle.ns_verify.specs.declared.fault.Fault.{Fault}
 use Rattle.ns_verify.specs.declared.fault.VerifyCause.{VerifyCause}
@@ -100,9 +110,37 @@ audit_plain file bytes denied class =
       | Err why ↦ image_plain file why
     ]
 
+pub snap_plain : (file : List ℕ) (why : SnapFault) → IsPlainFor file (of_snap_fault file why)
+snap_plain file snap.NotASnapshot = refused_plain file (codes "NotASnapshot") refl
+snap_plain file snap.BadVersion = refused_plain file (codes "BadVersion") refl
+snap_plain file snap.Truncated = refused_plain file (codes "Truncated") refl
+snap_plain file (snap.BadField at) =
+    line_plain_for (refusal (codes "BadField") (what.Byte file at)) file (codes "BadField " ++ decimal at) refl
+snap_plain file snap.Trailing = refused_plain file (codes "Trailing") refl
+snap_plain file snap.BadImage = refused_plain file (codes "BadImage") refl
+snap_plain file (snap.BadCell k) = refused_plain file (codes "BadCell" ++ codes " " ++ decimal k) refl
+snap_plain file (snap.BadFrame k) = refused_plain file (codes "BadFrame" ++ codes " " ++ decimal k) refl
+snap_plain file snap.BadRest = refused_plain file (codes "BadRest") refl
+snap_plain file snap.Memory = told_plain_for file []
+
+on_plain : (file : List ℕ) (code : CodeProgram) (state : State) →
+    IsPlainFor file (run_report plain_telling (limits_of nothing_given) (run_on code state) [] None None)
+on_plain file code state =
+    let how = end_of (ending_of (rested code (started code state))) in
+    let plain = run_plain plain_telling (limits_of nothing_given) (run_on code state) [] None None how refl in
+    record { ends = plain.ends; says = plain.says file }
+
+pub resume_plain : (file bytes : List ℕ) → IsPlainFor file (of_resumed file (resumed bytes))
+resume_plain file bytes =
+    elim (read_snapshot bytes) as (λ r. IsPlainFor file (of_resumed file (of_snap_read r))) [
+      | Ok read ↦ on_plain file read.code (thawed read.code read.frozen)
+      | Err why ↦ snap_plain file why
+    ]
+
 pub bytes_plain : (work : ImageWork) (file bytes : List ℕ) → IsPlainFor file (of_image_bytes work file bytes)
 bytes_plain (Lists members) file bytes = asked_plain members file bytes
 bytes_plain (Audits denied class) file bytes = audit_plain file bytes denied class
+bytes_plain Resumes file bytes = resume_plain file bytes
 
 pub short_plain : (work : ImageWork) (file bytes : List ℕ) → IsPlainFor file (of_short work file bytes)
 short_plain work file bytes =

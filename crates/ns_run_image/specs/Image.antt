@@ -1,5 +1,6 @@
 -- What a command does with an image.
-use Rattle.std.specs.Prelude.{ℕ, Bool, List, [], ◌∷◌, Option, Some, None, Result, Ok, Err, codes, length, nat_lt, map, string_bytes, if◌then◌else◌}
+use Rattle.std.specs.Fmt.{decimal}
+use Rattle.std.specs.Prelude.{ℕ, Bool, false, List, [], ◌∷◌, ◌++◌, Option, Some, None, Result, Ok, Err, codes, length, nat_lt, map, string_bytes, if◌then◌else◌}
 use Rattle.ns_audit.specs.Image.{AuditedImage, audited_image, answers, no_class, unadmitted, unread}
 use Rattle.ns_base.specs.declared.status.Status.{Status}
 use Rattle.ns_code.specs.declared.program.CodeProgram.{CodeProgram}
@@ -12,22 +13,32 @@ use Rattle.ns_json.specs.declared.saying.Audit.{Audit}
 use Rattle.ns_json.specs.declared.saying.Saying.TheVariants.{Audited}
 use Rattle.ns_image.specs.declared.fault.ImageFault.TheVariants.{NotAnImage, BadVersion, Truncated, BadField, Trailing, Memory}
 use Rattle.ns_run_outcome.specs.Report.{bad_field, bad_word, never_told, refused_file, told, unsound}
+use Rattle.ns_run_outcome.specs.Run.{run_report}
 use Rattle.ns_run_outcome.specs.declared.report.Report.{Report}
+use Rattle.ns_run_outcome.specs.declared.run.Telling.{Telling}
 use Rattle.ns_run_input.specs.Input.{RunWork, code_run}
 use Rattle.ns_run_image.specs.declared.task.ImageTask as tasks
-use Rattle.ns_run_image.specs.declared.task.ImageTask.TheVariants.{Listing}
+use Rattle.ns_run_image.specs.declared.task.ImageTask.TheVariants.{Listing, Resume}
 use Rattle.ns_run_image.specs.declared.task.ImageTask.TheVariants as task
+use Rattle.ns_run_snap.specs.Resumed.{Resumed, refused, resumed}
+use Rattle.ns_run_snap.specs.Resumed as resumes
 use Rattle.ns_run_words.specs.Options.{denied_by}
+use Rattle.ns_run_words.specs.Words.{limits_of, nothing_given}
+use Rattle.ns_snapshot.specs.declared.fault.SnapFault.{SnapFault}
+use Rattle.ns_snapshot.specs.declared.fault.SnapFault.TheVariants as snap
 
--- An image is listed, with the members of its classes or without; or the module of a class in it is audited for selectors.
+-- An image is listed, with the members of its classes or without; or the module of a class in it is audited for selectors. Or it is a
+-- snapshot, from which the run goes on.
 pub data ImageWork : Type 0 where
   Lists : (members : Bool) → ImageWork
   Audits : (denied : List (List ℕ)) (class : List ℕ) → ImageWork
+  Resumes : ImageWork
 
 -- the work that the code's stands for
 abbrev pub work_of : tasks.ImageTask → ImageWork
 work_of (Listing members) = Lists members
 work_of (task.Audit options class) = Audits (denied_by (map string_bytes options.now)) class.now
+work_of Resume = Resumes
 
 -- the refusal of bytes that are no image: why, and at which byte where a field is bad (no image wants memory)
 abbrev pub of_image_fault : List ℕ → ImageFault → Report
@@ -83,10 +94,37 @@ of_audited file (unadmitted cause at) = unsound file cause at
 of_audited file no_class = refused_file file (codes "NoClass")
 of_audited file (answers line status part) = audit_report line status part
 
+-- the line of the refusal of a part of a snapshot, by its number
+abbrev pub of_part : List ℕ → List ℕ → ℕ → Report
+of_part file cause k = refused_file file (cause ++ codes " " ++ decimal k)
+
+-- the refusal of bytes that are no snapshot: why, and at which byte, cell or frame (no snapshot wants memory)
+abbrev pub of_snap_fault : List ℕ → SnapFault → Report
+of_snap_fault file snap.NotASnapshot = refused_file file (codes "NotASnapshot")
+of_snap_fault file snap.BadVersion = refused_file file (codes "BadVersion")
+of_snap_fault file snap.Truncated = refused_file file (codes "Truncated")
+of_snap_fault file (snap.BadField at) = bad_field file at
+of_snap_fault file snap.Trailing = refused_file file (codes "Trailing")
+of_snap_fault file snap.BadImage = refused_file file (codes "BadImage")
+of_snap_fault file (snap.BadCell k) = of_part file (codes "BadCell") k
+of_snap_fault file (snap.BadFrame k) = of_part file (codes "BadFrame") k
+of_snap_fault file snap.BadRest = refused_file file (codes "BadRest")
+of_snap_fault file snap.Memory = never_told
+
+-- what a line asks to be told of a run that goes on: its line alone
+abbrev pub plain_telling : Telling
+plain_telling = record { classes = None; stats = false; trace = false; truth = false; json = false }
+
+-- a run that went on from a snapshot, or why there is none
+abbrev pub of_resumed : List ℕ → Resumed → Report
+of_resumed file (refused fault) = of_snap_fault file fault
+of_resumed file (resumes.has_run ran) = run_report plain_telling (limits_of nothing_given) ran [] None None
+
 -- what is done with these bytes of the image of that name
 abbrev pub of_image_bytes : ImageWork → List ℕ → List ℕ → Report
 of_image_bytes (Lists members) file bytes = of_listed file (listing_asked members bytes)
 of_image_bytes (Audits denied class) file bytes = of_audited file (audited_image bytes denied class)
+of_image_bytes Resumes file bytes = of_resumed file (resumed bytes)
 
 -- what is done with bytes that aren't too many
 abbrev pub of_short : ImageWork → List ℕ → List ℕ → Report

@@ -9,6 +9,7 @@ ghost use Rattle.ns_run_image.specs.Image as spec;
 ghost use Rattle.ns_run_outcome.specs.Stated.{Reports};
 ghost use Rattle.ns_run_words.specs.Options.{denied_by};
 
+use crate::resume::on_resume;
 use crate::task::ImageTask;
 use ns_audit::image::{AuditFault, AuditTold, audit_image};
 use ns_base::no_memory::NoMemory;
@@ -59,6 +60,7 @@ fn on_bytes(
     match task {
         ImageTask::Listing { members } => on_asked(alloc, members, name, bytes),
         ImageTask::Audit { options, class } => on_audit(alloc, options, class, name, bytes),
+        ImageTask::Resume => on_resume(alloc, name, bytes),
     }
 }
 

@@ -12,4 +12,6 @@ pub enum ImageTask<'a> {
         options: &'a [String],
         class: &'a str,
     },
+    /// It is a snapshot, from which the run goes on.
+    Resume,
 }

@@ -1,3 +1,4 @@
 pub mod Going
 pub mod Pausing
 pub mod Resuming
+pub mod Resumed

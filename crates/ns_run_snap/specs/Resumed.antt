@@ -6,8 +6,11 @@ use Rattle.ns_machine_moves.specs.Starts.{started}
 use Rattle.ns_machine_moves.specs.State.{State}
 use Rattle.ns_run_code.specs.Machine.{rested, told_at}
 use Rattle.ns_run_code.specs.declared.run.Ran.{Ran}
+use Rattle.ns_run_snap.specs.declared.resume.ResumeFault.{ResumeFault}
+use Rattle.ns_run_snap.specs.declared.resume.ResumeFault.TheVariants as told
 use Rattle.ns_snapshot.specs.Snapshot.{read_snapshot}
 use Rattle.ns_snapshot.specs.declared.fault.SnapFault.{SnapFault}
+use Rattle.ns_snapshot.specs.declared.fault.SnapFault.TheVariants as snap
 use Rattle.ns_snapshot.specs.declared.snapshot.Snapshot.{Snapshot}
 
 -- the run that goes on from a state to its end; one in which nothing was begun is started
@@ -27,3 +30,16 @@ of_read (Ok snapshot) = has_run (run_on snapshot.code (thawed snapshot.code snap
 -- what becomes of the bytes of a snapshot
 abbrev pub resumed : List ℕ → Resumed
 resumed bytes = of_read (read_snapshot bytes)
+
+-- the fault of a snapshot, apart from want of memory
+abbrev pub told_fault : SnapFault → ResumeFault
+told_fault snap.NotASnapshot = told.Snapshot snap.NotASnapshot
+told_fault snap.BadVersion = told.Snapshot snap.BadVersion
+told_fault snap.Truncated = told.Snapshot snap.Truncated
+told_fault (snap.BadField at) = told.Snapshot (snap.BadField at)
+told_fault snap.Trailing = told.Snapshot snap.Trailing
+told_fault snap.BadImage = told.Snapshot snap.BadImage
+told_fault (snap.BadCell k) = told.Snapshot (snap.BadCell k)
+told_fault (snap.BadFrame k) = told.Snapshot (snap.BadFrame k)
+told_fault snap.BadRest = told.Snapshot snap.BadRest
+told_fault snap.Memory = told.Memory

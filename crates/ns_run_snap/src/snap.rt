@@ -13,12 +13,12 @@ ghost use Rattle.ns_snapshot.specs.Bytes.{snapshot_of};
 use ns_base::limits::Limits;
 use ns_base::no_memory::NoMemory;
 use ns_code::program::CodeProgram;
-use ns_facets::row::Grants;
 use ns_frozen::frozen::Frozen;
 use ns_gen_code::size::SizeKind;
 use ns_link::compile::compile;
 use ns_link::fault::LinkFault;
 use ns_machine::machine::Machine;
+use ns_run_code::code::GRANTED;
 use ns_session::robin_laws::turns_are_a_function;
 use ns_snapshot_write::write::{WriteFault, write_snapshot};
 use ns_static::check::Checked;
@@ -43,14 +43,6 @@ impl From<NoMemory> for PauseFault {
         PauseFault::Memory
     }
 }
-
-/// What a command grants to a run: the console, the kernel and mirrors.
-const GRANTED: Grants = Grants {
-    console: true,
-    kernel: true,
-    mirrors: true,
-    board: false,
-};
 
 /// The most bytes of a snapshot.
 const MOST_BYTES: u32 = 134_217_728;

@@ -21,6 +21,8 @@ mod run_tests;
 #[cfg(test)]
 mod session_tests;
 #[cfg(test)]
+mod snapshot_tests;
+#[cfg(test)]
 mod stream_tests;
 #[cfg(test)]
 mod text_tests;

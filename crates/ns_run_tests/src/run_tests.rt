@@ -93,6 +93,36 @@ fn a_run_ends_at_each_limit(rt: HostRuntime) {
     }
 }
 
+/// Where an error came from, and where the run was at a limit.
+const TRACED: &[(&[&str], Row)] = &[
+    (
+        &["run", "--trace", "T.ns"],
+        (
+            "^1 // 0",
+            (
+                "",
+                "T.ns:2:30: ZeroDivide Integer //\n  T main:args: at T.ns:1:7\n",
+                1,
+            ),
+        ),
+    ),
+    (
+        &["run", "--trace", "--depth=1", "T.ns"],
+        (
+            "[] value",
+            ("", "limit: depth\n  T main:args: at T.ns:1:7\n", 3),
+        ),
+    ),
+    (&["run", "--trace", "T.ns"], ("^7", ("", "=> 7\n", 0))),
+];
+
+#[test]
+fn a_trace_tells_the_sends_that_were_open(rt: HostRuntime) {
+    for (words, row) in TRACED {
+        assert_eq!(rt; first_other(rt.alloc(), words, &[*row]), None);
+    }
+}
+
 /// The first body whose run leaves something else.
 fn first_other(alloc: Global, words: &[&str], rows: &[Row]) -> Option<&'static str> {
     for (body, want) in rows {

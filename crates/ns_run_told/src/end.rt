@@ -78,7 +78,7 @@ fn told_site(alloc: Global, code: &CodeProgram, error: RunError) -> Result<Site,
 }
 
 /// A place by the name of its file.
-fn told_place(
+pub fn told_place(
     alloc: Global,
     files: &[Text],
     place: Option<Place>,

@@ -17,23 +17,15 @@ ghost use Rattle.ns_run_trace.specs.Nearing.{IsNear, MovesAreLeft};
 use ns_base::limits::Limits;
 use ns_base::no_memory::NoMemory;
 use ns_base::text::Text;
-use ns_facets::row::Grants;
 use ns_machine::machine::Machine;
 use ns_machine_moves::falling::{left_is_below_a_power, moves_lower};
 use ns_machine_moves::laws::{ended_runs_stay, moves_add, moves_charge_as_told, turns_add};
 use ns_machine_moves::valid_frames::moves_keep_valid;
 use ns_machine_moves::valid_world::{new_machines_are_valid, opening_sends_are_valid};
+use ns_run_code::code::GRANTED;
 use ns_run_code::laws::valid_runs_come_to_rest;
 use ns_verify::verify::Verified;
 use std::alloc::Global;
-
-/// What a command grants to a run: the console, the kernel and mirrors.
-const GRANTED: Grants = Grants {
-    console: true,
-    kernel: true,
-    mirrors: true,
-    board: false,
-};
 
 /// A machine of code before the move that ends its run, which uses so many steps; where it moves not at all, as it begins.
 pub fn machine_before(

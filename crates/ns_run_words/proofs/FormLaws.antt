@@ -2,14 +2,14 @@
 use Rattle.std.specs.Prelude.{◌≡◌, ◌⊎◌, ℕ, nat_le, length, List, [], ◌∷◌, ◌++◌, true, Option, Some, None, codes, refl}
 use Rattle.std.proofs.Common.{◌≤◌, ◌+◌, arith, ap, sym, ◌∙◌, inl, inr, append_assoc}
 use Rattle.std.proofs.lemmas.Bool.Decides.{nat_tests}
-use Rattle.ns_run_words.proofs.PartLaws.{arguments_read, dashes_are_no_item, dashes_are_no_option, name_is_no_option, names_read, options_read}
+use Rattle.ns_run_words.proofs.PartLaws.{arguments_read, dashes_are_no_name, dashes_are_no_option, name_is_no_option, names_read, options_read}
 use Rattle.ns_run_words.specs.Forms.{AreArguments, AreNames, IsForm, IsOneOf}
 use Rattle.ns_run_words.specs.Options.{arguments_of}
 use Rattle.ns_run_words.specs.Own.{least_of}
 use Rattle.ns_run_words.specs.Table.{form_of, verb_of, words_of}
 use Rattle.ns_run_words.specs.Words.{CommandLine, Options, Names, Arguments, after_verb, bad, says, nothing_given, option_or, part_or, read_from, reading_of, with_name, with_option}
 use Rattle.ns_run_words.specs.declared.form.Verb.{Verb}
-use Rattle.ns_run_words.specs.declared.form.Verb.TheVariants.{Check, Show, Format, Run, Eval, Build, Exec, Listing, Session, Sample, Audit, Test, Snap, Library, Help, Explain, Version}
+use Rattle.ns_run_words.specs.declared.form.Verb.TheVariants.{Check, Show, Format, Run, Eval, Build, Exec, Listing, Session, Sample, Actors, Audit, Test, Snap, Resume, Library, Help, Explain, Version}
 use Rattle.ns_run_words.specs.declared.words.Given.{Given}
 
 -- The first word of a form names its command.
@@ -34,12 +34,16 @@ first_names Session first (inl e) = ap verb_of e
 first_names Session first (inr none) = absurd none
 first_names Sample first (inl e) = ap verb_of e
 first_names Sample first (inr none) = absurd none
+first_names Actors first (inl e) = ap verb_of e
+first_names Actors first (inr none) = absurd none
 first_names Audit first (inl e) = ap verb_of e
 first_names Audit first (inr none) = absurd none
 first_names Test first (inl e) = ap verb_of e
 first_names Test first (inr none) = absurd none
 first_names Snap first (inl e) = ap verb_of e
 first_names Snap first (inr none) = absurd none
+first_names Resume first (inl e) = ap verb_of e
+first_names Resume first (inr none) = absurd none
 first_names Library first (inl e) = ap verb_of e
 first_names Library first (inr none) = absurd none
 first_names Help first (inl e) = ap verb_of e
@@ -82,9 +86,9 @@ last_read verb given options names last arguments k e (inr (m, s, l, few)) =
     ∙ arguments_read verb given options names [] arguments (k + 1) m s e (omega (arith, few))
   where
     dashes : nat_le (least_of (form_of verb) given) (length names) ≡ true → read_from verb (Names given options names) k (codes "--" ∷ arguments) ≡ read_from verb (Arguments given options names []) (k + 1) arguments
-    dashes enough = rw (dashes_are_no_item (form_of verb).item, enough, s) refl
+    dashes enough = rw (dashes_are_no_name verb given m (length names) s, enough, s) refl
 
-pub names_behind_options : (verb : Verb) (given : Given) (options names last arguments : List (List ℕ)) (k : ℕ) → AreNames (form_of verb).item names → IsLast (arguments_of (form_of verb) given) last arguments
+pub names_behind_options : (verb : Verb) (given : Given) (options names last arguments : List (List ℕ)) (k : ℕ) → AreNames (form_of verb) 0 names → IsLast (arguments_of (form_of verb) given) last arguments
     → read_from verb (Options given options) k (names ++ last) ≡ read_from verb (Names given options []) k (names ++ last)
 names_behind_options verb given options [] last arguments k a (inl (l, s)) =
     ap (read_from verb (Options given options) k) l ∙ sym (ap (read_from verb (Names given options []) k) l)
@@ -93,7 +97,7 @@ names_behind_options verb given options [] last arguments k a (inr (m, s, l, few
     ∙ behind_options verb given options (codes "--") arguments k (dashes_are_no_option (form_of verb) given)
     ∙ sym (ap (read_from verb (Names given options []) k) l)
 names_behind_options verb given options (w ∷ ws) last arguments k a s =
-    behind_options verb given options w (ws ++ last) k (name_is_no_option (form_of verb) given w a.0)
+    behind_options verb given options w (ws ++ last) k (name_is_no_option verb given w a.0)
 
 -- The words of a form are read as what they spell.
 pub form_is_read : (words : List (List ℕ)) (line : CommandLine) → IsForm words line → reading_of words ≡ says line

@@ -12,12 +12,13 @@ use Rattle.ns_run_words.specs.FileName.{is_file_name}
 use Rattle.ns_run_words.specs.Forms.{AreNames, all_given}
 use Rattle.ns_run_words.specs.Options.{arguments_of, denial_where, run_where, tests_where, value_behind, with_denied, with_only, with_text}
 use Rattle.ns_run_words.specs.Own.{check_where, json_where, least_of, listing_where, most_of, own_option, to_where, with_to}
-use Rattle.ns_run_words.specs.Table.{form_of}
+use Rattle.ns_run_words.specs.Table.{form_of, item_at}
 use Rattle.ns_run_words.specs.Words.{Options, Names, Arguments, at_given, at_where, bad, says, given_or, has_needed, is_item, limit_where, number_given, number_of, option_or, part_or, quantum_where, read_from, steps_of, with_at, with_cells, with_depth, with_limit, with_name, with_option, with_out, with_quantum, with_steps}
 use Rattle.ns_run_words.specs.declared.form.Form.{Form}
 use Rattle.ns_run_words.specs.declared.form.Item.{Item}
-use Rattle.ns_run_words.specs.declared.form.Item.TheVariants.{File, Number, Application, Text, Topic}
+use Rattle.ns_run_words.specs.declared.form.Item.TheVariants.{File, Number, Application, Text, Topic, Selector, Integer}
 use Rattle.ns_run_words.specs.declared.form.Verb.{Verb}
+use Rattle.ns_run_words.specs.declared.form.Verb.TheVariants.{Check, Show, Format, Run, Eval, Build, Exec, Listing, Session, Sample, Actors, Audit, Test, Snap, Resume, Library, Help, Explain, Version}
 use Rattle.ns_run_words.specs.declared.words.Given.{Given}
 
 -- ---- words that are no options
@@ -165,26 +166,86 @@ no_dash_of_text b h =
       | false ↦ λ k. refl
     ] h
 
-pub no_dash_of_item : (item : Item) (b : ℕ) (bs : List ℕ) → is_item item (b ∷ bs) ≡ true → nat_eq b 45 ≡ false
-no_dash_of_item File b bs h = no_dash b bs h
-no_dash_of_item (Number greatest) b bs h = no_dash_of_number greatest b bs h
-no_dash_of_item Application b bs h = no_dash_of_application b bs h
-no_dash_of_item Text b bs h = no_dash_of_text b h
-no_dash_of_item Topic b bs h = no_dash_of_topic b bs h
+-- Names of that kind have none in front, and `--` is no such name: of all kinds but those that stand behind the count of a letter.
+abbrev IsPlain : Item → Type 0
+IsPlain File = Unit {0}
+IsPlain (Number greatest) = Unit {0}
+IsPlain Application = Unit {0}
+IsPlain Text = Unit {0}
+IsPlain Topic = Unit {0}
+IsPlain Selector = ⊥
+IsPlain Integer = ⊥
 
-pub name_is_no_option : (form : Form) (given : Given) (word : List ℕ) → is_item form.item word ≡ true → with_option form given word ≡ None
-name_is_no_option form given [] h = no_option form given [] (λ c name. refl) (λ c name. refl)
-name_is_no_option form given (b ∷ bs) h =
-    let e : nat_eq b 45 ≡ false = no_dash_of_item form.item b bs h in
-    no_option form given (b ∷ bs) (λ c name. rw e refl) (λ c name. rw e refl)
+no_dash_of_item : (item : Item) (b : ℕ) (bs : List ℕ) → IsPlain item → is_item item (b ∷ bs) ≡ true → nat_eq b 45 ≡ false
+no_dash_of_item File b bs p h = no_dash b bs h
+no_dash_of_item (Number greatest) b bs p h = no_dash_of_number greatest b bs h
+no_dash_of_item Application b bs p h = no_dash_of_application b bs h
+no_dash_of_item Text b bs p h = no_dash_of_text b h
+no_dash_of_item Topic b bs p h = no_dash_of_topic b bs h
+no_dash_of_item Selector b bs p h = absurd p
+no_dash_of_item Integer b bs p h = absurd p
 
--- `--` is no name.
-pub dashes_are_no_item : (item : Item) → is_item item (codes "--") ≡ false
-dashes_are_no_item File = refl
-dashes_are_no_item (Number greatest) = refl
-dashes_are_no_item Application = refl
-dashes_are_no_item Text = refl
-dashes_are_no_item Topic = refl
+dashes_are_no_item : (item : Item) → IsPlain item → is_item item (codes "--") ≡ false
+dashes_are_no_item File p = refl
+dashes_are_no_item (Number greatest) p = refl
+dashes_are_no_item Application p = refl
+dashes_are_no_item Text p = refl
+dashes_are_no_item Topic p = refl
+dashes_are_no_item Selector p = absurd p
+dashes_are_no_item Integer p = absurd p
+
+-- So are the first names of all forms, and all names of a form that takes arguments.
+first_is_plain : (verb : Verb) → IsPlain (item_at (form_of verb) 0)
+first_is_plain Check = tt
+first_is_plain Show = tt
+first_is_plain Format = tt
+first_is_plain Run = tt
+first_is_plain Eval = tt
+first_is_plain Build = tt
+first_is_plain Exec = tt
+first_is_plain Listing = tt
+first_is_plain Session = tt
+first_is_plain Sample = tt
+first_is_plain Actors = tt
+first_is_plain Audit = tt
+first_is_plain Test = tt
+first_is_plain Snap = tt
+first_is_plain Resume = tt
+first_is_plain Library = tt
+first_is_plain Help = tt
+first_is_plain Explain = tt
+first_is_plain Version = tt
+
+each_is_plain : (verb : Verb) (given : Given) (m count : ℕ) → arguments_of (form_of verb) given ≡ Some m → IsPlain (item_at (form_of verb) count)
+each_is_plain Check given m count e = tt
+each_is_plain Show given m count e = tt
+each_is_plain Format given m count e = tt
+each_is_plain Run given m count e = tt
+each_is_plain Eval given m count e = tt
+each_is_plain Build given m count e = tt
+each_is_plain Exec given m count e = tt
+each_is_plain Listing given m count e = tt
+each_is_plain Session given m count e = tt
+each_is_plain Sample given m count e = tt
+each_is_plain Actors given m count e = absurd (cc (e))
+each_is_plain Audit given m count e = tt
+each_is_plain Test given m count e = tt
+each_is_plain Snap given m count e = tt
+each_is_plain Resume given m count e = tt
+each_is_plain Library given m count e = tt
+each_is_plain Help given m count e = tt
+each_is_plain Explain given m count e = tt
+each_is_plain Version given m count e = tt
+
+pub name_is_no_option : (verb : Verb) (given : Given) (word : List ℕ) → is_item (item_at (form_of verb) 0) word ≡ true → with_option (form_of verb) given word ≡ None
+name_is_no_option verb given [] h = no_option (form_of verb) given [] (λ c name. refl) (λ c name. refl)
+name_is_no_option verb given (b ∷ bs) h =
+    let e : nat_eq b 45 ≡ false = no_dash_of_item (item_at (form_of verb) 0) b bs (first_is_plain verb) h in
+    no_option (form_of verb) given (b ∷ bs) (λ c name. rw e refl) (λ c name. rw e refl)
+
+-- `--` is no name of a form that takes arguments.
+pub dashes_are_no_name : (verb : Verb) (given : Given) (m count : ℕ) → arguments_of (form_of verb) given ≡ Some m → is_item (item_at (form_of verb) count) (codes "--") ≡ false
+dashes_are_no_name verb given m count e = dashes_are_no_item (item_at (form_of verb) count) (each_is_plain verb given m count e)
 
 pub dashes_are_no_option : (form : Form) (given : Given) → with_option form given (codes "--") ≡ None
 dashes_are_no_option form given = no_option form given (codes "--") (λ c name. refl) (λ c name. refl)
@@ -224,11 +285,16 @@ pub length_one : (xs : List (List ℕ)) (x : List ℕ) → length (xs ++ x ∷ [
 length_one [] x = omega arith
 length_one (y ∷ ys) x = omega (arith, length_one ys x)
 
-pub names_append : (item : Item) (names : List (List ℕ)) (w : List ℕ) → AreNames item names → is_item item w ≡ true → AreNames item (names ++ w ∷ [])
-names_append item [] w a e = (e, tt)
-names_append item (n ∷ ns) w a e = (a.0, names_append item ns w a.1 e)
+pub names_append : (form : Form) (count : ℕ) (names : List (List ℕ)) (w : List ℕ) → AreNames form count names → is_item (item_at form (count + length names)) w ≡ true
+    → AreNames form count (names ++ w ∷ [])
+names_append form count [] w a e =
+    let all : count + 0 ≡ count = omega arith in
+    (sym (ap (λ j. is_item (item_at form j) w) all) ∙ e, tt)
+names_append form count (n ∷ ns) w a e =
+    let next : (count + 1) + length ns ≡ count + length (n ∷ ns) = omega arith in
+    (a.0, names_append form (count + 1) ns w a.1 (ap (λ j. is_item (item_at form j) w) next ∙ e))
 
-pub names_read : (verb : Verb) (given : Given) (options before names words : List (List ℕ)) (k : ℕ) → has_needed (form_of verb) given ≡ true → AreNames (form_of verb).item names → length before + length names ≤ most_of (form_of verb) given
+pub names_read : (verb : Verb) (given : Given) (options before names words : List (List ℕ)) (k : ℕ) → has_needed (form_of verb) given ≡ true → AreNames (form_of verb) (length before) names → length before + length names ≤ most_of (form_of verb) given
     → read_from verb (Names given options before) k (names ++ words) ≡ read_from verb (Names given options (before ++ names)) (k + length names) words
 names_read verb given options before [] words k d a l =
     let n : k ≡ k + 0 = omega arith in
@@ -237,8 +303,9 @@ names_read verb given options before (w ∷ ws) words k d a l =
     let room : nat_lt (length before) (most_of (form_of verb) given) ≡ true = grind (arith, nat_tests) in
     let n : k + 1 + length ws ≡ k + length (w ∷ ws) = omega arith in
     let size : length (before ++ w ∷ []) + length ws ≤ most_of (form_of verb) given = omega (arith, length_one before w) in
+    let more : AreNames (form_of verb) (length (before ++ w ∷ [])) ws = subst (λ j. AreNames (form_of verb) j ws) (sym (length_one before w)) a.1 in
     first room
-    ∙ names_read verb given options (before ++ w ∷ []) ws words (k + 1) d a.1 size
+    ∙ names_read verb given options (before ++ w ∷ []) ws words (k + 1) d more size
     ∙ ap (λ b. read_from verb (Names given options b) (k + 1 + length ws) words) (append_assoc before (w ∷ []) ws)
     ∙ ap (λ j. read_from verb (Names given options (before ++ w ∷ ws)) j words) n
   where

@@ -1,5 +1,5 @@
 -- What is read of words is what they spell, or tells the first bad word.
-use Rattle.std.specs.Prelude.{◌≡◌, ℕ, ◌⊎◌, ◌&&◌, nat_le, nat_lt, length, List, [], ◌∷◌, ◌++◌, Bool, true, false, Option, Some, None, cond, codes, take, refl}
+use Rattle.std.specs.Prelude.{◌≡◌, ℕ, ◌⊎◌, ◌&&◌, ◌==◌, nat_le, nat_lt, length, List, [], ◌∷◌, ◌++◌, Bool, true, false, Option, Some, None, cond, codes, take, refl}
 use Rattle.std.proofs.Common.{◌≤◌, ◌+◌, ◌-◌, zero, suc, arith, ap, sym, ◌∙◌, subst, inl, inr, append_assoc}
 use Rattle.std.proofs.Math.Seq.{take-append-add}
 use Rattle.std.proofs.lemmas.Bool.Decides.{nat_tests}
@@ -12,13 +12,13 @@ use Rattle.ns_run_words.proofs.PartLaws.{all_given_append, length_one, names_app
 use Rattle.ns_run_words.specs.Forms.{AreArguments, AreNames, Begins, IsForm, IsOneOf, IsReadingOf, all_given}
 use Rattle.ns_run_words.specs.Options.{arguments_of}
 use Rattle.ns_run_words.specs.Own.{least_of, most_of}
-use Rattle.ns_run_words.specs.Table.{form_of, verb_of, words_of}
+use Rattle.ns_run_words.specs.Table.{form_of, item_at, verb_of, words_of}
 use Rattle.ns_run_words.specs.Words.{CommandLine, ReadSoFar, Options, Names, Arguments, LineReading, at_given, bad, bad_of, says, arguments_behind, first_bad, given_of, has_needed, has_room, is_item, limit_where, given_or, line_of, names_read, nothing_given, option_or, part_or, read_from, reading_of, with_argument, with_at, with_dashes, with_name, with_option, with_word}
 use Rattle.ns_run_words.specs.declared.form.Form.{Form}
 use Rattle.ns_run_words.specs.declared.form.Item.{Item}
-use Rattle.ns_run_words.specs.declared.form.Item.TheVariants.{File, Number, Application, Text, Topic}
+use Rattle.ns_run_words.specs.declared.form.Item.TheVariants.{File, Number, Application, Text, Topic, Selector, Integer}
 use Rattle.ns_run_words.specs.declared.form.Verb.{Verb}
-use Rattle.ns_run_words.specs.declared.form.Verb.TheVariants.{Check, Show, Format, Run, Eval, Build, Exec, Listing, Session, Sample, Audit, Test, Snap, Library, Help, Explain, Version}
+use Rattle.ns_run_words.specs.declared.form.Verb.TheVariants.{Check, Show, Format, Run, Eval, Build, Exec, Listing, Session, Sample, Actors, Audit, Test, Snap, Resume, Library, Help, Explain, Version}
 use Rattle.ns_run_words.specs.declared.words.Given.{Given}
 
 -- ---- what was read so far
@@ -28,7 +28,7 @@ pub record AreNamed (form : Form) (words : List (List ℕ)) (given : Given) (opt
   pub spelled : words ≡ options ++ names
   pub gives : all_given form nothing_given options ≡ Some given
   pub needed : names ≡ [] ⊎ (has_needed form given ≡ true)
-  pub named : AreNames form.item names
+  pub named : AreNames form 0 names
   pub few : length names ≤ most_of form given
 
 -- The form takes `--` behind so many names, and so many arguments behind it.
@@ -83,7 +83,7 @@ dashes_more form words given options names w next n h =
 pub name_more : (form : Form) (words : List (List ℕ)) (given : Given) (options names : List (List ℕ)) (w : List ℕ) (next : ReadSoFar) → AreNamed form words given options names
     → with_name form given options names w ≡ Some next → IsPart form (words ++ w ∷ []) next
 name_more form words given options names w next n h =
-    elim (is_item form.item w) as (λ q. is_item form.item w ≡ q
+    elim (is_item (item_at form (length names)) w) as (λ q. is_item (item_at form (length names)) w ≡ q
     → cond (q && nat_lt (length names) (most_of form given) && has_needed form given) (Some (Names given options (names ++ w ∷ []))) other ≡ Some next → IsPart form (words ++ w ∷ []) next) [
       | false ↦ λ e k. dashes_more form words given options names w next n k
       | true ↦ λ e k. room e k
@@ -92,20 +92,21 @@ name_more form words given options names w next n h =
     other : Option ReadSoFar
     other = with_dashes given options names (arguments_behind form given (length names) w)
 
-    needed : is_item form.item w ≡ true → nat_lt (length names) (most_of form given) ≡ true → cond (has_needed form given) (Some (Names given options (names ++ w ∷ []))) other ≡ Some next → IsPart form (words ++ w ∷ []) next
+    needed : is_item (item_at form (length names)) w ≡ true → nat_lt (length names) (most_of form given) ≡ true → cond (has_needed form given) (Some (Names given options (names ++ w ∷ []))) other ≡ Some next → IsPart form (words ++ w ∷ []) next
     needed e r k =
         elim (has_needed form given) as (λ q. has_needed form given ≡ q → cond q (Some (Names given options (names ++ w ∷ []))) other ≡ Some next → IsPart form (words ++ w ∷ []) next) [
           | false ↦ λ d j. dashes_more form words given options names w next n j
           | true ↦ λ d j.
               let few : length (names ++ w ∷ []) ≤ most_of form given = grind (arith, nat_tests, r, length_one names w) in
               let is : Names given options (names ++ w ∷ []) ≡ next = cc (j) in
+              let none : 0 + length names ≡ length names = omega arith in
               let all : AreNamed form (words ++ w ∷ []) given options (names ++ w ∷ []) =
-              record { spelled = ap (λ x. x ++ w ∷ []) n.spelled ∙ append_assoc options names (w ∷ []); gives = n.gives; needed = inr d; named = names_append form.item names w n.named e; few = few }
+              record { spelled = ap (λ x. x ++ w ∷ []) n.spelled ∙ append_assoc options names (w ∷ []); gives = n.gives; needed = inr d; named = names_append form 0 names w n.named (ap (λ j. is_item (item_at form j) w) none ∙ e); few = few }
               in
               subst (IsPart form (words ++ w ∷ [])) is all
         ] refl k
 
-    room : is_item form.item w ≡ true → cond (nat_lt (length names) (most_of form given) && has_needed form given) (Some (Names given options (names ++ w ∷ []))) other ≡ Some next → IsPart form (words ++ w ∷ []) next
+    room : is_item (item_at form (length names)) w ≡ true → cond (nat_lt (length names) (most_of form given) && has_needed form given) (Some (Names given options (names ++ w ∷ []))) other ≡ Some next → IsPart form (words ++ w ∷ []) next
     room e k =
         elim (nat_lt (length names) (most_of form given)) as (λ q. nat_lt (length names) (most_of form given) ≡ q
         → cond (q && has_needed form given) (Some (Names given options (names ++ w ∷ []))) other ≡ Some next → IsPart form (words ++ w ∷ []) next) [
@@ -144,42 +145,58 @@ filler (Number greatest) = codes "1"
 filler Application = codes "=1"
 filler Text = codes "1"
 filler Topic = codes "run"
+filler Selector = codes "a:"
+filler Integer = codes "1"
 
--- so many names
-abbrev pub fill : Item → ℕ → List (List ℕ)
-fill item zero = []
-fill item (suc n) = filler item ∷ fill item n
+-- so many names of a form, behind so many others
+abbrev pub fill : Form → ℕ → ℕ → List (List ℕ)
+fill form count zero = []
+fill form count (suc n) = filler (item_at form count) ∷ fill form (count + 1) n
 
-pub fill_length : (item : Item) (n : ℕ) → length (fill item n) ≡ n
-fill_length item zero = refl
-fill_length item (suc n) = omega (arith, fill_length item n)
+pub fill_length : (form : Form) (count n : ℕ) → length (fill form count n) ≡ n
+fill_length form count zero = refl
+fill_length form count (suc n) = omega (arith, fill_length form (count + 1) n)
 
-pub fill_item : (verb : Verb) → is_item (form_of verb).item (filler (form_of verb).item) ≡ true
-fill_item Check = refl
-fill_item Show = refl
-fill_item Format = refl
-fill_item Run = refl
-fill_item Eval = refl
-fill_item Build = refl
-fill_item Exec = refl
-fill_item Listing = refl
-fill_item Session = refl
-fill_item Sample = refl
-fill_item Audit = refl
-fill_item Test = refl
-fill_item Snap = refl
-fill_item Library = refl
-fill_item Help = refl
-fill_item Explain = refl
-fill_item Version = refl
+pub fill_item : (verb : Verb) (count : ℕ) → is_item (item_at (form_of verb) count) (filler (item_at (form_of verb) count)) ≡ true
+fill_item Check count = refl
+fill_item Show count = refl
+fill_item Format count = refl
+fill_item Run count = refl
+fill_item Eval count = refl
+fill_item Build count = refl
+fill_item Exec count = refl
+fill_item Listing count = refl
+fill_item Session count = refl
+fill_item Sample count = refl
+fill_item Actors count = in_a_letter (count == 0) (count == 1) (count == 2)
+  where
+    in_a_letter : (first second third : Bool) →
+        is_item (cond first (Number 16) (cond second Selector (cond third Integer File)))
+        (filler (cond first (Number 16) (cond second Selector (cond third Integer File)))) ≡ true
+    in_a_letter true second third = refl
+    in_a_letter false true third = refl
+    in_a_letter false false true = refl
+    in_a_letter false false false = refl
+fill_item Audit count = refl
+fill_item Test count = refl
+fill_item Snap count = refl
+fill_item Resume count = refl
+fill_item Library count = refl
+fill_item Help count = refl
+fill_item Explain count = refl
+fill_item Version count = refl
 
-pub fill_named : (item : Item) (n : ℕ) → is_item item (filler item) ≡ true → AreNames item (fill item n)
-fill_named item zero e = tt
-fill_named item (suc n) e = (e, fill_named item n e)
+pub fill_named : (verb : Verb) (count n : ℕ) → AreNames (form_of verb) count (fill (form_of verb) count n)
+fill_named verb count zero = tt
+fill_named verb count (suc n) = (fill_item verb count, fill_named verb (count + 1) n)
 
-pub both_named : (item : Item) (names more : List (List ℕ)) → AreNames item names → AreNames item more → AreNames item (names ++ more)
-both_named item [] more a b = b
-both_named item (n ∷ ns) more a b = (a.0, both_named item ns more a.1 b)
+pub both_named : (form : Form) (count : ℕ) (names more : List (List ℕ)) → AreNames form count names → AreNames form (count + length names) more
+    → AreNames form count (names ++ more)
+both_named form count [] more a b =
+    let all : count + 0 ≡ count = omega arith in subst (λ j. AreNames form j more) all b
+both_named form count (n ∷ ns) more a b =
+    let next : count + length (n ∷ ns) ≡ (count + 1) + length ns = omega arith in
+    (a.0, both_named form (count + 1) ns more a.1 (subst (λ j. AreNames form j more) next b))
 
 pub least_is_less : (verb : Verb) (given : Given) → least_of (form_of verb) given ≤ most_of (form_of verb) given
 least_is_less Check given = omega arith
@@ -196,9 +213,11 @@ least_is_less Exec given = omega arith
 least_is_less Listing given = omega arith
 least_is_less Session given = omega arith
 least_is_less Sample given = omega arith
+least_is_less Actors given = omega arith
 least_is_less Audit given = omega arith
 least_is_less Test given = omega arith
 least_is_less Snap given = omega arith
+least_is_less Resume given = omega arith
 least_is_less Library given = omega arith
 least_is_less Help given = omega arith
 least_is_less Explain given = omega arith
@@ -227,9 +246,11 @@ enough_needs verb given names (inl e) l = none verb (subst (λ x. least_of (form
     none Listing m = refl
     none Session m = refl
     none Sample m = refl
+    none Actors m = refl
     none Audit m = absurd (omega (arith, m))
     none Test m = refl
     none Snap m = absurd (omega (arith, m))
+    none Resume m = refl
     none Library m = refl
     none Help m = refl
     none Explain m = refl
@@ -238,8 +259,9 @@ enough_needs verb given names (inl e) l = none verb (subst (λ x. least_of (form
 -- Names behind the options that the form needs, and as many more as it needs.
 pub filled_begin : (verb : Verb) (first : List ℕ) → IsOneOf first (words_of verb) → (words : List (List ℕ)) (given : Given) (options names : List (List ℕ)) → AreNamed (form_of verb) words given options names → has_needed (form_of verb) given ≡ true → Begins (first ∷ words)
 filled_begin verb first o words given options names n d =
-    let more : List (List ℕ) = fill (form_of verb).item (least_of (form_of verb) given - length names) in
-    let size : length (names ++ more) ≡ length names + (least_of (form_of verb) given - length names) = length-append names more ∙ ap (λ j. length names + j) (fill_length (form_of verb).item (least_of (form_of verb) given - length names)) in
+    let some : ℕ = least_of (form_of verb) given - length names in
+    let more : List (List ℕ) = fill (form_of verb) (0 + length names) some in
+    let size : length (names ++ more) ≡ length names + (least_of (form_of verb) given - length names) = length-append names more ∙ ap (λ j. length names + j) (fill_length (form_of verb) (0 + length names) some) in
     let spelled : words ++ more ≡ options ++ (names ++ more) ++ [] =
     ap (λ x. x ++ more) n.spelled ∙ append_assoc options names more ∙ sym (append-nil (options ++ (names ++ more)))
     in (
@@ -254,7 +276,7 @@ filled_begin verb first o words given options names n d =
         needed = d;
         enough = omega (arith, size);
         few = omega (arith, size, n.few, least_is_less verb given);
-        named = both_named (form_of verb).item names more n.named (fill_named (form_of verb).item (least_of (form_of verb) given - length names) (fill_item verb));
+        named = both_named (form_of verb) 0 names more n.named (fill_named verb (0 + length names) some);
         ends = no_arguments (arguments_of (form_of verb) given);
       },
     )
@@ -278,6 +300,7 @@ denial_given Exec given h = absurd (cc (h))
 denial_given Listing given h = absurd (cc (h))
 denial_given Session given h = absurd (cc (h))
 denial_given Sample given h = absurd (cc (h))
+denial_given Actors given h = absurd (cc (h))
 denial_given Audit given h =
     let few : nat_lt given.denied 16 ≡ true = grind (arith, nat_tests, h) in rw few refl
 denial_given Test given h = absurd (cc (h))
@@ -286,6 +309,7 @@ denial_given Snap given h =
       | None ↦ λ k. refl
       | Some n ↦ λ k. absurd (cc (k))
     ] h
+denial_given Resume given h = absurd (cc (h))
 denial_given Library given h = absurd (cc (h))
 denial_given Help given h = absurd (cc (h))
 denial_given Explain given h = absurd (cc (h))
@@ -302,9 +326,11 @@ denial_serves Exec given = refl
 denial_serves Listing given = refl
 denial_serves Session given = refl
 denial_serves Sample given = refl
+denial_serves Actors given = refl
 denial_serves Audit given = grind (arith, nat_tests)
 denial_serves Test given = refl
 denial_serves Snap given = refl
+denial_serves Resume given = refl
 denial_serves Library given = refl
 denial_serves Help given = refl
 denial_serves Explain given = refl
@@ -470,16 +496,18 @@ by_verb w P some none =
     test (codes "list") _ _ (λ is. some Listing (inl is)) λ g.
     test (codes "session") _ _ (λ is. some Session (inl is)) λ h.
     test (codes "sample") _ _ (λ is. some Sample (inl is)) λ i.
+    test (codes "actors") _ _ (λ is. some Actors (inl is)) λ o.
     test (codes "audit") _ _ (λ is. some Audit (inl is)) λ j.
     test (codes "test") _ _ (λ is. some Test (inl is)) λ k.
     test (codes "snap") _ _ (λ is. some Snap (inl is)) λ u.
+    test (codes "resume") _ _ (λ is. some Resume (inl is)) λ v.
     test (codes "library") _ _ (λ is. some Library (inl is)) λ l.
     test (codes "--help") _ _ (λ is. some Help (inl is)) λ m.
     test (codes "-h") _ _ (λ is. some Help (inr (inl is))) λ n.
     test (codes "help") _ _ (λ is. some Explain (inl is)) λ q.
     test (codes "--version") _ _ (λ is. some Version (inl is)) λ r.
     test (codes "-V") _ _ (λ is. some Version (inr (inl is))) λ s.
-    none (all a b t c d e f g h i j k u l m n q r s)
+    none (all a b t c d e f g h i o j k u v l m n q r s)
   where
     test : (text : List ℕ) (x y : Option Verb) → (w ≡ text → P x) → (bytes_eq w text ≡ false → P y) → P (cond (bytes_eq w text) x y)
     test text x y f g =
@@ -488,43 +516,47 @@ by_verb w P some none =
           | false ↦ g
         ] refl
 
-    all : bytes_eq w (codes "check") ≡ false → bytes_eq w (codes "show") ≡ false → bytes_eq w (codes "format") ≡ false → bytes_eq w (codes "run") ≡ false → bytes_eq w (codes "eval") ≡ false → bytes_eq w (codes "build") ≡ false → bytes_eq w (codes "exec") ≡ false → bytes_eq w (codes "list") ≡ false → bytes_eq w (codes "session") ≡ false → bytes_eq w (codes "sample") ≡ false → bytes_eq w (codes "audit") ≡ false → bytes_eq w (codes "test") ≡ false → bytes_eq w (codes "snap") ≡ false → bytes_eq w (codes "library") ≡ false → bytes_eq w (codes "--help") ≡ false → bytes_eq w (codes "-h") ≡ false → bytes_eq w (codes "help") ≡ false → bytes_eq w (codes "--version") ≡ false → bytes_eq w (codes "-V") ≡ false → (verb : Verb) → IsOneOf w (words_of verb) → ⊥
-    all a b t c d e f g h i j k u l m n q r s Check (inl is) = apart w (codes "check") a is
-    all a b t c d e f g h i j k u l m n q r s Check (inr void) = void
-    all a b t c d e f g h i j k u l m n q r s Show (inl is) = apart w (codes "show") b is
-    all a b t c d e f g h i j k u l m n q r s Show (inr void) = void
-    all a b t c d e f g h i j k u l m n q r s Format (inl is) = apart w (codes "format") t is
-    all a b t c d e f g h i j k u l m n q r s Format (inr void) = void
-    all a b t c d e f g h i j k u l m n q r s Run (inl is) = apart w (codes "run") c is
-    all a b t c d e f g h i j k u l m n q r s Run (inr void) = void
-    all a b t c d e f g h i j k u l m n q r s Eval (inl is) = apart w (codes "eval") d is
-    all a b t c d e f g h i j k u l m n q r s Eval (inr void) = void
-    all a b t c d e f g h i j k u l m n q r s Build (inl is) = apart w (codes "build") e is
-    all a b t c d e f g h i j k u l m n q r s Build (inr void) = void
-    all a b t c d e f g h i j k u l m n q r s Exec (inl is) = apart w (codes "exec") f is
-    all a b t c d e f g h i j k u l m n q r s Exec (inr void) = void
-    all a b t c d e f g h i j k u l m n q r s Listing (inl is) = apart w (codes "list") g is
-    all a b t c d e f g h i j k u l m n q r s Listing (inr void) = void
-    all a b t c d e f g h i j k u l m n q r s Session (inl is) = apart w (codes "session") h is
-    all a b t c d e f g h i j k u l m n q r s Session (inr void) = void
-    all a b t c d e f g h i j k u l m n q r s Sample (inl is) = apart w (codes "sample") i is
-    all a b t c d e f g h i j k u l m n q r s Sample (inr void) = void
-    all a b t c d e f g h i j k u l m n q r s Audit (inl is) = apart w (codes "audit") j is
-    all a b t c d e f g h i j k u l m n q r s Audit (inr void) = void
-    all a b t c d e f g h i j k u l m n q r s Test (inl is) = apart w (codes "test") k is
-    all a b t c d e f g h i j k u l m n q r s Test (inr void) = void
-    all a b t c d e f g h i j k u l m n q r s Snap (inl is) = apart w (codes "snap") u is
-    all a b t c d e f g h i j k u l m n q r s Snap (inr void) = void
-    all a b t c d e f g h i j k u l m n q r s Library (inl is) = apart w (codes "library") l is
-    all a b t c d e f g h i j k u l m n q r s Library (inr void) = void
-    all a b t c d e f g h i j k u l m n q r s Help (inl is) = apart w (codes "--help") m is
-    all a b t c d e f g h i j k u l m n q r s Help (inr (inl is)) = apart w (codes "-h") n is
-    all a b t c d e f g h i j k u l m n q r s Help (inr (inr void)) = void
-    all a b t c d e f g h i j k u l m n q r s Explain (inl is) = apart w (codes "help") q is
-    all a b t c d e f g h i j k u l m n q r s Explain (inr void) = void
-    all a b t c d e f g h i j k u l m n q r s Version (inl is) = apart w (codes "--version") r is
-    all a b t c d e f g h i j k u l m n q r s Version (inr (inl is)) = apart w (codes "-V") s is
-    all a b t c d e f g h i j k u l m n q r s Version (inr (inr void)) = void
+    all : bytes_eq w (codes "check") ≡ false → bytes_eq w (codes "show") ≡ false → bytes_eq w (codes "format") ≡ false → bytes_eq w (codes "run") ≡ false → bytes_eq w (codes "eval") ≡ false → bytes_eq w (codes "build") ≡ false → bytes_eq w (codes "exec") ≡ false → bytes_eq w (codes "list") ≡ false → bytes_eq w (codes "session") ≡ false → bytes_eq w (codes "sample") ≡ false → bytes_eq w (codes "actors") ≡ false → bytes_eq w (codes "audit") ≡ false → bytes_eq w (codes "test") ≡ false → bytes_eq w (codes "snap") ≡ false → bytes_eq w (codes "resume") ≡ false → bytes_eq w (codes "library") ≡ false → bytes_eq w (codes "--help") ≡ false → bytes_eq w (codes "-h") ≡ false → bytes_eq w (codes "help") ≡ false → bytes_eq w (codes "--version") ≡ false → bytes_eq w (codes "-V") ≡ false → (verb : Verb) → IsOneOf w (words_of verb) → ⊥
+    all a b t c d e f g h i o j k u v l m n q r s Check (inl is) = apart w (codes "check") a is
+    all a b t c d e f g h i o j k u v l m n q r s Check (inr void) = void
+    all a b t c d e f g h i o j k u v l m n q r s Show (inl is) = apart w (codes "show") b is
+    all a b t c d e f g h i o j k u v l m n q r s Show (inr void) = void
+    all a b t c d e f g h i o j k u v l m n q r s Format (inl is) = apart w (codes "format") t is
+    all a b t c d e f g h i o j k u v l m n q r s Format (inr void) = void
+    all a b t c d e f g h i o j k u v l m n q r s Run (inl is) = apart w (codes "run") c is
+    all a b t c d e f g h i o j k u v l m n q r s Run (inr void) = void
+    all a b t c d e f g h i o j k u v l m n q r s Eval (inl is) = apart w (codes "eval") d is
+    all a b t c d e f g h i o j k u v l m n q r s Eval (inr void) = void
+    all a b t c d e f g h i o j k u v l m n q r s Build (inl is) = apart w (codes "build") e is
+    all a b t c d e f g h i o j k u v l m n q r s Build (inr void) = void
+    all a b t c d e f g h i o j k u v l m n q r s Exec (inl is) = apart w (codes "exec") f is
+    all a b t c d e f g h i o j k u v l m n q r s Exec (inr void) = void
+    all a b t c d e f g h i o j k u v l m n q r s Listing (inl is) = apart w (codes "list") g is
+    all a b t c d e f g h i o j k u v l m n q r s Listing (inr void) = void
+    all a b t c d e f g h i o j k u v l m n q r s Session (inl is) = apart w (codes "session") h is
+    all a b t c d e f g h i o j k u v l m n q r s Session (inr void) = void
+    all a b t c d e f g h i o j k u v l m n q r s Sample (inl is) = apart w (codes "sample") i is
+    all a b t c d e f g h i o j k u v l m n q r s Sample (inr void) = void
+    all a b t c d e f g h i o j k u v l m n q r s Actors (inl is) = apart w (codes "actors") o is
+    all a b t c d e f g h i o j k u v l m n q r s Actors (inr void) = void
+    all a b t c d e f g h i o j k u v l m n q r s Audit (inl is) = apart w (codes "audit") j is
+    all a b t c d e f g h i o j k u v l m n q r s Audit (inr void) = void
+    all a b t c d e f g h i o j k u v l m n q r s Test (inl is) = apart w (codes "test") k is
+    all a b t c d e f g h i o j k u v l m n q r s Test (inr void) = void
+    all a b t c d e f g h i o j k u v l m n q r s Snap (inl is) = apart w (codes "snap") u is
+    all a b t c d e f g h i o j k u v l m n q r s Snap (inr void) = void
+    all a b t c d e f g h i o j k u v l m n q r s Resume (inl is) = apart w (codes "resume") v is
+    all a b t c d e f g h i o j k u v l m n q r s Resume (inr void) = void
+    all a b t c d e f g h i o j k u v l m n q r s Library (inl is) = apart w (codes "library") l is
+    all a b t c d e f g h i o j k u v l m n q r s Library (inr void) = void
+    all a b t c d e f g h i o j k u v l m n q r s Help (inl is) = apart w (codes "--help") m is
+    all a b t c d e f g h i o j k u v l m n q r s Help (inr (inl is)) = apart w (codes "-h") n is
+    all a b t c d e f g h i o j k u v l m n q r s Help (inr (inr void)) = void
+    all a b t c d e f g h i o j k u v l m n q r s Explain (inl is) = apart w (codes "help") q is
+    all a b t c d e f g h i o j k u v l m n q r s Explain (inr void) = void
+    all a b t c d e f g h i o j k u v l m n q r s Version (inl is) = apart w (codes "--version") r is
+    all a b t c d e f g h i o j k u v l m n q r s Version (inr (inl is)) = apart w (codes "-V") s is
+    all a b t c d e f g h i o j k u v l m n q r s Version (inr (inr void)) = void
 
 pub begins_nothing : Begins []
 begins_nothing =

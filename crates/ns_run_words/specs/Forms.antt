@@ -2,7 +2,7 @@
 use Rattle.std.specs.Prelude.{◌≡◌, ◌⊎◌, ℕ, ◌+◌, ◌<◌, ◌≤◌, List, [], ◌∷◌, ◌++◌, Option, Some, None, true, option_and_then, codes, take, length}
 use Rattle.ns_run_words.specs.Options.{arguments_of}
 use Rattle.ns_run_words.specs.Own.{least_of, most_of}
-use Rattle.ns_run_words.specs.Table.{form_of, words_of}
+use Rattle.ns_run_words.specs.Table.{form_of, item_at, words_of}
 use Rattle.ns_run_words.specs.Words.{CommandLine, LineReading, says, bad, has_needed, is_item, nothing_given, with_option}
 use Rattle.ns_run_words.specs.declared.form.Form.{Form}
 use Rattle.ns_run_words.specs.declared.form.Item.{Item}
@@ -10,13 +10,18 @@ use Rattle.ns_run_words.specs.declared.form.Item.TheVariants.{File}
 use Rattle.ns_run_words.specs.declared.words.Given.{Given}
 
 -- Each of these words can be a name of that kind.
-abbrev pub AreNames : Item → List (List ℕ) → Type 0
-AreNames item [] = Unit {0}
-AreNames item (word ∷ words) = (is_item item word ≡ true) × AreNames item words
+abbrev pub AreItems : Item → List (List ℕ) → Type 0
+AreItems item [] = Unit {0}
+AreItems item (word ∷ words) = (is_item item word ≡ true) × AreItems item words
+
+-- Each of these words can be a name of a form, behind so many others.
+abbrev pub AreNames : Form → ℕ → List (List ℕ) → Type 0
+AreNames form count [] = Unit {0}
+AreNames form count (word ∷ words) = (is_item (item_at form count) word ≡ true) × AreNames form (count + 1) words
 
 -- 1 to 16 names of files
 abbrev pub AreFiles : List (List ℕ) → Type 0
-AreFiles words = (1 ≤ length words) × (length words ≤ 16) × AreNames File words
+AreFiles words = (1 ≤ length words) × (length words ≤ 16) × AreItems File words
 
 -- what these words give beside what was given, each of them an option that the form takes behind those before it
 abbrev pub all_given : Form → Given → List (List ℕ) → Option Given
@@ -44,7 +49,7 @@ pub record IsForm (words : List (List ℕ)) (line : CommandLine) : Type 0 where
   pub needed : has_needed (form_of line.verb) line.given ≡ true
   pub enough : least_of (form_of line.verb) line.given ≤ length line.names
   pub few : length line.names ≤ most_of (form_of line.verb) line.given
-  pub named : AreNames (form_of line.verb).item line.names
+  pub named : AreNames (form_of line.verb) 0 line.names
   pub ends : AreArguments (arguments_of (form_of line.verb) line.given) last line.arguments
 
 -- The line is what some words spell.

@@ -1,11 +1,14 @@
 -- The forms of a command line as data (this profile).
-use Rattle.std.specs.Prelude.{ℕ, List, [], ◌∷◌, true, false, Option, Some, None, codes, if◌then◌else◌}
+use Rattle.std.specs.Prelude.{ℕ, ◌==◌, List, [], ◌∷◌, true, false, Option, Some, None, codes, if◌then◌else◌}
 use Rattle.std.specs.Str.{bytes_eq}
 use Rattle.ns_base.specs.declared.limits.Limits.{Limits}
 use Rattle.ns_run_words.specs.declared.form.Form.{Form}
-use Rattle.ns_run_words.specs.declared.form.Item.TheVariants.{File, Number, Application, Text, Topic}
+use Rattle.ns_run_words.specs.declared.form.Item.{Item}
+use Rattle.ns_run_words.specs.declared.form.Item.TheVariants.{File, Number, Application, Text, Topic, Selector, Integer}
+use Rattle.ns_run_words.specs.declared.form.Lead.{Lead}
+use Rattle.ns_run_words.specs.declared.form.Lead.TheVariants.{Nothing, Letter}
 use Rattle.ns_run_words.specs.declared.form.Verb.{Verb}
-use Rattle.ns_run_words.specs.declared.form.Verb.TheVariants.{Check, Show, Format, Run, Eval, Build, Exec, Listing, Session, Sample, Audit, Test, Snap, Library, Help, Explain, Version}
+use Rattle.ns_run_words.specs.declared.form.Verb.TheVariants.{Check, Show, Format, Run, Eval, Build, Exec, Listing, Session, Sample, Actors, Audit, Test, Snap, Resume, Library, Help, Explain, Version}
 
 -- the greatest limits of a run
 abbrev pub greatest : Limits
@@ -30,6 +33,7 @@ names_alone least most =
       members = false;
       to = false;
       at = false;
+      lead = Nothing;
       item = File;
       least = least;
       most = most;
@@ -46,8 +50,8 @@ run_of form = record form { greatest = Some greatest; runs = true; json = true; 
 
 -- the form of each command: the greatest limits that its options can give, where it takes these; whether it takes
 -- `--quantum=N`, `--lib`, the options of tests, denials, the options of runs and of checks, `--json`, `--members`, and `--to=IMAGE`, which
--- takes the place of the first name; whether `--at=N` must be there; what each name is; the fewest names and the most; how many arguments,
--- with texts among them
+-- takes the place of the first name; whether `--at=N` must be there; what the first names are, and each other; the fewest names and the most;
+-- how many arguments, with texts among them
 abbrev pub form_of : Verb → Form
 form_of Check = record of_program { checks = true; json = true }
 form_of Show = names_alone 1 1
@@ -60,13 +64,27 @@ form_of Listing = record (names_alone 1 1) { members = true }
 form_of Session =
     record (names_alone 1 16) { greatest = Some greatest_of_many; quantum = true; lib = true; json = true; item = Application }
 form_of Sample = record (names_alone 1 1) { item = Number 1000 }
+form_of Actors = record (names_alone 4 19) { greatest = Some greatest_of_many; lib = true; json = true; lead = Letter }
 form_of Audit = record (names_alone 2 2) { denies = true; json = true }
 form_of Test = record of_program { greatest = Some greatest; tests = true; json = true }
 form_of Snap = record (names_alone 2 17) { greatest = Some greatest; lib = true; at = true }
+form_of Resume = names_alone 1 1
 form_of Library = names_alone 0 0
 form_of Help = names_alone 0 0
 form_of Explain = record (names_alone 0 1) { item = Topic }
 form_of Version = names_alone 0 0
+
+-- what the name behind so many others is, where a letter stands in front of names of that kind
+abbrev pub in_letter : Item → ℕ → Item
+in_letter item count = if count == 0 then Number 16 else (if count == 1 then Selector else (if count == 2 then Integer else item))
+
+abbrev pub item_behind : Lead → Item → ℕ → Item
+item_behind Nothing item count = item
+item_behind Letter item count = in_letter item count
+
+-- what the name behind so many others is
+abbrev pub item_at : Form → ℕ → Item
+item_at form count = item_behind form.lead form.item count
 
 -- the first words of a command's form, each of which names it
 abbrev pub words_of : Verb → List (List ℕ)
@@ -80,9 +98,11 @@ words_of Exec = codes "exec" ∷ []
 words_of Listing = codes "list" ∷ []
 words_of Session = codes "session" ∷ []
 words_of Sample = codes "sample" ∷ []
+words_of Actors = codes "actors" ∷ []
 words_of Audit = codes "audit" ∷ []
 words_of Test = codes "test" ∷ []
 words_of Snap = codes "snap" ∷ []
+words_of Resume = codes "resume" ∷ []
 words_of Library = codes "library" ∷ []
 words_of Help = codes "--help" ∷ codes "-h" ∷ []
 words_of Explain = codes "help" ∷ []
@@ -111,8 +131,10 @@ verb_of word =
     else (if bytes_eq word (codes "list") then Some Listing
     else (if bytes_eq word (codes "session") then Some Session
     else (if bytes_eq word (codes "sample") then Some Sample
+    else (if bytes_eq word (codes "actors") then Some Actors
     else (if bytes_eq word (codes "audit") then Some Audit
     else (if bytes_eq word (codes "test") then Some Test
     else (if bytes_eq word (codes "snap") then Some Snap
+    else (if bytes_eq word (codes "resume") then Some Resume
     else (if bytes_eq word (codes "library") then Some Library
-    else telling_verb_of word)))))))))))))
+    else telling_verb_of word)))))))))))))))

@@ -1,18 +1,19 @@
 -- How the words of a command line are read, one after the other, over the form of its command (this profile).
-use Rattle.std.specs.Prelude.{ℕ, ◌+◌, ◌-◌, ◌*◌, ◌&&◌, nat_le, nat_lt, List, [], ◌∷◌, ◌++◌, Bool, true, false, Option, Some, None, option_and_then, take, drop, length, codes, nat_eq, if◌then◌else◌}
+use Rattle.std.specs.Prelude.{ℕ, ℤ, pos, neg_ℤ, ◌+◌, ◌-◌, ◌*◌, ◌&&◌, ◌==◌, nat_le, nat_lt, List, [], ◌∷◌, ◌++◌, Bool, true, false, Option, Some, None, option_map, option_and_then, take, drop, length, codes, nat_eq, if◌then◌else◌}
 use Rattle.std.specs.Option.{is_some, unwrap_or}
 use Rattle.std.specs.Str.{bytes_eq}
-use Rattle.ns_base.specs.Spelling.{is_digit}
+use Rattle.ns_base.specs.Spelling.{is_digit, is_selector}
 use Rattle.ns_base.specs.declared.limits.Limits.{Limits}
+use Rattle.ns_code.specs.Selector.{text_arity}
 use Rattle.ns_help.specs.Topics.{text_of}
 use Rattle.ns_run_words.specs.Application.{is_application}
 use Rattle.ns_run_words.specs.FileName.{is_file_name, is_text}
 use Rattle.ns_run_words.specs.Options.{arguments_of, denial_where, run_where, tests_where, value_behind}
 use Rattle.ns_run_words.specs.Own.{least_of, most_of, own_option}
-use Rattle.ns_run_words.specs.Table.{form_of, verb_of}
+use Rattle.ns_run_words.specs.Table.{form_of, item_at, verb_of}
 use Rattle.ns_run_words.specs.declared.form.Form.{Form}
 use Rattle.ns_run_words.specs.declared.form.Item.{Item}
-use Rattle.ns_run_words.specs.declared.form.Item.TheVariants.{File, Number, Application, Text, Topic}
+use Rattle.ns_run_words.specs.declared.form.Item.TheVariants.{File, Number, Application, Text, Topic, Selector, Integer}
 use Rattle.ns_run_words.specs.declared.form.Verb.{Verb}
 use Rattle.ns_run_words.specs.declared.words.Given.{Given}
 
@@ -58,6 +59,19 @@ number_of greatest text = if begins_bad text then None else option_and_then (in_
 -- a number of steps: 0, or one from 1 on
 abbrev pub steps_of : List ℕ → Option ℕ
 steps_of text = if bytes_eq text (codes "0") then Some 0 else number_of 1000000000000 text
+
+-- an integer of 64 bits: 0, or a decimal number without a leading zero; a dash stands in front of a negative one
+abbrev pub natural_of : List ℕ → Option ℤ
+natural_of text = if bytes_eq text (codes "0") then Some (pos 0) else option_map pos (number_of 9223372036854775807 text)
+
+abbrev pub integer_of : List ℕ → Option ℤ
+integer_of [] = None
+integer_of (d ∷ ds) =
+    if nat_eq d 45 then option_map (λ (n : ℕ). neg_ℤ (pos n)) (number_of 9223372036854775808 ds) else natural_of (d ∷ ds)
+
+-- a selector of one argument
+abbrev pub takes_one : List ℕ → Bool
+takes_one text = is_selector text && text_arity text == 1
 
 -- ---- options
 
@@ -186,13 +200,15 @@ at_of given = unwrap_or given.at 0
 -- ---- one word
 
 -- a word that can be a name of a command: the name of a file, a number from 1 to the greatest, an application, any text without a
--- dash in front, or what there is a text on
+-- dash in front, what there is a text on, a selector of one argument, or an integer
 abbrev pub is_item : Item → List ℕ → Bool
 is_item File word = is_file_name word
 is_item (Number greatest) word = is_some (number_of greatest word)
 is_item Application word = is_application word
 is_item Text word = is_text word
 is_item Topic word = is_some (text_of word)
+is_item Selector word = takes_one word
+is_item Integer word = is_some (integer_of word)
 
 -- Behind so many arguments another one may stand.
 abbrev pub has_room : Option ℕ → ℕ → Bool
@@ -217,7 +233,7 @@ with_dashes given options names (Some most) = Some (Arguments given options name
 -- what is read with a word more behind names: another name, or `--`
 abbrev pub with_name : Form → Given → List (List ℕ) → List (List ℕ) → List ℕ → Option ReadSoFar
 with_name form given options names word =
-    if is_item form.item word && nat_lt (length names) (most_of form given) && has_needed form given
+    if is_item (item_at form (length names)) word && nat_lt (length names) (most_of form given) && has_needed form given
     then Some (Names given options (names ++ word ∷ []))
     else with_dashes given options names (arguments_behind form given (length names) word)
 

@@ -28,12 +28,16 @@ pub enum Verb {
     Session,
     /// Runs the sample of a number.
     Sample,
+    /// Runs several actors of a program, which send each other letters.
+    Actors,
     /// Says whether the code of a module in an image ever sends certain selectors.
     Audit,
     /// Runs the tests of a program.
     Test,
     /// Stores the snapshot of a run that is paused.
     Snap,
+    /// Runs on from a snapshot.
+    Resume,
     /// Writes the source of the library.
     Library,
     /// Tells how the program is used.
@@ -57,6 +61,18 @@ pub enum Item {
     Text,
     /// What there is a text on: the word of a command, or the name of a cause.
     Topic,
+    /// A selector of one argument.
+    Selector,
+    /// An integer of 64 bits.
+    Integer,
+}
+
+/// What stands in front of the other names.
+#[derive(Clone, Copy)]
+pub enum Lead {
+    Nothing,
+    /// How many actors there are, and the selector and the argument of the letter to the first of them.
+    Letter,
 }
 
 /// What may stand behind the first word: options, in any order and each at most once, but for denials and texts; then
@@ -85,7 +101,9 @@ pub struct Form {
     pub to: bool,
     /// Whether `--at=N` must be given.
     pub at: bool,
-    /// What each name is.
+    /// What the first names are.
+    pub lead: Lead,
+    /// What each other name is.
     pub item: Item,
     /// The fewest names.
     pub least: u64,
@@ -133,6 +151,7 @@ pub fn form_of(verb: Verb) -> Form
             item: Item::Number(1_000),
             ..names(1, 1)
         },
+        Verb::Actors => actors(),
         // The image, and the name of a class.
         Verb::Audit => Form {
             denies: true,
@@ -141,6 +160,7 @@ pub fn form_of(verb: Verb) -> Form
         },
         Verb::Test => tests(),
         Verb::Snap => snap(),
+        Verb::Resume => names(1, 1),
         Verb::Library => names(0, 0),
         Verb::Help => names(0, 0),
         Verb::Explain => Form {
@@ -199,6 +219,19 @@ fn session() -> Form
     }
 }
 
+/// The form of actors: their letter, and 1 to 16 files behind it.
+fn actors() -> Form
+    ensures { result ≡ spec.form_of Verb.Actors }
+{
+    Form {
+        greatest: Some(GREATEST_OF_MANY),
+        lib: true,
+        json: true,
+        lead: Lead::Letter,
+        ..names(4, 19)
+    }
+}
+
 /// The form of the tests of a program.
 fn tests() -> Form
     ensures { result ≡ spec.form_of Verb.Test }
@@ -239,11 +272,38 @@ fn names(least: u64, most: u64) -> Form
         members: false,
         to: false,
         at: false,
+        lead: Lead::Nothing,
         item: Item::File,
         least,
         most,
         arguments: None,
     }
+}
+
+/// What the name behind so many others is.
+pub fn item_at(form: Form, count: u64) -> Item
+    ensures { result ≡ spec.item_at form count }
+{
+    match form.lead {
+        Lead::Nothing => form.item,
+        Lead::Letter => in_letter(form.item, count),
+    }
+}
+
+/// What the name behind so many others is, where a letter stands in front of names of that kind.
+fn in_letter(item: Item, count: u64) -> Item
+    ensures { result ≡ spec.in_letter item count }
+{
+    if count == 0 {
+        return Item::Number(16);
+    }
+    if count == 1 {
+        return Item::Selector;
+    }
+    if count == 2 {
+        return Item::Integer;
+    }
+    item
 }
 
 /// The command that a first word names.
@@ -280,6 +340,9 @@ pub fn verb_of(word: &[u8]) -> Option<Verb>
     if word == b"sample".as_slice() {
         return Some(Verb::Sample);
     }
+    if word == b"actors".as_slice() {
+        return Some(Verb::Actors);
+    }
     if word == b"audit".as_slice() {
         return Some(Verb::Audit);
     }
@@ -288,6 +351,9 @@ pub fn verb_of(word: &[u8]) -> Option<Verb>
     }
     if word == b"snap".as_slice() {
         return Some(Verb::Snap);
+    }
+    if word == b"resume".as_slice() {
+        return Some(Verb::Resume);
     }
     if word == b"library".as_slice() {
         return Some(Verb::Library);

@@ -6,6 +6,8 @@
 pub mod application;
 pub mod form;
 pub mod laws;
+pub mod letter;
+pub mod number;
 pub mod options;
 pub mod own;
 mod pause;

@@ -3,8 +3,9 @@
 ghost use Rattle.std.specs.Prelude.{◌≡◌};
 ghost use Rattle.ns_run_words.specs.Words as spec;
 
+use crate::number::number;
 use crate::options::value_behind;
-use crate::words::{Given, number};
+use crate::words::Given;
 
 /// The most steps that a line names.
 const MOST_STEPS: u64 = 1_000_000_000_000;

@@ -1,6 +1,6 @@
 //! The words of a command line, read over the form of their command.
 
-ghost use Rattle.std.specs.Prelude.{◌≡◌, ◌≤◌, ◌+◌, [], IfOk, IfSome, Some, true, map, option_and_then, string_bytes, take, drop, length, nat_le};
+ghost use Rattle.std.specs.Prelude.{◌≡◌, ◌≤◌, ◌+◌, [], IfOk, IfSome, Some, true, map, string_bytes, take, drop, length, nat_le};
 ghost use Rattle.ns_base.specs.Limits.{InRange};
 ghost use Rattle.ns_run_words.specs.FileName as file_name;
 ghost use Rattle.ns_run_words.specs.Forms.{IsSpelledLine};
@@ -11,12 +11,12 @@ ghost use Rattle.ns_run_words.specs.Table.{form_of as form_of_lem};
 ghost use Rattle.ns_run_words.specs.Words as spec;
 
 use crate::application::application_of;
-use crate::form::{Form, Item, Verb, form_of, verb_of};
+use crate::form::{Form, Item, Verb, form_of, item_at, verb_of};
+use crate::number::{integer, number, takes_one};
 use crate::options::{arguments_of, denial_where, run_where, tests_where};
 use crate::own::{least_of, most_of, own_option};
 use crate::pause::at_where;
 use ns_base::limits::Limits;
-use ns_base::spelling::is_digit;
 use ns_help::topics::text_of;
 
 /// What the options of a command line give.
@@ -215,7 +215,7 @@ fn after_names<'a>(
     match rest {
         [] => ended(verb, given, options, number, names),
         [word, more @ ..] => {
-            if is_item(form.item, word.as_str())
+            if is_item(item_at(form, count as u64), word.as_str())
                 && (count as u64) < most_of(form, given)
                 && has_needed(form, given)
             {
@@ -313,6 +313,8 @@ fn is_item(item: Item, word: &str) -> bool
         Item::Application => application_of(word).is_some(),
         Item::Text => is_text(word.as_bytes()),
         Item::Topic => text_of(word.as_bytes()).is_some(),
+        Item::Selector => takes_one(word.as_bytes()),
+        Item::Integer => integer(word.as_bytes()).is_some(),
     }
 }
 
@@ -439,49 +441,6 @@ fn number_given(name: &[u8], greatest: u64, before: Option<u64>, word: &[u8]) ->
     let (front, rest) = word.split_at(name.len());
     if front == name {
         number(greatest, rest)
-    } else {
-        None
-    }
-}
-
-/// The decimal number without a leading zero, from 1 to the greatest.
-pub fn number(greatest: u64, text: &[u8]) -> Option<u64>
-    requires { greatest ≤ 1000000000000 }
-    ensures is { result ≡ spec.number_of greatest text.now }
-    ensures range { IfSome result (λ n. (1 ≤ n) × (n ≤ greatest)) }
-{
-    if begins_bad(text) {
-        None
-    } else {
-        value(greatest, text)
-    }
-}
-
-fn begins_bad(text: &[u8]) -> bool
-    ensures { result ≡ spec.begins_bad text.now }
-{
-    text.is_empty() || text[0] == b'0'
-}
-
-/// The value of digits, from 1 to the greatest.
-#[tactic(auto, using(crate::proofs::NumberLaws::too_big))]
-fn value(greatest: u64, text: &[u8]) -> Option<u64>
-    requires { greatest ≤ 1000000000000 }
-    ensures is { result ≡ option_and_then (spec.in_range greatest) (spec.value_from 0 text.now) }
-    ensures range { IfSome result (λ n. (1 ≤ n) × (n ≤ greatest)) }
-{
-    let mut n: u64 = 0;
-    for b in text {
-        if !is_digit(*b) {
-            return None;
-        }
-        if greatest < n {
-            return None;
-        }
-        n = n * 10 + (*b - b'0') as u64;
-    }
-    if 1 <= n && n <= greatest {
-        Some(n)
     } else {
         None
     }

@@ -1,9 +1,12 @@
 -- Reports of programs end as one may, and don't say that a file isn't there.
-use Rattle.std.proofs.Common.{◌≡◌, ℕ, nat_eq, cond, List, [], ◌∷◌, ◌++◌, Bool, true, false, Option, Some, None, refl, sym, ap, ◌∙◌, arith, append_assoc, codes}
+use Rattle.std.proofs.Common.{◌≡◌, ℕ, ℤ, nat_eq, cond, List, [], ◌∷◌, ◌++◌, Bool, true, false, Option, Some, None, refl, sym, ap, ◌∙◌, arith, append_assoc, codes}
 use Rattle.std.proofs.lemmas.Grind.{common_steps}
 use Rattle.std.proofs.lemmas.List.{append-nil}
 use Rattle.std.specs.Fmt.{decimal}
 use Rattle.std.specs.Prelude.{◌&&◌, flat_map}
+use Rattle.ns_actors.specs.Actor.{ActorView, Stage, Opening, Between, Sending, Holding, Stopped}
+use Rattle.ns_actors.specs.Rounds.{played, status_at, status_of}
+use Rattle.ns_actors_rounds.specs.Source.{actors_told, sized_acted}
 use Rattle.ns_base.specs.declared.limits.Limits.{Limits}
 use Rattle.ns_base.specs.declared.place.Place.{Place}
 use Rattle.ns_base.specs.declared.selector.Sel.{Sel}
@@ -21,8 +24,9 @@ use Rattle.ns_resolved.specs.Classes.{meant_of}
 use Rattle.ns_resolved.specs.Program.{Meant}
 use Rattle.ns_run_code.specs.Build.{Built, built_of, image, image_too_large, too_large}
 use Rattle.ns_run_code.specs.Machine.{end_of, told_at}
-use Rattle.ns_run_files.specs.Programs.{fault_line, name_of, of_build, of_built, of_check, of_checks, of_faultless, of_faults, of_least, of_sends, of_show, of_snap, of_snapped, of_tests, of_units, sends_report}
-use Rattle.ns_run_files.specs.Task.{Task, Checks, Shows, Builds, Tests, Snaps}
+use Rattle.ns_run_files.specs.Programs.{fault_line, name_of, of_acts, of_build, of_built, of_check, of_checks, of_faultless, of_faults, of_least, of_sends, of_show, of_snap, of_snapped, of_tests, of_units, sends_report}
+use Rattle.ns_run_files.specs.Acts.{acts_report}
+use Rattle.ns_run_files.specs.Task.{Task, Checks, Shows, Builds, Acts, Tests, Snaps}
 use Rattle.ns_run_files.specs.Tests.{tests_report, tests_told}
 use Rattle.ns_run_snap.specs.Snapped.{Snapped, snapped_of, snapshot, snapshot_too_large}
 use Rattle.ns_run_snap.specs.Snapped as snapped
@@ -92,6 +96,49 @@ pub checks_plain :
 checks_plain false sends names files trees places each least = least_plain sends names files trees places least
 checks_plain true sends names files trees places each least =
     faults_plain names each (of_least sends names files trees places least) (least_plain sends names files trees places least)
+
+-- ---- actors
+
+-- Actors end as a command may, whatever they tell.
+acting_plain : (out : List ℕ) (said : Option Saying) (actors : List ActorView) →
+    IsPlain (record { out = out; err = []; status = status_of actors; stored = None; said = said })
+acting_plain out said [] = record { ends = tt; says = λ name m. cc (m.0) }
+acting_plain out said (actor ∷ actors) = by actor.stage (acting_plain out said actors)
+  where
+    by : (stage : Stage) → IsPlain (record { out = out; err = []; status = status_of actors; stored = None; said = said })
+        → IsPlain (record { out = out; err = []; status = status_at stage (status_of actors); stored = None; said = said })
+    by Opening others = others
+    by (Between behaviour) others = others
+    by (Sending behaviour) others = others
+    by (Holding behaviour letters) others = others
+    by (Stopped why) others = record { ends = tt; says = λ name m. cc (m.0) }
+
+sized_acts_plain : (limits : Limits) (count : ℕ) (sel : List ℕ) (number : ℤ) (code : CodeProgram) (kind : Option SizeKind) →
+    IsPlain (acts_report (sized_acted code limits count sel number kind))
+sized_acts_plain limits count sel number code None =
+    acting_plain (actors_told code limits count sel number).told.out (Some (said.Acted (actors_told code limits count sel number).parts))
+    (played code limits count sel number).actors
+sized_acts_plain limits count sel number code (Some kind) = size_plain (size_name kind) (size_ends kind)
+
+pub acts_plain :
+    (names : List (List ℕ)) (limits : Limits) (count : ℕ) (sel : List ℕ) (number : ℤ) (files : List (List ℕ)) (trees : List p.SourceUnit) (places : List (List Place)) (least : Option Placed) →
+    IsPlain (of_acts names limits count sel number files trees places least)
+acts_plain names limits count sel number files trees places None =
+    let code = code_of (meant_of files trees places) in sized_acts_plain limits count sel number code (size_fault code)
+acts_plain names limits count sel number files trees places (Some fault) = check_plain names (Some fault)
+
+-- They store nothing.
+sized_acts_store : (limits : Limits) (count : ℕ) (sel : List ℕ) (number : ℤ) (code : CodeProgram) (kind : Option SizeKind) →
+    (acts_report (sized_acted code limits count sel number kind)).stored ≡ None
+sized_acts_store limits count sel number code None = refl
+sized_acts_store limits count sel number code (Some kind) = refl
+
+pub acts_store_none :
+    (names : List (List ℕ)) (limits : Limits) (count : ℕ) (sel : List ℕ) (number : ℤ) (files : List (List ℕ)) (trees : List p.SourceUnit) (places : List (List Place)) (least : Option Placed) →
+    (of_acts names limits count sel number files trees places least).stored ≡ None
+acts_store_none names limits count sel number files trees places None =
+    let code = code_of (meant_of files trees places) in sized_acts_store limits count sel number code (size_fault code)
+acts_store_none names limits count sel number files trees places (Some fault) = refl
 
 -- ---- tests
 
@@ -168,5 +215,6 @@ pub units_plain : (t : Task) (names files : List (List ℕ)) (trees : List p.Sou
 units_plain (Checks all sends) names files trees places = checks_plain all sends names files trees places _ _
 units_plain Shows names files trees places = show_plain trees
 units_plain (Builds name) names files trees places = build_plain names name files trees places _
+units_plain (Acts limits count sel number) names files trees places = acts_plain names limits count sel number files trees places _
 units_plain (Tests limits reversed only) names files trees places = tests_plain names limits reversed only files trees places _
 units_plain (Snaps name limits at) names files trees places = snap_plain names name limits at files trees places _

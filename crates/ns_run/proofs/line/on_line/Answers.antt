@@ -1,7 +1,7 @@
 use Rattle.std.proofs.Common.{◌++◌}
 use Rattle.ns_help.specs.declared.usage.TheConstants.{HELP, VERSION}
 use Rattle.ns_lib.specs.Collections.{collections}
-use Rattle.ns_run.proofs.LineLaws.{are_applications, are_behind, are_sources}
+use Rattle.ns_run.proofs.LineLaws.{are_applications, are_behind, are_behind_letter, are_files, are_sources, has_letter}
 use Rattle.ns_run.proofs.PartLaws.{topic_ends, verb_reports}
 use Rattle.ns_run.proofs.line.on_line.Goals as goal
 use Rattle.ns_run.specs.Meaning.{of_executing, of_running, of_statements, of_topic, run_of_line}
@@ -51,6 +51,9 @@ returns-in-Session g c = verb_reports _ _ _ _ _ _ (line_seen c.args.line) verb.S
 pub returns-in-Sample : goal.returns-in-Sample
 returns-in-Sample g c = verb_reports _ _ _ _ _ _ (line_seen c.args.line) verb.Sample _ c.in-Sample.is c.on_number.ensures
 
+pub returns-in-Actors : goal.returns-in-Actors
+returns-in-Actors g c = verb_reports _ _ _ _ _ _ (line_seen c.args.line) verb.Actors _ c.in-Actors.is c.on_actors.ensures
+
 pub returns-in-Audit : goal.returns-in-Audit
 returns-in-Audit g c = verb_reports _ _ _ _ _ _ (line_seen c.args.line) verb.Audit _ c.in-Audit.is c.on_audit.ensures
 
@@ -59,6 +62,9 @@ returns-in-Test g c = verb_reports _ _ _ _ _ _ (line_seen c.args.line) verb.Test
 
 pub returns-in-Snap : goal.returns-in-Snap
 returns-in-Snap g c = verb_reports _ _ _ _ _ _ (line_seen c.args.line) verb.Snap _ c.in-Snap.is c.on_snapping.ensures
+
+pub returns-in-Resume : goal.returns-in-Resume
+returns-in-Resume g c = verb_reports _ _ _ _ _ _ (line_seen c.args.line) verb.Resume _ c.in-Resume.is c.on_first.ensures
 
 pub returns-in-Library : goal.returns-in-Library
 returns-in-Library g c =
@@ -82,8 +88,26 @@ returns-in-Version g c =
     verb_reports _ _ _ _ _ _ (line_seen c.args.line) verb.Version _ c.in-Version.is
     (made_reports _ _ _ _ c.args.shelf.now (told VERSION.now) c.told_text-in-Version.result c.or_stop-in-Version.result c.or_stop-in-Version.ensures c.told_text-in-Version.ensures tt)
 
+pub on_check-requires : goal.on_check-requires
+on_check-requires g c = are_files verb.Check (line_seen c.args.line) c.in-Check.is tt c.requires.form
+
+pub on_files-requires-clause-files : goal.on_files-requires-clause-files
+on_files-requires-clause-files g c = are_files verb.Show (line_seen c.args.line) c.in-Show.is tt c.requires.form
+
+pub on_run-requires-clause-files : goal.on_run-requires-clause-files
+on_run-requires-clause-files g c = are_files verb.Run (line_seen c.args.line) c.in-Run.is tt c.requires.form
+
+pub on_tests-requires-clause-files : goal.on_tests-requires-clause-files
+on_tests-requires-clause-files g c = are_files verb.Test (line_seen c.args.line) c.in-Test.is tt c.requires.form
+
 pub on_applications-requires-clause-asked : goal.on_applications-requires-clause-asked
 on_applications-requires-clause-asked g c = are_applications (line_seen c.args.line) c.in-Session.is c.requires.form
+
+pub on_actors-requires-clause-letter : goal.on_actors-requires-clause-letter
+on_actors-requires-clause-letter g c = has_letter (line_seen c.args.line) c.in-Actors.is c.requires.form
+
+pub on_actors-requires-clause-files : goal.on_actors-requires-clause-files
+on_actors-requires-clause-files g c = are_behind_letter (line_seen c.args.line) c.in-Actors.is c.requires.form
 
 pub on_snapping-requires-clause-behind : goal.on_snapping-requires-clause-behind
 on_snapping-requires-clause-behind g c = are_behind (line_seen c.args.line) c.in-Snap.is c.requires.form

@@ -5,14 +5,14 @@ use Rattle.ns_run_files.proofs.run.on_run_files.Goals as goal
 use Rattle.ns_run_files.specs.Programs.{run_of_texts}
 use Rattle.ns_run_input.specs.Input.{in_parts, run_of}
 use Rattle.ns_run_outcome.specs.laws.Parts.{no_memory_reports, same_reports}
-use Rattle.ns_run_words.specs.Forms.{AreNames}
+use Rattle.ns_run_words.specs.Forms.{AreItems}
 use Rattle.ns_run_words.specs.declared.form.Item.TheVariants.{File}
 use Rattle.ns_scope.specs.Whole.{NamesFile}
 
 pub on_texts-requires-clause-named : goal.on_texts-requires-clause-named
 on_texts-requires-clause-named g c =
     subst (All NamesFile) (sym c.as_slice.ensures.value)
-    (names_are_files c.in-Ok.texts.items c.in-Ok.ensures.text (subst (AreNames File) (sym c.in-Ok.ensures.names) c.requires.files.2))
+    (names_are_files c.in-Ok.texts.items c.in-Ok.ensures.text (subst (AreItems File) (sym c.in-Ok.ensures.names) c.requires.files.2))
 
 pub returns-in-Ok : goal.returns-in-Ok
 returns-in-Ok g c =

@@ -1,7 +1,7 @@
 use Rattle.std.proofs.Common.{◌≡◌, drop}
 use Rattle.std.specs.Prelude.{option_and_then}
 use Rattle.ns_run_words.specs.Words.{in_range, value_from}
-use Rattle.ns_run_words.proofs.words.value.Given as goal
+use Rattle.ns_run_words.proofs.number.value.Given as goal
 
 abbrev pub invariant-loop-b : goal.invariant-loop-b
 invariant-loop-b l =
