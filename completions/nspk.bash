@@ -6,7 +6,7 @@ _nspk() {
   local limits='--steps= --cells= --depth= --out=' options= sources= before= joined= one
   COMPREPLY=()
   if [ "$COMP_CWORD" = 1 ]; then
-    COMPREPLY=($(compgen -W 'check show format run eval build exec list session audit test snap sample library help --version' -- "$word"))
+    COMPREPLY=($(compgen -W 'check show format run eval build exec list session actors audit test snap resume sample library help --version' -- "$word"))
     return
   fi
   # Behind `--` stand arguments of the program, which may be anything.
@@ -22,9 +22,11 @@ _nspk() {
     exec) options="$limits --text= --trace --stats --true --json --" ;;
     list) options=--members ;;
     session) options="--lib $limits --quantum= --json" sources=yes ;;
+    actors) options="--lib $limits --json" sources=yes ;;
     audit) options='--deny= --json' ;;
     test) options="--lib $limits --reverse --only= --json" sources=yes ;;
     snap) options="--lib $limits --at=" ;;
+    resume) ;;
     *) return ;;
   esac
   # Bash cuts words at an equals sign. Before it stand grants, an option whose value is a file, or one whose value nobody can guess.
