@@ -40,7 +40,7 @@ use Rattle.ns_actions.specs.laws.LawfulSends.{super_fits, body_declared}
 use Rattle.ns_actions.specs.lemmas.Suiting.{found_suits, private_suits}
 use Rattle.ns_actions.specs.lemmas.Places.{places_fit}
 use Rattle.ns_actions.specs.lemmas.Running.{BodyRuns, found_runs}
-use Rattle.ns_actions.proofs.Running.{outer_private, super_runs}
+use Rattle.ns_actions.proofs.MethodsFit.{outer_private, super_runs}
 use Rattle.ns_actions.specs.lemmas.RowsSuit.{value_suits, above_suits, own_suits}
 use Rattle.ns_actions.proofs.WaitsFit.{method_hands_on}
 use Rattle.ns_actions.specs.lemmas.Opening.{FitsAround}

@@ -17,8 +17,8 @@ use Rattle.ns_world.specs.Later.{RunsOn}
 use Rattle.ns_world.specs.laws.Staying.{environment_stays}
 use Rattle.ns_world.specs.laws.Lasting.{keeps_of, declaration_lasts}
 use Rattle.ns_kdata.specs.Arguments.{items_of}
-use Rattle.ns_kernel.specs.declared.parts.KMethod.{KMethod}
-use Rattle.ns_kernel.specs.declared.parts.KMethod.TheVariants as method
+use Rattle.ns_world.specs.declared.kernel_parts.KMethod.{KMethod}
+use Rattle.ns_world.specs.declared.kernel_parts.KMethod.TheVariants as method
 use Rattle.ns_kcode.specs.declared.state.KState.{KState}
 use Rattle.ns_actions.specs.Control.{Activation}
 use Rattle.ns_actions.specs.Fitting.{belongs_to, counts_fit, FitsMethod}

@@ -4,7 +4,7 @@ pub mod Keeping
 pub mod Following
 pub mod Lasting
 pub mod LocalsLast
-pub mod Running
+pub mod MethodsFit
 pub mod Opening
 pub mod Handing
 pub mod PartsFit
@@ -13,3 +13,13 @@ pub mod SitesStay
 pub mod PartsStay
 pub mod LocalsFit
 pub mod BlocksFit
+pub mod Applying
+pub mod Beside
+pub mod Counted
+pub mod Entries
+pub mod Far
+pub mod Levels
+pub mod Members
+pub mod Others
+pub mod Stepping
+pub mod Wrapped

@@ -37,7 +37,7 @@ use Rattle.ns_actions.specs.lemmas.Lasting.{holder_lasts}
 use Rattle.ns_actions.specs.lemmas.Suiting.{object_holders, above_too}
 use Rattle.ns_actions.specs.lemmas.Places.{holder_live}
 use Rattle.ns_actions.specs.lemmas.Running.{BodyRuns, body_runs, instance_fits}
-use Rattle.ns_actions.proofs.Running.{own_params}
+use Rattle.ns_actions.proofs.MethodsFit.{own_params}
 use Rattle.ns_actions.specs.lemmas.Opening.{FitsAround, nothing_around, opened_bare, opened_over}
 use Rattle.ns_actions.specs.lemmas.Fitting.{entered_here, body_lasts, class_there}
 

@@ -12,12 +12,12 @@ use Rattle.ns_find.specs.declared.found.Found.{Found}
 use Rattle.ns_find.specs.declared.found.Found.TheVariants as found
 use Rattle.ns_find.specs.Find.{found_from}
 use Rattle.ns_mirror.specs.Looking.{mirrored}
-use Rattle.ns_kernel.specs.declared.row.Row.{Row}
-use Rattle.ns_kernel.specs.declared.row.Row.TheVariants as row
+use Rattle.ns_world.specs.declared.kernel_row.Row.{Row}
+use Rattle.ns_world.specs.declared.kernel_row.Row.TheVariants as row
 use Rattle.ns_actions.specs.declared.site.Site.{Site}
 use Rattle.ns_actions.specs.Control.{Progress, in_world, Activation, FromBody, Control, Enter, halts, fails, charged}
 use Rattle.ns_actions.specs.Bodies.{parameters_of, no_home, opened}
-use Rattle.ns_kernel.specs.Table.{row_at}
+use Rattle.ns_world.specs.KernelTable.{row_at}
 use Rattle.ns_base.specs.declared.place.Place.{Place as SourcePlace}
 use Rattle.ns_actions.specs.Fitting.{GoesOnAt, home_in}
 use Rattle.ns_actions.specs.Blocks.{block_entered, evaluated}

@@ -9,8 +9,8 @@ use Rattle.ns_world.specs.Heap.{Heap}
 use Rattle.ns_world.specs.World.{stepped}
 use Rattle.ns_world.specs.laws.Chains.{both_of}
 use Rattle.ns_kdata.specs.Arguments.{items_of}
-use Rattle.ns_kernel.specs.declared.parts.KMethod.{KMethod}
-use Rattle.ns_kernel.specs.declared.parts.KMethod.TheVariants as method
+use Rattle.ns_world.specs.declared.kernel_parts.KMethod.{KMethod}
+use Rattle.ns_world.specs.declared.kernel_parts.KMethod.TheVariants as method
 use Rattle.ns_kcode.specs.declared.state.KState.{KState}
 use Rattle.ns_kcode.specs.declared.state.KAction.{KAction}
 use Rattle.ns_kcode.specs.declared.state.KAction.TheVariants as action

@@ -17,8 +17,8 @@ use Rattle.ns_world.specs.Heap.{Heap}
 use Rattle.ns_world.specs.Layout.{declaration_of}
 use Rattle.ns_world.specs.Lawful.{IsLiveValue, HasHolder, FitsEnvironment, parent_of}
 use Rattle.ns_kdata.specs.Arguments.{items_of, is_array}
-use Rattle.ns_kernel.specs.declared.parts.KMethod.{KMethod}
-use Rattle.ns_kernel.specs.declared.parts.KMethod.TheVariants as method
+use Rattle.ns_world.specs.declared.kernel_parts.KMethod.{KMethod}
+use Rattle.ns_world.specs.declared.kernel_parts.KMethod.TheVariants as method
 use Rattle.ns_kcode.specs.declared.state.KState.{KState}
 use Rattle.ns_actions.specs.declared.site.Site.{Site}
 use Rattle.ns_actions.specs.Control.{Progress, Activation, Exit, FromMethod, FromBody, FromClause, Control, Now, Enter, Evaluate, Begin, Perform, PartControl, Skip, Stop, EnterPart, Waiting, Waits, Finishes}

@@ -24,3 +24,14 @@ pub mod StatedActions
 pub mod StatedFinding
 pub mod lemmas
 pub mod laws
+pub mod Room
+pub mod Run
+pub mod Running
+pub mod Enclosing
+pub mod Locals
+pub mod Waited
+pub mod Wrapping
+pub mod Counting
+pub mod Plain
+pub mod Answered
+pub mod StatedAnswers

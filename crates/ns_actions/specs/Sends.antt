@@ -26,7 +26,7 @@ use Rattle.ns_actions.specs.declared.site.Site.{Site}
 use Rattle.ns_actions.specs.Control.{Progress, in_world, Activation, FromMethod, Control, Enter, gives, halts, fails, charged}
 use Rattle.ns_actions.specs.Bodies.{side_of_body, side_at, enclosing, opened}
 use Rattle.ns_actions.specs.Classes.{nested, instance}
-use Rattle.ns_kernel.specs.Table.{row_at}
+use Rattle.ns_world.specs.KernelTable.{row_at}
 use Rattle.ns_actions.specs.Kernel.{row_reached}
 
 -- ---- where a send goes

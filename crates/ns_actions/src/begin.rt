@@ -7,8 +7,8 @@ ghost use Rattle.ns_actions.specs.Blocks as spec;
 
 use ns_kcode::state::KState;
 use ns_kdata::arguments::{array_size, shape_of_value};
-use ns_kernel::parts::KMethod;
 use ns_world::cell::NewCell;
+use ns_world::kernel_parts::KMethod;
 use ns_world::value::Value;
 use ns_world::world::World;
 

@@ -2,8 +2,8 @@
 
 use ns_base::selector::Sel;
 use ns_kcode::state::KState;
-use ns_kernel::parts::KMethod;
 use ns_world::ending::Fault;
+use ns_world::kernel_parts::KMethod;
 use ns_world::value::Value;
 
 /// Which arguments go on: those of the send as they stand, the one Message of that number, which

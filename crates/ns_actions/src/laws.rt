@@ -17,7 +17,7 @@ ghost use Rattle.ns_find.specs.declared.found.Sending.TheVariants.{Inner};
 ghost use Rattle.ns_find.specs.declared.members.Side.{Side};
 ghost use Rattle.ns_find.specs.Find.{found_from, found_private, super_start};
 ghost use Rattle.ns_kdata.specs.Arguments.{items_of, is_array};
-ghost use Rattle.ns_kernel.specs.declared.parts.KMethod.{KMethod};
+ghost use Rattle.ns_world.specs.declared.kernel_parts.KMethod.{KMethod};
 ghost use Rattle.ns_kcode.specs.declared.state.KState.{KState};
 ghost use Rattle.ns_actions.specs.declared.site.Site.{Site};
 ghost use Rattle.ns_actions.specs.Control.{Progress, Activation, Exit};

@@ -10,8 +10,8 @@ use Rattle.ns_code.specs.declared.class.NestedCode.{NestedCode}
 use Rattle.ns_code.specs.declared.class.MethodCode.{MethodCode}
 use Rattle.ns_code.specs.Access.{public_access}
 use Rattle.ns_code.specs.Selector.{selector_text}
-use Rattle.ns_kernel.specs.declared.class.KernelRow.{KernelRow}
-use Rattle.ns_kernel.specs.declared.class.KernelRow.TheVariants as row
+use Rattle.ns_world.specs.declared.kernel_class.KernelRow.{KernelRow}
+use Rattle.ns_world.specs.declared.kernel_class.KernelRow.TheVariants as row
 use Rattle.ns_world.specs.declared.kernel.Start.{Start}
 use Rattle.ns_world.specs.declared.kernel.Start.TheVariants as start
 use Rattle.ns_world.specs.Heap.{Heap, chain_of}
@@ -28,11 +28,11 @@ use Rattle.ns_find.specs.Members.{Numbered, slots_members, nested_members, metho
 use Rattle.ns_find.specs.Rows.{top_rows, kernel_rows}
 use Rattle.ns_find.specs.Find.{members_from, found_from, found_private}
 use Rattle.ns_find.specs.laws.Named.{EachNamed, named_append, search_named}
-use Rattle.ns_kernel.specs.declared.parts.MirrorRow.{MirrorRow}
-use Rattle.ns_kernel.specs.declared.parts.MirrorRow.TheVariants as mirror
-use Rattle.ns_kernel.specs.declared.row.Row.{Row}
-use Rattle.ns_kernel.specs.declared.row.Row.TheVariants as rows
-use Rattle.ns_kernel.specs.Table.{row_at, first_of}
+use Rattle.ns_world.specs.declared.kernel_parts.MirrorRow.{MirrorRow}
+use Rattle.ns_world.specs.declared.kernel_parts.MirrorRow.TheVariants as mirror
+use Rattle.ns_world.specs.declared.kernel_row.Row.{Row}
+use Rattle.ns_world.specs.declared.kernel_row.Row.TheVariants as rows
+use Rattle.ns_world.specs.KernelTable.{row_at, first_of}
 
 -- the selector of that number is `perform:with:`
 abbrev pub Performs : CodeProgram → ℕ → Type 0

@@ -23,31 +23,31 @@ use Rattle.ns_find.specs.declared.found.Found.TheVariants as found
 use Rattle.ns_find.specs.declared.found.Sending.TheVariants.{Inner}
 use Rattle.ns_find.specs.Find.{found_from, super_start}
 use Rattle.ns_classes.specs.Nested.{kept_class}
-use Rattle.ns_kernel.specs.declared.parts.DataRow.{DataRow}
-use Rattle.ns_kernel.specs.declared.parts.DataRow.TheVariants as values
+use Rattle.ns_world.specs.declared.kernel_parts.DataRow.{DataRow}
+use Rattle.ns_world.specs.declared.kernel_parts.DataRow.TheVariants as values
 use Rattle.ns_kdata.specs.Outcome.{RowOutcome, Answers, Fails}
 use Rattle.ns_kdata.specs.Arguments.{argument, is_array, items_of, number_of, shape_of_value}
 use Rattle.ns_kint.specs.Integer.{integer}
-use Rattle.ns_kernel.specs.declared.parts.KMethod.{KMethod}
+use Rattle.ns_world.specs.declared.kernel_parts.KMethod.{KMethod}
 use Rattle.ns_kcode.specs.Rows.{beginning}
-use Rattle.ns_kernel.specs.declared.parts.FacetRow.{FacetRow}
-use Rattle.ns_kernel.specs.declared.parts.FacetRow.TheVariants as facets
+use Rattle.ns_world.specs.declared.kernel_parts.FacetRow.{FacetRow}
+use Rattle.ns_world.specs.declared.kernel_parts.FacetRow.TheVariants as facets
 use Rattle.ns_facets.specs.Facet.{facet as facet_outcome, board_after}
 use Rattle.ns_kdata.specs.Rows.{message_selector}
 use Rattle.ns_kdata.specs.Datum.{datum}
-use Rattle.ns_kernel.specs.declared.parts.MirrorRow.{MirrorRow}
-use Rattle.ns_kernel.specs.declared.parts.MirrorRow.TheVariants as mirrors
+use Rattle.ns_world.specs.declared.kernel_parts.MirrorRow.{MirrorRow}
+use Rattle.ns_world.specs.declared.kernel_parts.MirrorRow.TheVariants as mirrors
 use Rattle.ns_mirror.specs.declared.row.Mirrored.TheVariants.{Answer, Perform as MirrorPerform}
 use Rattle.ns_mirror.specs.Looking.{enclosing as enclosing_value, mirrored as mirrored_value}
 use Rattle.ns_mirror.specs.Mirror.{Reflected, Reflects, Refuses, reflected, mirror}
-use Rattle.ns_kernel.specs.declared.row.Row.{Row}
-use Rattle.ns_kernel.specs.declared.row.Row.TheVariants as row
+use Rattle.ns_world.specs.declared.kernel_row.Row.{Row}
+use Rattle.ns_world.specs.declared.kernel_row.Row.TheVariants as row
 use Rattle.ns_actions.specs.declared.site.Site.{Site}
 use Rattle.ns_actions.specs.Control.{Progress, in_world, Activation, FromBody, FromClause, FromMethod, Control, Now, Enter, Evaluate, Begin, Perform, halts, fails, charged}
 use Rattle.ns_actions.specs.Bodies.{opened, enclosing, parameters_of, side_at, side_of_body}
 use Rattle.ns_actions.specs.Blocks.{block_entered, evaluated, has_arguments, method_begun, turns_of, value_with_arguments}
 use Rattle.ns_actions.specs.Classes.{head, nested, instance}
-use Rattle.ns_kernel.specs.Table.{row_at}
+use Rattle.ns_world.specs.KernelTable.{row_at}
 use Rattle.ns_actions.specs.Kernel.{outcome_reached, answer_reached, message_refused, data_reached, facet_reached, reflected_reached, row_reached}
 use Rattle.ns_actions.specs.Sends.{Target, To, ToPrivate, ToSuper, found_at, receiver_of, site_at, Arguments, Listed, Wrapped, given, one_more, done_with, method_entered, factory_entered, set, nested_in, message_sel, not_found, answered_by, sent}
 use Rattle.ns_actions.specs.laws.Onward.{charged_all, opened_all}

@@ -11,7 +11,7 @@ use Rattle.ns_world.specs.World.{stepped}
 use Rattle.ns_world.specs.Booleans.{is_boolean}
 use Rattle.ns_find.specs.declared.found.Sending.TheVariants.{Inner}
 use Rattle.ns_actions.specs.declared.site.Site.{Site}
-use Rattle.ns_kernel.specs.declared.parts.KMethod.{KMethod}
+use Rattle.ns_world.specs.declared.kernel_parts.KMethod.{KMethod}
 use Rattle.ns_actions.specs.Control.{Progress, Activation, After, Gives, Halts, Control, Now, Enter, Evaluate, Begin, Perform, PartControl, Skip, Stop, EnterPart, Waiting, Waits, Finishes, frame_left}
 use Rattle.ns_actions.specs.Blocks.{new_text, new_block, new_array, evaluated, method_next}
 use Rattle.ns_actions.specs.Classes.{super_part, body_ended}

@@ -9,8 +9,8 @@ use Rattle.ns_world.specs.World.{World}
 use Rattle.ns_kdata.specs.Outcome.{RowOutcome, Answers, unchanged}
 use Rattle.ns_kdata.specs.Arguments.{argument}
 use Rattle.ns_facets.specs.declared.board.Board.{Board}
-use Rattle.ns_kernel.specs.declared.parts.FacetRow.{FacetRow}
-use Rattle.ns_kernel.specs.declared.parts.FacetRow.TheVariants as row
+use Rattle.ns_world.specs.declared.kernel_parts.FacetRow.{FacetRow}
+use Rattle.ns_world.specs.declared.kernel_parts.FacetRow.TheVariants as row
 use Rattle.ns_facets.specs.Board.{board_at, board_put, board_with}
 use Rattle.ns_facets.specs.Console.{printing}
 use Rattle.ns_facets.specs.Platform.{top_class, granted}

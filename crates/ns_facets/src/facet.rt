@@ -13,9 +13,9 @@ use crate::console::print;
 use crate::platform::{granted, top_class};
 use ns_code::program::CodeProgram;
 use ns_kdata::arguments::argument;
-use ns_kernel::parts::FacetRow;
 use ns_world::cell::FacetKind;
 use ns_world::ending::Fault;
+use ns_world::kernel_parts::FacetRow;
 use ns_world::value::{KClass, Value};
 use ns_world::world::World;
 

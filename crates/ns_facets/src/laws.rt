@@ -7,7 +7,7 @@ ghost use Rattle.ns_world.specs.Lawful.{IsLawful};
 ghost use Rattle.ns_kdata.specs.Living.{AnswersLive};
 ghost use Rattle.ns_kdata.specs.Lawful.{LeavesLawful};
 ghost use Rattle.ns_facets.specs.declared.board.Board.{Board};
-ghost use Rattle.ns_kernel.specs.declared.parts.FacetRow.{FacetRow};
+ghost use Rattle.ns_world.specs.declared.kernel_parts.FacetRow.{FacetRow};
 ghost use Rattle.ns_facets.specs.Facet.{row_outcome};
 ghost use Rattle.ns_kdata.specs.Leading.{LeadsOn};
 

@@ -7,9 +7,9 @@ use Rattle.std.proofs.lemmas.Option.{none-some, same_Some}
 use Rattle.std.specs.Str.{bytes_eq}
 use Rattle.ns_code.specs.declared.program.CodeProgram.{CodeProgram}
 use Rattle.ns_code.specs.Selector.{selector_text}
-use Rattle.ns_kernel.specs.declared.table.Line.{Line}
-use Rattle.ns_kernel.specs.Shown.{shown}
-use Rattle.ns_kernel.specs.Table.{Numbered, numbered, row_of, first_called, calls}
+use Rattle.ns_world.specs.declared.kernel_table.Line.{Line}
+use Rattle.ns_world.specs.KernelShown.{shown}
+use Rattle.ns_world.specs.KernelTable.{Numbered, numbered, row_of, first_called, calls}
 use Rattle.ns_world.specs.declared.cell.FacetKind.{FacetKind}
 use Rattle.ns_world.specs.Heap.{Heap}
 use Rattle.ns_world.specs.laws.Chains.{both_of}

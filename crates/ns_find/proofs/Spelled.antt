@@ -3,15 +3,15 @@ use Rattle.std.proofs.Common.{◌≡◌, ℕ, ◌++◌, refl, ap, sym, Option, S
 use Rattle.std.specs.Prelude.{unwrap_or}
 use Rattle.ns_code.specs.declared.program.CodeProgram.{CodeProgram}
 use Rattle.ns_code.specs.Selector.{selector_text}
-use Rattle.ns_kernel.specs.declared.class.KernelRow.{KernelRow}
-use Rattle.ns_kernel.specs.declared.class.KernelRow.TheVariants.{Object, Boolean, Integer}
-use Rattle.ns_kernel.specs.Table.{rows_of, row_called}
+use Rattle.ns_world.specs.declared.kernel_class.KernelRow.{KernelRow}
+use Rattle.ns_world.specs.declared.kernel_class.KernelRow.TheVariants.{Object, Array, Boolean, Integer}
+use Rattle.ns_world.specs.KernelTable.{rows_of, row_called}
 use Rattle.ns_world.specs.Heap.{Heap}
 use Rattle.ns_find.specs.declared.found.Found.{Found}
 use Rattle.ns_find.specs.declared.found.Found.TheVariants.{Kernel, Absent}
 use Rattle.ns_find.specs.declared.found.Sending.{Sending}
 use Rattle.ns_find.specs.Rows.{kernel_rows}
-use Rattle.ns_find.specs.Stated.{BooleansFind, IntegersFind}
+use Rattle.ns_find.specs.Stated.{ArraysFind, BooleansFind, IntegersFind}
 use Rattle.ns_find.specs.Members.{search}
 use Rattle.ns_find.proofs.Parts.{search_here}
 use Rattle.ns_find.proofs.RowSearch.{all_plain, search_called}
@@ -31,3 +31,6 @@ integers_find heap code sel kind number called = row_found heap code sel kind In
 
 pub booleans_find : (heap : Heap) (code : CodeProgram) (sel : ℕ) (kind : Sending) → BooleansFind heap code sel kind
 booleans_find heap code sel kind number called = row_found heap code sel kind Boolean number refl called
+
+pub arrays_find : (heap : Heap) (code : CodeProgram) (sel : ℕ) (kind : Sending) → ArraysFind heap code sel kind
+arrays_find heap code sel kind number called = row_found heap code sel kind Array number refl called

@@ -3,11 +3,11 @@ use Rattle.std.specs.Prelude.{ℕ, ◌+◌, List, [], ◌∷◌, flat_map, Bool,
 use Rattle.ns_code.specs.declared.program.CodeProgram.{CodeProgram}
 use Rattle.ns_code.specs.declared.class.ClassCode.{ClassCode}
 use Rattle.ns_code.specs.Access.{public_access}
-use Rattle.ns_kernel.specs.declared.class.KernelRow.{KernelRow}
-use Rattle.ns_kernel.specs.declared.row.Row.{Row}
-use Rattle.ns_kernel.specs.declared.row.Row.TheVariants.{Facet}
-use Rattle.ns_kernel.specs.declared.parts.FacetRow.TheVariants.{PlatformConsole, PlatformKernel, PlatformMirrors, PlatformBoard}
-use Rattle.ns_kernel.specs.Table.{Numbered as NumberedRow, rows_of}
+use Rattle.ns_world.specs.declared.kernel_class.KernelRow.{KernelRow}
+use Rattle.ns_world.specs.declared.kernel_row.Row.{Row}
+use Rattle.ns_world.specs.declared.kernel_row.Row.TheVariants.{Facet}
+use Rattle.ns_world.specs.declared.kernel_parts.FacetRow.TheVariants.{PlatformConsole, PlatformKernel, PlatformMirrors, PlatformBoard}
+use Rattle.ns_world.specs.KernelTable.{Numbered as NumberedRow, rows_of}
 use Rattle.ns_world.specs.declared.cell.FacetKind.{FacetKind}
 use Rattle.ns_world.specs.declared.cell.FacetKind.TheVariants as facet
 use Rattle.ns_world.specs.Heap.{Heap}

@@ -2,8 +2,8 @@
 use Rattle.std.specs.Prelude.{◌≡◌, ℕ, ◌∷◌, List, Option, Some}
 use Rattle.ns_code.specs.declared.program.CodeProgram.{CodeProgram}
 use Rattle.ns_code.specs.Selector.{selector_text}
-use Rattle.ns_kernel.specs.declared.class.KernelRow.TheVariants.{Boolean, Integer}
-use Rattle.ns_kernel.specs.Table.{row_called}
+use Rattle.ns_world.specs.declared.kernel_class.KernelRow.TheVariants.{Array, Boolean, Integer}
+use Rattle.ns_world.specs.KernelTable.{row_called}
 use Rattle.ns_world.specs.declared.kernel.Start.{Start}
 use Rattle.ns_world.specs.declared.kernel.Start.TheVariants as start
 use Rattle.ns_world.specs.Cell.{Cell}
@@ -46,3 +46,9 @@ abbrev pub BooleansFind : Heap → CodeProgram → ℕ → Sending → Type 0
 BooleansFind heap code sel kind =
     (number : ℕ) → row_called Boolean (selector_text code sel) ≡ Some number
     → found_from heap code (start.Kernel Boolean) sel kind ≡ Kernel number
+
+-- An Array finds the row of Array that a selector calls.
+abbrev pub ArraysFind : Heap → CodeProgram → ℕ → Sending → Type 0
+ArraysFind heap code sel kind =
+    (number : ℕ) → row_called Array (selector_text code sel) ≡ Some number
+    → found_from heap code (start.Kernel Array) sel kind ≡ Kernel number

@@ -17,8 +17,8 @@ use crate::members::{Asked, Side, Wanted, method, nested, slots};
 use ns_base::selector::Sel;
 use ns_code::class::ClassCode;
 use ns_code::program::CodeProgram;
-use ns_kernel::class::KernelRow;
 use ns_world::kernel::Start;
+use ns_world::kernel_class::KernelRow;
 use ns_world::world::World;
 
 /// The most classes that a code declares.

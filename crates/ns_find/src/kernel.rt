@@ -2,8 +2,8 @@
 
 ghost use Rattle.std.specs.Prelude.{◌≡◌, ◌+◌, ◌≤◌, length};
 ghost use Rattle.ns_code.specs.Selector.{selector_text};
-ghost use Rattle.ns_kernel.specs.Shown.{shown, listed};
-ghost use Rattle.ns_kernel.specs.Table.{row_of};
+ghost use Rattle.ns_world.specs.KernelShown.{shown, listed};
+ghost use Rattle.ns_world.specs.KernelTable.{row_of};
 ghost use Rattle.ns_find.specs.Members.{search};
 ghost use Rattle.ns_find.specs.Rows.{kernel_rows, rows_members, row_members, top_rows, facet_asked, is_granted};
 
@@ -11,11 +11,11 @@ use crate::found::{Found, Sending};
 use crate::members::allowed;
 use ns_base::selector::Sel;
 use ns_code::program::CodeProgram;
-use ns_kernel::class::KernelRow;
-use ns_kernel::parts::FacetRow;
-use ns_kernel::row::Row;
-use ns_kernel::table::{Line, Rows, rows_of};
 use ns_world::cell::FacetKind;
+use ns_world::kernel_class::KernelRow;
+use ns_world::kernel_parts::FacetRow;
+use ns_world::kernel_row::Row;
+use ns_world::kernel_table::{Line, Rows, rows_of};
 use ns_world::world::World;
 
 /// The row of a class of the kernel that a selector names.

@@ -3,7 +3,7 @@
 ghost use Rattle.std.specs.Prelude.{ℕ, [], ◌∷◌, List, Option, Bool, All};
 ghost use Rattle.ns_code.specs.declared.program.CodeProgram.{CodeProgram};
 ghost use Rattle.ns_world.specs.declared.value.Value.{Value};
-ghost use Rattle.ns_kernel.specs.declared.class.KernelRow.{KernelRow};
+ghost use Rattle.ns_world.specs.declared.kernel_class.KernelRow.{KernelRow};
 ghost use Rattle.ns_world.specs.declared.kernel.Start.{Start};
 ghost use Rattle.ns_world.specs.declared.kernel.Start.TheVariants.{Instance, ClassSide, Kernel};
 ghost use Rattle.ns_world.specs.Heap.{Heap, chain_of, write_word, write_byte};
@@ -16,7 +16,7 @@ ghost use Rattle.ns_find.specs.Find.{found_from, found_private, CanStart};
 ghost use Rattle.ns_find.specs.Belonging.{Belongs, factories_at};
 ghost use Rattle.ns_find.specs.Named.{FoundBy, FindsBy};
 ghost use Rattle.ns_find.specs.Memo.{PlaceIsRight};
-ghost use Rattle.ns_find.specs.Stated.{StaysRight, MakingKeepsRight, FromBelongs, BooleansFind, IntegersFind};
+ghost use Rattle.ns_find.specs.Stated.{StaysRight, MakingKeepsRight, FromBelongs, ArraysFind, BooleansFind, IntegersFind};
 
 /// A kept lookup stays right whatever is made and written, as long as no facet and no first class
 /// of a top-level declaration is made.
@@ -62,4 +62,9 @@ pub fn integers_find_their_rows()
 /// A Boolean finds the row of Boolean that its selector spells, however it is sent.
 pub fn booleans_find_their_rows()
     ensures { (heap : Heap) (code : CodeProgram) (sel : ℕ) (kind : Sending) → BooleansFind heap code sel kind }
+{}
+
+/// An Array finds the row of Array that its selector spells, however it is sent.
+pub fn arrays_find_their_rows()
+    ensures { (heap : Heap) (code : CodeProgram) (sel : ℕ) (kind : Sending) → ArraysFind heap code sel kind }
 {}

@@ -22,7 +22,7 @@ use Rattle.ns_world.specs.Heap.{Heap}
 use Rattle.ns_world.specs.Lawful.{IsLiveValue, IsLawful}
 use Rattle.ns_world.specs.Layout.{declaration_of}
 use Rattle.ns_kdata.specs.Rows.{same_value}
-use Rattle.ns_kernel.specs.declared.parts.KMethod.{KMethod}
+use Rattle.ns_world.specs.declared.kernel_parts.KMethod.{KMethod}
 use Rattle.ns_kcode.specs.declared.state.KState.{KState}
 use Rattle.ns_actions.specs.declared.site.Site.{Site}
 use Rattle.ns_actions.specs.Bodies.{clause_of, no_home}

@@ -18,7 +18,7 @@ use Rattle.ns_world.specs.declared.value.KClass.TheVariants as class
 use Rattle.ns_world.specs.Heap.{Heap, no_class}
 use Rattle.ns_world.specs.Seek.{is_nil}
 use Rattle.ns_kdata.specs.Rows.{same_value, same_kernel_class}
-use Rattle.ns_kernel.specs.declared.parts.KMethod.{KMethod}
+use Rattle.ns_world.specs.declared.kernel_parts.KMethod.{KMethod}
 use Rattle.ns_kcode.specs.declared.state.KState.{KState}
 use Rattle.ns_actions.specs.Bodies.{no_home}
 use Rattle.ns_actions.specs.Control.{FromMethod, FromBody, FromClause}

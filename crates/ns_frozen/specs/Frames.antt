@@ -14,7 +14,7 @@ use Rattle.ns_code.specs.Table.{takes}
 use Rattle.ns_world.specs.Heap.{Heap, no_class}
 use Rattle.ns_world.specs.Layout.{declaration_of}
 use Rattle.ns_world.specs.Seek.{is_nil}
-use Rattle.ns_kernel.specs.declared.parts.KMethod.{KMethod}
+use Rattle.ns_world.specs.declared.kernel_parts.KMethod.{KMethod}
 use Rattle.ns_kcode.specs.declared.state.KState.{KState}
 use Rattle.ns_kdata.specs.Rows.{same_value}
 use Rattle.ns_actions.specs.declared.site.Site.{Site}

@@ -3,7 +3,7 @@
 use ns_actions::site::Site;
 use ns_base::items::Items;
 use ns_kcode::state::KState;
-use ns_kernel::parts::KMethod;
+use ns_world::kernel_parts::KMethod;
 use ns_world::value::Value;
 
 /// What a frame runs: a body of this kind, by its number, where a clause names the object, the holder and the

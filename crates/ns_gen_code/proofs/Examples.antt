@@ -9,7 +9,7 @@ use Rattle.ns_code.specs.declared.program.CodeProgram.{CodeProgram}
 use Rattle.ns_code.specs.declared.instruction.Instr.{Instr}
 use Rattle.ns_code.specs.declared.instruction.Instr.TheVariants as i
 use Rattle.ns_resolved.specs.Program as m
-use Rattle.ns_resolved.proofs.Examples.{expected, at_column, sent}
+use Rattle.ns_resolved.specs.Worked.{expected, at_column, sent}
 use Rattle.ns_gen_code.specs.Code.{does, sends, starts, plain, inner, private_at, super, code_of, body_lines}
 
 -- ---- the code of a class in a class

@@ -4,7 +4,7 @@ use Rattle.ns_world.specs.declared.value.Value.{Value}
 use Rattle.ns_world.specs.declared.value.Value.TheVariants.{Nil, True, False, Int}
 use Rattle.ns_world.specs.declared.ending.Kind.{Kind}
 use Rattle.ns_world.specs.declared.ending.Kind.TheVariants.{MustBeBoolean}
-use Rattle.ns_kernel.specs.declared.parts.KMethod.{KMethod}
+use Rattle.ns_world.specs.declared.kernel_parts.KMethod.{KMethod}
 use Rattle.ns_kcode.specs.declared.state.KState.{KState}
 use Rattle.ns_kcode.specs.declared.state.KAction.{KAction}
 use Rattle.ns_kcode.specs.declared.state.KAction.TheVariants.{Evaluate, EvaluateItem, Answer, Fail}

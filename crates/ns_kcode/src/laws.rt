@@ -5,7 +5,7 @@ ghost use Rattle.std.specs.Prelude.{ℕ, suc, ℤ, pos, negsuc, ◌<◌, ◌^◌
 ghost use Rattle.std.specs.Int.{w64};
 ghost use Rattle.ns_world.specs.declared.value.Value.{Value};
 ghost use Rattle.ns_world.specs.declared.value.Value.TheVariants.{Nil, Int};
-ghost use Rattle.ns_kernel.specs.declared.parts.KMethod.TheVariants.{And, Or, IfTrue, IfFalse, IfTrueIfFalse, IfFalseIfTrue, WhileTrue, WhileFalse, ToDo, TimesRepeat, Do};
+ghost use Rattle.ns_world.specs.declared.kernel_parts.KMethod.TheVariants.{And, Or, IfTrue, IfFalse, IfTrueIfFalse, IfFalseIfTrue, WhileTrue, WhileFalse, ToDo, TimesRepeat, Do};
 ghost use Rattle.ns_kcode.specs.Rows.{Host, ActsAs, beginning, double, and_row, or_row, if_true_row, if_false_row, choice_row, while_true_row, while_false_row, to_do_row, times_row, do_row};
 
 /// The methods that evaluate one block at most, in two actions at most.

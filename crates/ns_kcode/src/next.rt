@@ -5,8 +5,8 @@ ghost use Rattle.ns_kcode.specs.Next.{next, evaluate, value_of, and_next, or_nex
 ghost use Rattle.ns_kcode.specs.Next.{while_true_next, while_false_next, to_do_next, times_next, do_next};
 
 use crate::state::{KAction, KState};
-use ns_kernel::parts::KMethod;
 use ns_world::ending::Kind;
+use ns_world::kernel_parts::KMethod;
 use ns_world::value::Value;
 
 /// What a method does next in a state. It answers for every state, whatever numbers it has.

@@ -5,8 +5,8 @@ use Rattle.ns_world.specs.declared.value.Value.{Value}
 use Rattle.ns_world.specs.declared.value.Value.TheVariants.{Kernel}
 use Rattle.ns_world.specs.declared.value.KClass.TheVariants.{Object}
 use Rattle.ns_world.specs.World.{World}
-use Rattle.ns_kernel.specs.declared.parts.DataRow.{DataRow}
-use Rattle.ns_kernel.specs.declared.parts.DataRow.TheVariants as row
+use Rattle.ns_world.specs.declared.kernel_parts.DataRow.{DataRow}
+use Rattle.ns_world.specs.declared.kernel_parts.DataRow.TheVariants as row
 use Rattle.ns_kdata.specs.Outcome.{RowOutcome, Answers, Fails, unchanged}
 use Rattle.ns_kdata.specs.Arguments.{argument}
 use Rattle.ns_world.specs.Booleans.{truth}

@@ -4,7 +4,7 @@ use Rattle.ns_code.specs.declared.program.CodeProgram.{CodeProgram}
 use Rattle.ns_world.specs.declared.value.Value.{Value}
 use Rattle.ns_world.specs.Heap.{Heap}
 use Rattle.ns_world.specs.World.{World}
-use Rattle.ns_kernel.specs.declared.parts.DataRow.{DataRow}
+use Rattle.ns_world.specs.declared.kernel_parts.DataRow.{DataRow}
 use Rattle.ns_kdata.specs.Outcome.{Answers}
 use Rattle.ns_kdata.specs.Datum.{row_outcome}
 

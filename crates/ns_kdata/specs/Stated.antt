@@ -7,7 +7,7 @@ use Rattle.ns_world.specs.Heap.{has_superclass}
 use Rattle.ns_world.specs.World.{World, made}
 use Rattle.ns_world.specs.Lawful.{IsLawful, IsLiveValue}
 use Rattle.ns_world.specs.Keeping.{MayBeMade}
-use Rattle.ns_kernel.specs.declared.parts.DataRow.{DataRow}
+use Rattle.ns_world.specs.declared.kernel_parts.DataRow.{DataRow}
 use Rattle.ns_kdata.specs.Datum.{row_outcome}
 use Rattle.ns_kdata.specs.Living.{AnswersLive}
 use Rattle.ns_kdata.specs.Lawful.{MayHold, LeavesLawful}

@@ -18,8 +18,8 @@ use crate::objects::{is_nil, new_array, new_object, not_understood, same_value};
 use crate::symbols::{symbol_less, symbol_print, symbol_size, symbol_string};
 use crate::texts::{text_at, text_copy, text_equal, text_join, text_less, text_size};
 use ns_code::program::CodeProgram;
-use ns_kernel::parts::DataRow;
 use ns_world::ending::Fault;
+use ns_world::kernel_parts::DataRow;
 use ns_world::value::{KClass, Value, truth};
 use ns_world::world::World;
 

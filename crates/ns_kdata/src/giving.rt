@@ -11,8 +11,8 @@ use crate::objects::{is_nil, same_value};
 use crate::symbols::{symbol_less, symbol_size};
 use crate::texts::{text_at, text_equal, text_less, text_size};
 use ns_code::program::CodeProgram;
-use ns_kernel::parts::DataRow;
 use ns_world::ending::Fault;
+use ns_world::kernel_parts::DataRow;
 use ns_world::value::{Value, truth};
 use ns_world::world::World;
 

@@ -3,7 +3,7 @@
 ghost use Rattle.ns_code.specs.declared.program.CodeProgram.{CodeProgram};
 ghost use Rattle.ns_world.specs.declared.value.Value.{Value};
 ghost use Rattle.ns_world.specs.World.{World};
-ghost use Rattle.ns_kernel.specs.declared.parts.DataRow.{DataRow};
+ghost use Rattle.ns_world.specs.declared.kernel_parts.DataRow.{DataRow};
 ghost use Rattle.ns_kdata.specs.Datum.{row_outcome};
 ghost use Rattle.ns_kdata.specs.Leading.{LeadsOn};
 ghost use Rattle.ns_kdata.specs.Stated.{DataIsLive, RowsKeepLawful, FilledCellsKeepLawful};

@@ -5,8 +5,8 @@ use Rattle.ns_code.specs.declared.program.CodeProgram.{CodeProgram}
 use Rattle.ns_world.specs.declared.value.Value.{Value}
 use Rattle.ns_world.specs.declared.ending.Fault.{Fault}
 use Rattle.ns_world.specs.World.{World, WorldView, SameRoom}
-use Rattle.ns_kernel.specs.declared.parts.DataRow.{DataRow}
-use Rattle.ns_kernel.specs.declared.parts.DataRow.TheVariants as row
+use Rattle.ns_world.specs.declared.kernel_parts.DataRow.{DataRow}
+use Rattle.ns_world.specs.declared.kernel_parts.DataRow.TheVariants as row
 use Rattle.ns_kdata.specs.Datum.{datum}
 use Rattle.ns_kdata.specs.Outcome.{RowOutcome, Answers, Fails, Gives}
 use Rattle.ns_kdata.specs.Leading.{LeadsOn}

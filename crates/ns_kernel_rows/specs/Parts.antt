@@ -6,7 +6,7 @@ use Rattle.ns_world.specs.Heap.{cell_number}
 use Rattle.ns_kdata.specs.Outcome.{Fails}
 use Rattle.ns_kdata.specs.Arguments.{shape_of_value}
 use Rattle.ns_kdata.specs.Rows.{not_understood, message_selector}
-use Rattle.ns_kernel.specs.declared.parts.MirrorRow.{MirrorRow}
+use Rattle.ns_world.specs.declared.kernel_parts.MirrorRow.{MirrorRow}
 use Rattle.ns_mirror.specs.Mirror.{mirror}
 use Rattle.ns_actions.specs.declared.site.Site.{Site}
 use Rattle.ns_actions.specs.Control.{Progress, Control, Now}

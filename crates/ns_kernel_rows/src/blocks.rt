@@ -14,9 +14,9 @@ use ns_actions::begin::{beginning, has_arguments};
 use ns_actions::control::{Given, Reached};
 use ns_code::program::CodeProgram;
 use ns_kdata::arguments::{array_size, is_array, shape_of_value};
-use ns_kernel::parts::KMethod;
 use ns_world::cell::NewCell;
 use ns_world::ending::{Fault, Kind};
+use ns_world::kernel_parts::KMethod;
 use ns_world::value::Value;
 use ns_world::world::World;
 

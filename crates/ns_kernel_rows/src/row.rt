@@ -21,13 +21,13 @@ use ns_facets::board::Board;
 use ns_facets::facet::facet;
 use ns_kdata::arguments::{argument, number_of, shape_of_value};
 use ns_kdata::datum::datum;
-use ns_kernel::parts::{DataRow, FacetRow, MirrorRow};
-use ns_kernel::row::Row;
 use ns_kint::integer::integer;
 use ns_mirror::mirror::mirror;
 use ns_mirror::row::Mirrored;
 use ns_world::cell::NewCell;
 use ns_world::ending::{Fault, Kind};
+use ns_world::kernel_parts::{DataRow, FacetRow, MirrorRow};
+use ns_world::kernel_row::Row;
 use ns_world::value::{Value, cell_number};
 use ns_world::world::World;
 

@@ -2,8 +2,8 @@
 
 use ns_kcode::next::next;
 use ns_kcode::state::{KAction, KState};
-use ns_kernel::parts::KMethod;
 use ns_world::ending::Kind;
+use ns_world::kernel_parts::KMethod;
 use ns_world::value::Value;
 use ns_world::value::Value::Int;
 

@@ -1,8 +1,8 @@
 //! Rows of data that make no cell: their answers and their faults.
 
 use ns_base::selector::Sel;
-use ns_kernel::parts::DataRow;
 use ns_world::ending::{Fault, Kind};
+use ns_world::kernel_parts::DataRow;
 use ns_world::value::Value::{Int, Sym};
 use ns_world::value::{KClass, Value};
 use ns_world_setting::asking::ask_datum;

@@ -6,8 +6,8 @@ ghost use Rattle.ns_world_setting.specs.Ready.{WorldIsReady};
 
 use ns_base::selector::Sel;
 use ns_facets::board::{Board, Plain};
-use ns_kernel::parts::FacetRow;
 use ns_world::ending::{Fault, Kind, LimitKind};
+use ns_world::kernel_parts::FacetRow;
 use ns_world::value::Value::{Int, Sym};
 use ns_world::value::{KClass, Value};
 use ns_world_setting::asking::ask_facet;

@@ -1,9 +1,9 @@
 //! Rows of Integer: what they answer at ordinary numbers and at the ends of 64 bits, and their faults.
 
 use ns_base::selector::Sel;
-use ns_kernel::parts::IntRow;
 use ns_kint::integer::integer;
 use ns_world::ending::{Fault, Kind};
+use ns_world::kernel_parts::IntRow;
 use ns_world::value::Value::Int;
 use ns_world::value::{KClass, Value};
 

@@ -6,8 +6,8 @@ use Rattle.ns_world.specs.declared.value.Value.TheVariants.{Int}
 use Rattle.ns_world.specs.declared.ending.Kind.TheVariants.{Overflow}
 use Rattle.ns_world.specs.declared.ending.Fault.{Fault}
 use Rattle.ns_world.specs.declared.ending.Fault.TheVariants.{Kind}
-use Rattle.ns_kernel.specs.declared.parts.IntRow.{IntRow}
-use Rattle.ns_kernel.specs.declared.parts.IntRow.TheVariants.{Add, Subtract, Multiply, Quotient, Remainder, Less, LessEqual, Greater, GreaterEqual, Equal, BitAnd, BitOr, BitXor, Negated}
+use Rattle.ns_world.specs.declared.kernel_parts.IntRow.{IntRow}
+use Rattle.ns_world.specs.declared.kernel_parts.IntRow.TheVariants.{Add, Subtract, Multiply, Quotient, Remainder, Less, LessEqual, Greater, GreaterEqual, Equal, BitAnd, BitOr, BitXor, Negated}
 use Rattle.ns_kint.specs.Division.{floored_quotient}
 use Rattle.ns_kint.specs.Integer.{integer, integer_of, divisor_of, given, fitting, is_integer, is_integer_or_boolean}
 use Rattle.ns_world.specs.Booleans.{truth}

@@ -8,8 +8,8 @@ use Rattle.ns_world.specs.declared.ending.Kind.TheVariants.{Overflow, ZeroDivide
 use Rattle.ns_world.specs.declared.ending.Fault.{Fault}
 use Rattle.ns_world.specs.declared.ending.Fault.TheVariants.{Kind}
 use Rattle.ns_world.specs.Booleans.{truth}
-use Rattle.ns_kernel.specs.declared.parts.IntRow.{IntRow}
-use Rattle.ns_kernel.specs.declared.parts.IntRow.TheVariants.{Add, Subtract, Multiply, Quotient, Remainder, Less, LessEqual, Greater, GreaterEqual, Equal, BitAnd, BitOr, BitXor, Negated}
+use Rattle.ns_world.specs.declared.kernel_parts.IntRow.{IntRow}
+use Rattle.ns_world.specs.declared.kernel_parts.IntRow.TheVariants.{Add, Subtract, Multiply, Quotient, Remainder, Less, LessEqual, Greater, GreaterEqual, Equal, BitAnd, BitOr, BitXor, Negated}
 use Rattle.ns_kint.specs.Division.{floored_quotient, floored_remainder}
 
 -- whether a number is an Integer: these have 64 bits and a sign

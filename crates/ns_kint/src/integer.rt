@@ -5,8 +5,8 @@ ghost use Rattle.std.specs.Int.{w64};
 ghost use Rattle.ns_kint.specs.Integer.{integer, integer_of, divisor_of, fitting, same_integer};
 
 use crate::division::{floored_quotient, floored_remainder};
-use ns_kernel::parts::IntRow;
 use ns_world::ending::{Fault, Kind};
+use ns_world::kernel_parts::IntRow;
 use ns_world::value::{Value, truth};
 
 /// The answer of a row of Integer, or its first fault. `negated` doesn't look at `right`, and `=`

@@ -3,7 +3,7 @@
 ghost use Rattle.std.specs.Prelude.{◌≡◌, ◌≢◌, ℤ, pos, IfOk, IsTrue};
 ghost use Rattle.ns_kint.specs.Division.{floored_quotient, floored_remainder, IsFlooredDivision};
 ghost use Rattle.ns_kint.specs.Integer.{integer, is_integer_or_boolean};
-ghost use Rattle.ns_kernel.specs.declared.parts.IntRow.{IntRow};
+ghost use Rattle.ns_world.specs.declared.kernel_parts.IntRow.{IntRow};
 ghost use Rattle.ns_world.specs.declared.value.Value.{Value};
 
 /// The quotient and the remainder are the only two that such a division can have: the dividend

@@ -29,7 +29,7 @@ use Rattle.ns_find.specs.declared.found.Found.TheVariants as found
 use Rattle.ns_find.specs.declared.found.Sending.TheVariants.{Plain, Inner}
 use Rattle.ns_find.specs.Find.{found_from}
 use Rattle.ns_kdata.specs.Arguments.{shape_of_value}
-use Rattle.ns_kernel.specs.declared.parts.KMethod.{KMethod}
+use Rattle.ns_world.specs.declared.kernel_parts.KMethod.{KMethod}
 use Rattle.ns_kcode.specs.declared.state.KState.{KState}
 use Rattle.ns_kcode.specs.declared.state.KAction.{KAction}
 use Rattle.ns_kcode.specs.declared.state.KAction.TheVariants as action
@@ -43,7 +43,7 @@ use Rattle.ns_actions.specs.Bodies.{local_stored}
 use Rattle.ns_actions.specs.Classes.{newly_kept, kept_or, class_over, head, nested, instance, factory_selector, super_selector}
 use Rattle.ns_actions.specs.Classes.{declared_part, object_part, part_of, super_part, slot_filled, body_ended}
 use Rattle.ns_actions.specs.Blocks.{new_cell, block_entered, evaluated, waiting, listed, item_at, acted, method_next}
-use Rattle.ns_kernel.specs.Table.{row_at}
+use Rattle.ns_world.specs.KernelTable.{row_at}
 use Rattle.ns_actions.specs.Sends.{Target, receiver_of, found_at, site_at, Arguments, Listed, Wrapped, given, first_of, one_more}
 use Rattle.ns_actions.specs.Sends.{method_entered, factory_entered, set, nested_in, done_with, message_sel, not_found, answered_by, sent, sent_from}
 use Rattle.ns_link.specs.Fewer.{world_to, to_steps, after_to, control_to, part_to, waiting_to}

@@ -26,7 +26,7 @@ use Rattle.ns_world.specs.Booleans.{is_boolean}
 use Rattle.ns_actions.specs.Classes.{super_part}
 use Rattle.ns_actions.specs.Sends.{Target, To, ToPrivate, ToSuper, to_value, sent}
 use Rattle.ns_actions.specs.Start.{start_cells, nothing_done, all_made, start_made}
-use Rattle.ns_kernel.specs.declared.parts.KMethod.{KMethod}
+use Rattle.ns_world.specs.declared.kernel_parts.KMethod.{KMethod}
 use Rattle.ns_actions.specs.declared.site.Site.{Site}
 use Rattle.ns_machine_moves.specs.Steps.{PlacedInstr, literal, steps_from}
 use Rattle.ns_machine_moves.specs.State.{Leaving, Loud, Silent, Frame, Running, Looping, Sending, Performing, Evaluating}

@@ -23,21 +23,21 @@ use Rattle.ns_world.specs.World.{World, made, entered, printed, stored}
 use Rattle.ns_classes.specs.declared.apply.MakeFault.{MakeFault}
 use Rattle.ns_classes.specs.Apply.{class_fault, class_cell}
 use Rattle.ns_kint.specs.Integer.{integer}
-use Rattle.ns_kernel.specs.declared.parts.DataRow.{DataRow}
-use Rattle.ns_kernel.specs.declared.parts.DataRow.TheVariants as data_row
+use Rattle.ns_world.specs.declared.kernel_parts.DataRow.{DataRow}
+use Rattle.ns_world.specs.declared.kernel_parts.DataRow.TheVariants as data_row
 use Rattle.ns_kdata.specs.declared.arguments.Part.{Part}
 use Rattle.ns_kdata.specs.Outcome.{RowOutcome, Answers, Fails, made_as, making, unchanged, wrong_kind, out_of_range}
 use Rattle.ns_kdata.specs.Arguments.{argument, number_of, symbol_text, shape_of_value, is_text, bytes_of, is_array, items_of, place_in, part_in}
 use Rattle.ns_kdata.specs.Texts.{bytes_in, copied, text_at, text_less}
 use Rattle.ns_base.specs.Quoted.{quoted}
 use Rattle.ns_kdata.specs.Rows.{conjunction, disjunction, boolean_text, symbol_less, array_at, put_at_place, new_array, array_of_size}
-use Rattle.ns_kernel.specs.declared.parts.FacetRow.{FacetRow}
-use Rattle.ns_kernel.specs.declared.parts.FacetRow.TheVariants as facet
+use Rattle.ns_world.specs.declared.kernel_parts.FacetRow.{FacetRow}
+use Rattle.ns_world.specs.declared.kernel_parts.FacetRow.TheVariants as facet
 use Rattle.ns_facets.specs.Board.{board_at, board_put}
 use Rattle.ns_facets.specs.Console.{printed_as, printed_bytes, printed_text, printing}
 use Rattle.ns_facets.specs.Facet.{board_after}
-use Rattle.ns_kernel.specs.declared.parts.MirrorRow.{MirrorRow}
-use Rattle.ns_kernel.specs.declared.parts.MirrorRow.TheVariants as mirror_row
+use Rattle.ns_world.specs.declared.kernel_parts.MirrorRow.{MirrorRow}
+use Rattle.ns_world.specs.declared.kernel_parts.MirrorRow.TheVariants as mirror_row
 use Rattle.ns_mirror.specs.declared.slots.SlotPlace.{SlotPlace}
 use Rattle.ns_mirror.specs.Looking.{mirrored, object_class}
 use Rattle.ns_mirror.specs.Naming.{class_text}
@@ -46,13 +46,13 @@ use Rattle.ns_mirror.specs.Selectors.{public_selectors, methods_of_shape}
 use Rattle.ns_mirror.specs.declared.row.Mirrored.{Mirrored}
 use Rattle.ns_mirror.specs.declared.row.Mirrored.TheVariants.{Answer, Perform as MirrorPerform}
 use Rattle.ns_mirror.specs.Mirror.{Reflected, Reflects, Refuses, reflected, perform, performed, performed_with, mirror}
-use Rattle.ns_kernel.specs.declared.row.Row.{Row}
-use Rattle.ns_kernel.specs.declared.row.Row.TheVariants as row
+use Rattle.ns_world.specs.declared.kernel_row.Row.{Row}
+use Rattle.ns_world.specs.declared.kernel_row.Row.TheVariants as row
 use Rattle.ns_actions.specs.declared.site.Site.{Site}
 use Rattle.ns_actions.specs.Control.{Progress, in_world, After, Halts, Control, Now, Evaluate, Begin, charged, halts, fails}
 use Rattle.ns_actions.specs.Classes.{class_made, mixed}
 use Rattle.ns_actions.specs.Blocks.{has_arguments, turns_of, method_begun, value_with_arguments}
-use Rattle.ns_kernel.specs.declared.parts.KMethod.{KMethod}
+use Rattle.ns_world.specs.declared.kernel_parts.KMethod.{KMethod}
 use Rattle.ns_kcode.specs.Rows.{beginning}
 use Rattle.ns_actions.specs.Kernel.{outcome_reached, answer_reached, reflected_reached, facet_reached, data_reached, row_reached}
 use Rattle.ns_link.specs.Fewer.{world_to, to_steps, maybe_to, after_to, control_to}

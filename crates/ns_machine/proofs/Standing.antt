@@ -45,7 +45,7 @@ use Rattle.std.specs.List.{slice_get}
 use Rattle.ns_base.specs.declared.place.Place.{Place as SourcePlace}
 use Rattle.ns_facets.specs.declared.board.Board.{Board}
 use Rattle.ns_find.specs.Memo.{PlaceIsRight}
-use Rattle.ns_act.specs.declared.run.Run.{Run}
+use Rattle.ns_actions.specs.declared.run.Run.{Run}
 use Rattle.ns_machine_moves.specs.Steps.{opening_place}
 use Rattle.ns_machine_moves.specs.WorldStays.{SwapsKeepValid}
 use Rattle.ns_machine_frames.specs.declared.frame.Pending.{Pending}

@@ -9,7 +9,7 @@ ghost use Rattle.ns_actions.specs.Bodies.{greatest_of};
 ghost use Rattle.ns_machine.specs.Fresh.{IsFresh};
 ghost use Rattle.ns_machine.specs.Places.{HasPlaces, spare_place};
 
-use ns_act::run::Run;
+use ns_actions::run::Run;
 use ns_base::limits::Limits;
 use ns_base::no_memory::NoMemory;
 use ns_base::place::Place;

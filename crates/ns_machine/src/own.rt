@@ -8,7 +8,7 @@ ghost use Rattle.ns_machine_core.specs.Own.{AreOwn};
 ghost use Rattle.ns_machine.specs.Opening as spec;
 ghost use Rattle.ns_machine.specs.Places.{BeginsWithPlaces};
 
-use ns_act::running::initialiser;
+use ns_actions::running::initialiser;
 use ns_code::own::Own;
 use ns_code::program::CodeProgram;
 use ns_machine_core::own::OwnSends;

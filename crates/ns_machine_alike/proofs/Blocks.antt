@@ -14,8 +14,8 @@ use Rattle.ns_world.specs.Cell.{Cell, BlockCell, ArrayCell, TextCell}
 use Rattle.ns_world.specs.Heap.{Heap, heap_size}
 use Rattle.ns_world.specs.World.{stepped, entered}
 use Rattle.ns_kdata.specs.Arguments.{items_of, is_array, is_array_shape, shape_of_value}
-use Rattle.ns_kernel.specs.declared.parts.KMethod.{KMethod}
-use Rattle.ns_kernel.specs.declared.parts.KMethod.TheVariants as method
+use Rattle.ns_world.specs.declared.kernel_parts.KMethod.{KMethod}
+use Rattle.ns_world.specs.declared.kernel_parts.KMethod.TheVariants as method
 use Rattle.ns_kcode.specs.declared.state.KState.{KState}
 use Rattle.ns_kcode.specs.declared.state.KAction.{KAction}
 use Rattle.ns_kcode.specs.declared.state.KAction.TheVariants as action

@@ -19,8 +19,8 @@ use Rattle.ns_world.specs.Seek.{first_such, is_facet, is_top}
 use Rattle.ns_world.specs.World.{World, printed}
 use Rattle.ns_kdata.specs.Outcome.{Fails, unchanged, wrong_kind}
 use Rattle.ns_kdata.specs.Arguments.{argument, is_text, bytes_of, place_in}
-use Rattle.ns_kernel.specs.declared.parts.FacetRow.{FacetRow}
-use Rattle.ns_kernel.specs.declared.parts.FacetRow.TheVariants as facet
+use Rattle.ns_world.specs.declared.kernel_parts.FacetRow.{FacetRow}
+use Rattle.ns_world.specs.declared.kernel_parts.FacetRow.TheVariants as facet
 use Rattle.ns_facets.specs.declared.board.Board.{Board}
 use Rattle.ns_facets.specs.declared.board.Plain.{Plain}
 use Rattle.ns_facets.specs.declared.board.Plain.TheVariants as plain

@@ -9,8 +9,8 @@ use Rattle.ns_world.specs.declared.ending.Kind.TheVariants as kind
 use Rattle.ns_world.specs.Booleans.{truth}
 use Rattle.ns_kint.specs.Integer.{integer, is_integer, fitting, integer_of, divisor_of, given, same_integer, on_bits}
 use Rattle.ns_kint.specs.Division.{floored_quotient, floored_remainder}
-use Rattle.ns_kernel.specs.declared.parts.IntRow.{IntRow}
-use Rattle.ns_kernel.specs.declared.parts.IntRow.TheVariants as int
+use Rattle.ns_world.specs.declared.kernel_parts.IntRow.{IntRow}
+use Rattle.ns_world.specs.declared.kernel_parts.IntRow.TheVariants as int
 use Rattle.ns_kdata.specs.Arguments.{argument, number_of}
 use Rattle.ns_actions.specs.declared.site.Site.{Site}
 use Rattle.ns_actions.specs.Site.{fault_ending}

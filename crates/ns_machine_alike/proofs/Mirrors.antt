@@ -22,8 +22,8 @@ use Rattle.ns_kdata.specs.Arguments.{argument, items_of, shape_of_value, is_arra
 use Rattle.ns_world.specs.World.{stored}
 use Rattle.ns_mirror.specs.declared.row.Mirrored.{Mirrored}
 use Rattle.ns_mirror.specs.declared.row.Mirrored.TheVariants.{Answer, Perform}
-use Rattle.ns_kernel.specs.declared.parts.MirrorRow.{MirrorRow}
-use Rattle.ns_kernel.specs.declared.parts.MirrorRow.TheVariants as mirrors
+use Rattle.ns_world.specs.declared.kernel_parts.MirrorRow.{MirrorRow}
+use Rattle.ns_world.specs.declared.kernel_parts.MirrorRow.TheVariants as mirrors
 use Rattle.ns_mirror.specs.declared.slots.Entry.{Entry}
 use Rattle.ns_mirror.specs.declared.slots.SlotPlace.{SlotPlace}
 use Rattle.ns_mirror.specs.Mirror.{Reflected, Reflects, Refuses, reflected, performed, perform, row_outcome, mirror}

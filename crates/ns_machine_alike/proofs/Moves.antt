@@ -13,7 +13,7 @@ use Rattle.ns_world.specs.Heap.{find_cell, is_class}
 use Rattle.ns_world.specs.World.{stepped}
 use Rattle.ns_world.specs.Booleans.{is_boolean}
 use Rattle.ns_facets.specs.declared.row.Grants.{Grants}
-use Rattle.ns_kernel.specs.declared.parts.KMethod.{KMethod}
+use Rattle.ns_world.specs.declared.kernel_parts.KMethod.{KMethod}
 use Rattle.ns_kdata.specs.Arguments.{items_of}
 use Rattle.ns_find.specs.declared.found.Sending.TheVariants.{Inner}
 use Rattle.ns_actions.specs.declared.site.Site.{Site}

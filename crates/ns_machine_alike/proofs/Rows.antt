@@ -23,8 +23,8 @@ use Rattle.ns_kdata.specs.Arguments.{argument, items_of, shape_of_value, is_text
 use Rattle.ns_kdata.specs.Rows as rows
 use Rattle.ns_kdata.specs.Texts as texts
 use Rattle.ns_kdata.specs.Datum.{row_outcome, datum}
-use Rattle.ns_kernel.specs.declared.parts.DataRow.{DataRow}
-use Rattle.ns_kernel.specs.declared.parts.DataRow.TheVariants as row
+use Rattle.ns_world.specs.declared.kernel_parts.DataRow.{DataRow}
+use Rattle.ns_world.specs.declared.kernel_parts.DataRow.TheVariants as row
 use Rattle.ns_actions.specs.declared.site.Site.{Site}
 use Rattle.ns_actions.specs.Suiting.{is_reference}
 use Rattle.ns_actions.specs.Control.{Progress, in_world}

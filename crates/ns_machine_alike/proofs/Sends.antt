@@ -15,7 +15,7 @@ use Rattle.ns_world.specs.Heap.{Heap, heap_size, word_of_object}
 use Rattle.ns_world.specs.World.{made, stored}
 use Rattle.ns_world.specs.Starts.{start_of}
 use Rattle.ns_kdata.specs.Arguments.{argument, shape_of_value}
-use Rattle.ns_kernel.specs.declared.parts.FacetRow.TheVariants as facet
+use Rattle.ns_world.specs.declared.kernel_parts.FacetRow.TheVariants as facet
 use Rattle.ns_find.specs.declared.found.Found.{Found}
 use Rattle.ns_find.specs.declared.found.Found.TheVariants as found
 use Rattle.ns_find.specs.declared.found.Sending.{Sending}
@@ -23,13 +23,13 @@ use Rattle.ns_find.specs.declared.found.Sending.TheVariants.{Plain, Inner}
 use Rattle.ns_find.specs.declared.members.Side.{Side}
 use Rattle.ns_find.specs.Find.{found_from, found_private, super_start}
 use Rattle.ns_classes.specs.Nested.{kept_class}
-use Rattle.ns_kernel.specs.declared.row.Row.{Row}
-use Rattle.ns_kernel.specs.declared.row.Row.TheVariants as row
+use Rattle.ns_world.specs.declared.kernel_row.Row.{Row}
+use Rattle.ns_world.specs.declared.kernel_row.Row.TheVariants as row
 use Rattle.ns_actions.specs.declared.site.Site.{Site}
 use Rattle.ns_actions.specs.Control.{Progress, in_world, Activation, FromMethod, Control, Enter, gives, halts, charged}
 use Rattle.ns_actions.specs.Bodies.{opened, enclosing, side_at, side_of_body}
 use Rattle.ns_actions.specs.Classes.{instance}
-use Rattle.ns_kernel.specs.Table.{row_at}
+use Rattle.ns_world.specs.KernelTable.{row_at}
 use Rattle.ns_actions.specs.Kernel as kernel
 use Rattle.ns_actions.specs.Suiting.{RowSuits, FoundSuits, is_reference}
 use Rattle.ns_actions.specs.Blocks.{block_arity}

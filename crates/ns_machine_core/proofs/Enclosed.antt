@@ -13,7 +13,7 @@ use Rattle.ns_actions.specs.Bodies.{enclosing}
 use Rattle.ns_actions.specs.Lawful.{declaration_at}
 use Rattle.ns_machine_moves.specs.State.{Going}
 use Rattle.ns_machine_moves.specs.laws.Levels.{level_there}
-use Rattle.ns_act.specs.Running.{activation_at}
+use Rattle.ns_actions.specs.Running.{activation_at}
 use Rattle.ns_machine_frames.specs.declared.frame.Frame.TheVariants.{Running}
 use Rattle.ns_machine_frames.specs.declared.frame.RunningFrame.{RunningFrame}
 use Rattle.ns_machine_frames.specs.declared.registers.Registers.{Registers}

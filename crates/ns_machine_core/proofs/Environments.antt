@@ -17,7 +17,7 @@ use Rattle.ns_actions.specs.Control.{Activation}
 use Rattle.ns_actions.specs.Bodies.{has_environment, locals_of, environment_out, parent_in, is_beside}
 use Rattle.ns_actions.specs.Fitting.{environment_body, locals_beside}
 use Rattle.ns_machine_moves.specs.laws.Levels.{around_is}
-use Rattle.ns_act.specs.Locals.{HasEnvironments, LocalIsReadable}
+use Rattle.ns_actions.specs.Locals.{HasEnvironments, LocalIsReadable}
 
 -- ---- one environment
 

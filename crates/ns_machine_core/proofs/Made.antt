@@ -14,8 +14,8 @@ use Rattle.ns_actions.specs.Shown.{answer_shown}
 use Rattle.ns_machine_moves.specs.State.{State, Stuck}
 use Rattle.ns_machine_moves.specs.Steps.{literal}
 use Rattle.ns_machine_moves.specs.Returns.{settled}
-use Rattle.ns_act.specs.Room.{SameRest}
-use Rattle.ns_act.specs.Running.{activation_at}
+use Rattle.ns_actions.specs.Room.{SameRest}
+use Rattle.ns_actions.specs.Running.{activation_at}
 use Rattle.ns_machine_frames.specs.declared.frame.Frame.TheVariants.{Running}
 use Rattle.ns_machine_frames.specs.declared.frame.KeptSite.{KeptSite}
 use Rattle.ns_machine_frames.specs.declared.frame.RunningFrame.{RunningFrame}

@@ -13,8 +13,8 @@ use Rattle.ns_actions.specs.Control.{Progress, Activation, in_world}
 use Rattle.ns_actions.specs.Classes.{slot_filled}
 use Rattle.ns_actions.specs.Lawful.{FitsActivation, FitsSlot}
 use Rattle.ns_machine_moves.specs.State.{Going}
-use Rattle.ns_act.specs.Room.{SameRest}
-use Rattle.ns_act.specs.Running.{activation_at, code_of}
+use Rattle.ns_actions.specs.Room.{SameRest}
+use Rattle.ns_actions.specs.Running.{activation_at, code_of}
 use Rattle.ns_machine_frames.specs.declared.frame.Frame.TheVariants.{Running}
 use Rattle.ns_machine_frames.specs.declared.frame.RunningFrame.{RunningFrame}
 use Rattle.ns_machine_frames.specs.declared.registers.Registers.{Registers}

@@ -11,8 +11,8 @@ use Rattle.ns_actions.specs.declared.site.Site.{Site}
 use Rattle.ns_actions.specs.Blocks.{new_block}
 use Rattle.ns_actions.specs.Control.{After, Progress, Halts, charged, in_world}
 use Rattle.ns_actions.specs.Shown.{answer_shown}
-use Rattle.ns_act.specs.Room.{SameRest}
-use Rattle.ns_act.specs.Running.{activation_at}
+use Rattle.ns_actions.specs.Room.{SameRest}
+use Rattle.ns_actions.specs.Running.{activation_at}
 use Rattle.ns_machine_frames.specs.declared.frame.RunningFrame.{RunningFrame}
 use Rattle.ns_machine_frames.specs.declared.registers.Registers.{Registers}
 use Rattle.ns_machine_frames.specs.View.{site_shown}

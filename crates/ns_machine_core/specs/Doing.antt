@@ -20,7 +20,7 @@ use Rattle.ns_machine_moves.specs.Steps.{steps_of, steps_from}
 use Rattle.ns_machine_moves.specs.Instructions.{executed}
 use Rattle.ns_machine_moves.specs.Returns.{settled}
 use Rattle.ns_machine_moves.specs.WorldAsks.{InstrAsks}
-use Rattle.ns_act.specs.declared.running.Running.{Running as RunningCode}
+use Rattle.ns_actions.specs.declared.running.Running.{Running as RunningCode}
 use Rattle.ns_machine_frames.specs.declared.frame.Activation.{Activation as KeptActivation}
 use Rattle.ns_machine_frames.specs.declared.frame.Frame.{Frame}
 use Rattle.ns_machine_frames.specs.declared.frame.Frame.TheVariants.{Running, Looping}

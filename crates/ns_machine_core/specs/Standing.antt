@@ -3,7 +3,7 @@ use Rattle.std.specs.Prelude.{◌≡◌, ℕ, ◌+◌, ◌*◌, ◌≤◌, List,
 use Rattle.ns_code.specs.declared.program.CodeProgram.{CodeProgram}
 use Rattle.ns_code.specs.Selector.{text_arity}
 use Rattle.ns_find.specs.Memo.{PlaceIsRight}
-use Rattle.ns_act.specs.Room.{HasCellRoom, SameRest}
+use Rattle.ns_actions.specs.Room.{HasCellRoom, SameRest}
 use Rattle.ns_machine_frames.specs.declared.registers.Registers.{Registers}
 use Rattle.ns_machine_frames.specs.declared.stack.Stack.{Stack}
 use Rattle.ns_machine_frames.specs.declared.frame.Pending.{Pending}

@@ -9,7 +9,7 @@ ghost use Rattle.ns_machine_core.specs.Tried.{DoesOrNot};
 use crate::giving::give;
 use crate::settling::{running, running_code};
 use crate::state::Core;
-use ns_act::cells::new_block;
+use ns_actions::cells::new_block;
 use ns_code::program::CodeProgram;
 use ns_machine_frames::registers::Registers;
 

@@ -7,7 +7,7 @@ use ns_machine_frames::registers::Registers;
 
 /// Straight on: the body that runs stays on top, and no step was charged. Charged: it stays on top too, and one step was.
 /// On, with the frame that is topmost then. Answered: on too, where a method of the kernel that was sent for has answered at
-/// once, which are two moves. Or nowhere: nothing was done.
+/// once, or has ended with the block that it evaluated, which are two moves. Or nowhere: nothing was done.
 #[derive(Clone, Copy)]
 pub enum Led {
     Straight(Registers),

@@ -8,7 +8,7 @@ ghost use Rattle.ns_machine_core.specs.Doing.{CanDo, IsDone};
 
 use crate::settling::{running, running_code, settle};
 use crate::state::{Core, Next};
-use ns_act::cells::{new_array, new_block, new_text};
+use ns_actions::cells::{new_array, new_block, new_text};
 use ns_code::program::CodeProgram;
 use ns_machine_frames::laws::operands_are_taken;
 use ns_machine_frames::registers::Registers;

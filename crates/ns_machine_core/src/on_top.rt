@@ -4,7 +4,7 @@ ghost use Rattle.ns_machine_core.specs.Doing.{IsRunning};
 ghost use Rattle.ns_machine_core.specs.Straight.{IsOnTop};
 
 use crate::settling::running;
-use ns_act::running::has_environment;
+use ns_actions::running::has_environment;
 use ns_code::program::CodeProgram;
 use ns_machine_frames::stack::Stack;
 

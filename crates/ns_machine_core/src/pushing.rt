@@ -8,7 +8,7 @@ ghost use Rattle.ns_machine_core.specs.Doing.{CanDo, IsDone};
 
 use crate::settling::{push, running, running_code};
 use crate::state::Core;
-use ns_act::enclosing::enclosing_object;
+use ns_actions::enclosing::enclosing_object;
 use ns_base::selector::Sel;
 use ns_code::program::CodeProgram;
 use ns_machine_frames::registers::Registers;

@@ -10,8 +10,8 @@ ghost use Rattle.ns_machine_core.specs.Standing.{AreStanding};
 
 use crate::places::Places;
 use crate::state::{Core, Next};
-use ns_act::running::Running;
 use ns_actions::control::Answer;
+use ns_actions::running::Running;
 use ns_code::program::CodeProgram;
 use ns_machine_frames::frame::{Activation, Frame, KeptSite, RunningFrame};
 use ns_machine_frames::registers::Registers;

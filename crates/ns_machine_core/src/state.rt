@@ -1,7 +1,7 @@
 //! What a machine keeps of a run beside its registers, and where an instruction leads.
 
 use crate::places::Places;
-use ns_act::run::Run;
+use ns_actions::run::Run;
 use ns_machine_frames::arguments::Arguments;
 use ns_machine_frames::frame::Pending;
 use ns_machine_frames::registers::Registers;

@@ -2,8 +2,8 @@
 
 use ns_base::selector::Sel;
 use ns_kcode::state::KState;
-use ns_kernel::parts::KMethod;
 use ns_world::kernel::ClassName;
+use ns_world::kernel_parts::KMethod;
 use ns_world::value::Value;
 
 /// The send that a frame answers: the number of its place among the machine's places, or one behind their end where it

@@ -10,7 +10,7 @@ ghost use Rattle.ns_actions.specs.Fitting.{kind_of};
 ghost use Rattle.ns_world.specs.Heap.{cell_number};
 ghost use Rattle.ns_machine_freeze.specs.Down.{count_of, stood_one, IsLaidTo};
 
-use ns_act::running::NO_HOME;
+use ns_actions::running::NO_HOME;
 use ns_actions::site::Site;
 use ns_base::items::Items;
 use ns_base::no_memory::NoMemory;

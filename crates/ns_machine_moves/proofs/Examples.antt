@@ -12,7 +12,7 @@ use Rattle.ns_world.specs.declared.ending.Ending.TheVariants.{Done, Limit}
 use Rattle.ns_world.specs.declared.ending.LimitKind.TheVariants.{Steps, Cells}
 use Rattle.ns_world.specs.declared.ending.Kind.TheVariants.{MustBeBoolean, DeadReturn, NotPublic, WrongKind}
 use Rattle.ns_world.specs.declared.kernel.ClassName.TheVariants.{Kernel as KernelName}
-use Rattle.ns_kernel.specs.declared.class.KernelRow.TheVariants as row
+use Rattle.ns_world.specs.declared.kernel_class.KernelRow.TheVariants as row
 use Rattle.ns_code.specs.declared.own.Own.TheVariants.{DoesNotUnderstand}
 use Rattle.ns_facets.specs.declared.row.Grants.{Grants}
 use Rattle.ns_code.specs.Sample.{sel, method_of, class_of}

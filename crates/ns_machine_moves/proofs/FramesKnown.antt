@@ -20,7 +20,7 @@ use Rattle.ns_verify.specs.Chains.{around}
 use Rattle.ns_verify.specs.Places.{HeightsAgree, HasNoCause, height_before, home_of}
 use Rattle.ns_verify.specs.Uses.{IsUsable, StandsRight}
 use Rattle.ns_kdata.specs.Arguments.{shape_of_value}
-use Rattle.ns_kernel.specs.declared.parts.KMethod.{KMethod}
+use Rattle.ns_world.specs.declared.kernel_parts.KMethod.{KMethod}
 use Rattle.ns_kcode.specs.declared.state.KState.{KState}
 use Rattle.ns_actions.specs.declared.site.Site.{Site}
 use Rattle.ns_actions.specs.Control.{Progress, Activation, Exit}

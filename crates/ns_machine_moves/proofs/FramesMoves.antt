@@ -8,7 +8,7 @@ use Rattle.ns_world.specs.declared.value.Value.{Value}
 use Rattle.ns_world.specs.declared.value.Value.TheVariants.{Ref}
 use Rattle.ns_world.specs.Lawful.{IsLiveValue}
 use Rattle.ns_kdata.specs.Arguments.{shape_of_value, items_of}
-use Rattle.ns_kernel.specs.declared.parts.KMethod.{KMethod}
+use Rattle.ns_world.specs.declared.kernel_parts.KMethod.{KMethod}
 use Rattle.ns_kcode.specs.declared.state.KState.{KState}
 use Rattle.ns_kcode.specs.Next.{next}
 use Rattle.ns_actions.specs.declared.site.Site.{Site}

@@ -10,8 +10,8 @@ use Rattle.ns_world.specs.Heap.{Heap}
 use Rattle.ns_world.specs.Lawful.{IsLiveValue}
 use Rattle.ns_world.specs.Later.{IsLater}
 use Rattle.ns_verify.specs.Verify.{IsSound}
-use Rattle.ns_kernel.specs.declared.parts.KMethod.{KMethod}
-use Rattle.ns_kernel.specs.declared.parts.KMethod.TheVariants as method
+use Rattle.ns_world.specs.declared.kernel_parts.KMethod.{KMethod}
+use Rattle.ns_world.specs.declared.kernel_parts.KMethod.TheVariants as method
 use Rattle.ns_kcode.specs.declared.state.KState.{KState}
 use Rattle.ns_actions.specs.declared.site.Site.{Site}
 use Rattle.ns_actions.specs.Site.{error}

@@ -11,7 +11,7 @@ use Rattle.ns_world.specs.declared.ending.Kind.TheVariants.{WrongArity}
 use Rattle.ns_world.specs.declared.ending.LimitKind.TheVariants.{Steps, Depth}
 use Rattle.ns_world.specs.World.{World, stepped, entered, left}
 use Rattle.ns_find.specs.declared.found.Found.{Found}
-use Rattle.ns_kernel.specs.declared.parts.KMethod.{KMethod}
+use Rattle.ns_world.specs.declared.kernel_parts.KMethod.{KMethod}
 use Rattle.ns_kcode.specs.declared.state.KState.{KState}
 use Rattle.ns_kcode.specs.declared.state.KAction.{KAction}
 use Rattle.ns_kcode.specs.declared.state.KAction.TheVariants as action

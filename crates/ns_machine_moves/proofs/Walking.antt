@@ -2,7 +2,7 @@
 use Rattle.std.proofs.Common.{◌≡◌, List, [], ◌∷◌, refl}
 use Rattle.ns_code.specs.declared.program.CodeProgram.{CodeProgram}
 use Rattle.ns_world.specs.declared.value.Value.{Value}
-use Rattle.ns_kernel.specs.declared.parts.KMethod.{KMethod}
+use Rattle.ns_world.specs.declared.kernel_parts.KMethod.{KMethod}
 use Rattle.ns_actions.specs.declared.site.Site.{Site}
 use Rattle.ns_actions.specs.Control.{Progress, After, Gives, Halts, Control, Now, Enter, Evaluate, Begin, Perform, PartControl, Skip, Stop, EnterPart, Waiting}
 use Rattle.ns_actions.specs.Control.{Waits, Finishes}

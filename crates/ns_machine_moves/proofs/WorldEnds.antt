@@ -8,7 +8,7 @@ use Rattle.ns_world.specs.declared.ending.Kind.TheVariants.{DeadReturn}
 use Rattle.ns_world.specs.declared.ending.LimitKind.TheVariants.{Steps, Cells, Depth, Out}
 use Rattle.ns_world.specs.Lawful.{IsLiveValue}
 use Rattle.ns_facets.specs.declared.row.Grants.{Grants}
-use Rattle.ns_kernel.specs.declared.parts.KMethod.{KMethod}
+use Rattle.ns_world.specs.declared.kernel_parts.KMethod.{KMethod}
 use Rattle.ns_actions.specs.declared.site.Site.{Site}
 use Rattle.ns_actions.specs.Site.{error}
 use Rattle.ns_actions.specs.Control.{Progress, Activation, After, Gives, Halts, Control, Now, Enter, Evaluate, Begin, Perform, frame_left}

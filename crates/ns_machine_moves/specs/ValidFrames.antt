@@ -16,7 +16,7 @@ use Rattle.ns_world.specs.Lawful.{IsLiveValue, FitsEnvironment}
 use Rattle.ns_code.specs.Table.{takes}
 use Rattle.ns_verify.specs.Heights.{heights}
 use Rattle.ns_verify.specs.Chains.{home_kinds}
-use Rattle.ns_kernel.specs.declared.parts.KMethod.{KMethod}
+use Rattle.ns_world.specs.declared.kernel_parts.KMethod.{KMethod}
 use Rattle.ns_kcode.specs.declared.state.KState.{KState}
 use Rattle.ns_actions.specs.declared.site.Site.{Site}
 use Rattle.ns_actions.specs.Control.{Progress, Activation, FromMethod, FromBody, FromClause}

@@ -1,4 +1,4 @@
--- The rows of Integer and of Boolean that selectors spell.
+-- The rows of Integer, of Boolean and of Array that selectors spell.
 use Rattle.std.proofs.Common.{◌≡◌, ℕ, ◌-◌, List, [], length, get_or, refl, ap, ◌∙◌, Option, Some, None, cond}
 use Rattle.std.specs.Prelude.{slice_get}
 use Rattle.std.specs.Option.{option_map_or}
@@ -7,19 +7,22 @@ use Rattle.std.proofs.lemmas.Option.{none-some, same_Some, slice_get_within, get
 use Rattle.ns_base.specs.declared.selector.Sel.{Sel}
 use Rattle.ns_code.specs.declared.program.CodeProgram.{CodeProgram}
 use Rattle.ns_code.specs.Selector.{selector_text, own_text_at}
-use Rattle.ns_kernel.specs.declared.class.KernelRow.{KernelRow}
-use Rattle.ns_kernel.specs.declared.class.KernelRow.TheVariants as class
+use Rattle.ns_world.specs.declared.kernel_class.KernelRow.{KernelRow}
+use Rattle.ns_world.specs.declared.kernel_class.KernelRow.TheVariants as class
 use Rattle.ns_world.specs.declared.kernel.Start.TheVariants as start
 use Rattle.ns_world.specs.Heap.{Heap}
 use Rattle.ns_find.specs.declared.found.Found.TheVariants.{Kernel}
 use Rattle.ns_find.specs.declared.found.Sending.{Sending}
 use Rattle.ns_find.specs.Find.{found_from}
-use Rattle.ns_find.specs.Stated.{BooleansFind, IntegersFind}
-use Rattle.ns_kernel.specs.declared.parts.KMethod.{KMethod}
-use Rattle.ns_kernel.specs.declared.parts.IntRow.{IntRow}
-use Rattle.ns_kernel.specs.declared.row.Row.{Row}
-use Rattle.ns_kernel.specs.declared.row.Row.TheVariants.{Data, Integer, Top, Facet, Mirror, Method as MethodRow, Apply, Value, ValueWithArguments, NumArgs}
-use Rattle.ns_kernel.specs.Table.{row_at, row_called}
+use Rattle.ns_find.specs.Stated.{ArraysFind, BooleansFind, IntegersFind}
+use Rattle.ns_world.specs.declared.kernel_parts.DataRow.{DataRow}
+use Rattle.ns_world.specs.declared.kernel_parts.KMethod.{KMethod}
+use Rattle.ns_world.specs.declared.kernel_parts.IntRow.{IntRow}
+use Rattle.ns_world.specs.declared.kernel_row.Row.{Row}
+use Rattle.ns_world.specs.declared.kernel_row.Row.TheVariants.{Data, Integer, Top, Facet, Mirror, Method as MethodRow, Apply, Value, ValueWithArguments, NumArgs}
+use Rattle.ns_world.specs.KernelTable.{row_at, row_called}
+use Rattle.ns_machine_plan.specs.Arrays.{data_of, FindsArray}
+use Rattle.ns_machine_plan.specs.Arrays.{row_of_send as array_row_of_send}
 use Rattle.ns_machine_plan.specs.Booleans.{method_of, method_of_send, FindsBoolean}
 use Rattle.ns_machine_plan.specs.Integers.{integer_of, row_found, row_of_send, FindsThatRow, FindsInteger}
 
@@ -46,6 +49,18 @@ method_is Apply method is = absurd (none-some method is)
 method_is Value method is = absurd (none-some method is)
 method_is ValueWithArguments method is = absurd (none-some method is)
 method_is NumArgs method is = absurd (none-some method is)
+
+data_is : (r : Row) (row : DataRow) → data_of r ≡ Some row → r ≡ Data row
+data_is (Data one) row is = ap Data (same_Some one row is)
+data_is (Integer other) row is = absurd (none-some row is)
+data_is Top row is = absurd (none-some row is)
+data_is (Facet other) row is = absurd (none-some row is)
+data_is (Mirror other) row is = absurd (none-some row is)
+data_is (MethodRow other) row is = absurd (none-some row is)
+data_is Apply row is = absurd (none-some row is)
+data_is Value row is = absurd (none-some row is)
+data_is ValueWithArguments row is = absurd (none-some row is)
+data_is NumArgs row is = absurd (none-some row is)
 
 -- the row of a name is found by its text
 name_is : (code : CodeProgram) (number : ℕ) (text : List ℕ) → slice_get code.names number ≡ Some text → selector_text code number ≡ text
@@ -80,3 +95,8 @@ pub booleans_find : (heap : Heap) (code : CodeProgram) (sel : Sel) (kind : Sendi
     → method_of_send code sel ≡ Some method → FindsBoolean heap code sel kind method
 booleans_find heap code sel kind method find is =
     by_name method_of MethodRow method_is heap code class.Boolean sel kind find method (slice_get code.names sel.0) refl is
+
+pub arrays_find : (heap : Heap) (code : CodeProgram) (sel : Sel) (kind : Sending) (row : DataRow) → ArraysFind heap code sel.0 kind
+    → array_row_of_send code sel ≡ Some row → FindsArray heap code sel kind row
+arrays_find heap code sel kind row find is =
+    by_name data_of Data data_is heap code class.Array sel kind find row (slice_get code.names sel.0) refl is

@@ -3,13 +3,13 @@ use Rattle.std.specs.Prelude.{ℕ, List, Option, Some, None, slice_get}
 use Rattle.std.specs.Option.{option_map_or}
 use Rattle.ns_base.specs.declared.selector.Sel.{Sel}
 use Rattle.ns_code.specs.declared.program.CodeProgram.{CodeProgram}
-use Rattle.ns_kernel.specs.declared.class.KernelRow.TheVariants as class
+use Rattle.ns_world.specs.declared.kernel_class.KernelRow.TheVariants as class
 use Rattle.ns_world.specs.Heap.{Heap}
 use Rattle.ns_find.specs.declared.found.Sending.{Sending}
-use Rattle.ns_kernel.specs.declared.parts.KMethod.{KMethod}
-use Rattle.ns_kernel.specs.declared.row.Row.{Row}
-use Rattle.ns_kernel.specs.Table.{row_called}
-use Rattle.ns_kernel.specs.declared.row.Row.TheVariants.{Method}
+use Rattle.ns_world.specs.declared.kernel_parts.KMethod.{KMethod}
+use Rattle.ns_world.specs.declared.kernel_row.Row.{Row}
+use Rattle.ns_world.specs.KernelTable.{row_called}
+use Rattle.ns_world.specs.declared.kernel_row.Row.TheVariants.{Method}
 use Rattle.ns_machine_plan.specs.Integers.{row_found, FindsThatRow}
 
 -- the method that a row of the kernel is

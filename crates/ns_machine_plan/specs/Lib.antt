@@ -1,4 +1,5 @@
 pub mod Integers
+pub mod Arrays
 pub mod Booleans
 pub mod Spelled
 pub mod Privates

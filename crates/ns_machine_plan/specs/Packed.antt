@@ -8,7 +8,7 @@ use Rattle.ns_machine_plan.specs.declared.packed.ValueSend.{ValueSend}
 use Rattle.ns_machine_plan.specs.declared.packed.PrivateSend.{PrivateSend}
 use Rattle.ns_machine_plan.specs.declared.packed.SuperSend.{SuperSend}
 use Rattle.ns_machine_plan.specs.declared.step.SpelledRow.{SpelledRow}
-use Rattle.ns_machine_plan.specs.declared.step.SpelledRow.TheVariants.{Integer, Boolean}
+use Rattle.ns_machine_plan.specs.declared.step.SpelledRow.TheVariants.{Integer, Boolean, Array}
 use Rattle.ns_machine_plan.specs.declared.step.Step.{Step}
 use Rattle.ns_machine_plan.specs.declared.step.Step.TheVariants.{PushNil, PushTrue, PushFalse, PushInt, PushSym, PushText, PushSelf, PushOuter, PushLocal}
 use Rattle.ns_machine_plan.specs.declared.step.Step.TheVariants.{StoreLocal, PushBlock, MakeArray, Pop, Pick, Send, SendPrivate, SendSuper, InitSuper}
@@ -58,6 +58,7 @@ unpacked tables (packed.Pick number) = Pick number
 unpacked tables (packed.Send at) = send_at tables None at
 unpacked tables (packed.SendInteger row at) = send_at tables (Some (Integer row)) at
 unpacked tables (packed.SendBoolean method at) = send_at tables (Some (Boolean method)) at
+unpacked tables (packed.SendArray row at) = send_at tables (Some (Array row)) at
 unpacked tables (packed.SendPrivate at) = slice_index_or (map private_send tables.privates.items) at PushNil
 unpacked tables (packed.SendSuper at) = slice_index_or (map super_send tables.supers.items) at PushNil
 unpacked tables (packed.InitSuper argc place) = InitSuper argc place
@@ -77,6 +78,7 @@ step_in kept = unpacked kept.tables.now kept.packed.now
 abbrev pub packed_send : ℕ → Option SpelledRow → Packed
 packed_send at (Some (Integer row)) = packed.SendInteger row at
 packed_send at (Some (Boolean method)) = packed.SendBoolean method at
+packed_send at (Some (Array row)) = packed.SendArray row at
 packed_send at None = packed.Send at
 
 -- The send to a value has that number, whatever its selector spells.
@@ -89,6 +91,7 @@ EntryIsThere tables (packed.PushLong at) = at < length tables.integers.items
 EntryIsThere tables (packed.Send at) = at < length tables.sends.items
 EntryIsThere tables (packed.SendInteger row at) = at < length tables.sends.items
 EntryIsThere tables (packed.SendBoolean method at) = at < length tables.sends.items
+EntryIsThere tables (packed.SendArray row at) = at < length tables.sends.items
 EntryIsThere tables (packed.SendPrivate at) = at < length tables.privates.items
 EntryIsThere tables (packed.SendSuper at) = at < length tables.supers.items
 EntryIsThere tables other = Unit {0}

@@ -1,25 +1,28 @@
--- The row of Integer or of Boolean that a step has, by the selector that it sends.
+-- The row of Integer, of Boolean or of Array that a step has, by the selector that it sends.
 use Rattle.std.specs.Prelude.{◌≡◌, ℕ, List, Option, Some, None, map, slice_get}
 use Rattle.std.specs.Option.{option_map_or}
 use Rattle.ns_base.specs.declared.selector.Sel.{Sel}
 use Rattle.ns_code.specs.declared.program.CodeProgram.{CodeProgram}
-use Rattle.ns_kernel.specs.declared.parts.KMethod.{KMethod}
-use Rattle.ns_kernel.specs.declared.parts.IntRow.{IntRow}
+use Rattle.ns_world.specs.declared.kernel_parts.DataRow.{DataRow}
+use Rattle.ns_world.specs.declared.kernel_parts.KMethod.{KMethod}
+use Rattle.ns_world.specs.declared.kernel_parts.IntRow.{IntRow}
 use Rattle.ns_machine_plan.specs.declared.step.SpelledRow.{SpelledRow}
-use Rattle.ns_machine_plan.specs.declared.step.SpelledRow.TheVariants.{Integer, Boolean}
+use Rattle.ns_machine_plan.specs.declared.step.SpelledRow.TheVariants.{Integer, Boolean, Array}
 use Rattle.ns_machine_plan.specs.declared.spelled.SpelledRows.{SpelledRows}
+use Rattle.ns_machine_plan.specs.Arrays.{row_of_text as array_row_of_text}
 use Rattle.ns_machine_plan.specs.Booleans.{method_of_text}
 use Rattle.ns_machine_plan.specs.Integers.{row_of_text}
 
--- the row of Integer, or else the method of Boolean
-abbrev pub either_row : Option IntRow → Option KMethod → Option SpelledRow
-either_row (Some row) method = Some (Integer row)
-either_row None (Some method) = Some (Boolean method)
-either_row None None = None
+-- the row of Integer, or else the method of Boolean, or else the row of Array
+abbrev pub first_row : Option IntRow → Option KMethod → Option DataRow → Option SpelledRow
+first_row (Some row) method array = Some (Integer row)
+first_row None (Some method) array = Some (Boolean method)
+first_row None None (Some row) = Some (Array row)
+first_row None None None = None
 
 -- the row that a text spells
 abbrev pub spelled_by_text : List ℕ → Option SpelledRow
-spelled_by_text text = either_row (row_of_text text) (method_of_text text)
+spelled_by_text text = first_row (row_of_text text) (method_of_text text) (array_row_of_text text)
 
 -- that of the name which a selector is
 abbrev pub spelled_by : CodeProgram → Sel → Option SpelledRow

@@ -15,8 +15,9 @@ use Rattle.ns_world.specs.World.{World}
 use Rattle.ns_find.specs.declared.found.Found.TheVariants as found
 use Rattle.ns_find.specs.declared.found.Sending.{Sending}
 use Rattle.ns_world.specs.Layout.{declaration_of, entries_of}
-use Rattle.ns_kernel.specs.declared.parts.KMethod.{KMethod}
-use Rattle.ns_kernel.specs.declared.parts.IntRow.{IntRow}
+use Rattle.ns_world.specs.declared.kernel_parts.DataRow.{DataRow}
+use Rattle.ns_world.specs.declared.kernel_parts.KMethod.{KMethod}
+use Rattle.ns_world.specs.declared.kernel_parts.IntRow.{IntRow}
 use Rattle.ns_actions.specs.Bodies.{enclosing, locals_of, height_in, greatest_of}
 use Rattle.ns_actions.specs.Control.{Progress, Activation}
 use Rattle.ns_actions.specs.Lawful.{FitsActivation, declaration_at}
@@ -27,6 +28,8 @@ use Rattle.ns_machine_moves.specs.Steps.{steps_from}
 use Rattle.ns_machine_moves.specs.ValidFrames.{Nothing, RunningIsValid}
 use Rattle.ns_machine_plan.specs.declared.step.Step.{Step}
 use Rattle.ns_machine_plan.specs.declared.step.Member.TheVariants.{Absent}
+use Rattle.ns_machine_plan.specs.Arrays.{FindsArray}
+use Rattle.ns_machine_plan.specs.Arrays.{row_of_send as row_of_array_send}
 use Rattle.ns_machine_plan.specs.Booleans.{FindsBoolean, method_of_send}
 use Rattle.ns_machine_plan.specs.Integers.{FindsInteger, row_of_send}
 use Rattle.ns_machine_plan.specs.Privates.{SlotIsAmong, found_in, member_at}
@@ -100,6 +103,11 @@ IntegersFindRows heap code =
 abbrev pub BooleansFindRows : Heap → CodeProgram → Type 0
 BooleansFindRows heap code =
     (sel : Sel) (kind : Sending) (method : KMethod) → method_of_send code sel ≡ Some method → FindsBoolean heap code sel kind method
+
+-- An Array finds the row of Array that a selector spells, however it is sent.
+abbrev pub ArraysFindRows : Heap → CodeProgram → Type 0
+ArraysFindRows heap code =
+    (sel : Sel) (kind : Sending) (row : DataRow) → row_of_array_send code sel ≡ Some row → FindsArray heap code sel kind row
 
 -- No body has more locals and operands than the greatest frame.
 abbrev pub FramesAreWithin : CodeProgram → Type 0

@@ -3,10 +3,10 @@
 ghost use Rattle.ns_code.specs.declared.program.CodeProgram.{CodeProgram};
 ghost use Rattle.ns_world.specs.Heap.{Heap};
 ghost use Rattle.ns_machine_plan.specs.Stated.{BodiesHaveSteps, StepsGoOn, JumpsLand, StepsAreUsable, RunningHasStep, FramesAreWithin};
-ghost use Rattle.ns_machine_plan.specs.Stated.{MembersAreFound, MembersAreEntries, PrivateSendsHaveMembers, PrivateSendsFind, IntegersFindRows, BooleansFindRows};
+ghost use Rattle.ns_machine_plan.specs.Stated.{MembersAreFound, MembersAreEntries, PrivateSendsHaveMembers, PrivateSendsFind, IntegersFindRows, BooleansFindRows, ArraysFindRows};
 
 use ns_actions::finding::enclosing_objects_are_there;
-use ns_find::laws::{booleans_find_their_rows, integers_find_their_rows};
+use ns_find::laws::{arrays_find_their_rows, booleans_find_their_rows, integers_find_their_rows};
 use ns_verify::laws::{heights_agree, sound_code_has_no_cause, sound_instructions_are_usable};
 
 /// In sound code each body has a first step; behind a step that goes on there is a next one, and the target of a jump
@@ -60,6 +60,13 @@ pub fn booleans_find_rows()
     ensures { (heap : Heap) (code : CodeProgram) → BooleansFindRows heap code }
 {
     booleans_find_their_rows();
+}
+
+/// What an Array finds is the row of Array that was found for the send when the code was prepared, where one was.
+pub fn arrays_find_rows()
+    ensures { (heap : Heap) (code : CodeProgram) → ArraysFindRows heap code }
+{
+    arrays_find_their_rows();
 }
 
 /// No body has more locals and operands than the greatest frame.

@@ -3,10 +3,10 @@
 use crate::step::Member;
 use ns_base::selector::Sel;
 use ns_find::found::Sending;
-use ns_kernel::parts::{IntRow, KMethod};
+use ns_world::kernel_parts::{DataRow, IntRow, KMethod};
 
 /// A step in eight bytes. An integer of more than 32 bits and a send have their number in a table. A send to a value is told apart
-/// by what its selector spells, a row of Integer or a method of Boolean, so that the machine needs to look for neither.
+/// by what its selector spells, a row of Integer, a method of Boolean or a row of Array, so that the machine needs to look for none.
 #[derive(Clone, Copy)]
 pub enum Packed {
     PushNil,
@@ -27,6 +27,7 @@ pub enum Packed {
     Send(u32),
     SendInteger { row: IntRow, send: u32 },
     SendBoolean { method: KMethod, send: u32 },
+    SendArray { row: DataRow, send: u32 },
     SendPrivate(u32),
     SendSuper(u32),
     InitSuper { argc: u8, place: u32 },

@@ -1,6 +1,7 @@
-//! The rows of Integer and of Boolean that the names of a code spell, found once before any send asks for one.
+//! The rows of Integer, of Boolean and of Array that the names of a code spell, found once before any send asks for one.
 
 ghost use Rattle.std.specs.Prelude.{◌≡◌, ◌<◌, IfOk, map};
+ghost use Rattle.ns_machine_plan.specs.Arrays as arrays;
 ghost use Rattle.ns_machine_plan.specs.Booleans as booleans;
 ghost use Rattle.ns_machine_plan.specs.Integers as integers;
 ghost use Rattle.ns_machine_plan.specs.Spelled as spec;
@@ -11,13 +12,13 @@ use ns_base::no_memory::NoMemory;
 use ns_base::selector::Sel;
 use ns_base::text::Text;
 use ns_code::program::CodeProgram;
-use ns_kernel::class::KernelRow;
-use ns_kernel::parts::{IntRow, KMethod};
-use ns_kernel::row::Row;
-use ns_kernel::table::{row_called, row_of};
+use ns_world::kernel_class::KernelRow;
+use ns_world::kernel_parts::{DataRow, IntRow, KMethod};
+use ns_world::kernel_row::Row;
+use ns_world::kernel_table::{row_called, row_of};
 use std::alloc::Global;
 
-/// For each name the row of Integer or of Boolean that it spells, if it spells one.
+/// For each name the row of Integer, of Boolean or of Array that it spells, if it spells one.
 #[derive(Drop)]
 pub struct SpelledRows {
     rows: Items<Option<SpelledRow>>,
@@ -62,17 +63,26 @@ fn rows_of(alloc: Global, names: &[Text]) -> Result<Vec<Option<SpelledRow>>, NoM
 fn spelled_by_text(text: &[u8]) -> Option<SpelledRow>
     ensures { result ≡ spec.spelled_by_text text.now }
 {
-    either_row(row_of_text(text), method_of_text(text))
+    first_row(
+        row_of_text(text),
+        method_of_text(text),
+        array_row_of_text(text),
+    )
 }
 
-/// The row of Integer, or else the method of Boolean.
-fn either_row(row: Option<IntRow>, method: Option<KMethod>) -> Option<SpelledRow>
-    ensures { result ≡ spec.either_row row method }
+/// The row of Integer, or else the method of Boolean, or else the row of Array.
+fn first_row(
+    row: Option<IntRow>,
+    method: Option<KMethod>,
+    array: Option<DataRow>,
+) -> Option<SpelledRow>
+    ensures { result ≡ spec.first_row row method array }
 {
-    match (row, method) {
-        (Some(row), _) => Some(SpelledRow::Integer(row)),
-        (None, Some(method)) => Some(SpelledRow::Boolean(method)),
-        (None, None) => None,
+    match (row, method, array) {
+        (Some(row), _, _) => Some(SpelledRow::Integer(row)),
+        (None, Some(method), _) => Some(SpelledRow::Boolean(method)),
+        (None, None, Some(row)) => Some(SpelledRow::Array(row)),
+        (None, None, None) => None,
     }
 }
 
@@ -112,6 +122,26 @@ fn method_of(row: Row) -> Option<KMethod>
 {
     match row {
         Row::Method(method) => Some(method),
+        _ => None,
+    }
+}
+
+/// The row of Array that a text spells, if it spells one that is no method.
+fn array_row_of_text(text: &[u8]) -> Option<DataRow>
+    ensures { result ≡ arrays.row_of_text text.now }
+{
+    match row_called(KernelRow::Array, text) {
+        Some(number) => data_of(row_of(number)),
+        None => None,
+    }
+}
+
+/// The row of data that a row is, if it is one.
+fn data_of(row: Row) -> Option<DataRow>
+    ensures { result ≡ arrays.data_of row }
+{
+    match row {
+        Row::Data(row) => Some(row),
         _ => None,
     }
 }

@@ -2,7 +2,7 @@
 
 use ns_base::selector::Sel;
 use ns_find::found::Sending;
-use ns_kernel::parts::{IntRow, KMethod};
+use ns_world::kernel_parts::{DataRow, IntRow, KMethod};
 
 /// A private member of a declaration: a method by its body, the getter or the setter of a slot by the number of the
 /// slot, or a nested class by its declaration; or that there is none of that name. Its holder is not known before it
@@ -16,17 +16,18 @@ pub enum Member {
     Absent,
 }
 
-/// The row of the kernel that a selector spells: one of Integer, which an Integer finds, or a method of Boolean, which a
-/// Boolean finds. Whether the receiver is one is not known before it is sent.
+/// The row of the kernel that a selector spells: one of Integer, which an Integer finds, a method of Boolean, which a Boolean
+/// finds, or one of Array, which an Array finds. Whether the receiver is one is not known before it is sent.
 #[derive(Clone, Copy)]
 pub enum SpelledRow {
     Integer(IntRow),
     Boolean(KMethod),
+    Array(DataRow),
 }
 
 /// One step of a body, which is an instruction. A send and the start of a superclass part have the number of their
 /// place among all places of the code, `NO_PLACE` where they have none. A private send has its member too, and a send
-/// to a value the row of Integer or of Boolean that its selector spells.
+/// to a value the row of Integer, of Boolean or of Array that its selector spells.
 #[derive(Clone, Copy)]
 pub enum Step {
     PushNil,

@@ -128,6 +128,9 @@ impl Tables {
             Packed::SendBoolean { method, send } => {
                 value_step(self.send(*send), Some(SpelledRow::Boolean(*method)))
             }
+            Packed::SendArray { row, send } => {
+                value_step(self.send(*send), Some(SpelledRow::Array(*row)))
+            }
             Packed::SendPrivate(at) => private_step(self.private(*at)),
             Packed::SendSuper(at) => super_at(self.supers.as_slice(), *at),
             Packed::InitSuper { argc, place } => Step::InitSuper {
@@ -239,6 +242,7 @@ fn packed_send(send: u32, row: Option<SpelledRow>) -> Packed
     match row {
         Some(SpelledRow::Integer(row)) => Packed::SendInteger { row, send },
         Some(SpelledRow::Boolean(method)) => Packed::SendBoolean { method, send },
+        Some(SpelledRow::Array(row)) => Packed::SendArray { row, send },
         None => Packed::Send(send),
     }
 }

@@ -6,7 +6,7 @@ use Rattle.ns_code.specs.declared.program.CodeProgram.{CodeProgram}
 use Rattle.ns_world.specs.declared.ending.Kind.TheVariants.{WrongKind}
 use Rattle.ns_world.specs.declared.ending.LimitKind.TheVariants.{Depth}
 use Rattle.ns_world.specs.declared.kernel.ClassName.TheVariants as name
-use Rattle.ns_kernel.specs.declared.class.KernelRow.TheVariants as class
+use Rattle.ns_world.specs.declared.kernel_class.KernelRow.TheVariants as class
 use Rattle.ns_world.specs.declared.kernel.Start.TheVariants as start
 use Rattle.ns_world.specs.declared.value.Value.{Value}
 use Rattle.ns_world.specs.declared.value.Value.TheVariants as value
@@ -17,14 +17,14 @@ use Rattle.ns_world.specs.Booleans.{is_boolean}
 use Rattle.ns_find.specs.declared.found.Sending.{Sending}
 use Rattle.ns_kcode.specs.declared.state.KAction.{KAction}
 use Rattle.ns_kcode.specs.declared.state.KAction.TheVariants as action
-use Rattle.ns_kernel.specs.declared.parts.KMethod.{KMethod}
-use Rattle.ns_kernel.specs.declared.parts.KMethod.TheVariants as method
+use Rattle.ns_world.specs.declared.kernel_parts.KMethod.{KMethod}
+use Rattle.ns_world.specs.declared.kernel_parts.KMethod.TheVariants as method
 use Rattle.ns_kcode.specs.declared.state.KState.{KState}
 use Rattle.ns_kcode.specs.Next.{next, and_next, or_next, if_true_next, if_false_next}
 use Rattle.ns_kcode.specs.Rows.{beginning}
 use Rattle.ns_kdata.specs.Arguments.{argument}
 use Rattle.ns_machine_plan.specs.Booleans.{FindsBoolean}
-use Rattle.ns_kernel.specs.declared.row.Row.TheVariants.{Method}
+use Rattle.ns_world.specs.declared.kernel_row.Row.TheVariants.{Method}
 use Rattle.ns_actions.specs.declared.site.Site.{Site}
 use Rattle.ns_actions.specs.Blocks.{turns_of, acted}
 use Rattle.ns_actions.specs.Control.{Activation, Control, Begin, Progress, Gives, halts, fails, charged, in_world}

@@ -2,8 +2,8 @@
 use Rattle.std.proofs.Common.{◌≡◌, ap, sym, ◌∙◌, refl, true}
 use Rattle.ns_code.specs.declared.program.CodeProgram.{CodeProgram}
 use Rattle.ns_world.specs.declared.kernel.ClassName.TheVariants as name
-use Rattle.ns_kernel.specs.declared.class.KernelRow.{KernelRow}
-use Rattle.ns_kernel.specs.declared.class.KernelRow.TheVariants as class
+use Rattle.ns_world.specs.declared.kernel_class.KernelRow.{KernelRow}
+use Rattle.ns_world.specs.declared.kernel_class.KernelRow.TheVariants as class
 use Rattle.ns_world.specs.declared.kernel.Start.{Start}
 use Rattle.ns_world.specs.declared.kernel.Start.TheVariants as start
 use Rattle.ns_world.specs.declared.value.Value.{Value}
@@ -12,10 +12,10 @@ use Rattle.ns_world.specs.Heap.{Heap}
 use Rattle.ns_world.specs.Starts.{start_of, class_name_of, class_name_at}
 use Rattle.ns_find.specs.declared.found.Sending.{Sending}
 use Rattle.ns_find.specs.Find.{found_from}
-use Rattle.ns_kernel.specs.declared.parts.IntRow.{IntRow}
+use Rattle.ns_world.specs.declared.kernel_parts.IntRow.{IntRow}
 use Rattle.ns_machine_plan.specs.Integers.{FindsThatRow, FindsInteger}
-use Rattle.ns_kernel.specs.declared.row.Row.{Row}
-use Rattle.ns_kernel.specs.declared.row.Row.TheVariants.{Integer}
+use Rattle.ns_world.specs.declared.kernel_row.Row.{Row}
+use Rattle.ns_world.specs.declared.kernel_row.Row.TheVariants.{Integer}
 use Rattle.ns_actions.specs.Blocks.{is_integer}
 use Rattle.ns_machine_core.specs.declared.state.Core.{Core}
 use Rattle.ns_machine_sends.specs.declared.sent.Sent.{Sent}

@@ -7,5 +7,6 @@ pub mod Valued
 pub mod Members
 pub mod Begun
 pub mod IntegerSends
+pub mod ArraySends
 pub mod Privately
 pub mod BooleanSends

@@ -10,9 +10,9 @@ use Rattle.ns_actions.specs.declared.control.Reached.TheVariants as reached
 use Rattle.ns_actions.specs.Control.{Activation}
 use Rattle.ns_actions.specs.Sends.{Target, Listed, found_at, receiver_of, method_entered, answered_by}
 use Rattle.ns_actions.specs.Shown.{reached_shown}
-use Rattle.ns_act.specs.declared.run.Run.{Run}
-use Rattle.ns_act.specs.declared.sends.Answered.TheVariants.{Comes}
-use Rattle.ns_act.specs.Run.{progress_of}
+use Rattle.ns_actions.specs.declared.run.Run.{Run}
+use Rattle.ns_actions.specs.declared.sends.Answered.TheVariants.{Comes}
+use Rattle.ns_actions.specs.Run.{progress_of}
 use Rattle.ns_machine_frames.specs.declared.registers.Registers.{Registers}
 use Rattle.ns_machine_frames.specs.View.{site_shown}
 use Rattle.ns_machine_core.specs.declared.state.Core.{Core}

@@ -8,18 +8,18 @@ use Rattle.ns_world.specs.Heap.{Heap}
 use Rattle.ns_world.specs.Lawful.{IsLive, IsLiveValue}
 use Rattle.ns_find.specs.declared.found.Found.{Found}
 use Rattle.ns_find.specs.declared.found.Sending.{Sending}
-use Rattle.ns_kernel.specs.declared.parts.DataRow.{DataRow}
-use Rattle.ns_kernel.specs.declared.parts.DataRow.TheVariants.{ArrayPut, DoesNotUnderstand}
+use Rattle.ns_world.specs.declared.kernel_parts.DataRow.{DataRow}
+use Rattle.ns_world.specs.declared.kernel_parts.DataRow.TheVariants.{ArrayPut, DoesNotUnderstand}
 use Rattle.ns_kdata.specs.Arguments.{argument, number_of, CellIsThere}
 use Rattle.ns_kdata.specs.Datum.{datum, row_outcome}
 use Rattle.ns_kdata.specs.Giving.{GivesAtOnce}
 use Rattle.ns_kdata.specs.Outcome.{RowOutcome, Answers}
 use Rattle.ns_kdata.specs.Rows.{put_at_place}
 use Rattle.ns_world.specs.World.{stored}
-use Rattle.ns_kernel.specs.declared.parts.IntRow.{IntRow}
+use Rattle.ns_world.specs.declared.kernel_parts.IntRow.{IntRow}
 use Rattle.ns_kint.specs.Integer.{integer}
-use Rattle.ns_kernel.specs.declared.row.Row.{Row}
-use Rattle.ns_kernel.specs.declared.row.Row.TheVariants.{Data, Integer}
+use Rattle.ns_world.specs.declared.kernel_row.Row.{Row}
+use Rattle.ns_world.specs.declared.kernel_row.Row.TheVariants.{Data, Integer}
 use Rattle.ns_actions.specs.declared.site.Site.{Site}
 use Rattle.ns_actions.specs.Control.{Activation, Control, Progress, gives, in_world}
 use Rattle.ns_actions.specs.Kernel.{row_reached, answer_reached, data_reached, outcome_reached}
@@ -40,7 +40,8 @@ use Rattle.ns_machine_quick.proofs.Slotted.{with_stored, stored_limits}
 
 -- ---- the argument
 
-live_there : (heap : Heap) (code : CodeProgram) (v : Value) → IsLive heap code v → CellIsThere heap v
+-- the cell of a live value is there
+pub live_there : (heap : Heap) (code : CodeProgram) (v : Value) → IsLive heap code v → CellIsThere heap v
 live_there heap code (value.Ref at) live = live
 live_there heap code value.Nil live = tt
 live_there heap code value.True live = tt

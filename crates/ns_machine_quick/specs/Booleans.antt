@@ -7,8 +7,8 @@ use Rattle.ns_code.specs.declared.instruction.Instr.{Instr}
 use Rattle.ns_world.specs.declared.value.Value.{Value}
 use Rattle.ns_world.specs.declared.value.Value.TheVariants.{Nil, True, False}
 use Rattle.ns_find.specs.declared.found.Sending.{Sending}
-use Rattle.ns_kernel.specs.declared.parts.KMethod.{KMethod}
-use Rattle.ns_kernel.specs.declared.parts.KMethod.TheVariants.{And, Or, IfTrue, IfFalse}
+use Rattle.ns_world.specs.declared.kernel_parts.KMethod.{KMethod}
+use Rattle.ns_world.specs.declared.kernel_parts.KMethod.TheVariants.{And, Or, IfTrue, IfFalse}
 use Rattle.ns_actions.specs.Control.{Activation, Control}
 use Rattle.ns_actions.specs.Sends.{To, sent}
 use Rattle.ns_machine_moves.specs.Arrivals.{arrived}

@@ -3,7 +3,7 @@
 
 ghost use Rattle.std.specs.Prelude.{◌≡◌, ◌+◌, Some, IsTrue, slice_get};
 ghost use Rattle.ns_world.specs.Booleans.{is_boolean};
-ghost use Rattle.ns_kernel.specs.declared.row.Row.TheVariants.{Method};
+ghost use Rattle.ns_world.specs.declared.kernel_row.Row.TheVariants.{Method};
 ghost use Rattle.ns_actions.specs.Control.{Activation};
 ghost use Rattle.ns_actions.specs.Sends.{To};
 ghost use Rattle.ns_machine_plan.specs.Booleans.{method_of_send};
@@ -18,12 +18,10 @@ ghost use Rattle.ns_machine_quick.specs.Looping.{CanLoop};
 ghost use Rattle.ns_machine_quick.specs.Rows.{FindsRow};
 
 use crate::looping::{can_loop, send_method};
-use ns_act::laws::a_send_is_its_step_and_its_answer;
+use ns_actions::answer_laws::a_send_is_its_step_and_its_answer;
 use ns_base::selector::Sel;
 use ns_code::program::CodeProgram;
 use ns_find::found::Sending;
-use ns_kernel::class::KernelRow;
-use ns_kernel::parts::KMethod;
 use ns_machine_core::led::Led;
 use ns_machine_core::state::Core;
 use ns_machine_frames::frame::KeptSite;
@@ -32,6 +30,8 @@ use ns_machine_frames::registers::Registers;
 use ns_machine_plan::laws::booleans_find_rows;
 use ns_machine_sends::sent::Sent;
 use ns_world::kernel::ClassName;
+use ns_world::kernel_class::KernelRow;
+use ns_world::kernel_parts::KMethod;
 use ns_world::lawful::charging_keeps_lawful;
 use ns_world::value::Value;
 

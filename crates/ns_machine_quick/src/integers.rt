@@ -16,9 +16,6 @@ use ns_base::selector::Sel;
 use ns_code::program::CodeProgram;
 use ns_find::found::Sending;
 use ns_kdata::arguments::argument;
-use ns_kernel::class::KernelRow;
-use ns_kernel::parts::IntRow;
-use ns_kernel::row::Row;
 use ns_machine_core::state::Core;
 use ns_machine_frames::frame::KeptSite;
 use ns_machine_frames::laws::operands_are_taken;
@@ -26,6 +23,9 @@ use ns_machine_frames::registers::Registers;
 use ns_machine_plan::laws::integers_find_rows;
 use ns_machine_sends::sent::Sent;
 use ns_world::kernel::ClassName;
+use ns_world::kernel_class::KernelRow;
+use ns_world::kernel_parts::IntRow;
+use ns_world::kernel_row::Row;
 use ns_world::value::Value;
 
 /// Sends to a value by the row of Integer that its selector names, where it is an Integer to which that row gives a value, and

@@ -4,6 +4,7 @@
 //! Stands between ns_machine_sends and ns_machine_turns.
 #![tactic(auto)]
 
+pub mod arrays;
 pub mod booleans;
 pub mod giving;
 pub mod integers;

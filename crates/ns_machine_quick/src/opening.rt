@@ -9,7 +9,7 @@ ghost use Rattle.ns_machine_sends.specs.Sending.{CanSend, Sends};
 ghost use Rattle.ns_machine_quick.specs.Given.{SendsOrNot};
 ghost use Rattle.ns_machine_quick.specs.Opening.{FindsMethod, begun_at};
 
-use ns_act::laws::a_send_is_its_step_and_its_answer;
+use ns_actions::answer_laws::a_send_is_its_step_and_its_answer;
 use ns_actions::control::Exit;
 use ns_actions::laws::{
     actions_spend_exactly, sends_keep_lawful, sites_stay, what_is_handed_on_fits,

@@ -3,10 +3,10 @@
 
 ghost use Rattle.std.specs.Prelude.{◌<◌, length, IfSome};
 ghost use Rattle.ns_world.specs.Heap.{Heap};
-ghost use Rattle.ns_kernel.specs.declared.parts.DataRow.TheVariants.{ArrayPut};
+ghost use Rattle.ns_world.specs.declared.kernel_parts.DataRow.TheVariants.{ArrayPut};
 ghost use Rattle.ns_kdata.specs.Arguments.{argument as argument_at, CellIsThere, items_of};
 ghost use Rattle.ns_actions.specs.Control.{Activation};
-ghost use Rattle.ns_kernel.specs.declared.row.Row.TheVariants.{Data, Integer};
+ghost use Rattle.ns_world.specs.declared.kernel_row.Row.TheVariants.{Data, Integer};
 ghost use Rattle.ns_actions.specs.Sends.{To};
 ghost use Rattle.ns_machine_core.specs.declared.state.Next.TheVariants as next;
 ghost use Rattle.ns_machine_core.specs.Straight.{StaysOnTop};
@@ -17,19 +17,19 @@ ghost use Rattle.ns_machine_quick.specs.Integers.{SendsOrNothing};
 ghost use Rattle.ns_machine_quick.specs.Opening.{FindsKernel};
 ghost use Rattle.ns_machine_quick.specs.Rows.{FindsRow, RowGives, NamesPlace};
 
-use ns_act::laws::a_send_is_its_step_and_its_answer;
+use ns_actions::answer_laws::a_send_is_its_step_and_its_answer;
 use ns_code::program::CodeProgram;
 use ns_find::found::Sending;
 use ns_kdata::arguments::{argument, number_of};
 use ns_kdata::arrays::{place_at, store};
 use ns_kdata::giving::value_at_once;
-use ns_kernel::parts::{DataRow, IntRow};
-use ns_kernel::row::Row;
-use ns_kernel::table::row_of;
 use ns_kint::integer::integer;
 use ns_machine_core::state::Core;
 use ns_machine_frames::registers::Registers;
 use ns_machine_sends::sent::Sent;
+use ns_world::kernel_parts::{DataRow, IntRow};
+use ns_world::kernel_row::Row;
+use ns_world::kernel_table::row_of;
 use ns_world::lawful::charging_keeps_lawful;
 use ns_world::value::Value;
 use ns_world::world::World;
@@ -51,7 +51,12 @@ pub fn send_row(
 {
     let row = row_of(number);
     match row {
-        Row::Data(DataRow::ArrayPut) => send_put(code, core, at, sent, receiver, kind),
+        Row::Data(DataRow::ArrayPut) => {
+            match send_put(code, core, at, sent, receiver, kind) {
+                Some(to) => Some(to),
+                None => None,
+            }
+        }
         _ => send_to_row(code, core, at, sent, receiver, kind, row),
     }
 }
@@ -179,7 +184,7 @@ pub fn give(
 
 /// Stores an element of an Array by its row, where the arguments have no fault and a step is left.
 #[inline(always)]
-fn send_put(
+pub fn send_put(
     code: &CodeProgram,
     core: &mut Core,
     at: Registers,
@@ -189,7 +194,7 @@ fn send_put(
 ) -> Option<Registers>
     requires can { CanSend code.now core.old at sent receiver }
     requires finds { FindsRow code.now core.old sent receiver kind (Data ArrayPut) }
-    ensures { ChargesOrNot code.now core.old at sent receiver kind core.new result }
+    ensures { SendsOrNothing code.now core.old at sent receiver kind core.new result }
 {
     let first = argument(core.stack.from(at, sent.first), 0);
     match place_at(&core.run.world, receiver, first) {
@@ -213,7 +218,7 @@ fn charge_put(
     requires finds { FindsRow code.now core.old sent receiver kind (Data ArrayPut) }
     requires names { NamesPlace core.old at sent receiver place }
     requires below { place < length (items_of core.old.run.world.world.cells receiver) }
-    ensures { ChargesOrNot code.now core.old at sent receiver kind core.new result }
+    ensures { SendsOrNothing code.now core.old at sent receiver kind core.new result }
 {
     a_send_is_its_step_and_its_answer();
     charging_keeps_lawful();

@@ -8,7 +8,7 @@ ghost use Rattle.ns_machine_sends.specs.Sending.{CanSend, Sends};
 ghost use Rattle.ns_machine_quick.specs.Given.{ChargesOrNot};
 ghost use Rattle.ns_machine_quick.specs.Opening.{FindsGetter, FindsSetter, got_at, set_at};
 
-use ns_act::laws::a_send_is_its_step_and_its_answer;
+use ns_actions::answer_laws::a_send_is_its_step_and_its_answer;
 use ns_actions::finding::{entries_are_inside, what_is_found_suits};
 use ns_code::program::CodeProgram;
 use ns_find::found::Sending;

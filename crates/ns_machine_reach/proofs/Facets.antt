@@ -26,8 +26,8 @@ use Rattle.ns_kdata.specs.Outcome.{RowOutcome, Answers, Fails, making, unchanged
 use Rattle.ns_kdata.specs.Arguments.{items_of, shape_of_value, is_text, is_array, bytes_of, place_in}
 use Rattle.ns_world.specs.World.{stored}
 use Rattle.ns_world.specs.Layout.{declaration_of}
-use Rattle.ns_kernel.specs.declared.parts.FacetRow.{FacetRow}
-use Rattle.ns_kernel.specs.declared.parts.FacetRow.TheVariants as facet
+use Rattle.ns_world.specs.declared.kernel_parts.FacetRow.{FacetRow}
+use Rattle.ns_world.specs.declared.kernel_parts.FacetRow.TheVariants as facet
 use Rattle.ns_facets.specs.declared.board.Board.{Board}
 use Rattle.ns_facets.specs.declared.board.Plain.{Plain}
 use Rattle.ns_facets.specs.declared.board.Plain.TheVariants as plain
@@ -36,8 +36,8 @@ use Rattle.ns_facets.specs.Board as boards
 use Rattle.ns_facets.specs.Console as console
 use Rattle.ns_facets.specs.Platform.{cell_value, top_class, granted}
 use Rattle.ns_mirror.specs.declared.row.Mirrored.TheVariants.{Answer, Perform}
-use Rattle.ns_kernel.specs.declared.parts.MirrorRow.{MirrorRow}
-use Rattle.ns_kernel.specs.declared.parts.MirrorRow.TheVariants as mirrors
+use Rattle.ns_world.specs.declared.kernel_parts.MirrorRow.{MirrorRow}
+use Rattle.ns_world.specs.declared.kernel_parts.MirrorRow.TheVariants as mirrors
 use Rattle.ns_mirror.specs.Mirror.{Reflected, Reflects, Refuses, reflected, performed, perform, row_outcome}
 use Rattle.ns_mirror.specs.Looking as looking
 use Rattle.ns_mirror.specs.declared.slots.SlotPlace.{SlotPlace}

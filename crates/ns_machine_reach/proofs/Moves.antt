@@ -16,7 +16,7 @@ use Rattle.ns_world.specs.declared.cell.FacetKind.TheVariants.{Manifest}
 use Rattle.ns_world.specs.Cell.{FacetCell}
 use Rattle.ns_world.specs.Heap.{Heap, find_cell, shape_at, is_class, word_at, cell_number}
 use Rattle.ns_world.specs.World.{stepped, written}
-use Rattle.ns_kernel.specs.declared.parts.KMethod.{KMethod}
+use Rattle.ns_world.specs.declared.kernel_parts.KMethod.{KMethod}
 use Rattle.ns_kdata.specs.Arguments.{items_of}
 use Rattle.ns_find.specs.declared.found.Sending.TheVariants.{Inner}
 use Rattle.ns_actions.specs.declared.site.Site.{Site}

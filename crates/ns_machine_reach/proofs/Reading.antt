@@ -8,8 +8,8 @@ use Rattle.ns_world.specs.declared.value.Value.TheVariants.{Nil, True, False, In
 use Rattle.ns_world.specs.declared.cell.NewCell.{NewCell}
 use Rattle.ns_world.specs.declared.cell.NewCell.TheVariants as new
 use Rattle.ns_world.specs.declared.kernel.Start.TheVariants as start
-use Rattle.ns_kernel.specs.declared.class.KernelRow.{KernelRow}
-use Rattle.ns_kernel.specs.declared.class.KernelRow.TheVariants as row
+use Rattle.ns_world.specs.declared.kernel_class.KernelRow.{KernelRow}
+use Rattle.ns_world.specs.declared.kernel_class.KernelRow.TheVariants as row
 use Rattle.ns_world.specs.Cell.{Cell, ObjectCell, ClassCell, BlockCell, EnvironmentCell, ArrayCell, TextCell, FacetCell, MirrorCell, MessageCell, cell_words, shape_of}
 use Rattle.ns_world.specs.Heap.{Heap, heap_size, find_cell, chain_of, chain_at, chain_above, shape_at, words_at, word_at, superclass_in, superclass_of, declared_class, no_class}
 use Rattle.ns_world.specs.Starts.{start_of, start_of_cell, facet_row, kernel_class_row}

@@ -19,8 +19,8 @@ use Rattle.ns_world.specs.Booleans.{truth}
 use Rattle.ns_kdata.specs.Rows as rows
 use Rattle.ns_kdata.specs.Texts as texts
 use Rattle.ns_kdata.specs.Datum.{row_outcome}
-use Rattle.ns_kernel.specs.declared.parts.DataRow.{DataRow}
-use Rattle.ns_kernel.specs.declared.parts.DataRow.TheVariants as row
+use Rattle.ns_world.specs.declared.kernel_parts.DataRow.{DataRow}
+use Rattle.ns_world.specs.declared.kernel_parts.DataRow.TheVariants as row
 use Rattle.ns_actions.specs.Control.{Progress, in_world}
 use Rattle.ns_machine_reach.specs.Within.{HasLater, In, AllIn, CellIn, Kept}
 use Rattle.ns_machine_reach.proofs.Cells.{at_index, all_nil}

@@ -15,16 +15,16 @@ use Rattle.ns_world.specs.Heap.{Heap, heap_size, cell_number}
 use Rattle.ns_world.specs.World.{made, stored}
 use Rattle.ns_world.specs.Starts.{start_of}
 use Rattle.ns_kint.specs.Integer.{integer, is_integer_or_boolean}
-use Rattle.ns_kernel.specs.declared.parts.IntRow.{IntRow}
+use Rattle.ns_world.specs.declared.kernel_parts.IntRow.{IntRow}
 use Rattle.ns_kdata.specs.Arguments.{argument, number_of, shape_of_value}
 use Rattle.ns_kdata.specs.Outcome.{RowOutcome, Answers, Fails}
 use Rattle.ns_kdata.specs.Rows.{message_selector}
 use Rattle.ns_kdata.specs.Datum.{datum}
-use Rattle.ns_kernel.specs.declared.parts.DataRow.{DataRow}
-use Rattle.ns_kernel.specs.declared.parts.DataRow.TheVariants as about
+use Rattle.ns_world.specs.declared.kernel_parts.DataRow.{DataRow}
+use Rattle.ns_world.specs.declared.kernel_parts.DataRow.TheVariants as about
 use Rattle.ns_facets.specs.declared.board.Board.{Board}
-use Rattle.ns_kernel.specs.declared.parts.FacetRow.{FacetRow}
-use Rattle.ns_kernel.specs.declared.parts.FacetRow.TheVariants as facet
+use Rattle.ns_world.specs.declared.kernel_parts.FacetRow.{FacetRow}
+use Rattle.ns_world.specs.declared.kernel_parts.FacetRow.TheVariants as facet
 use Rattle.ns_facets.specs.Facet.{board_after, facet as facet_outcome}
 use Rattle.ns_mirror.specs.declared.row.Mirrored.TheVariants.{Answer, Perform as MirrorPerform}
 use Rattle.ns_mirror.specs.Mirror.{Reflected, Reflects, Refuses, mirror}
@@ -35,13 +35,13 @@ use Rattle.ns_find.specs.declared.found.Sending.TheVariants.{Plain, Inner}
 use Rattle.ns_find.specs.declared.members.Side.{Side}
 use Rattle.ns_find.specs.Find.{found_from, found_private, super_start}
 use Rattle.ns_classes.specs.Nested.{kept_class}
-use Rattle.ns_kernel.specs.declared.row.Row.{Row}
-use Rattle.ns_kernel.specs.declared.row.Row.TheVariants as row
+use Rattle.ns_world.specs.declared.kernel_row.Row.{Row}
+use Rattle.ns_world.specs.declared.kernel_row.Row.TheVariants as row
 use Rattle.ns_actions.specs.declared.site.Site.{Site}
 use Rattle.ns_actions.specs.Control.{Progress, in_world, Activation, FromMethod, Control, Enter, gives, halts, charged}
 use Rattle.ns_actions.specs.Bodies.{opened, enclosing, side_at, side_of_body}
 use Rattle.ns_actions.specs.Classes.{instance}
-use Rattle.ns_kernel.specs.Table.{row_at}
+use Rattle.ns_world.specs.KernelTable.{row_at}
 use Rattle.ns_actions.specs.Kernel as kernel
 use Rattle.ns_actions.specs.Suiting.{RowSuits, FoundSuits, facet_of_row}
 use Rattle.ns_actions.specs.Sends.{Target, To, ToPrivate, ToSuper, receiver_of, found_at, site_at, Arguments, Listed, Wrapped, given, first_of, one_more, method_entered, factory_entered, set, nested_in, row_sent, done_with, message_sel, not_found, answered_by, sent, sent_from}

@@ -6,7 +6,7 @@ use Rattle.ns_world.specs.declared.ending.Fault.{Fault}
 use Rattle.ns_world.specs.Lawful.{IsLawful}
 use Rattle.ns_world.specs.World.{World, WorldView, stepped}
 use Rattle.ns_world.specs.declared.ending.LimitKind.TheVariants.{Steps}
-use Rattle.ns_kernel.specs.declared.parts.KMethod.{KMethod}
+use Rattle.ns_world.specs.declared.kernel_parts.KMethod.{KMethod}
 use Rattle.ns_kcode.specs.declared.state.KState.{KState}
 use Rattle.ns_kcode.specs.declared.state.KAction.{KAction}
 use Rattle.ns_kcode.specs.declared.state.KAction.TheVariants as action
@@ -19,10 +19,10 @@ use Rattle.ns_actions.specs.Lawful.{LawfulRun, LawfulWaiting, LiveState}
 use Rattle.ns_machine_moves.specs.State.{Going, Pends, Evaluating}
 use Rattle.ns_machine_moves.specs.Arrivals.{acted_on}
 use Rattle.ns_machine_moves.specs.Move.{move}
-use Rattle.ns_act.specs.declared.methods.Waited.{Waited}
-use Rattle.ns_act.specs.declared.methods.Waited.TheVariants as waited
-use Rattle.ns_act.specs.Room.{SameRest}
-use Rattle.ns_act.specs.Waited.{waiting_shown}
+use Rattle.ns_actions.specs.declared.methods.Waited.{Waited}
+use Rattle.ns_actions.specs.declared.methods.Waited.TheVariants as waited
+use Rattle.ns_actions.specs.Room.{SameRest}
+use Rattle.ns_actions.specs.Waited.{waiting_shown}
 use Rattle.ns_machine_frames.specs.declared.frame.Frame.{Frame}
 use Rattle.ns_machine_frames.specs.declared.frame.Frame.TheVariants.{Looping}
 use Rattle.ns_machine_frames.specs.declared.frame.LoopingFrame.{LoopingFrame}

@@ -13,7 +13,7 @@ use Rattle.ns_actions.specs.Lawful.{LawfulRun, LawfulAfter, FitsExit}
 use Rattle.ns_actions.specs.Shown.{answer_shown}
 use Rattle.ns_machine_moves.specs.Returns.{settled, returned}
 use Rattle.ns_machine_moves.specs.WorldAsks.{CanLeave}
-use Rattle.ns_act.specs.Running.{activation_at}
+use Rattle.ns_actions.specs.Running.{activation_at}
 use Rattle.ns_machine_frames.specs.declared.frame.Leaving.{Leaving}
 use Rattle.ns_machine_frames.specs.declared.frame.Leaving.TheVariants as leaving
 use Rattle.ns_machine_frames.specs.declared.frame.RunningFrame.{RunningFrame}

@@ -21,6 +21,7 @@ use Rattle.ns_machine_core.specs.declared.state.Core.{Core}
 use Rattle.ns_machine_core.specs.declared.state.Next.{Next}
 use Rattle.ns_machine_core.specs.declared.state.Next.TheVariants as next
 use Rattle.ns_machine_core.specs.Shown.{phase_shown, progress_in}
+use Rattle.ns_machine_core.specs.Standing.{KeepsRightIn}
 use Rattle.ns_machine_core.specs.Framed.{HasRoomOnTop, answers, AnswersHaveRoom}
 use Rattle.ns_machine_core.specs.laws.Kept.{stays_on}
 use Rattle.ns_machine_returns.specs.Handing.{IsHanded}
@@ -71,17 +72,17 @@ pub still_live : (code : CodeProgram) (core : Core) (world : WorldView) (value :
 still_live code core world value live ended =
     subst (λ (w : World). IsLiveValue w.cells code value) (sym (given_back core world ended)) live
 
-pub answered : (code : CodeProgram) (core new : Core) (at here : Registers) (world : WorldView) (stack : Stack) (frame : RunningFrame) (value : Value) (n : Next)
-    → CanEnd code core at frame value → IsLeft core at world stack here
+pub answered : (code : CodeProgram) (core new : Core) (at here : Registers) (world : WorldView) (stack : Stack) (value : Value) (n : Next)
+    → KeepsRightIn code core core → IsLeft core at world stack here
     → ((rest : Progress) → in_world rest world.world ≡ frame_left (in_world rest core.run.world.world))
     → IsHanded code (over core world stack) here value new n → FrameIsAnswered code core at value new n
-answered code core new at here world stack frame value n can is ended handed = record {
+answered code core new at here world stack value n kept is ended handed = record {
   state = handed.state
       ∙ (ap (λ (s : List Stood). delivered code (phase_shown core.phase) value (frames_shown code core.places s) (progress_in (over core world stack))) is.stood
       ∙ ap (delivered code (phase_shown core.phase) value (frames_shown code core.places (below (stood core.stack at)))) (ended (progress_in core)));
   stand = handed.stand;
   stays = stays_on core (over core world stack) new (left_stays core at here world stack is) handed.stays;
-  kept = rw handed.run can.kept;
+  kept = rw handed.run kept;
 }
 
 pub method_ended : (code : CodeProgram) (old new : Core) (at : Registers) (frame : RunningFrame) (value : Value) (n : Next) →

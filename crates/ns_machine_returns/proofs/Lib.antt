@@ -2,6 +2,7 @@ pub mod Handed
 pub mod Concluded
 pub mod Left
 pub mod Ended
+pub mod Through
 pub mod Clauses
 pub mod Returned
 pub mod GivenBack

@@ -16,7 +16,7 @@ use Rattle.ns_actions.specs.Shown.{part_shown, locals_shown}
 use Rattle.ns_actions.specs.Shown as shows
 use Rattle.ns_machine_moves.specs.State.{State, Stuck}
 use Rattle.ns_machine_moves.specs.Arrivals.{part_arrived}
-use Rattle.ns_act.specs.Room.{SameRest}
+use Rattle.ns_actions.specs.Room.{SameRest}
 use Rattle.ns_machine_frames.specs.declared.frame.Frame.TheVariants.{Running}
 use Rattle.ns_machine_frames.specs.declared.frame.Activation.{Activation}
 use Rattle.ns_machine_frames.specs.declared.frame.RunningFrame.{RunningFrame}

@@ -9,7 +9,7 @@ use Rattle.ns_world.specs.World.{World, WorldView, left}
 use Rattle.ns_actions.specs.Control.{Progress, in_world}
 use Rattle.ns_machine_moves.specs.State.{Phase}
 use Rattle.ns_machine_moves.specs.Returns as returns
-use Rattle.ns_act.specs.Room.{SameRest}
+use Rattle.ns_actions.specs.Room.{SameRest}
 use Rattle.ns_machine_frames.specs.declared.frame.Frame.{Frame}
 use Rattle.ns_machine_frames.specs.declared.registers.Registers.{Registers}
 use Rattle.ns_machine_frames.specs.declared.stack.Stack.{Stack}

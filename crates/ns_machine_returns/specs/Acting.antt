@@ -9,9 +9,9 @@ use Rattle.ns_kcode.specs.declared.state.KState.{KState}
 use Rattle.ns_actions.specs.Blocks.{listed, method_next}
 use Rattle.ns_actions.specs.Lawful.{LiveState}
 use Rattle.ns_machine_moves.specs.State.{Pends, Evaluating}
-use Rattle.ns_act.specs.declared.methods.Waited.{Waited}
-use Rattle.ns_act.specs.Room.{SameRest}
-use Rattle.ns_act.specs.Stated.{WaitsAs}
+use Rattle.ns_actions.specs.declared.methods.Waited.{Waited}
+use Rattle.ns_actions.specs.Room.{SameRest}
+use Rattle.ns_actions.specs.StatedAnswers.{WaitsAs}
 use Rattle.ns_machine_frames.specs.declared.frame.Frame.{Frame}
 use Rattle.ns_machine_frames.specs.declared.frame.Frame.TheVariants.{Running, Looping}
 use Rattle.ns_machine_frames.specs.declared.frame.LoopingFrame.{LoopingFrame}

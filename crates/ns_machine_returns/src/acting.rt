@@ -2,7 +2,7 @@
 
 ghost use Rattle.std.specs.Prelude.{◌≡◌, ◌+◌, ◌<◌, ◌≤◌, ◌∷◌, ◌++◌, length};
 ghost use Rattle.ns_actions.specs.Blocks.{listed};
-ghost use Rattle.ns_act.specs.declared.methods.Waited.TheVariants as waited;
+ghost use Rattle.ns_actions.specs.declared.methods.Waited.TheVariants as waited;
 ghost use Rattle.ns_machine_frames.specs.declared.frame.Frame.TheVariants.{Looping};
 ghost use Rattle.ns_machine_frames.specs.Standing.{below};
 ghost use Rattle.ns_machine_frames.specs.Stack.{in_use, IsLaid, KeepsRoom};
@@ -13,9 +13,9 @@ ghost use Rattle.ns_machine_core.specs.Ready.{MakesMove};
 ghost use Rattle.ns_machine_returns.specs.Acting.{IsLooping, IsTopmost, CanAct, IsAsked, awaiting};
 
 use crate::handing::bring;
-use ns_act::methods::{Waited, method_next};
 use ns_actions::control::Answer;
 use ns_actions::laws::actions_keep_lawful;
+use ns_actions::methods::{Waited, method_next};
 use ns_code::program::CodeProgram;
 use ns_kcode::state::KState;
 use ns_machine_core::own::OwnSends;

@@ -12,8 +12,8 @@ ghost use Rattle.ns_machine_core.specs.Own.{AreOwn};
 ghost use Rattle.ns_machine_returns.specs.Ending.{CanEnd, IsEnded, FrameIsAnswered};
 
 use crate::handing::{bring, hand};
-use ns_act::bodies::part_ended;
-use ns_act::classes::body_ended;
+use ns_actions::bodies::part_ended;
+use ns_actions::classes::body_ended;
 use ns_actions::control::Exit;
 use ns_actions::laws::actions_keep_lawful;
 use ns_code::program::CodeProgram;

@@ -8,8 +8,8 @@ ghost use Rattle.ns_machine_core.specs.Doing.{IsSettled};
 ghost use Rattle.ns_machine_core.specs.Own.{AreOwn};
 ghost use Rattle.ns_machine_returns.specs.Handing.{CanTake, GivesLive, IsHanded};
 
-use ns_act::targets::class_of;
 use ns_actions::control::Answer;
+use ns_actions::targets::class_of;
 use ns_code::program::CodeProgram;
 use ns_machine_core::own::OwnSends;
 use ns_machine_core::settling::ending_at;

@@ -9,7 +9,7 @@ ghost use Rattle.ns_machine_core.specs.Arriving.{CanEnter};
 ghost use Rattle.ns_machine_core.specs.Doing.{CanDo, IsDone};
 ghost use Rattle.ns_machine_returns.specs.Parts.{part_call, listed, PartBegins};
 
-use ns_act::classes::super_part;
+use ns_actions::classes::super_part;
 use ns_actions::control::{Entered, Given, PartReached};
 use ns_actions::finding::enclosing_objects_are_there;
 use ns_actions::laws::{actions_keep_lawful, actions_spend_exactly, what_is_handed_on_fits};

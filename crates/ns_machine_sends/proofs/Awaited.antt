@@ -13,7 +13,7 @@ use Rattle.ns_machine_moves.specs.Arrivals.{arrived}
 use Rattle.ns_machine_moves.specs.State.{Pends, Evaluating}
 use Rattle.ns_machine_moves.specs.Move.{move}
 use Rattle.ns_machine_moves.specs.Valid.{Valid}
-use Rattle.ns_act.specs.declared.run.Run.{Run}
+use Rattle.ns_actions.specs.declared.run.Run.{Run}
 use Rattle.ns_machine_frames.specs.declared.frame.Pending.{Pending}
 use Rattle.ns_machine_frames.specs.View.{site_shown}
 use Rattle.ns_machine_core.specs.declared.state.Next.{Next}

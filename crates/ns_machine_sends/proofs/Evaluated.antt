@@ -28,8 +28,8 @@ use Rattle.ns_actions.specs.Lawful.{LawfulRun, LawfulControl}
 use Rattle.ns_actions.specs.Fitting.{GoesOnAt, home_in, Asks, HandsOn}
 use Rattle.ns_actions.specs.Spending.{Spends}
 use Rattle.ns_machine_moves.specs.Arrivals.{arrived}
-use Rattle.ns_act.specs.declared.run.Run.{Run}
-use Rattle.ns_act.specs.Room.{SameRest}
+use Rattle.ns_actions.specs.declared.run.Run.{Run}
+use Rattle.ns_actions.specs.Room.{SameRest}
 use Rattle.ns_machine_frames.specs.View.{site_shown}
 use Rattle.ns_machine_core.specs.declared.state.Next.{Next}
 use Rattle.ns_machine_core.specs.Shown.{phase_shown, progress_in}

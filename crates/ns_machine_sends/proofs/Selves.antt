@@ -12,8 +12,8 @@ use Rattle.ns_actions.specs.Sends.{ToSuper, sent}
 use Rattle.ns_machine_moves.specs.Arrivals.{arrived}
 use Rattle.ns_machine_moves.specs.State.{State, Stuck}
 use Rattle.ns_machine_moves.specs.WorldAsks.{SelectorTakes}
-use Rattle.ns_act.specs.declared.running.Running.{Running as RunningCode}
-use Rattle.ns_act.specs.Running.{code_of}
+use Rattle.ns_actions.specs.declared.running.Running.{Running as RunningCode}
+use Rattle.ns_actions.specs.Running.{code_of}
 use Rattle.ns_machine_frames.specs.declared.frame.Frame.TheVariants.{Running}
 use Rattle.ns_machine_frames.specs.declared.frame.RunningFrame.{RunningFrame}
 use Rattle.ns_machine_frames.specs.declared.registers.Registers.{Registers}

@@ -6,12 +6,12 @@ use Rattle.ns_find.specs.declared.found.Found.{Found}
 use Rattle.ns_actions.specs.Control.{Activation}
 use Rattle.ns_actions.specs.Sends.{Target}
 use Rattle.ns_actions.specs.Suiting.{FoundSuits}
-use Rattle.ns_act.specs.declared.run.Run.{Run}
-use Rattle.ns_act.specs.declared.sends.Answered.{Answered}
-use Rattle.ns_act.specs.declared.sends.Answered.TheVariants as answers
-use Rattle.ns_act.specs.Answered.{answered_shown, answered, IsAnswered}
-use Rattle.ns_act.specs.Room.{SameRest}
-use Rattle.ns_act.specs.Run.{progress_of, IsReady}
+use Rattle.ns_actions.specs.declared.run.Run.{Run}
+use Rattle.ns_actions.specs.declared.sends.Answered.{Answered}
+use Rattle.ns_actions.specs.declared.sends.Answered.TheVariants as answers
+use Rattle.ns_actions.specs.Answered.{answered_shown, answered, IsAnswered}
+use Rattle.ns_actions.specs.Room.{SameRest}
+use Rattle.ns_actions.specs.Run.{progress_of, IsReady}
 use Rattle.ns_machine_frames.specs.declared.registers.Registers.{Registers}
 use Rattle.ns_machine_frames.specs.View.{site_shown}
 use Rattle.ns_machine_core.specs.declared.state.Core.{Core}

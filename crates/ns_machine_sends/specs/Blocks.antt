@@ -10,9 +10,9 @@ use Rattle.ns_actions.specs.declared.control.Exit.TheVariants as exit
 use Rattle.ns_actions.specs.declared.control.Given.TheVariants as given
 use Rattle.ns_actions.specs.declared.control.Reached.TheVariants as reached
 use Rattle.ns_actions.specs.Blocks.{block_entered}
-use Rattle.ns_act.specs.declared.running.Running.{Running}
-use Rattle.ns_act.specs.Room.{SameRest}
-use Rattle.ns_act.specs.Stated.{ReachesAs}
+use Rattle.ns_actions.specs.declared.running.Running.{Running}
+use Rattle.ns_actions.specs.Room.{SameRest}
+use Rattle.ns_actions.specs.StatedAnswers.{ReachesAs}
 use Rattle.ns_machine_frames.specs.declared.registers.Registers.{Registers}
 use Rattle.ns_machine_core.specs.declared.state.Core.{Core}
 use Rattle.ns_machine_core.specs.declared.state.Next.TheVariants as next

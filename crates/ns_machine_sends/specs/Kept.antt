@@ -6,12 +6,12 @@ use Rattle.ns_world.specs.declared.value.Value.{Value}
 use Rattle.ns_world.specs.Lawful.{IsLawful, IsLiveValue}
 use Rattle.ns_actions.specs.declared.control.Reached.{Reached}
 use Rattle.ns_actions.specs.Control.{Control}
-use Rattle.ns_kernel.specs.Table.{row_at}
+use Rattle.ns_world.specs.KernelTable.{row_at}
 use Rattle.ns_actions.specs.Suiting.{RowSuits}
-use Rattle.ns_act.specs.declared.sends.Answered.{Answered}
-use Rattle.ns_act.specs.declared.sends.Answered.TheVariants as answers
-use Rattle.ns_act.specs.Answered.{answered_shown}
-use Rattle.ns_act.specs.Plain.{IsPlain}
+use Rattle.ns_actions.specs.declared.sends.Answered.{Answered}
+use Rattle.ns_actions.specs.declared.sends.Answered.TheVariants as answers
+use Rattle.ns_actions.specs.Answered.{answered_shown}
+use Rattle.ns_actions.specs.Plain.{IsPlain}
 use Rattle.ns_machine_frames.specs.View.{site_shown}
 use Rattle.ns_machine_core.specs.declared.state.Core.{Core}
 use Rattle.ns_machine_core.specs.Shown.{progress_in}

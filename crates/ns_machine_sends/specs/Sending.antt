@@ -9,7 +9,7 @@ use Rattle.ns_actions.specs.Lawful.{FitsSelector}
 use Rattle.ns_actions.specs.Sends.{Target}
 use Rattle.ns_actions.specs.Sends as sends
 use Rattle.ns_machine_moves.specs.Arrivals.{arrived}
-use Rattle.ns_act.specs.Answered.{answered}
+use Rattle.ns_actions.specs.Answered.{answered}
 use Rattle.ns_machine_frames.specs.declared.registers.Registers.{Registers}
 use Rattle.ns_machine_frames.specs.Stack.{stood, with_top}
 use Rattle.ns_machine_frames.specs.View.{site_shown, frames_shown}

@@ -6,7 +6,7 @@ ghost use Rattle.ns_code.specs.declared.own.Own.TheVariants.{DoesNotUnderstand};
 ghost use Rattle.ns_code.specs.Selector.{own_number};
 ghost use Rattle.ns_actions.specs.Lawful.{FitsActivation, declaration_at};
 ghost use Rattle.ns_actions.specs.Sends.{ToPrivate, ToSuper, receiver_of};
-ghost use Rattle.ns_act.specs.Running.{code_of};
+ghost use Rattle.ns_actions.specs.Running.{code_of};
 ghost use Rattle.ns_machine_core.specs.Doing.{CanDo, IsDone};
 ghost use Rattle.ns_machine_core.specs.Own.{AreOwn};
 ghost use Rattle.ns_machine_sends.specs.Going.{ControlGoesOn};
@@ -14,15 +14,15 @@ ghost use Rattle.ns_machine_sends.specs.Sending.{CanSend, looked_up, sent_at, Se
 
 use crate::going::go_on;
 use crate::sent::Sent;
-use ns_act::enclosing::enclosing;
-use ns_act::laws::a_send_is_its_step_and_its_answer;
-use ns_act::running::Running;
-use ns_act::targets::class_of;
+use ns_actions::answer_laws::a_send_is_its_step_and_its_answer;
+use ns_actions::enclosing::enclosing;
 use ns_actions::finding::enclosing_objects_are_there;
 use ns_actions::laws::{
     actions_spend_exactly, rows_that_are_found_suit, sends_keep_lawful, sites_stay,
     what_is_handed_on_fits,
 };
+use ns_actions::running::Running;
+use ns_actions::targets::class_of;
 use ns_base::selector::Sel;
 use ns_code::program::CodeProgram;
 use ns_machine_core::own::OwnSends;
@@ -112,7 +112,7 @@ fn look_above(
 {
     rows_that_are_found_suit();
     let arguments = core.stack.from(at, sent.first);
-    let answered = ns_act::targets::send_super(
+    let answered = ns_actions::targets::send_super(
         &mut core.run,
         code,
         own,
@@ -222,7 +222,7 @@ fn look_around(
 {
     rows_that_are_found_suit();
     let arguments = core.stack.from(at, sent.first);
-    let answered = ns_act::targets::send_private(
+    let answered = ns_actions::targets::send_private(
         &mut core.run,
         code,
         own,

@@ -12,17 +12,17 @@ use crate::ending::{fail, refuse};
 use crate::entering::{enter_kept, enter_reached};
 use crate::evaluating::{wait_for, wait_for_kept};
 use crate::sent::Sent;
-use ns_act::targets::class_of;
 use ns_actions::control::Reached;
+use ns_actions::targets::class_of;
 use ns_base::selector::Sel;
 use ns_code::program::CodeProgram;
 use ns_kcode::state::KState;
-use ns_kernel::parts::KMethod;
 use ns_machine_core::arriving::begin;
 use ns_machine_core::settling::settle;
 use ns_machine_core::state::{Core, Next};
 use ns_machine_frames::frame::{KeptSite, LoopingFrame, Pending};
 use ns_machine_frames::registers::Registers;
+use ns_world::kernel_parts::KMethod;
 use ns_world::value::Value;
 
 /// Brings a value to the body that runs.

@@ -11,11 +11,11 @@ ghost use Rattle.ns_machine_sends.specs.Waiting.{BlockWaits, IsWaiting, with_blo
 use crate::entering::enter_shaped;
 use crate::opening::{has_room, open_block};
 use crate::sent::Sent;
-use ns_act::running::Running;
 use ns_actions::control::Exit;
 use ns_actions::laws::{
     actions_spend_exactly, sends_keep_lawful, sites_stay, what_is_handed_on_fits,
 };
+use ns_actions::running::Running;
 use ns_code::program::CodeProgram;
 use ns_machine_core::arriving::shape_of;
 use ns_machine_core::state::Core;

@@ -5,7 +5,7 @@ ghost use Rattle.ns_actions.specs.declared.control.Given.TheVariants as given;
 ghost use Rattle.ns_actions.specs.declared.control.Reached.TheVariants as reached;
 ghost use Rattle.ns_actions.specs.Bodies.{has_environment};
 ghost use Rattle.ns_actions.specs.Shown.{passed};
-ghost use Rattle.ns_act.specs.Plain.{IsOwnGiven};
+ghost use Rattle.ns_actions.specs.Plain.{IsOwnGiven};
 ghost use Rattle.ns_machine_core.specs.declared.state.Next.TheVariants as next;
 ghost use Rattle.ns_machine_core.specs.Arriving as spec;
 ghost use Rattle.ns_machine_core.specs.Arriving.{Arrives};

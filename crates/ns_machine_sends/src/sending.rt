@@ -12,8 +12,8 @@ ghost use Rattle.ns_machine_sends.specs.Sending.{CanSend, looked_up, sent_at, Se
 
 use crate::going::go_on;
 use crate::sent::Sent;
-use ns_act::answering::{answered_by, found_of};
-use ns_act::laws::a_send_is_its_step_and_its_answer;
+use ns_actions::answer_laws::a_send_is_its_step_and_its_answer;
+use ns_actions::answering::{answered_by, found_of};
 use ns_actions::finding::what_is_found_suits;
 use ns_actions::laws::{
     actions_spend_exactly, rows_that_are_found_suit, sends_keep_lawful, sites_stay,

@@ -8,7 +8,7 @@ ghost use Rattle.ns_machine_sends.specs.Operands.{SendsOperands, SendsToTop};
 
 use crate::sending::send_to;
 use crate::sent::Sent;
-use ns_act::targets::class_of;
+use ns_actions::targets::class_of;
 use ns_base::selector::Sel;
 use ns_code::program::CodeProgram;
 use ns_find::found::Sending;

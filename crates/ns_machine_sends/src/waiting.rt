@@ -83,7 +83,7 @@ fn enter_block(code: &CodeProgram, core: &mut Core, at: Registers, sent: Sent, b
     actions_spend_exactly();
     sites_stay();
     let arguments = core.stack.from(at, sent.first);
-    let reached = ns_act::blocks::evaluate(&mut core.run.world, code, block, arguments);
+    let reached = ns_actions::blocks::evaluate(&mut core.run.world, code, block, arguments);
     arrive_in(code, core, at, sent, reached)
 }
 
@@ -105,7 +105,7 @@ fn enter_block_kept(
     actions_spend_exactly();
     sites_stay();
     let arguments = core.arguments.as_slice();
-    let reached = ns_act::blocks::evaluate(&mut core.run.world, code, block, arguments);
+    let reached = ns_actions::blocks::evaluate(&mut core.run.world, code, block, arguments);
     arrive_kept(code, core, at, sent, reached)
 }
 

@@ -4,7 +4,7 @@ ghost use Rattle.std.specs.Prelude.{◌∷◌, ◌≤◌, [], length, IsTrue, Op
 ghost use Rattle.ns_world.specs.Cell.{fresh};
 ghost use Rattle.ns_world.specs.Heap.{has_superclass};
 ghost use Rattle.ns_actions.specs.Start.{facet_if, facets_of, top_if, tops_of, standing_cells};
-ghost use Rattle.ns_act.specs.Room.{HasCellRoom};
+ghost use Rattle.ns_actions.specs.Room.{HasCellRoom};
 ghost use Rattle.ns_machine_start.specs.Making.{CellsAreMade};
 
 use ns_code::class::ClassCode;

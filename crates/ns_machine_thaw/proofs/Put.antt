@@ -5,7 +5,7 @@ use Rattle.std.specs.Option.{is_some}
 use Rattle.ns_base.specs.declared.place.Place.{Place as SourcePlace}
 use Rattle.ns_code.specs.declared.program.CodeProgram.{CodeProgram}
 use Rattle.ns_actions.specs.declared.site.Site.{Site}
-use Rattle.ns_act.specs.declared.run.Run.{Run}
+use Rattle.ns_actions.specs.declared.run.Run.{Run}
 use Rattle.ns_machine_moves.specs.State as run
 use Rattle.ns_machine_moves.specs.State.{State, Pends}
 use Rattle.ns_frozen.specs.declared.frame.FrozenFrame.{FrozenFrame}

@@ -12,8 +12,8 @@ use Rattle.ns_world.specs.declared.ending.LimitKind.TheVariants.{Cells, Steps, D
 use Rattle.ns_world.specs.Heap.{Heap, heap_size}
 use Rattle.ns_world.specs.Lawful.{IsLawful}
 use Rattle.ns_world.specs.World.{World, WorldView, SameRoom}
-use Rattle.ns_act.specs.declared.run.Run.{Run}
-use Rattle.ns_act.specs.Run as act
+use Rattle.ns_actions.specs.declared.run.Run.{Run}
+use Rattle.ns_actions.specs.Run as act
 use Rattle.ns_actions.specs.Bodies.{greatest_of}
 use Rattle.ns_actions.specs.Blocks.{is_block}
 use Rattle.ns_actions.specs.Control.{Progress}

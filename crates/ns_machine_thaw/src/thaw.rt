@@ -1,7 +1,7 @@
 //! A whole state, put back.
 
 ghost use Rattle.std.specs.Prelude.{◌≡◌, ◌+◌, ◌<◌, ◌≤◌, length};
-ghost use Rattle.ns_act.specs.Room.{HasCellRoom};
+ghost use Rattle.ns_actions.specs.Room.{HasCellRoom};
 ghost use Rattle.ns_actions.specs.Start.{standing_cells};
 ghost use Rattle.ns_frozen.specs.Fault.{IsValid};
 ghost use Rattle.ns_frozen.specs.Laws.{CanStand};
@@ -20,7 +20,7 @@ use crate::arguments::arguments_in;
 use crate::standing::put_standing;
 use crate::thawed::Thawed;
 use crate::world::put_world;
-use ns_act::run::Run;
+use ns_actions::run::Run;
 use ns_code::program::CodeProgram;
 use ns_frozen::frozen::Frozen;
 use ns_frozen::laws::valid_states_thaw;

@@ -29,7 +29,7 @@ use Rattle.ns_machine_frames.specs.Standing.{at_next}
 use Rattle.ns_machine_frames.specs.Stack.{stood, with_top}
 use Rattle.ns_machine_frames.specs.View.{site_shown, frames_shown, state_shown}
 use Rattle.ns_find.specs.Memo.{PlaceIsRight}
-use Rattle.ns_act.specs.declared.run.Run.{Run}
+use Rattle.ns_actions.specs.declared.run.Run.{Run}
 use Rattle.ns_machine_core.specs.declared.state.Core.{Core}
 use Rattle.ns_machine_core.specs.declared.state.Next.{Next}
 use Rattle.ns_machine_core.specs.declared.state.Next.TheVariants as next

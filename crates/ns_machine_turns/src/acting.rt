@@ -11,9 +11,8 @@ ghost use Rattle.ns_machine_turns.specs.Looping.{BlockStands, LoopsBy};
 ghost use Rattle.ns_machine_turns.specs.Turning.{RunsBy, HasGone};
 
 use crate::laws::moves_go_along;
-use ns_act::methods::Waited;
+use ns_actions::methods::Waited;
 use ns_code::program::CodeProgram;
-use ns_kernel::parts::KMethod;
 use ns_machine_core::own::OwnSends;
 use ns_machine_core::state::{Core, Next};
 use ns_machine_frames::frame::{LoopingFrame, Pending};
@@ -25,6 +24,7 @@ use ns_machine_returns::laws::topmost_methods_can_act;
 use ns_machine_sends::blocks::enter_at_once;
 use ns_machine_sends::sent::Sent;
 use ns_machine_sends::waiting::evaluate_at_once;
+use ns_world::kernel_parts::KMethod;
 use ns_world::value::Value;
 
 /// Does the next action of the method of the kernel that is topmost, and evaluates its block at once where a step is left: the

@@ -17,7 +17,7 @@ ghost use Rattle.ns_machine_turns.specs.Prepared.{IsPrepared, IsPreparedToRun};
 ghost use Rattle.ns_machine_turns.specs.Charging as spec;
 
 use crate::fetching::fetch;
-use ns_act::running::parameters;
+use ns_actions::running::parameters;
 use ns_code::program::CodeProgram;
 use ns_kcode::next::next as next_action;
 use ns_kcode::state::KAction;

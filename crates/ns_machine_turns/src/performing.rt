@@ -2,6 +2,7 @@
 
 ghost use Rattle.std.specs.Prelude.{◌≡◌, Some, slice_get};
 ghost use Rattle.ns_code.specs.declared.instruction.Instr.TheVariants as instr;
+ghost use Rattle.ns_machine_plan.specs.Arrays.{row_of_send as array_row_of_send};
 ghost use Rattle.ns_machine_plan.specs.Booleans.{method_of_send};
 ghost use Rattle.ns_machine_plan.specs.Integers.{row_of_send};
 ghost use Rattle.ns_machine_plan.specs.Packed.{EntryIsThere, step_in};
@@ -13,7 +14,6 @@ ghost use Rattle.ns_machine_quick.specs.Opening.{IsMemberAbove};
 ghost use Rattle.ns_machine_turns.specs.Above.{HasMemberAbove};
 
 use ns_code::program::CodeProgram;
-use ns_kernel::parts::{IntRow, KMethod};
 use ns_machine_core::blocks::push_block;
 use ns_machine_core::leaping::{jump, jump_false, jump_true};
 use ns_machine_core::led::{Led, led_on, led_straight};
@@ -28,12 +28,14 @@ use ns_machine_core::taking::{pick, pop};
 use ns_machine_frames::registers::Registers;
 use ns_machine_plan::kept_step::KeptStep;
 use ns_machine_plan::packed::{Packed, PrivateSend, ValueSend};
+use ns_machine_quick::arrays::send_array;
 use ns_machine_quick::booleans::send_boolean;
 use ns_machine_quick::giving::send;
 use ns_machine_quick::integers::send_integer;
 use ns_machine_quick::private::send_private;
 use ns_machine_returns::answering::{return_self, return_value};
 use ns_machine_returns::unwinding::return_home;
+use ns_world::kernel_parts::{DataRow, IntRow, KMethod};
 
 /// Does a step, behind which the registers stand, where it is one of those that are taken most; else nothing is done. Those that
 /// lead straight on come first.
@@ -83,9 +85,12 @@ pub fn perform(
         Packed::SendBoolean { method, send } => {
             send_to_boolean(code, core, at, tables.send(*send), *method)
         }
+        Packed::SendArray { row, send } => {
+            send_to_array(code, core, at, tables.send(*send), *row)
+        }
         Packed::SendPrivate(send) => send_around(code, core, at, tables.private(*send)),
-        Packed::Return => led_on(return_value(code, core, at)),
-        Packed::ReturnSelf => led_on(return_self(code, core, at)),
+        Packed::Return => return_value(code, core, at),
+        Packed::ReturnSelf => return_self(code, core, at),
         Packed::ReturnHome => led_on(return_home(code, core, at)),
         _ => Led::Nowhere,
     }
@@ -136,6 +141,28 @@ fn send_to_boolean(
         Led::On(to) => Led::On(to),
         Led::Answered(to) => Led::Answered(to),
         Led::Nowhere => send_found(code, core, at, send),
+    }
+}
+
+/// The same by a row of Array.
+#[inline(always)]
+fn send_to_array(
+    code: &CodeProgram,
+    core: &mut Core,
+    at: Registers,
+    send: &ValueSend,
+    row: DataRow,
+) -> Led
+    requires can { CanDo code.now core.old at (send_instr send.now.kind send.now.sel send.now.argc) }
+    requires row { array_row_of_send code.now send.now.sel ≡ Some row }
+    ensures { LeadsOrChangesNothing code.now (send_instr send.now.kind send.now.sel send.now.argc)
+        (slice_get core.old.places send.now.place) core.old at core.new result }
+{
+    match send_array(
+        code, core, at, send.sel, send.argc, send.kind, send.place, row,
+    ) {
+        Some(to) => Led::Charged(to),
+        None => send_found(code, core, at, send),
     }
 }
 

@@ -3,7 +3,7 @@
 ghost use Rattle.ns_code.specs.declared.program.CodeProgram.{CodeProgram};
 ghost use Rattle.ns_world.specs.declared.value.Value.{Value};
 ghost use Rattle.ns_world.specs.World.{World};
-ghost use Rattle.ns_kernel.specs.declared.parts.MirrorRow.{MirrorRow};
+ghost use Rattle.ns_world.specs.declared.kernel_parts.MirrorRow.{MirrorRow};
 ghost use Rattle.ns_mirror.specs.Mirror.{row_outcome};
 ghost use Rattle.ns_mirror.specs.Leading.{ReflectsOn};
 ghost use Rattle.ns_mirror.specs.Stated.{MirrorsAreLive, MirrorsKeepLawful};

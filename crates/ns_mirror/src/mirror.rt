@@ -18,9 +18,9 @@ use ns_base::selector::Sel;
 use ns_code::program::CodeProgram;
 use ns_kdata::arguments::{argument, array_size, is_array, wrong_kind};
 use ns_kdata::making::make_cell;
-use ns_kernel::parts::MirrorRow;
 use ns_world::cell::NewCell;
 use ns_world::ending::{Fault, Kind};
+use ns_world::kernel_parts::MirrorRow;
 use ns_world::value::{Value, cell_number};
 use ns_world::world::World;
 

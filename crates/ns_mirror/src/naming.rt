@@ -8,9 +8,9 @@ ghost use Rattle.ns_mirror.specs.Naming as spec;
 
 use ns_code::program::CodeProgram;
 use ns_kdata::making::make_text;
-use ns_kernel::class::KernelRow;
 use ns_world::ending::Fault;
 use ns_world::kernel::ClassName;
+use ns_world::kernel_class::KernelRow;
 use ns_world::value::Value;
 use ns_world::world::World;
 

@@ -43,7 +43,7 @@ use Rattle.ns_actions.specs.Bodies.{enclosing, side_at, environment_out, is_besi
 use Rattle.ns_actions.specs.Classes.{class_made, keeping, newly_kept, kept_or, class_over, head, nested, instance, factory_selector, super_selector}
 use Rattle.ns_actions.specs.Classes.{declared_part, part_of, super_part, slot_filled, body_ended}
 use Rattle.ns_actions.specs.Blocks.{block_entered}
-use Rattle.ns_kernel.specs.Table.{row_at}
+use Rattle.ns_world.specs.KernelTable.{row_at}
 use Rattle.ns_actions.specs.Sends.{Target, To, ToPrivate, ToSuper, receiver_of, found_at, site_at, Arguments, Listed, Wrapped, given, one_more}
 use Rattle.ns_actions.specs.Sends.{method_entered, factory_entered, nested_in, done_with, message_sel, not_found, answered_by, sent, sent_from}
 use Rattle.ns_actions.specs.Sends.{sent_plain}

@@ -17,7 +17,7 @@ use Rattle.ns_world.specs.Cell.{Cell, TextCell, cell_size}
 use Rattle.ns_world.specs.Heap.{Heap, heap_size, has_superclass, is_ordered}
 use Rattle.ns_world.specs.World.{World, made}
 use Rattle.ns_facets.specs.declared.row.Grants.{Grants}
-use Rattle.ns_kernel.specs.declared.parts.KMethod.{KMethod}
+use Rattle.ns_world.specs.declared.kernel_parts.KMethod.{KMethod}
 use Rattle.ns_kcode.specs.Rows.{beginning}
 use Rattle.ns_actions.specs.declared.site.Site.{Site}
 use Rattle.ns_actions.specs.Control.{Progress, in_world, After, Gives, Halts}

@@ -9,8 +9,8 @@ use Rattle.ns_code.specs.declared.class.SlotCode.{SlotCode}
 use Rattle.ns_world.specs.declared.value.Value.{Value}
 use Rattle.ns_world.specs.declared.kernel.Start.{Start}
 use Rattle.ns_world.specs.declared.kernel.Start.TheVariants.{Instance, ClassSide as SideStart, Kernel}
-use Rattle.ns_kernel.specs.declared.class.KernelRow.{KernelRow}
-use Rattle.ns_kernel.specs.declared.class.KernelRow.TheVariants as row
+use Rattle.ns_world.specs.declared.kernel_class.KernelRow.{KernelRow}
+use Rattle.ns_world.specs.declared.kernel_class.KernelRow.TheVariants as row
 use Rattle.ns_world.specs.Heap.{Heap, chain_of, chain_above, superclass_of, word_at}
 use Rattle.ns_world.specs.Layout.{declaration_of, entries_of, entries_along, entries_above, layout_of, entry_word}
 use Rattle.ns_classes.specs.Nested.{nested_entry, kept_in, kept_class}

@@ -6,8 +6,8 @@ use Rattle.ns_world.specs.declared.value.Value.TheVariants.{Nil, True, False, In
 use Rattle.ns_world.specs.declared.ending.LimitKind.TheVariants.{Steps}
 use Rattle.ns_world.specs.World.{World, stepped}
 use Rattle.ns_kdata.specs.Arguments.{items_of}
-use Rattle.ns_kernel.specs.declared.parts.KMethod.{KMethod}
-use Rattle.ns_kernel.specs.declared.parts.KMethod.TheVariants as method
+use Rattle.ns_world.specs.declared.kernel_parts.KMethod.{KMethod}
+use Rattle.ns_world.specs.declared.kernel_parts.KMethod.TheVariants as method
 use Rattle.ns_kcode.specs.declared.state.KState.{KState}
 use Rattle.ns_kcode.specs.declared.state.KAction.{KAction}
 use Rattle.ns_kcode.specs.declared.state.KAction.TheVariants as action

@@ -17,18 +17,18 @@ use Rattle.ns_world.specs.Heap.{Heap, chain_of, cell_number}
 use Rattle.ns_world.specs.Starts.{class_name_of}
 use Rattle.ns_world.specs.Layout.{declaration_of}
 use Rattle.ns_world.specs.World.{World}
-use Rattle.ns_kernel.specs.declared.parts.DataRow.{DataRow}
-use Rattle.ns_kernel.specs.declared.parts.DataRow.TheVariants as data_row
+use Rattle.ns_world.specs.declared.kernel_parts.DataRow.{DataRow}
+use Rattle.ns_world.specs.declared.kernel_parts.DataRow.TheVariants as data_row
 use Rattle.ns_kdata.specs.Outcome.{Answers, making, unchanged}
 use Rattle.ns_kdata.specs.Arguments.{argument, symbol_text, shape_of_value}
 use Rattle.ns_world.specs.Booleans.{truth}
 use Rattle.ns_kdata.specs.Texts.{is_before}
 use Rattle.ns_kdata.specs.Rows.{symbol_less}
-use Rattle.ns_kernel.specs.declared.parts.FacetRow.{FacetRow}
-use Rattle.ns_kernel.specs.declared.parts.FacetRow.TheVariants as facet
+use Rattle.ns_world.specs.declared.kernel_parts.FacetRow.{FacetRow}
+use Rattle.ns_world.specs.declared.kernel_parts.FacetRow.TheVariants as facet
 use Rattle.ns_facets.specs.Console.{printing}
-use Rattle.ns_kernel.specs.declared.parts.MirrorRow.{MirrorRow}
-use Rattle.ns_kernel.specs.declared.parts.MirrorRow.TheVariants as mirror_row
+use Rattle.ns_world.specs.declared.kernel_parts.MirrorRow.{MirrorRow}
+use Rattle.ns_world.specs.declared.kernel_parts.MirrorRow.TheVariants as mirror_row
 use Rattle.ns_mirror.specs.declared.slots.Entry.{Entry}
 use Rattle.ns_mirror.specs.declared.slots.SlotPlace.{SlotPlace}
 use Rattle.ns_mirror.specs.Looking.{mirrored, object_class}
@@ -37,8 +37,8 @@ use Rattle.ns_mirror.specs.Slots.{declared_slots, slot_symbols, slot_names_along
 use Rattle.ns_mirror.specs.Slots.{read_slot, write_slot, slot, slot_put}
 use Rattle.ns_mirror.specs.Selectors.{public_selectors, methods_of_shape}
 use Rattle.ns_mirror.specs.Mirror.{reflected, perform, mirror}
-use Rattle.ns_kernel.specs.declared.row.Row.{Row}
-use Rattle.ns_kernel.specs.declared.row.Row.TheVariants as row
+use Rattle.ns_world.specs.declared.kernel_row.Row.{Row}
+use Rattle.ns_world.specs.declared.kernel_row.Row.TheVariants as row
 use Rattle.ns_actions.specs.declared.site.Site.{Site}
 use Rattle.ns_classes.specs.Apply.{class_fault}
 use Rattle.ns_actions.specs.Control.{Progress, Gives, Now, gives}

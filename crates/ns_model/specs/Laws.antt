@@ -8,8 +8,8 @@ use Rattle.ns_code.specs.declared.program.CodeProgram.{CodeProgram}
 use Rattle.ns_world.specs.declared.value.Value.{Value}
 use Rattle.ns_world.specs.declared.value.Value.TheVariants.{Int}
 use Rattle.ns_world.specs.Heap.{is_ordered}
-use Rattle.ns_kernel.specs.declared.parts.KMethod.{KMethod}
-use Rattle.ns_kernel.specs.declared.parts.KMethod.TheVariants as method
+use Rattle.ns_world.specs.declared.kernel_parts.KMethod.{KMethod}
+use Rattle.ns_world.specs.declared.kernel_parts.KMethod.TheVariants as method
 use Rattle.ns_kcode.specs.Rows.{beginning}
 use Rattle.ns_actions.specs.declared.site.Site.{Site}
 use Rattle.ns_actions.specs.Control.{Progress, After, Gives, Halts, Control, Begin}

@@ -1,5 +1,5 @@
 -- Worked examples of what expressions and programs mean.
-use Rattle.std.specs.Prelude.{◌≡◌, ℕ, List, [], ◌∷◌, Option, Some, None, codes, false, true, ◌+◌, pos}
+use Rattle.std.specs.Prelude.{◌≡◌, ℕ, List, [], ◌∷◌, Option, Some, None, codes, false, ◌+◌, pos}
 use Rattle.std.proofs.Common.{refl}
 use Rattle.ns_base.specs.declared.place.Place.{Place}
 use Rattle.ns_tree.specs.declared.tree.Named.{Named}
@@ -13,6 +13,7 @@ use Rattle.ns_scope.specs.Scopes.{class_scope, method_scope, block_scope}
 use Rattle.ns_resolved.specs.Program as m
 use Rattle.ns_resolved.specs.Expressions.{Standing, expr_node}
 use Rattle.ns_resolved.specs.Classes.{meant_of}
+use Rattle.ns_resolved.specs.Worked.{at_column, expected, sent}
 
 -- ---- words for small trees
 
@@ -35,17 +36,10 @@ method access name at expr =
     p.member_with [] access (p.method_member (p.method_with (p.pattern_with (named name at ∷ []) []) p.no_bars
     (p.statements_with (p.more_statements (p.statement_with (Some (at + 3)) expr) p.no_statements) false)))
 
--- the place of a token, which stands in the column of its number
-abbrev pub at_column : ℕ → Place
-at_column n = record { file = 0; line = 1; col = n }
-
 abbrev marks : List Place
 marks =
     at_column 0 ∷ at_column 1 ∷ at_column 2 ∷ at_column 3 ∷ at_column 4 ∷ at_column 5 ∷ at_column 6 ∷ at_column 7 ∷ at_column 8
     ∷ at_column 9 ∷ at_column 10 ∷ at_column 11 ∷ at_column 12 ∷ at_column 13 ∷ at_column 14 ∷ at_column 15 ∷ []
-
-abbrev pub sent : List ℕ → ℕ → m.Sent
-sent selector n = record { selector = selector; place = at_column n }
 
 -- ---- a class in a class
 -- class W of: x = () (who = (^'outer') class In = Base (private own = (^[who])))
@@ -128,57 +122,6 @@ blocks_in_turn : expr_node (standing_in in_block) 7 (alone 0 (p.tuple (p.more_ex
 blocks_in_turn = refl
 
 -- ---- the whole
-
--- a body without parameters, locals and blocks
-abbrev plain_body : ℕ → m.Does → m.Body
-plain_body class does =
-    record { side = side.Instance; class = class; parent = None; params = 0; locals = []; environment = false; does = does }
-
-abbrev bare_initialiser : ℕ → m.Does
-bare_initialiser n = m.as_initialiser (record { place = at_column n; arguments = m.no_nodes; slots = []; expressions = [] })
-
--- what the file with that class means
-abbrev pub expected : m.Meant
-expected =
-    record {
-      files = codes "W.ns" ∷ [];
-      classes =
-          record {
-            name = codes "W";
-            outer = None;
-            factory = codes "of:";
-            params = 1;
-            clause = None;
-            initialiser = 0;
-            super_selector = codes "new";
-            slots = [];
-            nested = record { class = 1; access = a.Protected } ∷ [];
-            methods = record { selector = codes "who"; access = a.Protected; body = 1 } ∷ [];
-            side_methods = [];
-          }
-          ∷ record {
-            name = codes "In";
-            outer = Some 0;
-            factory = codes "new";
-            params = 0;
-            clause = Some 2;
-            initialiser = 3;
-            super_selector = codes "new";
-            slots = [];
-            nested = [];
-            methods = record { selector = codes "own"; access = a.Private; body = 4 } ∷ [];
-            side_methods = [];
-          }
-          ∷ [];
-      bodies =
-          record (plain_body 0 (bare_initialiser 1)) { params = 1; locals = codes "x" ∷ [] }
-          ∷ plain_body 0 (m.as_method [] (m.return (m.text (codes "outer")) ∷ []))
-          ∷ plain_body 0 (m.as_clause (m.send_to m.own (sent (codes "Base") 10) m.no_nodes))
-          ∷ plain_body 1 (bare_initialiser 8)
-          ∷ record (plain_body 1 (m.as_method [] (m.return (m.block 5) ∷ []))) { environment = true }
-          ∷ record (plain_body 1 (m.as_block [] (m.evaluate (m.send_to (m.enclosing 1) (sent (codes "who") 14) m.no_nodes) ∷ []))) { parent = Some 4 }
-          ∷ [];
-    }
 
 program_is_meant : meant_of (codes "W.ns" ∷ []) (p.unit_with false None outer ∷ []) (marks ∷ []) ≡ expected
 program_is_meant = refl

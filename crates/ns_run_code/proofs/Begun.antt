@@ -5,7 +5,7 @@ use Rattle.ns_code.specs.declared.instruction.Instr.{Instr}
 use Rattle.ns_code.specs.declared.instruction.Instr.TheVariants as i
 use Rattle.ns_code.specs.declared.program.CodeProgram.{CodeProgram}
 use Rattle.ns_find.specs.declared.found.Sending.TheVariants.{Inner}
-use Rattle.ns_kernel.specs.declared.parts.KMethod.{KMethod}
+use Rattle.ns_world.specs.declared.kernel_parts.KMethod.{KMethod}
 use Rattle.ns_kdata.specs.Arguments.{items_of}
 use Rattle.ns_machine_moves.specs.Arrivals.{arrived, part_arrived, acted_on}
 use Rattle.ns_machine_moves.specs.Instructions.{executed}

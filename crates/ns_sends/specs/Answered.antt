@@ -8,8 +8,8 @@ use Rattle.ns_code.specs.declared.class.ClassCode.{ClassCode}
 use Rattle.ns_code.specs.declared.class.SlotCode.{SlotCode}
 use Rattle.ns_code.specs.declared.class.MethodCode.{MethodCode}
 use Rattle.ns_code.specs.Selector.{selector_text}
-use Rattle.ns_kernel.specs.declared.class.KernelRow.{KernelRow}
-use Rattle.ns_kernel.specs.Table.{classes, row_called}
+use Rattle.ns_world.specs.declared.kernel_class.KernelRow.{KernelRow}
+use Rattle.ns_world.specs.KernelTable.{classes, row_called}
 
 -- a slot by its name, and where it can be set by that with a colon
 abbrev pub slot_texts : CodeProgram → SlotCode → List (List ℕ)

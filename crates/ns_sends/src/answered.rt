@@ -2,7 +2,7 @@
 
 ghost use Rattle.std.specs.Prelude.{◌≡◌, ◌++◌, ◌∷◌, [], IfOk, OnOk, is_some, flat_map, map};
 ghost use Rattle.std.specs.List.{list_any};
-ghost use Rattle.ns_kernel.specs.Table.{row_called};
+ghost use Rattle.ns_world.specs.KernelTable.{row_called};
 ghost use Rattle.ns_sends.specs.Answered as spec;
 ghost use Rattle.ns_sends.specs.Texts.{put_text, put_texts};
 
@@ -11,9 +11,9 @@ use ns_base::no_memory::NoMemory;
 use ns_base::text::Text;
 use ns_code::class::{ClassCode, MethodCode, SlotCode};
 use ns_code::program::CodeProgram;
-use ns_kernel::class::KernelRow;
-use ns_kernel::table::row_called;
 use ns_scope::table::Table;
+use ns_world::kernel_class::KernelRow;
+use ns_world::kernel_table::row_called;
 use std::alloc::Global;
 use std::marker::Model;
 

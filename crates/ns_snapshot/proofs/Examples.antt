@@ -2,7 +2,7 @@
 use Rattle.std.specs.Prelude.{◌≡◌, [], ◌∷◌, ◌++◌, None, Err, pos}
 use Rattle.std.proofs.Common.{refl}
 use Rattle.ns_world.specs.declared.value.Value.TheVariants.{Nil, Int, Sym, Ref}
-use Rattle.ns_kernel.specs.declared.class.KernelRow.TheVariants as row
+use Rattle.ns_world.specs.declared.kernel_class.KernelRow.TheVariants as row
 use Rattle.ns_world.specs.declared.kernel.ClassName.TheVariants as name
 use Rattle.ns_frozen.specs.declared.cell.CellData.TheVariants as held
 use Rattle.ns_image.specs.Read.{got, truncated, bad}

@@ -5,10 +5,10 @@ ghost use Rattle.ns_snapshot.specs.Fields as spec;
 
 use ns_image::fault::Fault;
 use ns_image::read::input::Input;
-use ns_kernel::class::KernelRow;
-use ns_kernel::parts::KMethod;
 use ns_world::cell::FacetKind;
 use ns_world::ending::{Kind, LimitKind};
+use ns_world::kernel_class::KernelRow;
+use ns_world::kernel_parts::KMethod;
 use ns_world::value::KClass;
 
 /// A class object of the kernel.

@@ -16,7 +16,7 @@ use ns_base::no_memory::NoMemory;
 use ns_frozen::frame::{FrameKind, FrozenFrame};
 use ns_image_write::write::output::{put_long, put_word};
 use ns_kcode::state::KState;
-use ns_kernel::parts::KMethod;
+use ns_world::kernel_parts::KMethod;
 
 /// The state of a method of the kernel.
 impl Part for KState {

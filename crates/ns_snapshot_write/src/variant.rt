@@ -5,10 +5,10 @@ ghost use Rattle.ns_image.specs.Bytes as image;
 ghost use Rattle.ns_snapshot.specs.Bytes as spec;
 ghost use Rattle.ns_world.specs.Seek.{facet_number};
 
-use ns_kernel::class::KernelRow;
-use ns_kernel::parts::KMethod;
 use ns_world::cell::FacetKind;
 use ns_world::ending::{Kind, LimitKind};
+use ns_world::kernel_class::KernelRow;
+use ns_world::kernel_parts::KMethod;
 use ns_world::value::KClass;
 
 /// That of a class object of the kernel.

@@ -4,11 +4,11 @@
 #![tactic(auto)]
 
 mod around;
-mod chains;
+pub mod chains;
 mod classes;
 pub mod fault;
 pub mod faults;
-mod heights;
+pub mod heights;
 mod instructions;
 pub mod laws;
 mod tables;

@@ -7,7 +7,7 @@ use Rattle.ns_world.specs.declared.value.Value.TheVariants.{Nil, True, False, In
 use Rattle.ns_world.specs.declared.cell.NewCell.TheVariants.{Mirror}
 use Rattle.ns_world.specs.declared.kernel.Start.{Start}
 use Rattle.ns_world.specs.declared.kernel.Start.TheVariants as start
-use Rattle.ns_kernel.specs.declared.class.KernelRow.TheVariants as row
+use Rattle.ns_world.specs.declared.kernel_class.KernelRow.TheVariants as row
 use Rattle.ns_world.specs.declared.kernel.ClassName.TheVariants as name
 use Rattle.ns_world.specs.Cell.{Cell, shape_of, cell_bytes}
 use Rattle.ns_world.specs.Heap.{find_cell, is_class, is_chain_start, chain_of, bytes_at, no_class}

@@ -1,3 +1,6 @@
+pub mod KernelPlaced
+pub mod KernelStanding
+mod KernelExamples
 pub mod Packing
 pub mod LaidOut
 pub mod Standing

@@ -1,3 +1,5 @@
+pub mod KernelShown
+pub mod KernelTable
 pub mod Booleans
 pub mod Cell
 pub mod Heap

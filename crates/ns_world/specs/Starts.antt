@@ -4,8 +4,8 @@ use Rattle.ns_world.specs.declared.value.Value.{Value}
 use Rattle.ns_world.specs.declared.value.Value.TheVariants.{Nil, True, False, Int, Sym, Kernel, Ref}
 use Rattle.ns_world.specs.declared.value.KClass.{KClass}
 use Rattle.ns_world.specs.declared.value.KClass.TheVariants.{Object, Array}
-use Rattle.ns_kernel.specs.declared.class.KernelRow.{KernelRow}
-use Rattle.ns_kernel.specs.declared.class.KernelRow.TheVariants as row
+use Rattle.ns_world.specs.declared.kernel_class.KernelRow.{KernelRow}
+use Rattle.ns_world.specs.declared.kernel_class.KernelRow.TheVariants as row
 use Rattle.ns_world.specs.declared.kernel.Start.{Start}
 use Rattle.ns_world.specs.declared.kernel.Start.TheVariants as start
 use Rattle.ns_world.specs.declared.kernel.ClassName.{ClassName}

@@ -6,9 +6,9 @@ ghost use Rattle.ns_world.specs.Starts.{kernel_class_row, facet_row};
 
 use crate::cell::FacetKind;
 use crate::kernel::Start;
+use crate::kernel_class::KernelRow;
 use crate::value::KClass;
 use ns_base::selector::Sel;
-use ns_kernel::class::KernelRow;
 
 /// The kind and the size of a cell, and the numbers that stand beside them.
 #[derive(Clone, Copy)]

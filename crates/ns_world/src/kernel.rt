@@ -1,6 +1,6 @@
 //! Where a lookup starts, and the names of classes.
 
-use ns_kernel::class::KernelRow;
+use crate::kernel_class::KernelRow;
 
 /// Where a lookup starts: at the instance side of a class, at the class side of one, with its
 /// factory or without, or at the rows of a kernel class.

@@ -20,12 +20,12 @@ use crate::head::{
 };
 use crate::heap::Heap;
 use crate::kernel::{ClassName, NO_CLASS, Start};
+use crate::kernel_class::KernelRow;
 use crate::lay::{size_of_cell, text_words};
 use crate::seek::Sought;
 use crate::value::Value;
 use ns_base::limits::Limits;
 use ns_base::no_memory::NoMemory;
-use ns_kernel::class::KernelRow;
 use std::alloc::Global;
 use std::marker::Model;
 

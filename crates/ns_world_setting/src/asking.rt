@@ -16,12 +16,12 @@ use ns_find::find::{find, find_private, super_start};
 use ns_find::found::{Found, Sending};
 use ns_find::memo::{Memo, find_kept};
 use ns_kdata::datum::datum;
-use ns_kernel::class::KernelRow;
-use ns_kernel::parts::{DataRow, FacetRow, MirrorRow};
 use ns_mirror::mirror::mirror;
 use ns_mirror::row::Mirrored;
 use ns_world::ending::Fault;
 use ns_world::kernel::Start;
+use ns_world::kernel_class::KernelRow;
+use ns_world::kernel_parts::{DataRow, FacetRow, MirrorRow};
 use ns_world::value::Value;
 
 /// What a row of data answers.

@@ -8,10 +8,10 @@ ghost use Rattle.ns_world_setting.specs.Ready.{WorldIsReady};
 use ns_base::selector::Sel;
 use ns_find::found::{Found, Sending};
 use ns_find::memo::Memo;
-use ns_kernel::class::KernelRow;
-use ns_kernel::parts::{DataRow, FacetRow, IntRow, KMethod, MirrorRow};
-use ns_kernel::row::Row;
-use ns_kernel::table::row_of;
+use ns_world::kernel_class::KernelRow;
+use ns_world::kernel_parts::{DataRow, FacetRow, IntRow, KMethod, MirrorRow};
+use ns_world::kernel_row::Row;
+use ns_world::kernel_table::row_of;
 use ns_world::value::{KClass, Value};
 use ns_world_setting::asking::{
     ask_kept_lookup, ask_kernel_lookup, ask_lookup, ask_private, ask_super_lookup,

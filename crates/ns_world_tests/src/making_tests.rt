@@ -6,10 +6,10 @@ ghost use Rattle.ns_world_setting.specs.Program.{program_code as the_code};
 ghost use Rattle.ns_world_setting.specs.Ready.{WorldIsReady};
 
 use ns_base::selector::Sel;
-use ns_kernel::parts::DataRow;
 use ns_world::cell::NewCell;
 use ns_world::ending::{Fault, Kind, LimitKind};
 use ns_world::kernel::NO_CLASS;
+use ns_world::kernel_parts::DataRow;
 use ns_world::value::Value::{Int, Sym};
 use ns_world::value::{KClass, Value};
 use ns_world_setting::asking::ask_datum;

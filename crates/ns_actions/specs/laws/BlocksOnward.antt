@@ -15,7 +15,7 @@ use Rattle.ns_world.specs.Later.{IsLater, MayCome}
 use Rattle.ns_world.specs.laws.Leading.{later_same, later_made}
 use Rattle.ns_kdata.specs.Leading.{is_common}
 use Rattle.ns_kdata.specs.Arguments.{is_array, items_of, shape_of_value}
-use Rattle.ns_kernel.specs.declared.parts.KMethod.{KMethod}
+use Rattle.ns_world.specs.declared.kernel_parts.KMethod.{KMethod}
 use Rattle.ns_kcode.specs.declared.state.KState.{KState}
 use Rattle.ns_kcode.specs.declared.state.KAction.{KAction}
 use Rattle.ns_kcode.specs.declared.state.KAction.TheVariants as action

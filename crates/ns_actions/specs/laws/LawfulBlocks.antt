@@ -17,7 +17,7 @@ use Rattle.ns_world.specs.World.{World, stepped, entered}
 use Rattle.ns_world.specs.Lawful.{IsLawful, IsLiveValue, IsEnvironmentOrNil, FitsBody, FitsEnvironment, BlockIsLawful, environment_in, is_environment}
 use Rattle.ns_kdata.specs.Arguments.{is_array, items_of}
 use Rattle.ns_kdata.specs.laws.LivingItems.{items_live}
-use Rattle.ns_kernel.specs.declared.parts.KMethod.{KMethod}
+use Rattle.ns_world.specs.declared.kernel_parts.KMethod.{KMethod}
 use Rattle.ns_kcode.specs.Rows.{beginning}
 use Rattle.ns_actions.specs.declared.site.Site.{Site}
 use Rattle.ns_actions.specs.Control.{Progress, in_world, Activation, FromBody, Control, Enter, Evaluate, Begin, halts, fails, charged}

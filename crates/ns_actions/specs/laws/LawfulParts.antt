@@ -17,8 +17,8 @@ use Rattle.ns_world.specs.Layout.{declaration_of}
 use Rattle.ns_world.specs.Lawful.{IsLiveValue}
 use Rattle.ns_kdata.specs.Arguments.{items_of}
 use Rattle.ns_kdata.specs.laws.LivingItems.{get_live, items_live}
-use Rattle.ns_kernel.specs.declared.parts.KMethod.{KMethod}
-use Rattle.ns_kernel.specs.declared.parts.KMethod.TheVariants as method
+use Rattle.ns_world.specs.declared.kernel_parts.KMethod.{KMethod}
+use Rattle.ns_world.specs.declared.kernel_parts.KMethod.TheVariants as method
 use Rattle.ns_kcode.specs.declared.state.KState.{KState}
 use Rattle.ns_kcode.specs.declared.state.KAction.{KAction}
 use Rattle.ns_kcode.specs.declared.state.KAction.TheVariants as action

@@ -32,7 +32,7 @@ use Rattle.ns_actions.specs.declared.site.Site.{Site}
 use Rattle.ns_actions.specs.Control.{Progress, in_world, Activation, FromMethod, Control, Enter, halts, charged}
 use Rattle.ns_actions.specs.Bodies.{enclosing, side_of_body, side_at}
 use Rattle.ns_actions.specs.Sends.{Target, To, ToPrivate, ToSuper, Arguments, Listed, Wrapped, given, first_of, one_more, method_entered, factory_entered, set, nested_in, done_with, not_found, answered_by, sent, sent_plain, site_at, performed}
-use Rattle.ns_kernel.specs.Table.{row_at}
+use Rattle.ns_world.specs.KernelTable.{row_at}
 use Rattle.ns_actions.specs.Lawful.{LawfulRun, LawfulControl, FitsSelector, FitsTarget, declaration_of_body, declaration_at}
 use Rattle.ns_actions.specs.laws.Growing.{step_cells}
 use Rattle.ns_actions.specs.laws.Onward.{charged_all}

@@ -29,9 +29,9 @@ use Rattle.ns_actions.specs.lemmas.Running.{found_runs}
 use Rattle.ns_actions.specs.lemmas.RowsSuit.{value_suits}
 use Rattle.ns_actions.specs.lemmas.SitesStay.{FewOf, FewFound, answered_at}
 use Rattle.ns_actions.specs.lemmas.RowsFew.{RowFew, FoundFew, from_few}
-use Rattle.ns_kernel.specs.Table.{row_at}
-use Rattle.ns_kernel.specs.declared.row.Row.{Row}
-use Rattle.ns_kernel.specs.declared.row.Row.TheVariants as row
+use Rattle.ns_world.specs.KernelTable.{row_at}
+use Rattle.ns_world.specs.declared.kernel_row.Row.{Row}
+use Rattle.ns_world.specs.declared.kernel_row.Row.TheVariants as row
 use Rattle.ns_find.specs.declared.found.Found.TheVariants as found
 use Rattle.ns_actions.specs.lemmas.Fitting.{stepped_fits}
 

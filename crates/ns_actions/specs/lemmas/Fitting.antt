@@ -56,29 +56,29 @@ use Rattle.ns_find.specs.declared.found.Found.TheVariants as found
 use Rattle.ns_find.specs.declared.found.Sending.TheVariants.{Inner}
 use Rattle.ns_find.specs.Find.{found_from}
 use Rattle.ns_kint.specs.Integer.{integer}
-use Rattle.ns_kernel.specs.declared.parts.DataRow.{DataRow}
-use Rattle.ns_kernel.specs.declared.parts.DataRow.TheVariants as values
+use Rattle.ns_world.specs.declared.kernel_parts.DataRow.{DataRow}
+use Rattle.ns_world.specs.declared.kernel_parts.DataRow.TheVariants as values
 use Rattle.ns_kdata.specs.Outcome.{RowOutcome, Answers, Fails}
 use Rattle.ns_kdata.specs.Arguments.{argument, number_of, items_of, is_array}
 use Rattle.ns_kdata.specs.Rows.{message_selector}
 use Rattle.ns_kdata.specs.Datum.{datum}
-use Rattle.ns_kernel.specs.declared.parts.FacetRow.{FacetRow}
-use Rattle.ns_kernel.specs.declared.parts.FacetRow.TheVariants as facet
+use Rattle.ns_world.specs.declared.kernel_parts.FacetRow.{FacetRow}
+use Rattle.ns_world.specs.declared.kernel_parts.FacetRow.TheVariants as facet
 use Rattle.ns_facets.specs.Facet.{facet as facet_outcome, board_after}
 use Rattle.ns_mirror.specs.declared.row.Mirrored.TheVariants.{Answer, Perform}
 use Rattle.ns_mirror.specs.Looking.{mirrored}
 use Rattle.ns_mirror.specs.Mirror.{Reflected, Reflects, Refuses, mirror}
-use Rattle.ns_kernel.specs.declared.parts.KMethod.{KMethod}
-use Rattle.ns_kernel.specs.declared.parts.KMethod.TheVariants as method
+use Rattle.ns_world.specs.declared.kernel_parts.KMethod.{KMethod}
+use Rattle.ns_world.specs.declared.kernel_parts.KMethod.TheVariants as method
 use Rattle.ns_kcode.specs.Rows.{beginning}
-use Rattle.ns_kernel.specs.declared.row.Row.{Row}
-use Rattle.ns_kernel.specs.declared.row.Row.TheVariants as row
+use Rattle.ns_world.specs.declared.kernel_row.Row.{Row}
+use Rattle.ns_world.specs.declared.kernel_row.Row.TheVariants as row
 use Rattle.ns_actions.specs.declared.site.Site.{Site}
 use Rattle.ns_actions.specs.Control.{Perform as WaitsToPerform, Progress, in_world, Activation, Exit, FromMethod, FromBody, FromClause, Control, Now, Enter, Evaluate, Begin, halts, fails, charged}
 use Rattle.ns_actions.specs.Bodies.{has_environment, first_locals, parameters_of, initialiser_of, clause_of, no_home, opened}
 use Rattle.ns_actions.specs.Classes.{head, nested, instance}
 use Rattle.ns_actions.specs.Blocks.{value_with_arguments, has_arguments, turns_of, method_begun}
-use Rattle.ns_kernel.specs.Table.{row_at}
+use Rattle.ns_world.specs.KernelTable.{row_at}
 use Rattle.ns_actions.specs.Kernel.{outcome_reached, answer_reached, reflected_reached, facet_reached, message_refused, data_reached, row_reached}
 use Rattle.ns_actions.specs.Sends.{Arguments, Listed, Wrapped, given, one_more, method_entered, factory_entered, set, nested_in, done_with, not_found, answered_by}
 use Rattle.ns_code.specs.Selector.{own_number, selector_arity}

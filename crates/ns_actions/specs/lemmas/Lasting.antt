@@ -19,8 +19,8 @@ use Rattle.ns_world.specs.laws.Lawfully.{body_stays}
 use Rattle.ns_world.specs.laws.Lasting.{keeps_of, shape_lasts, declaration_lasts}
 use Rattle.ns_find.specs.Belonging.{HasNested}
 use Rattle.ns_kdata.specs.Arguments.{shape_of_value, is_array, is_array_shape, array_size_in, array_items, items_of}
-use Rattle.ns_kernel.specs.declared.parts.KMethod.{KMethod}
-use Rattle.ns_kernel.specs.declared.parts.KMethod.TheVariants as method
+use Rattle.ns_world.specs.declared.kernel_parts.KMethod.{KMethod}
+use Rattle.ns_world.specs.declared.kernel_parts.KMethod.TheVariants as method
 use Rattle.ns_actions.specs.Control.{Activation, Exit, FromMethod, FromBody, FromClause}
 use Rattle.ns_actions.specs.Blocks.{is_block, is_block_shape, is_integer, are_blocks, has_arguments}
 use Rattle.ns_actions.specs.Fitting.{belongs_to}

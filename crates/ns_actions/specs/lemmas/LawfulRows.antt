@@ -14,13 +14,13 @@ use Rattle.ns_world.specs.Cell.{Cell, ObjectCell, ClassCell, BlockCell, Environm
 use Rattle.ns_world.specs.Heap.{Heap, find_cell, cell_number}
 use Rattle.ns_world.specs.World.{World}
 use Rattle.ns_world.specs.Lawful.{IsLawful, IsLiveValue}
-use Rattle.ns_kernel.specs.declared.parts.IntRow.{IntRow}
-use Rattle.ns_kernel.specs.declared.parts.IntRow.TheVariants as int
+use Rattle.ns_world.specs.declared.kernel_parts.IntRow.{IntRow}
+use Rattle.ns_world.specs.declared.kernel_parts.IntRow.TheVariants as int
 use Rattle.ns_kint.specs.Division.{floored_quotient, floored_remainder}
 use Rattle.ns_kint.specs.Integer.{is_integer, integer_of, divisor_of, fitting, given, on_bits, integer, same_integer}
 use Rattle.ns_world.specs.Booleans.{truth}
-use Rattle.ns_kernel.specs.declared.parts.DataRow.{DataRow}
-use Rattle.ns_kernel.specs.declared.parts.DataRow.TheVariants as values
+use Rattle.ns_world.specs.declared.kernel_parts.DataRow.{DataRow}
+use Rattle.ns_world.specs.declared.kernel_parts.DataRow.TheVariants as values
 use Rattle.ns_kdata.specs.Outcome.{RowOutcome, Answers, Fails}
 use Rattle.ns_kdata.specs.Arguments.{argument, number_of}
 use Rattle.ns_kdata.specs.Rows.{message_selector}
@@ -30,8 +30,8 @@ use Rattle.ns_kdata.specs.Lawful.{LeavesLawful}
 use Rattle.ns_kdata.specs.laws.Living.{rows_live}
 use Rattle.ns_kdata.specs.laws.Lawful.{rows_lawful}
 use Rattle.ns_kdata.specs.laws.LivingItems.{get_live}
-use Rattle.ns_kernel.specs.declared.parts.FacetRow.{FacetRow}
-use Rattle.ns_kernel.specs.declared.parts.FacetRow.TheVariants as facet
+use Rattle.ns_world.specs.declared.kernel_parts.FacetRow.{FacetRow}
+use Rattle.ns_world.specs.declared.kernel_parts.FacetRow.TheVariants as facet
 use Rattle.ns_facets.specs.Facet.{facet as facet_outcome, board_after}
 use Rattle.ns_facets.specs.laws.Living.{rows_live as facets_live}
 use Rattle.ns_facets.specs.laws.Lawful.{rows_lawful as facets_lawful}
@@ -42,8 +42,8 @@ use Rattle.ns_mirror.specs.Living.{ReflectsLive}
 use Rattle.ns_mirror.specs.Lawful.{ReflectsLawful}
 use Rattle.ns_mirror.specs.laws.Living.{rows_live as mirrors_live}
 use Rattle.ns_mirror.specs.laws.Lawful.{rows_lawful as mirrors_lawful}
-use Rattle.ns_kernel.specs.declared.row.Row.{Row}
-use Rattle.ns_kernel.specs.declared.row.Row.TheVariants as row
+use Rattle.ns_world.specs.declared.kernel_row.Row.{Row}
+use Rattle.ns_world.specs.declared.kernel_row.Row.TheVariants as row
 use Rattle.ns_actions.specs.declared.site.Site.{Site}
 use Rattle.ns_actions.specs.Control.{Progress}
 use Rattle.ns_actions.specs.Kernel.{outcome_reached, answer_reached, reflected_reached, facet_reached, message_refused, data_reached, row_reached}

@@ -6,8 +6,8 @@ use Rattle.ns_code.specs.declared.class.ClassCode.{ClassCode}
 use Rattle.ns_code.specs.declared.class.SlotCode.{SlotCode}
 use Rattle.ns_code.specs.declared.class.NestedCode.{NestedCode}
 use Rattle.ns_code.specs.declared.class.MethodCode.{MethodCode}
-use Rattle.ns_kernel.specs.declared.class.KernelRow.{KernelRow}
-use Rattle.ns_kernel.specs.declared.class.KernelRow.TheVariants as row
+use Rattle.ns_world.specs.declared.kernel_class.KernelRow.{KernelRow}
+use Rattle.ns_world.specs.declared.kernel_class.KernelRow.TheVariants as row
 use Rattle.ns_world.specs.declared.kernel.Start.{Start}
 use Rattle.ns_world.specs.declared.kernel.Start.TheVariants as start
 use Rattle.ns_world.specs.Heap.{Heap, chain_of}
@@ -21,12 +21,12 @@ use Rattle.ns_find.specs.declared.members.Side.{Side}
 use Rattle.ns_find.specs.declared.members.Side.TheVariants.{Instance as InstanceSide, Class as ClassSide}
 use Rattle.ns_find.specs.Members.{Numbered, slots_members, nested_members, method_members, side_members, holder_members, members_along, factory_member}
 use Rattle.ns_code.specs.Access.{public_access}
-use Rattle.ns_kernel.specs.Table.{first_of, row_at}
+use Rattle.ns_world.specs.KernelTable.{first_of, row_at}
 use Rattle.ns_find.specs.Rows.{top_rows, kernel_rows}
 use Rattle.ns_find.specs.Find.{members_from, found_from}
 use Rattle.ns_find.specs.laws.Named.{EachNamed, named_append, search_named}
-use Rattle.ns_kernel.specs.declared.row.Row.{Row}
-use Rattle.ns_kernel.specs.declared.row.Row.TheVariants as answer
+use Rattle.ns_world.specs.declared.kernel_row.Row.{Row}
+use Rattle.ns_world.specs.declared.kernel_row.Row.TheVariants as answer
 use Rattle.std.proofs.Common.{◌≤◌, ap, arith}
 use Rattle.std.specs.Prelude.{codes}
 use Rattle.std.specs.Str.{bytes_eq}

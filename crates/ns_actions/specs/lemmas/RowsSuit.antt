@@ -13,8 +13,8 @@ use Rattle.ns_world.specs.declared.cell.FacetKind.TheVariants as kinds
 use Rattle.ns_world.specs.declared.value.KClass.{KClass}
 use Rattle.ns_world.specs.declared.value.KClass.TheVariants as kernel
 use Rattle.ns_world.specs.declared.cell.NewCell.TheVariants as new
-use Rattle.ns_kernel.specs.declared.class.KernelRow.{KernelRow}
-use Rattle.ns_kernel.specs.declared.class.KernelRow.TheVariants as row
+use Rattle.ns_world.specs.declared.kernel_class.KernelRow.{KernelRow}
+use Rattle.ns_world.specs.declared.kernel_class.KernelRow.TheVariants as row
 use Rattle.ns_world.specs.declared.kernel.Start.{Start}
 use Rattle.ns_world.specs.declared.kernel.Start.TheVariants as start
 use Rattle.ns_world.specs.Cell.{Cell, ObjectCell, ClassCell, BlockCell, EnvironmentCell, ArrayCell, TextCell, FacetCell, MirrorCell, MessageCell, shape_of}
@@ -30,7 +30,7 @@ use Rattle.ns_find.specs.declared.members.Side.{Side}
 use Rattle.ns_find.specs.declared.members.Side.TheVariants.{Instance as InstanceSide, Class as ClassSide}
 use Rattle.ns_find.specs.Members.{Numbered, slots_members, nested_members, method_members, side_members, holder_members, members_along, factory_member}
 use Rattle.ns_code.specs.Access.{public_access}
-use Rattle.ns_kernel.specs.Table.{first_of}
+use Rattle.ns_world.specs.KernelTable.{first_of}
 use Rattle.ns_find.specs.Rows.{top_rows, kernel_rows}
 use Rattle.ns_find.specs.Find.{members_from, found_from, found_private, super_start}
 use Rattle.ns_find.specs.laws.Named.{EachNamed, named_append, search_named}

@@ -13,8 +13,8 @@ use Rattle.ns_kdata.specs.Arguments.{is_text, bytes_of}
 use Rattle.ns_kdata.specs.Lawful.{LeavesLawful}
 use Rattle.ns_kdata.specs.laws.Leaving.{unchanged_lawful}
 use Rattle.ns_facets.specs.declared.board.Board.{Board}
-use Rattle.ns_kernel.specs.declared.parts.FacetRow.{FacetRow}
-use Rattle.ns_kernel.specs.declared.parts.FacetRow.TheVariants as row
+use Rattle.ns_world.specs.declared.kernel_parts.FacetRow.{FacetRow}
+use Rattle.ns_world.specs.declared.kernel_parts.FacetRow.TheVariants as row
 use Rattle.ns_facets.specs.Board.{board_at, board_put}
 use Rattle.ns_facets.specs.Console.{printed_as, printed_bytes, printed_text, printing}
 use Rattle.ns_facets.specs.Facet.{row_outcome}

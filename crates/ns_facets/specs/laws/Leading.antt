@@ -9,8 +9,8 @@ use Rattle.ns_world.specs.World.{World, printed}
 use Rattle.ns_kdata.specs.Outcome.{Fails, wrong_kind}
 use Rattle.ns_kdata.specs.Arguments.{is_text, bytes_of}
 use Rattle.ns_facets.specs.declared.board.Board.{Board}
-use Rattle.ns_kernel.specs.declared.parts.FacetRow.{FacetRow}
-use Rattle.ns_kernel.specs.declared.parts.FacetRow.TheVariants as row
+use Rattle.ns_world.specs.declared.kernel_parts.FacetRow.{FacetRow}
+use Rattle.ns_world.specs.declared.kernel_parts.FacetRow.TheVariants as row
 use Rattle.ns_facets.specs.Board.{board_at, board_put}
 use Rattle.ns_facets.specs.Console.{printed_as, printed_bytes, printing}
 use Rattle.ns_facets.specs.Facet.{row_outcome}

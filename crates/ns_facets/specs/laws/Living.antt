@@ -27,8 +27,8 @@ use Rattle.ns_kdata.specs.laws.LivingValues.{unchanged_live}
 use Rattle.ns_facets.specs.declared.board.Plain.{Plain}
 use Rattle.ns_facets.specs.declared.board.Plain.TheVariants.{Nil, True, False, Int}
 use Rattle.ns_facets.specs.declared.board.Board.{Board}
-use Rattle.ns_kernel.specs.declared.parts.FacetRow.{FacetRow}
-use Rattle.ns_kernel.specs.declared.parts.FacetRow.TheVariants as row
+use Rattle.ns_world.specs.declared.kernel_parts.FacetRow.{FacetRow}
+use Rattle.ns_world.specs.declared.kernel_parts.FacetRow.TheVariants as row
 use Rattle.ns_facets.specs.Board.{value_of, plain_of, value_at_place, answer_of_put, board_at, board_put}
 use Rattle.ns_facets.specs.Console.{printed_as, printed_bytes, printing}
 use Rattle.ns_facets.specs.Platform.{cell_value, top_class, granted}

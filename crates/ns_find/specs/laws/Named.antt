@@ -7,8 +7,8 @@ use Rattle.ns_code.specs.declared.class.ClassCode.{ClassCode}
 use Rattle.ns_code.specs.declared.class.SlotCode.{SlotCode}
 use Rattle.ns_code.specs.declared.class.NestedCode.{NestedCode}
 use Rattle.ns_code.specs.declared.class.MethodCode.{MethodCode}
-use Rattle.ns_kernel.specs.declared.class.KernelRow.{KernelRow}
-use Rattle.ns_kernel.specs.declared.class.KernelRow.TheVariants as row
+use Rattle.ns_world.specs.declared.kernel_class.KernelRow.{KernelRow}
+use Rattle.ns_world.specs.declared.kernel_class.KernelRow.TheVariants as row
 use Rattle.ns_world.specs.declared.kernel.Start.TheVariants as start
 use Rattle.ns_world.specs.Heap.{Heap, chain_of}
 use Rattle.ns_world.specs.Layout.{declaration_of}
@@ -23,7 +23,7 @@ use Rattle.ns_find.specs.declared.members.Side.{Side}
 use Rattle.ns_find.specs.declared.members.Side.TheVariants.{Instance as InstanceSide, Class as ClassSide}
 use Rattle.ns_find.specs.Members.{Member, Numbered, is_named, allowed, search, slots_members, nested_members, method_members, side_members, holder_members, members_along, factory_member}
 use Rattle.ns_code.specs.Access.{public_access}
-use Rattle.ns_kernel.specs.Table.{Numbered as NumberedRow, rows_of}
+use Rattle.ns_world.specs.KernelTable.{Numbered as NumberedRow, rows_of}
 use Rattle.ns_find.specs.Rows.{top_rows, called_by, row_members, rows_members, kernel_rows}
 use Rattle.ns_find.specs.Find.{members_from, found_from, found_private}
 use Rattle.ns_find.specs.Belonging.{methods_on}

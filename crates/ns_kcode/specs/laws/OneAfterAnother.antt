@@ -7,7 +7,7 @@ use Rattle.std.proofs.lemmas.Int.{ints}
 use Rattle.std.proofs.lemmas.Grind.{common_steps}
 use Rattle.ns_world.specs.declared.value.Value.{Value}
 use Rattle.ns_world.specs.declared.value.Value.TheVariants.{Nil, True, False, Int, Sym, Kernel, Ref}
-use Rattle.ns_kernel.specs.declared.parts.KMethod.TheVariants as method
+use Rattle.ns_world.specs.declared.kernel_parts.KMethod.TheVariants as method
 use Rattle.ns_kcode.specs.declared.state.KState.{KState}
 use Rattle.ns_kcode.specs.declared.state.KAction.{KAction}
 use Rattle.ns_kcode.specs.declared.state.KAction.TheVariants.{Evaluate, Answer}

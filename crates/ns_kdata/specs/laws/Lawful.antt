@@ -6,8 +6,8 @@ use Rattle.ns_code.specs.declared.program.CodeProgram.{CodeProgram}
 use Rattle.ns_world.specs.declared.value.Value.{Value}
 use Rattle.ns_world.specs.World.{World}
 use Rattle.ns_world.specs.Lawful.{IsLawful, IsLiveValue}
-use Rattle.ns_kernel.specs.declared.parts.DataRow.{DataRow}
-use Rattle.ns_kernel.specs.declared.parts.DataRow.TheVariants as row
+use Rattle.ns_world.specs.declared.kernel_parts.DataRow.{DataRow}
+use Rattle.ns_world.specs.declared.kernel_parts.DataRow.TheVariants as row
 use Rattle.ns_kdata.specs.Arguments.{bytes_of, is_text, part_in, symbol_text, number_of}
 use Rattle.ns_kdata.specs.Texts.{text_at, text_less}
 use Rattle.ns_base.specs.Quoted.{quoted}

@@ -8,8 +8,8 @@ use Rattle.ns_world.specs.declared.ending.Fault.{Fault}
 use Rattle.ns_world.specs.Cell.{Cell, shape_of, ObjectCell, ArrayCell, TextCell}
 use Rattle.ns_world.specs.Heap.{heap_size, has_superclass, no_class}
 use Rattle.ns_world.specs.World.{World, made, printed, stored}
-use Rattle.ns_kernel.specs.declared.parts.DataRow.{DataRow}
-use Rattle.ns_kernel.specs.declared.parts.DataRow.TheVariants as row
+use Rattle.ns_world.specs.declared.kernel_parts.DataRow.{DataRow}
+use Rattle.ns_world.specs.declared.kernel_parts.DataRow.TheVariants as row
 use Rattle.ns_kdata.specs.declared.arguments.Part.{Part}
 use Rattle.ns_kdata.specs.Outcome.{Fails, made_as, making, unchanged, wrong_kind, out_of_range}
 use Rattle.ns_kdata.specs.Arguments.{is_text, bytes_of, items_of, place_in, part_in, symbol_text, number_of}

@@ -9,8 +9,8 @@ use Rattle.ns_world.specs.Cell.{ObjectCell, TextCell}
 use Rattle.ns_world.specs.Heap.{no_class}
 use Rattle.ns_world.specs.World.{World}
 use Rattle.ns_world.specs.Lawful.{IsLawful, IsLiveValue}
-use Rattle.ns_kernel.specs.declared.parts.DataRow.{DataRow}
-use Rattle.ns_kernel.specs.declared.parts.DataRow.TheVariants as row
+use Rattle.ns_world.specs.declared.kernel_parts.DataRow.{DataRow}
+use Rattle.ns_world.specs.declared.kernel_parts.DataRow.TheVariants as row
 use Rattle.ns_kdata.specs.Arguments.{items_of, bytes_of, is_text, place_in, part_in, symbol_text, number_of}
 use Rattle.ns_kdata.specs.Texts.{byte_at_place, text_less, is_before}
 use Rattle.ns_base.specs.Quoted.{quoted}

@@ -21,7 +21,7 @@ use Rattle.ns_actions.specs.Blocks.{block_entered}
 use Rattle.ns_actions.specs.Control.{Activation, Control, Enter, FromBody, FromMethod, Progress, charged, fails, halts, in_world}
 use Rattle.ns_actions.specs.Sends.{Listed, method_entered, one_more}
 use Rattle.ns_actions.specs.Shown.{reached_shown}
-use Rattle.ns_act.specs.declared.running.Running.{Running}
+use Rattle.ns_actions.specs.declared.running.Running.{Running}
 use Rattle.ns_machine_frames.specs.declared.calls.BodyShape.{BodyShape}
 use Rattle.ns_machine_core.specs.Arriving.{shape_of}
 use Rattle.ns_machine_core.specs.laws.Charged.{step_is}

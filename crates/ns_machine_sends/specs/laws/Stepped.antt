@@ -16,8 +16,8 @@ use Rattle.ns_actions.specs.Control.{Progress, Activation, Control, halts, charg
 use Rattle.ns_actions.specs.Lawful.{FitsTarget}
 use Rattle.ns_actions.specs.Sends.{Target, receiver_of, site_at, sent}
 use Rattle.ns_machine_moves.specs.Arrivals.{arrived}
-use Rattle.ns_act.specs.Answered.{answered}
-use Rattle.ns_act.specs.Running.{nowhere}
+use Rattle.ns_actions.specs.Answered.{answered}
+use Rattle.ns_actions.specs.Running.{nowhere}
 use Rattle.ns_machine_frames.specs.declared.registers.Registers.{Registers}
 use Rattle.ns_machine_frames.specs.Stack.{stood, with_top}
 use Rattle.ns_machine_frames.specs.View.{site_shown, frames_shown}

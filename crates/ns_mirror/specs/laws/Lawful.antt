@@ -16,8 +16,8 @@ use Rattle.ns_kdata.specs.Outcome.{RowOutcome, Answers, Fails, making, unchanged
 use Rattle.ns_kdata.specs.Arguments.{is_array, items_of, shape_of_value}
 use Rattle.ns_kdata.specs.Lawful.{LeavesLawful}
 use Rattle.ns_kdata.specs.laws.Leaving.{making_lawful, unchanged_lawful, text_lawful, items_lawful}
-use Rattle.ns_kernel.specs.declared.parts.MirrorRow.{MirrorRow}
-use Rattle.ns_kernel.specs.declared.parts.MirrorRow.TheVariants as row
+use Rattle.ns_world.specs.declared.kernel_parts.MirrorRow.{MirrorRow}
+use Rattle.ns_world.specs.declared.kernel_parts.MirrorRow.TheVariants as row
 use Rattle.ns_mirror.specs.declared.row.Mirrored.TheVariants.{Perform}
 use Rattle.ns_mirror.specs.Naming.{class_text}
 use Rattle.ns_mirror.specs.Looking.{object_class}

@@ -19,8 +19,8 @@ use Rattle.ns_kdata.specs.Outcome.{RowOutcome, Answers, Fails, making, unchanged
 use Rattle.ns_kdata.specs.Arguments.{is_array, is_array_shape, items_of, array_items, shape_of_value}
 use Rattle.ns_kdata.specs.Living.{AnswersLive}
 use Rattle.ns_kdata.specs.laws.LivingValues.{making_live, unchanged_live}
-use Rattle.ns_kernel.specs.declared.parts.MirrorRow.{MirrorRow}
-use Rattle.ns_kernel.specs.declared.parts.MirrorRow.TheVariants as row
+use Rattle.ns_world.specs.declared.kernel_parts.MirrorRow.{MirrorRow}
+use Rattle.ns_world.specs.declared.kernel_parts.MirrorRow.TheVariants as row
 use Rattle.ns_mirror.specs.declared.row.Mirrored.TheVariants.{Perform}
 use Rattle.ns_mirror.specs.Naming.{class_text}
 use Rattle.ns_mirror.specs.Looking.{object_class}

@@ -1,6 +1,6 @@
 use Rattle.std.proofs.Common.{◌≡◌, ◌+◌, ◌≤◌, drop, length, map}
-use Rattle.ns_kernel.specs.Shown.{shown, listed}
-use Rattle.ns_kernel.specs.Table.{numbered}
+use Rattle.ns_world.specs.KernelShown.{shown, listed}
+use Rattle.ns_world.specs.KernelTable.{numbered}
 use Rattle.ns_find.specs.Members.{search}
 use Rattle.ns_find.specs.Rows.{rows_members}
 use Rattle.ns_find.proofs.kernel.found_among.Given as goal

@@ -1,7 +1,7 @@
 use Rattle.std.proofs.Common.{◌≡◌, ◌+◌, ◌-◌, ℕ, ap, sym, subst, arith, true}
 use Rattle.ns_world.specs.declared.kernel.ClassName.{ClassName}
 use Rattle.ns_world.specs.declared.kernel.ClassName.TheVariants as name
-use Rattle.ns_kernel.specs.declared.class.KernelRow.TheVariants as class
+use Rattle.ns_world.specs.declared.kernel_class.KernelRow.TheVariants as class
 use Rattle.ns_world.specs.Booleans.{is_boolean}
 use Rattle.ns_actions.specs.Sends.{To}
 use Rattle.ns_machine_frames.specs.declared.registers.Registers.{Registers}

@@ -25,8 +25,8 @@ hand-requires-clause-some c = some_below c.args.core.now.stack c.leave-here.new.
 
 pub returns : goal.returns
 returns c =
-    answered c.args.code.now c.args.core.now c.hand.new.core c.args.at c.leave-here.result c.part_ended.new.world c.leave-here.new.self c.args.frame c.args.value
-    (next.On c.hand.result) c.requires.can
+    answered c.args.code.now c.args.core.now c.hand.new.core c.args.at c.leave-here.result c.part_ended.new.world c.leave-here.new.self c.args.value
+    (next.On c.hand.result) c.requires.can.kept
     (record {
       rest = c.part_ended.ensures.rest;
       stood = c.leave-here.ensures.stood;

@@ -20,8 +20,8 @@ hand-requires-clause-live c =
 
 pub returns : goal.returns
 returns c =
-    answered c.args.code.now c.args.core.now c.hand.new.core c.args.at c.leave-here.result c.part_ended.new.world c.leave-here.new.self c.args.frame c.args.value
-    c.hand.result c.requires.can
+    answered c.args.code.now c.args.core.now c.hand.new.core c.args.at c.leave-here.result c.part_ended.new.world c.leave-here.new.self c.args.value
+    c.hand.result c.requires.can.kept
     (record {
       rest = c.part_ended.ensures.rest;
       stood = c.leave-here.ensures.stood;

@@ -8,8 +8,8 @@ use Rattle.ns_actions.specs.declared.control.PartReached.TheVariants as part
 use Rattle.ns_actions.specs.Control.{Progress, in_world}
 use Rattle.ns_actions.specs.Classes.{super_part}
 use Rattle.ns_actions.specs.Shown.{part_shown}
-use Rattle.ns_act.specs.declared.running.Running.{Running}
-use Rattle.ns_act.specs.Running.{activation_at}
+use Rattle.ns_actions.specs.declared.running.Running.{Running}
+use Rattle.ns_actions.specs.Running.{activation_at}
 use Rattle.ns_machine_frames.specs.Stack.{stood, with_top}
 use Rattle.ns_machine_frames.specs.View.{site_shown}
 use Rattle.ns_machine_core.specs.declared.state.Next.TheVariants as next

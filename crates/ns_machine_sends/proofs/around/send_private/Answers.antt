@@ -4,7 +4,7 @@ use Rattle.ns_world.specs.declared.value.Value.{Value}
 use Rattle.ns_world.specs.Lawful.{IsLiveValue}
 use Rattle.ns_actions.specs.Bodies.{Place}
 use Rattle.ns_actions.specs.Sends.{ToPrivate}
-use Rattle.ns_act.specs.Running.{code_of, nowhere}
+use Rattle.ns_actions.specs.Running.{code_of, nowhere}
 use Rattle.ns_machine_sends.specs.Sending.{sent_at, Sends}
 use Rattle.ns_machine_sends.specs.Operands.{SendsOperands}
 use Rattle.ns_machine_sends.specs.laws.Selves.{own_sent, can_send_own, private_operands, here_fits, here_lawful, level_there, private_does}

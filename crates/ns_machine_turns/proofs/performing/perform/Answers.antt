@@ -1,9 +1,9 @@
 use Rattle.std.proofs.Common.{Some, None, refl, rules, w32, w64, SFits, ap, subst, to_z-of_z, ◌∙◌}
 use Rattle.ns_code.specs.declared.instruction.Instr.TheVariants as instr
 use Rattle.ns_machine_core.specs.laws.Straight.{plain_straight, tried_straight, tried_on}
-use Rattle.ns_machine_plan.specs.declared.step.SpelledRow.TheVariants.{Integer, Boolean}
+use Rattle.ns_machine_plan.specs.declared.step.SpelledRow.TheVariants.{Integer, Boolean, Array}
 use Rattle.ns_machine_plan.specs.declared.step.Step.{Step}
-use Rattle.ns_machine_plan.specs.laws.Spelled.{integer_spelled, boolean_spelled}
+use Rattle.ns_machine_plan.specs.laws.Spelled.{integer_spelled, boolean_spelled, array_spelled}
 use Rattle.ns_machine_plan.specs.Packed.{unpacked}
 use Rattle.ns_machine_plan.specs.Steps.{HasItsMember}
 use Rattle.ns_machine_turns.proofs.Rowed.{can_send, row_spelled, send_leads}
@@ -101,18 +101,14 @@ returns-in-JumpTrue c = rw c.in-JumpTrue.is (c.jump_true.ensures None)
 -- ---- ends of bodies, and sends
 
 pub returns-in-Return : goal.returns-in-Return
-returns-in-Return c =
-    rw (c.in-Return.is, c.led_on.ensures)
-    (tried_on c.args.code.now instr.Return None c.args.core.now c.args.at c.return_value.new.core c.return_value.result (c.return_value.ensures None))
+returns-in-Return c = rw c.in-Return.is (c.return_value.ensures None)
 
 pub returns-in-ReturnSelf : goal.returns-in-ReturnSelf
-returns-in-ReturnSelf c =
-    rw (c.in-ReturnSelf.is, c.led_on-in-ReturnSelf.ensures)
-    (tried_on c.args.code.now instr.ReturnSelf None c.args.core.now c.args.at c.return_self.new.core c.return_self.result (c.return_self.ensures None))
+returns-in-ReturnSelf c = rw c.in-ReturnSelf.is (c.return_self.ensures None)
 
 pub returns-in-ReturnHome : goal.returns-in-ReturnHome
 returns-in-ReturnHome c =
-    rw (c.in-ReturnHome.is, c.led_on-in-ReturnHome.ensures)
+    rw (c.in-ReturnHome.is, c.led_on.ensures)
     (tried_on c.args.code.now instr.ReturnHome None c.args.core.now c.args.at c.return_home.new.core c.return_home.result (c.return_home.ensures None))
 
 -- by what is found
@@ -164,6 +160,25 @@ returns-in-SendBoolean c =
     send_leads c.args.code.now c.args.core.now c.args.at c.args.step.tables.now c.args.step.packed.now (Some (Boolean c.in-SendBoolean.method)) c.in-SendBoolean.send
     c.send-in-SendBoolean.result.now (ap (unpacked c.args.step.tables.now) c.in-SendBoolean.is) c.send-in-SendBoolean.ensures c.send_to_boolean.new.core
     c.send_to_boolean.result c.send_to_boolean.ensures
+
+-- by a row of Array
+
+pub send_to_array-requires-clause-can : goal.send_to_array-requires-clause-can
+send_to_array-requires-clause-can c =
+    can_send c.args.code.now c.args.core.now c.args.at c.args.step.tables.now c.args.step.packed.now (Some (Array c.in-SendArray.row)) c.in-SendArray.send
+    c.send-in-SendArray.result.now (ap (unpacked c.args.step.tables.now) c.in-SendArray.is) c.send-in-SendArray.ensures c.requires.can
+
+pub send_to_array-requires-clause-row : goal.send_to_array-requires-clause-row
+send_to_array-requires-clause-row c =
+    array_spelled c.args.code.now c.send-in-SendArray.result.now.sel c.in-SendArray.row
+    (row_spelled c.args.code.now c.args.core.now c.args.at c.args.step.tables.now c.args.step.packed.now (Some (Array c.in-SendArray.row)) c.in-SendArray.send
+    c.send-in-SendArray.result.now (ap (unpacked c.args.step.tables.now) c.in-SendArray.is) c.send-in-SendArray.ensures c.requires.can c.requires.member)
+
+pub returns-in-SendArray : goal.returns-in-SendArray
+returns-in-SendArray c =
+    send_leads c.args.code.now c.args.core.now c.args.at c.args.step.tables.now c.args.step.packed.now (Some (Array c.in-SendArray.row)) c.in-SendArray.send
+    c.send-in-SendArray.result.now (ap (unpacked c.args.step.tables.now) c.in-SendArray.is) c.send-in-SendArray.ensures c.send_to_array.new.core
+    c.send_to_array.result c.send_to_array.ensures
 
 -- to a private member
 

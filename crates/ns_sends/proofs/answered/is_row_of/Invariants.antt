@@ -1,7 +1,7 @@
 use Rattle.std.proofs.Common.{◌≡◌, drop}
 use Rattle.std.specs.Prelude.{is_some}
 use Rattle.std.specs.List.{list_any}
-use Rattle.ns_kernel.specs.Table.{row_called}
+use Rattle.ns_world.specs.KernelTable.{row_called}
 use Rattle.ns_sends.proofs.answered.is_row_of.Given as goal
 
 abbrev pub invariant-classes : goal.invariant-classes
