@@ -26,6 +26,12 @@ use Rattle.ns_frozen_valid.proofs.Linked.{chain_stays, chain_beside, newest, new
 
 -- ---- one more at the end
 
+-- what stands at no place stands behind all
+pub past : {A : Type 0} (xs : List A) (n : ℕ) → slice_get xs n ≡ None → length xs ≤ n
+past [] n e = omega arith
+past (x ∷ xs) zero e = absurd (cc)
+past (x ∷ xs) (suc n) e = omega (arith, past xs n e)
+
 pub got_left : {A : Type 0} (xs : List A) (y : A) (k : ℕ) → k < length xs → slice_get (xs ++ y ∷ []) k ≡ slice_get xs k
 got_left [] y k h = absurd (omega (arith, h))
 got_left (x ∷ xs) y zero h = refl

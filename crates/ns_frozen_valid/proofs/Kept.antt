@@ -1,6 +1,7 @@
 -- What is kept of classes tells which words an object has for nested ones.
-use Rattle.std.proofs.Common.{◌≡◌, ℕ, zero, suc, ◌+◌, ◌<◌, ◌≤◌, List, [], ◌∷◌, ◌++◌, length, get_or, slice_get, refl, ap, sym, ◌∙◌, subst, arith, Option, Some, None, Bool, true, false, cond, eqb, ltb, ◌&&◌, option_map}
-use Rattle.std.specs.Prelude.{not, ◌==◌, nat_lt}
+use Rattle.std.proofs.Common.{◌≡◌, ℕ, zero, suc, ◌+◌, ◌<◌, ◌≤◌, List, [], ◌∷◌, ◌++◌, length, get_or, slice_get, refl, ap, sym, ◌∙◌, subst, arith, Option, Some, None, Bool, true, false, cond, ltb, ◌&&◌, option_map}
+use Rattle.std.specs.Prelude.{not, ◌==◌, nat_lt, unwrap_or, IfSome}
+use Rattle.std.specs.List.{list_all}
 use Rattle.std.specs.Option.{option_map_or}
 use Rattle.std.proofs.lemmas.Bool.{ltb-true, ltb-false}
 use Rattle.std.proofs.lemmas.Option.{slice_get_within}
@@ -15,25 +16,22 @@ use Rattle.ns_world.specs.Heap.{Heap, find_cell, is_class, chain_of, superclass_
 use Rattle.ns_world.specs.Starts.{declaration_in}
 use Rattle.ns_world.specs.Layout.{declaration_of, layout_of}
 use Rattle.ns_frozen.specs.Freezing.{cell_frozen}
-use Rattle.ns_frozen.specs.Live.{has_chain}
-use Rattle.ns_frozen.specs.Cells.{are_kept_of, are_kept_from}
+use Rattle.ns_frozen.specs.Live.{has_chain, are_live}
+use Rattle.ns_frozen.specs.Cells.{are_kept_of, are_kept_from, is_instance}
 use Rattle.ns_frozen_valid.specs.declared.keepers.Keeper.{Keeper}
 use Rattle.ns_frozen_valid.specs.declared.chain.Chain.{Chain}
 use Rattle.ns_frozen_valid.specs.declared.chain.Chains.{Chains}
 use Rattle.ns_frozen_valid.specs.declared.seen.Seen.{Seen}
 use Rattle.ns_frozen_valid.specs.Numbers.{number_end, IsRising, IsPlaceOf}
-use Rattle.ns_frozen_valid.specs.Chain.{links_before, next_links, AreChains}
-use Rattle.ns_frozen_valid.specs.Keepers.{nested_of, slots_of, rest_of, are_kept, are_kept_at, up_to, IsChained, IsNext, IsKeeper, AreKeepers}
-use Rattle.ns_frozen_valid.specs.Seen.{IsSeen, heap_of}
+use Rattle.ns_frozen_valid.specs.Chain.{no_chain, chain_at, AreChains}
+use Rattle.ns_frozen_valid.specs.Climbs.{IsClimb}
+use Rattle.ns_frozen_valid.specs.Keepers.{nested_of, slots_of, rest_of, are_kept, are_kept_at, IsNext, IsOver, IsAbove, IsKeeper, AreKeepers}
+use Rattle.ns_frozen_valid.specs.Seen.{IsSeen}
 use Rattle.ns_frozen_valid.proofs.Linked.{chain_told, class_linked}
 use Rattle.ns_frozen_valid.proofs.Walked.{chain_goes_on, chained_class, chain_on}
-use Rattle.ns_frozen_valid.proofs.Built.{got_left, got_end, one_longer}
+use Rattle.ns_frozen_valid.proofs.Built.{past, got_left, got_end, one_longer}
 
 -- ---- places
-
--- the numbers of classes that are seen rise
-pub rising_classes : (seen : Seen) → IsSeen seen → IsRising seen.chains.numbers.items
-rising_classes seen is = is.chains.rising
 
 -- a place can be told in 32 bits
 pub place_few : (seen : Seen) (numbers : List ℕ) (class place : ℕ) → IsSeen seen → class < number_end → numbers ≡ seen.chains.numbers.items
@@ -48,6 +46,22 @@ pub class_there : (code : CodeProgram) (heap : Heap) (chains : Chains) (class : 
 class_there code heap chains class are small e none =
     let not_so : true ≡ false = sym e ∙ (chain_told code heap class ∙ ap (λ (c : Chain). not (c.links == 0)) (are.absent class small none)) in
     cc
+
+-- what is kept at a place is the chain of the class that stands there
+pub chain_here : (code : CodeProgram) (heap : Heap) (chains : Chains) (place : ℕ) → AreChains code heap chains → place < length chains.numbers.items
+    → unwrap_or (slice_get chains.chains.items place) no_chain ≡ chain_at code heap (get_or chains.numbers.items place 0)
+chain_here code heap chains place are within = ap (λ (o : Option Chain). unwrap_or o no_chain) (are.there place within)
+
+-- no object is an instance of a class at no place
+pub no_instance : (code : CodeProgram) (heap : Heap) (chains : Chains) (object class : ℕ) (words : List Value) → AreChains code heap chains → class < number_end
+    → IsPlaceOf chains.numbers.items class None → false ≡ is_instance code heap object class words
+no_instance code heap chains object class words are small none = tested (has_chain code heap class) refl
+  where
+    tested : (b : Bool) → has_chain code heap class ≡ b
+        → false ≡ (b && (length words == layout_of heap code class
+        && (are_live code heap words && list_all (are_kept_of code heap object words) (chain_of heap class))))
+    tested true e = absurd (class_there code heap chains class are small e none)
+    tested false e = refl
 
 -- ---- a class
 
@@ -74,12 +88,6 @@ declared code heap class e = of (find_cell heap class) refl (chained_class code 
     of (Some (MirrorCell mirrored)) f c = absurd (cc)
     of (Some (MessageCell sel args)) f c = absurd (cc)
 
--- what stands at no place stands behind all
-past : {A : Type 0} (xs : List A) (n : ℕ) → slice_get xs n ≡ None → length xs ≤ n
-past [] n e = omega arith
-past (x ∷ xs) zero e = absurd (cc)
-past (x ∷ xs) (suc n) e = omega (arith, past xs n e)
-
 -- the words of a declared class are those for its nested classes, behind its slots
 words_of : (code : CodeProgram) (heap : Heap) (object : ℕ) (words : List Value) (holder : ℕ) → has_chain code heap holder ≡ true
     → are_kept_from heap object holder words (layout_of heap code (superclass_of heap holder) + slots_of code (declaration_of heap holder))
@@ -102,12 +110,14 @@ pub keeper_is : (code : CodeProgram) (heap : Heap) (numbers : List ℕ) (place :
     → keeper.holder ≤ no_class → keeper.decl ≡ declaration_of heap keeper.holder
     → keeper.first ≡ layout_of heap code (superclass_of heap keeper.holder) + slots_of code keeper.decl → keeper.first ≤ 562949953486848
     → (has_chain code heap keeper.holder ≡ true → IsNext code heap numbers place (rest_of heap keeper.holder) keeper.above)
+    → (has_chain code heap keeper.holder ≡ true → IsClimb code heap numbers place keeper.climb)
     → has_chain code heap (get_or numbers place 0) ≡ true → IsKeeper code heap numbers place keeper
-keeper_is code heap numbers place keeper here small decl first few next e = record {
+keeper_is code heap numbers place keeper here small decl first few next climb e = record {
   few = few;
   before = (next chained).before;
   chained = (next chained).chained;
   tells = tells;
+  climb = climb chained;
 }
   where
     holder : ℕ
@@ -187,12 +197,32 @@ above_at code heap numbers place at holder over next rising within here small is
     rest true t = refl
     rest false t = absurd (omega (arith, h, is, ltb-false (superclass_of heap holder) holder t))
 
+-- by where the superclass stands, if there is one
+pub next_is : (code : CodeProgram) (heap : Heap) (numbers : List ℕ) (place holder over : ℕ) (at next : Option ℕ) → IsRising numbers → place < length numbers
+    → holder ≡ get_or numbers place 0 → holder ≤ no_class → over ≡ superclass_of heap holder → has_chain code heap holder ≡ true
+    → IsOver numbers holder over at → IsAbove code heap numbers at next → IsNext code heap numbers place (rest_of heap holder) next
+next_is code heap numbers place holder over None next rising within here small is e top none =
+    subst (IsNext code heap numbers place (rest_of heap holder)) (sym none) (above_none code heap numbers place holder over is top)
+next_is code heap numbers place holder over (Some at) next rising within here small is e there from =
+    above_at code heap numbers place at holder over next rising within here small is there.0 there.1 from e
+
 -- the superclass of a class with a chain stands at a place
-pub above_there : (code : CodeProgram) (heap : Heap) (chains : Chains) (holder over : ℕ) → AreChains code heap chains → holder ≤ no_class
-    → over ≡ superclass_of heap holder → over < holder → IsPlaceOf chains.numbers.items over None → has_chain code heap holder ≡ true → ⊥
-above_there code heap chains holder over are small is h none e =
-    class_there code heap chains over are (omega (arith, h, small))
-    (subst (λ (n : ℕ). has_chain code heap n ≡ true) (sym is) (chain_on code heap holder e small (subst (λ (n : ℕ). n < holder) is h))) none
+pub over_is : (code : CodeProgram) (heap : Heap) (chains : Chains) (holder over : ℕ) (at : Option ℕ) → AreChains code heap chains → holder ≤ no_class
+    → over ≡ superclass_of heap holder → over < holder → IsPlaceOf chains.numbers.items over at → has_chain code heap holder ≡ true
+    → IsOver chains.numbers.items holder over at
+over_is code heap chains holder over (Some at) are small is h there e = (h, there)
+over_is code heap chains holder over None are small is h none e =
+    absurd (class_there code heap chains over are (omega (arith, h, small))
+    (subst (λ (n : ℕ). has_chain code heap n ≡ true) (sym is) (chain_on code heap holder e small (subst (λ (n : ℕ). n < holder) is h))) none)
+
+-- a place that is one of a superclass is one
+pub placed : (numbers : List ℕ) (over : ℕ) (at : Option ℕ) → IsPlaceOf numbers over at → IfSome at (λ (p : ℕ). IsPlaceOf numbers over (Some p))
+placed numbers over (Some at) there = there
+placed numbers over None none = tt
+
+pub placed_within : (numbers : List ℕ) (over : ℕ) (at : Option ℕ) → IfSome at (λ (p : ℕ). IsPlaceOf numbers over (Some p)) → IfSome at (λ (p : ℕ). p < length numbers)
+placed_within numbers over (Some at) there = there.0
+placed_within numbers over None none = tt
 
 -- ---- all classes
 

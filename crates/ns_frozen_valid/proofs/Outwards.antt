@@ -74,6 +74,12 @@ out_on depth done code heap at body env parent outer whole h is there same =
     ∙ (sym (fits_more depth done code heap body env h)
     ∙ (ap (λ (o : Option ℕ). fits_environment (depth - done) code heap o env) (sym is) ∙ same)))
 
+-- a body that is known to fit
+pub out_known : (left : ℕ) (code : CodeProgram) (heap : Heap) (at : Option ℕ) (body : ℕ) (env : Value) (whole : Bool) → at ≡ Some body
+    → fits_environment left code heap (Some body) env ≡ true → fits_environment left code heap at env ≡ whole → true ≡ whole
+out_known left code heap at body env whole is fits same =
+    sym fits ∙ (ap (λ (o : Option ℕ). fits_environment left code heap o env) (sym is) ∙ same)
+
 -- none outwards
 pub out_nowhere : (depth done : ℕ) (code : CodeProgram) (heap : Heap) (at : Option ℕ) (body : ℕ) (env : Value) (whole : Bool)
     → done < depth → at ≡ Some body → None ≡ around code heap body env → fits_environment (depth - done) code heap at env ≡ whole → false ≡ whole

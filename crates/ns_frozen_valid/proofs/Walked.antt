@@ -1,7 +1,6 @@
 -- The classes of a chain, from a class upwards.
 use Rattle.std.proofs.Common.{◌≡◌, ℕ, zero, suc, ◌<◌, ◌≤◌, List, [], ◌∷◌, ◌+◌, length, refl, ap, sym, ◌∙◌, subst, arith, Option, Some, None, Bool, true, false, cond, eqb, ltb, ◌||◌, option_map}
 use Rattle.std.specs.Prelude.{not, ◌==◌, nat_lt}
-use Rattle.std.specs.List.{list_any}
 use Rattle.std.proofs.lemmas.Bool.{eqb-true, ltb-true, ltb-false}
 use Rattle.ns_code.specs.declared.program.CodeProgram.{CodeProgram}
 use Rattle.ns_world.specs.declared.value.Value.{Value}
@@ -15,6 +14,7 @@ use Rattle.ns_frozen.specs.Freezing.{cell_frozen}
 use Rattle.ns_frozen.specs.Live.{has_chain}
 use Rattle.ns_frozen_valid.specs.Chain.{links_of, links_before, more_links, next_links}
 use Rattle.ns_frozen_valid.specs.Keepers.{rest_of}
+use Rattle.ns_frozen_valid.specs.Climbs.{Walks, holds}
 use Rattle.ns_frozen_valid.proofs.Linked.{Below, below_raised, below_over, chain_below, chain_told, class_linked}
 
 -- the chain of a class goes on with its superclass's, where that was made before it
@@ -122,12 +122,6 @@ chain_on code heap class e small h = of (find_cell heap class) refl (chained_cla
 
 -- ---- the walk
 
--- Some classes of a chain were gone over, and the next is that one.
-pub record Walks (code : CodeProgram) (heap : Heap) (class at : ℕ) (all : List ℕ → Bool) : Type 0 where
-  pub low : at ≤ class
-  pub chain : has_chain code heap at ≡ true
-  pub same : all (chain_of heap at) ≡ all (chain_of heap class)
-
 -- a step upwards, where the rest tells as much as the whole
 pub walks_on : (code : CodeProgram) (heap : Heap) (class at above : ℕ) (all : List ℕ → Bool) → at ≤ no_class → Walks code heap class at all
     → above ≡ superclass_of heap at → above < at → all (at ∷ chain_of heap above) ≡ all (chain_of heap above) → Walks code heap class above all
@@ -168,10 +162,6 @@ pub walk_here : (code : CodeProgram) (heap : Heap) (class at : ℕ) (all : List 
 walk_here code heap class at all small walks = sym walks.same ∙ ap all (chain_goes_on heap at small (chained_class code heap at walks.chain))
 
 -- ---- a holder
-
--- whether a holder stands in some classes
-abbrev pub holds : ℕ → List ℕ → Bool
-holds holder classes = list_any (λ above. above == holder) classes
 
 -- classes above one are no later one
 none_later : (classes : List ℕ) (bound holder : ℕ) → Below bound classes → bound ≤ holder → holds holder classes ≡ false

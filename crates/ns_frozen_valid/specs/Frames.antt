@@ -5,7 +5,7 @@ use Rattle.ns_code.specs.declared.program.CodeProgram.{CodeProgram}
 use Rattle.ns_code.specs.declared.body.BodyCode.{BodyCode}
 use Rattle.ns_world.specs.Heap.{Heap}
 use Rattle.ns_world.specs.Layout.{declaration_of}
-use Rattle.ns_kernel.specs.declared.parts.KMethod.{KMethod}
+use Rattle.ns_world.specs.declared.kernel_parts.KMethod.{KMethod}
 use Rattle.ns_kcode.specs.declared.state.KState.{KState}
 use Rattle.ns_actions.specs.Bodies.{clause_of}
 use Rattle.ns_actions.specs.Fitting.{environment_body, locals_beside}

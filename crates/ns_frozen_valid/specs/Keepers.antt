@@ -1,5 +1,5 @@
 -- The words of an object for the nested classes of the classes in its chain, of which those without nested ones are passed over.
-use Rattle.std.specs.Prelude.{◌≡◌, ℕ, zero, suc, ◌<◌, ◌≤◌, nat_lt, List, [], length, get_or, slice_get, Option, Some, None, Bool, true, ◌&&◌, if◌then◌else◌}
+use Rattle.std.specs.Prelude.{◌≡◌, ℕ, zero, suc, ◌+◌, ◌<◌, ◌≤◌, nat_lt, List, [], length, get_or, slice_get, Option, Some, None, Bool, true, ◌&&◌, if◌then◌else◌}
 use Rattle.std.specs.Option.{option_map_or}
 use Rattle.std.specs.List.{list_all}
 use Rattle.ns_code.specs.declared.program.CodeProgram.{CodeProgram}
@@ -10,6 +10,8 @@ use Rattle.ns_world.specs.Heap.{Heap, chain_of, superclass_of}
 use Rattle.ns_frozen.specs.Live.{has_chain}
 use Rattle.ns_frozen.specs.Cells.{are_kept_of, are_kept_from}
 use Rattle.ns_frozen_valid.specs.declared.keepers.Keeper.{Keeper}
+use Rattle.ns_frozen_valid.specs.Numbers.{IsPlaceOf}
+use Rattle.ns_frozen_valid.specs.Climbs.{IsClimb}
 
 -- the nested classes of a declaration, none where there is no such
 abbrev pub nested_of : CodeProgram → ℕ → List NestedCode
@@ -48,7 +50,18 @@ pub record IsNext (code : CodeProgram) (heap : Heap) (numbers : List ℕ) (place
   pub chained : IsChained code heap numbers next
   pub tells : (object : ℕ) (words : List Value) → are_kept_at code heap numbers object words next ≡ are_kept code heap object words classes
 
--- What is kept of the class at a place: where its words begin, and which class above it is the next to look at.
+-- The superclass of a class stands at a place, or there is none that was made before it.
+abbrev pub IsOver : List ℕ → ℕ → ℕ → Option ℕ → Type 0
+IsOver numbers holder over None = holder ≤ over
+IsOver numbers holder over (Some at) = (over < holder) × IsPlaceOf numbers over (Some at)
+
+-- The next class to look at, from a superclass on that stands at a place, if there is one.
+abbrev pub IsAbove : CodeProgram → Heap → List ℕ → Option ℕ → Option ℕ → Type 0
+IsAbove code heap numbers None next = next ≡ None
+IsAbove code heap numbers (Some at) next =
+    has_chain code heap (get_or numbers at 0) ≡ true → IsNext code heap numbers (at + 1) (chain_of heap (get_or numbers at 0)) next
+
+-- What is kept of the class at a place: where its words begin, which class above it is the next to look at, and the way up.
 pub record IsKeeper (code : CodeProgram) (heap : Heap) (numbers : List ℕ) (place : ℕ) (keeper : Keeper) : Type 0 where
   pub few : keeper.first ≤ 562949953486848
   pub before : up_to keeper.above ≤ place
@@ -56,6 +69,7 @@ pub record IsKeeper (code : CodeProgram) (heap : Heap) (numbers : List ℕ) (pla
   pub tells : (object : ℕ) (words : List Value)
       → (are_kept_from heap object keeper.holder words keeper.first (nested_of code keeper.decl) && are_kept_at code heap numbers object words keeper.above)
       ≡ are_kept code heap object words (chain_of heap (get_or numbers place 0))
+  pub climb : IsClimb code heap numbers place keeper.climb
 
 -- The same of the classes at the first places, where these have chains.
 abbrev pub AreKeepers : CodeProgram → Heap → List ℕ → List Keeper → Type 0

@@ -1,6 +1,7 @@
 -- The cells of a frozen state with what is found of them once.
-use Rattle.std.specs.Prelude.{◌≡◌}
+use Rattle.std.specs.Prelude.{◌≡◌, true}
 use Rattle.ns_code.specs.Fits.{Fits}
+use Rattle.ns_code.specs.Soundness.{are_parents_earlier}
 use Rattle.ns_world.specs.Heap.{Heap}
 use Rattle.ns_frozen.specs.Thawing.{heap_thawed}
 use Rattle.ns_frozen_valid.specs.declared.seen.Seen.{Seen}
@@ -9,6 +10,8 @@ use Rattle.ns_frozen_valid.specs.Chain.{AreChains}
 use Rattle.ns_frozen_valid.specs.Selectors.{AreSelectors}
 use Rattle.ns_frozen_valid.specs.Bodies.{AreBodies}
 use Rattle.ns_frozen_valid.specs.Keepers.{AreKeepers}
+use Rattle.ns_frozen_valid.specs.Fitting.{AreFitting}
+use Rattle.ns_frozen_valid.specs.Nested.{AreOuters}
 
 -- the heap for which the cells stand
 abbrev pub heap_of : Seen → Heap
@@ -17,8 +20,11 @@ heap_of seen = heap_thawed seen.code.now seen.cells.now
 -- What was found is of this code and these cells.
 pub record IsSeen (seen : Seen) : Type 0 where
   pub fits : Fits seen.code.now
+  pub parents : are_parents_earlier 0 seen.code.now.bodies ≡ true
   pub numbers : seen.numbers ≡ numbers_from 0 seen.cells.now
   pub chains : AreChains seen.code.now (heap_of seen) seen.chains
   pub selectors : AreSelectors seen.code.now seen.selectors
   pub bodies : AreBodies seen.code.now seen.bodies
   pub keepers : AreKeepers seen.code.now (heap_of seen) seen.chains.numbers.items seen.keepers.items
+  pub kept : AreFitting seen.code.now (heap_of seen) seen.numbers seen.kept.items
+  pub outers : AreOuters seen.code.now seen.outers

@@ -12,22 +12,24 @@ ghost use Rattle.ns_frozen_valid.specs.Bodies.{AreBodies};
 ghost use Rattle.ns_frozen_valid.specs.Stands as spec;
 
 use crate::above::{Above, is_under_initialiser};
-use crate::homes::{home_kinds, kind_or};
+use crate::shapes::shapes_of;
 use crate::stand::{Stand, stands_of, waits_for};
 use ns_base::items::Items;
 use ns_base::no_memory::NoMemory;
 use ns_code::kinds::{CLAUSE, METHOD};
 use ns_code::program::CodeProgram;
+use ns_verify::chains::{home_kinds, kind_or};
 use std::alloc::Global;
 
 /// The home of what runs in no method.
 pub const NO_HOME: u64 = u64::MAX;
 
-/// The kind of the outermost body around each body, and where each can stand.
+/// The kind of the outermost body around each body, where each can stand, and which have one shape.
 #[derive(Drop)]
 pub struct Bodies {
     pub homes: Items<u8>,
     pub stands: Items<Items<Stand>>,
+    pub shapes: Items<u32>,
 }
 
 impl Bodies {
@@ -37,9 +39,14 @@ impl Bodies {
         requires fits { Fits code.now }
         ensures { IfOk result (λ bodies. AreBodies code.now bodies) }
     {
-        let homes = home_kinds(alloc, code)?;
+        let homes = Items::from_vec(home_kinds(alloc, code.bodies.as_slice())?);
         let stands = all_stands(alloc, code)?;
-        Ok(Bodies { homes, stands })
+        let shapes = shapes_of(alloc, code)?;
+        Ok(Bodies {
+            homes,
+            stands,
+            shapes,
+        })
     }
 
     /// Whether a block of a body can have a home: one that began where the block stands in a method, and none otherwise.

@@ -85,13 +85,16 @@ impl Seen<'_> {
         }
     }
 
-    /// Whether a class has a chain, by its own declaration and superclass, since its number may be behind the last that a
-    /// reference can name.
+    /// Whether a class has a chain: by its own declaration and superclass where its number is behind the last that a reference can
+    /// name.
     fn has_links(&self, number: u128, decl: u32, over: Value) -> bool
         requires { IsSeen self.now }
         ensures { (encl holder : ValueOf) → option_map cell_frozen (find_cell (heap_of self.now) number) ≡ Some (cells.Class decl encl holder over) →
             result ≡ has_chain self.now.code.now (heap_of self.now) number }
     {
+        if number <= u128::from(u32::MAX) {
+            return self.has_chain(number as u32);
+        }
         next_links(self.code, decl, over, self.links_before(number, over)) != 0
     }
 
@@ -163,7 +166,12 @@ impl Seen<'_> {
     {
         body.kind == BLOCK
             && self.fits_body(body, parts.receiver, parts.holder)
-            && self.fits_environment(u64::from(number) + 1, body.parent, parts.env)
+            && self.fits_environment(
+                self.kept.as_slice(),
+                u64::from(number) + 1,
+                body.parent,
+                parts.env,
+            )
             && self.bodies.has_block_home(homes, number, parts.home)
     }
 }

@@ -105,7 +105,7 @@ const NO_CHAIN: Chain = Chain {
 };
 
 /// The chain at a place.
-fn chain_in(chains: &[Chain], place: usize) -> Chain
+pub fn chain_in(chains: &[Chain], place: usize) -> Chain
     ensures { result ≡ unwrap_or (slice_get chains.now place) spec.no_chain }
 {
     match chains.get(place) {

@@ -51,13 +51,14 @@ impl Seen<'_> {
         self.has_chain(class) && self.is_above(class, holder)
     }
 
-    /// The same of a class that has a chain. Each class has a smaller number than the one below it.
+    /// The same of a class that has a chain. Each class has a smaller number than the one below it. The walk begins as far up as is
+    /// known.
     fn is_above(&self, class: u32, holder: u32) -> bool
         requires seen { IsSeen self.now }
         requires chain { live.has_chain self.now.code.now (heap_of self.now) class ≡ true }
         ensures { result ≡ list_any (λ above. above == holder) (heap.chain_of (heap_of self.now) class) }
     {
-        let mut at = class;
+        let mut at = self.climbed(class, holder);
         'links: while holder < at {
             let above = self.superclass(at);
             if at <= above {

@@ -6,6 +6,7 @@ ghost use Rattle.ns_world.specs.Lawful.{environment_in};
 ghost use Rattle.ns_frozen.specs.Live as live;
 ghost use Rattle.ns_frozen_valid.specs.Seen.{IsSeen, heap_of};
 ghost use Rattle.ns_frozen_valid.specs.Environments as spec;
+ghost use Rattle.ns_frozen_valid.specs.Fitting.{AreFitting};
 
 use crate::kinds::environment_in;
 use crate::plain::is_nil;
@@ -14,21 +15,27 @@ use ns_world::value::Value;
 
 impl Seen<'_> {
     /// Whether an environment fits a body, or nil no body, over at most so many bodies around one another.
-    pub fn fits_environment(&self, depth: u64, body: Option<u32>, env: Value) -> bool
-        requires { IsSeen self.now }
+    pub fn fits_environment(&self, kept: &[u32], depth: u64, body: Option<u32>, env: Value) -> bool
+        requires seen { IsSeen self.now }
+        requires kept { AreFitting self.now.code.now (heap_of self.now) self.now.numbers kept.now }
         ensures { result ≡ live.fits_environment depth self.now.code.now (heap_of self.now) body env }
     {
         let mut body = body;
         let mut env = env;
-        'bodies: for _around in 0..depth {
+        'bodies: for done in 0..depth {
             match body {
-                Some(number) => match self.around(number, env) {
-                    Some((parent, outer)) => {
-                        body = parent;
-                        env = outer;
+                Some(number) => {
+                    if self.is_known_within(kept, depth - done, number, env) {
+                        return true;
                     }
-                    None => return false,
-                },
+                    match self.around(number, env) {
+                        Some((parent, outer)) => {
+                            body = parent;
+                            env = outer;
+                        }
+                        None => return false,
+                    }
+                }
                 None => return is_nil(env),
             }
         }
@@ -36,7 +43,7 @@ impl Seen<'_> {
     }
 
     /// The body and the environment around those of that number, where these fit one another.
-    fn around(&self, body: u32, env: Value) -> Option<(Option<u32>, Value)>
+    pub fn around(&self, body: u32, env: Value) -> Option<(Option<u32>, Value)>
         requires { IsSeen self.now }
         ensures { result ≡ spec.around self.now.code.now (heap_of self.now) body env }
     {

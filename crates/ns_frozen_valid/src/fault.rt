@@ -27,7 +27,12 @@ pub fn first_fault(
     requires fits { Fits code.now }
     ensures { IfOk result (λ fault. fault ≡ fault_of code.now frozen.now) }
 {
-    let seen = Seen::of(alloc, code, frozen.cells.as_slice())?;
+    let seen = Seen::of(
+        alloc,
+        code,
+        frozen.cells.as_slice(),
+        frozen.frames.as_slice(),
+    )?;
     let fault = fault_among(alloc, &seen, frozen)?;
     Ok(fault)
 }
@@ -66,7 +71,12 @@ pub fn first_bad_cell(
     requires fits { Fits code.now }
     ensures { IfOk result (λ place. place ≡ bad_cell code.now (heap_thawed code.now frozen.now.cells) frozen.now) }
 {
-    let seen = Seen::of(alloc, code, frozen.cells.as_slice())?;
+    let seen = Seen::of(
+        alloc,
+        code,
+        frozen.cells.as_slice(),
+        frozen.frames.as_slice(),
+    )?;
     let place = bad_cell(alloc, &seen, frozen)?;
     Ok(place)
 }

@@ -11,6 +11,7 @@ ghost use Rattle.ns_frozen_valid.specs.Seen.{IsSeen, heap_of};
 use crate::above::{Above, above_all, above_of, is_under_block};
 use crate::bodies::NO_HOME;
 use crate::kernel::is_looping;
+use crate::nested::is_known_nested;
 use crate::seen::Seen;
 use crate::values::is_ref;
 use ns_code::body::BodyCode;
@@ -20,7 +21,7 @@ use ns_code::program::CodeProgram;
 use ns_frozen::frame::{FrameKind, FrozenFrame};
 use ns_frozen::frozen::Frozen;
 use ns_kcode::state::KState;
-use ns_kernel::parts::KMethod;
+use ns_world::kernel_parts::KMethod;
 
 impl Seen<'_> {
     /// The place of the first bad frame.
@@ -129,9 +130,10 @@ impl Seen<'_> {
     {
         let depth = u64::from(number) + 1;
         if body.environment {
-            return self.fits_environment(depth, Some(number), frame.env) && frame.locals.len() == 0;
+            return self.fits_environment(self.kept.as_slice(), depth, Some(number), frame.env)
+                && frame.locals.len() == 0;
         }
-        self.fits_environment(depth, body.parent, frame.env)
+        self.fits_environment(self.kept.as_slice(), depth, body.parent, frame.env)
             && frame.locals.len() == usize::from(body.locals)
     }
 
@@ -189,9 +191,14 @@ impl Seen<'_> {
     }
 
     /// Whether a class is a nested one of a declaration.
+    #[tactic(auto, using(crate::proofs::Outers::nested_known))]
     fn has_nested(&self, decl: u32, class: u32) -> bool
+        requires { IsSeen self.now }
         ensures { result ≡ spec.has_nested self.now.code.now decl class }
     {
+        if is_known_nested(self.outers.as_slice(), class, decl) {
+            return true;
+        }
         match self.code.classes.as_slice().get(decl as usize) {
             Some(declared) => is_among(class, declared.nested.as_slice()),
             None => false,

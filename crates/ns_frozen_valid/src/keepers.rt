@@ -1,16 +1,18 @@
 //! The words of an object for nested classes, which are those of the classes in its chain. A class without nested ones is
 //! passed over, so that no more is looked at than the object has words.
 
-ghost use Rattle.std.specs.Prelude.{◌≡◌, ◌<◌, ◌≤◌, ◌+◌, true, [], get_or, length, slice_get, OnOk};
-ghost use Rattle.std.specs.List.{list_all};
+ghost use Rattle.std.specs.Prelude.{◌≡◌, ◌<◌, ◌≤◌, ◌+◌, true, [], get_or, length, slice_get, IfSome, OnOk, Some};
 ghost use Rattle.ns_code.specs.Fits.{Fits};
 ghost use Rattle.ns_world.specs.Heap as heap;
-ghost use Rattle.ns_frozen.specs.Cells as cells;
+ghost use Rattle.ns_world.specs.Layout as layout;
 ghost use Rattle.ns_frozen.specs.Live.{has_chain};
 ghost use Rattle.ns_frozen_valid.specs.Keepers as spec;
 ghost use Rattle.ns_frozen_valid.specs.Numbers.{IsPlaceOf};
 ghost use Rattle.ns_frozen_valid.specs.Seen.{IsSeen, heap_of};
 
+use crate::classes::declared_class;
+use crate::climbs::Climb;
+use crate::kinds::{declaration, superclass};
 use crate::numbers::place_of;
 use crate::seen::Seen;
 use ns_base::no_memory::NoMemory;
@@ -18,13 +20,15 @@ use ns_code::class::NestedCode;
 use ns_code::program::CodeProgram;
 use ns_world::value::Value;
 
-/// A class and its declaration, the first word for its nested classes, and the place of the next class above it to look at.
+/// A class and its declaration, the first word for its nested classes, the place of the next class above it to look at for the
+/// words of an object, and the way up its chain.
 #[derive(Clone, Copy)]
 pub struct Keeper {
     pub holder: u32,
     pub decl: u32,
     pub first: u64,
     pub above: Option<u32>,
+    pub climb: Climb,
 }
 
 impl Seen<'_> {
@@ -43,20 +47,9 @@ impl Seen<'_> {
         Ok(())
     }
 
-    /// Whether the words for the nested classes of each class in a chain are so.
-    pub fn are_kept(&self, number: u128, class: u32, words: &[Value]) -> bool
-        requires seen { IsSeen self.now }
-        requires chain { has_chain self.now.code.now (heap_of self.now) class ≡ true }
-        ensures { result ≡ list_all (cells.are_kept_of self.now.code.now (heap_of self.now) number words.now) (heap.chain_of (heap_of self.now) class) }
-    {
-        match self.place(class) {
-            Some(place) => self.are_kept_at(number, words, Some(place)),
-            None => false,
-        }
-    }
-
-    /// The same from the class at a place upwards, where there is one.
-    fn are_kept_at(&self, number: u128, words: &[Value], from: Option<u32>) -> bool
+    /// Whether the words for the nested classes of each class in a chain are so, from the class at a place upwards, where there
+    /// is one.
+    pub fn are_kept_at(&self, number: u128, words: &[Value], from: Option<u32>) -> bool
         requires seen { IsSeen self.now }
         requires chained { spec.IsChained self.now.code.now (heap_of self.now) self.now.chains.numbers.items from }
         ensures { result ≡ spec.are_kept_at self.now.code.now (heap_of self.now) self.now.chains.numbers.items number words.now from }
@@ -94,29 +87,52 @@ impl Seen<'_> {
             spec.IsKeeper self.now.code.now (heap_of self.now) self.now.chains.numbers.items place result }
     {
         let holder = number_at(self.chains.numbers.as_slice(), place);
-        let decl = self.declaration(holder);
-        let over = self.superclass(holder);
+        let cell = self.find(holder);
+        let decl = declaration(cell);
+        let over = declared_class(superclass(cell));
+        let at = self.over_at(holder, over);
         Keeper {
             holder,
             decl,
-            first: self.layout(over) + slots(self.code, decl),
-            above: self.above(place, holder, over),
+            first: self.layout_over(over, at) + slots(self.code, decl),
+            above: self.above(at),
+            climb: self.climb_over(at),
         }
     }
 
-    /// The place of the next class to look at above the one at a place, which has that superclass.
-    fn above(&self, place: usize, holder: u32, over: u32) -> Option<u32>
+    /// The place of the superclass of a class, where that was made before it.
+    fn over_at(&self, holder: u32, over: u32) -> Option<u32>
         requires seen { IsSeen self.now }
-        requires there { place < length self.now.chains.numbers.items }
-        requires here { holder ≡ get_or self.now.chains.numbers.items place 0 }
         requires over { over ≡ heap.superclass_of (heap_of self.now) holder }
-        ensures { has_chain self.now.code.now (heap_of self.now) holder ≡ true →
-            spec.IsNext self.now.code.now (heap_of self.now) self.now.chains.numbers.items place (spec.rest_of (heap_of self.now) holder) result }
+        ensures placed { IfSome result (λ at. IsPlaceOf self.now.chains.numbers.items over (Some at)) }
+        ensures over { has_chain self.now.code.now (heap_of self.now) holder ≡ true → spec.IsOver self.now.chains.numbers.items holder over result }
     {
         if holder <= over {
             return None;
         }
-        match self.place(over) {
+        self.place(over)
+    }
+
+    /// How many entries the instances of a superclass have, which may stand at a place.
+    fn layout_over(&self, over: u32, at: Option<u32>) -> u64
+        requires seen { IsSeen self.now }
+        requires placed { IfSome at (λ at. IsPlaceOf self.now.chains.numbers.items over (Some at)) }
+        ensures few { result ≤ 562949953421312 }
+        ensures layout { result ≡ layout.layout_of (heap_of self.now) self.now.code.now over }
+    {
+        match at {
+            Some(at) => self.layout_at(at),
+            None => self.layout(over),
+        }
+    }
+
+    /// The place of the next class to look at above a class whose superclass stands at a place, if it has one.
+    fn above(&self, over: Option<u32>) -> Option<u32>
+        requires seen { IsSeen self.now }
+        requires there { IfSome over (λ at. at < length self.now.chains.numbers.items) }
+        ensures { spec.IsAbove self.now.code.now (heap_of self.now) self.now.chains.numbers.items over result }
+    {
+        match over {
             Some(at) => self.passing(at),
             None => None,
         }
@@ -144,7 +160,7 @@ impl Seen<'_> {
 
     /// The place of a class among all.
     #[tactic(auto, using(crate::proofs::Kept::place_few))]
-    fn place(&self, class: u32) -> Option<u32>
+    pub fn place(&self, class: u32) -> Option<u32>
         requires { IsSeen self.now }
         ensures { IsPlaceOf self.now.chains.numbers.items class result }
     {
@@ -156,14 +172,14 @@ impl Seen<'_> {
 }
 
 /// What is kept at a place.
-fn kept_at(keepers: &[Keeper], place: u32) -> Option<Keeper>
+pub fn kept_at(keepers: &[Keeper], place: u32) -> Option<Keeper>
     ensures { result ≡ slice_get keepers.now place }
 {
     keepers.get(place as usize).copied()
 }
 
 /// The number at a place.
-fn number_at(numbers: &[u32], place: usize) -> u32
+pub fn number_at(numbers: &[u32], place: usize) -> u32
     ensures number { result ≡ get_or numbers.now place 0 }
     ensures fits { result ≤ 4294967295 }
 {

@@ -15,8 +15,8 @@ use crate::plain::{is_nil, same_value};
 use crate::seen::Seen;
 use ns_frozen::frame::FrozenFrame;
 use ns_kcode::state::KState;
-use ns_kernel::parts::KMethod;
 use ns_world::kernel::NO_CLASS;
+use ns_world::kernel_parts::KMethod;
 use ns_world::value::Value;
 
 impl Seen<'_> {

@@ -1,6 +1,6 @@
 //! Objects, whose words are those of the classes in their chain.
 
-ghost use Rattle.std.specs.Prelude.{◌≡◌, ◌≤◌, option_map};
+ghost use Rattle.std.specs.Prelude.{◌≡◌, ◌<◌, ◌≤◌, get_or, length, option_map};
 ghost use Rattle.std.specs.List.{slice_index_or};
 ghost use Rattle.ns_world.specs.declared.value.Value.TheVariants as value;
 ghost use Rattle.ns_world.specs.Heap as heap;
@@ -20,10 +20,22 @@ impl Seen<'_> {
         requires { IsSeen self.now }
         ensures { result ≡ spec.is_instance self.now.code.now (heap_of self.now) number class words.now }
     {
-        self.has_chain(class)
-            && words.len() as u64 == self.layout(class)
+        match self.place(class) {
+            Some(place) => self.is_instance_at(number, place, words),
+            None => false,
+        }
+    }
+
+    /// The same of the class at a place.
+    fn is_instance_at(&self, number: u128, place: u32, words: &[Value]) -> bool
+        requires seen { IsSeen self.now }
+        requires there { place < length self.now.chains.numbers.items }
+        ensures { result ≡ spec.is_instance self.now.code.now (heap_of self.now) number (get_or self.now.chains.numbers.items place 0) words.now }
+    {
+        self.has_chain_at(place)
+            && words.len() as u64 == self.layout_at(place)
             && self.are_live(words)
-            && self.are_kept(number, class, words)
+            && self.are_kept_at(number, words, Some(place))
     }
 
     /// Whether words from one on are those for nested classes.

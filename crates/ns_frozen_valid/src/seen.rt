@@ -1,6 +1,6 @@
 //! The cells of a frozen state, each found by its number, and the code that they are of.
 
-ghost use Rattle.std.specs.Prelude.{◌≡◌, ◌≤◌, IfOk, length, option_map};
+ghost use Rattle.std.specs.Prelude.{◌≡◌, ◌<◌, ◌≤◌, IfOk, get_or, length, option_map};
 ghost use Rattle.ns_code.specs.Fits.{Fits};
 ghost use Rattle.ns_verify.specs.Verify.{IsSound};
 ghost use Rattle.ns_code.specs.Selector.{is_selector_number, selector_arity};
@@ -12,8 +12,9 @@ ghost use Rattle.ns_frozen_valid.specs.Chain as chain;
 ghost use Rattle.ns_frozen_valid.specs.Seen as spec;
 
 use crate::bodies::Bodies;
-use crate::chain::{Chain, Chains};
+use crate::chain::{Chain, Chains, chain_in};
 use crate::keepers::Keeper;
+use crate::nested::outers_of;
 use crate::numbers::{cell_at, numbers_of, place_of};
 use crate::selectors::Selectors;
 use ns_base::items::Items;
@@ -21,10 +22,13 @@ use ns_base::no_memory::NoMemory;
 use ns_base::selector::Sel;
 use ns_code::program::CodeProgram;
 use ns_frozen::cell::CellData;
+use ns_frozen::frame::FrozenFrame;
+use ns_verify::laws::sound_code_is_in_order;
 use std::alloc::Global;
 
 /// Code and cells, with what is found of them once: the number of each cell, the chain of each class, what is asked of
-/// selectors and bodies, and which classes have words in their instances.
+/// selectors and bodies, which classes have words in their instances and the ways up from them, which bodies environments fit,
+/// and in which declaration each class is nested.
 #[derive(Drop)]
 pub struct Seen<'a> {
     pub code: &'a CodeProgram,
@@ -34,14 +38,17 @@ pub struct Seen<'a> {
     pub selectors: Selectors,
     pub bodies: Bodies,
     pub keepers: Vec<Keeper>,
+    pub kept: Vec<u32>,
+    pub outers: Items<Option<u32>>,
 }
 
 impl<'a> Seen<'a> {
-    /// Sees these cells, over this code.
+    /// Sees these cells, over this code, and what the environments of these frames fit.
     pub fn of(
         alloc: Global,
         code: &'a CodeProgram,
         cells: &'a [CellData],
+        frames: &[FrozenFrame],
     ) -> Result<Seen<'a>, NoMemory>
         requires sound { IsSound code.now }
         requires fits { Fits code.now }
@@ -50,11 +57,13 @@ impl<'a> Seen<'a> {
     {
         let mut seen = Seen::begin(alloc, code, cells)?;
         seen.find_keepers()?;
+        let kept = seen.fitting(alloc, frames)?;
+        seen.kept = kept;
         Ok(seen)
     }
 
     /// The same, where nothing is kept of classes yet.
-    #[tactic(auto, using(crate::proofs::Kept::none_kept))]
+    #[tactic(auto, using(crate::proofs::Kept::none_kept, crate::proofs::Fitted::empty_fits))]
     fn begin(
         alloc: Global,
         code: &'a CodeProgram,
@@ -70,6 +79,8 @@ impl<'a> Seen<'a> {
         let chains = Chains::of(alloc, code, cells)?;
         let selectors = Selectors::of(alloc, code)?;
         let bodies = Bodies::of(alloc, code)?;
+        let outers = outers_of(alloc, code)?;
+        sound_code_is_in_order();
         Ok(Seen {
             code,
             cells,
@@ -78,6 +89,8 @@ impl<'a> Seen<'a> {
             selectors,
             bodies,
             keepers: Vec::new(alloc),
+            kept: Vec::new(alloc),
+            outers,
         })
     }
 
@@ -126,6 +139,35 @@ impl<'a> Seen<'a> {
         ensures layout { result ≡ layout.layout_of (spec.heap_of self.now) self.now.code.now class }
     {
         self.chain(class).layout
+    }
+
+    /// The same of the class at a place, whose chain stands there.
+    #[tactic(auto, using(crate::proofs::Kept::chain_here))]
+    fn chain_of(&self, place: u32) -> Chain
+        requires seen { spec.IsSeen self.now }
+        requires there { place < length self.now.chains.numbers.items }
+        ensures { result ≡ chain.chain_at self.now.code.now (spec.heap_of self.now) (get_or self.now.chains.numbers.items place 0) }
+    {
+        chain_in(self.chains.chains.as_slice(), place as usize)
+    }
+
+    /// Whether it has a chain.
+    #[tactic(auto, using(crate::proofs::Linked::chain_told))]
+    pub fn has_chain_at(&self, place: u32) -> bool
+        requires seen { spec.IsSeen self.now }
+        requires there { place < length self.now.chains.numbers.items }
+        ensures { result ≡ live.has_chain self.now.code.now (spec.heap_of self.now) (get_or self.now.chains.numbers.items place 0) }
+    {
+        self.chain_of(place).links != 0
+    }
+
+    /// How many entries its instances have.
+    pub fn layout_at(&self, place: u32) -> u64
+        requires seen { spec.IsSeen self.now }
+        requires there { place < length self.now.chains.numbers.items }
+        ensures { result ≡ layout.layout_of (spec.heap_of self.now) self.now.code.now (get_or self.now.chains.numbers.items place 0) }
+    {
+        self.chain_of(place).layout
     }
 
     /// Whether that number is a selector's.

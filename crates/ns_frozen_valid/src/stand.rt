@@ -5,13 +5,13 @@ ghost use Rattle.ns_code.specs.Fits.{Fits};
 ghost use Rattle.ns_verify.specs.Verify.{IsSound};
 ghost use Rattle.ns_frozen_valid.specs.Stands as spec;
 
-use crate::pass::Pass;
 use ns_base::items::Items;
 use ns_base::no_memory::NoMemory;
 use ns_code::body::BodyCode;
 use ns_code::instruction::Instr;
 use ns_code::program::CodeProgram;
 use ns_code::table::takes;
+use ns_verify::heights::Pass;
 use ns_verify::laws::heights_agree;
 use std::alloc::Global;
 

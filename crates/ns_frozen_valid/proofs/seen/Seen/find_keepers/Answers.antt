@@ -1,4 +1,4 @@
-use Rattle.std.proofs.Common.{ℕ, ◌≡◌, ◌∷◌, [], length, get_or, true, subst, ap, sym, ◌∙◌, arith}
+use Rattle.std.proofs.Common.{ℕ, ◌≡◌, length, get_or, true, subst, ap, sym, arith}
 use Rattle.ns_frozen.specs.Live.{has_chain}
 use Rattle.ns_frozen_valid.specs.Keepers.{IsKeeper}
 use Rattle.ns_frozen_valid.specs.Seen.{heap_of}
@@ -11,6 +11,7 @@ classes-preserved c =
     let seen = c.classes.invariant.0 in (
       record {
         fits = seen.fits;
+        parents = seen.parents;
         numbers = seen.numbers;
         chains = seen.chains;
         selectors = seen.selectors;
@@ -20,6 +21,8 @@ classes-preserved c =
             (subst (λ (n : ℕ). has_chain c.classes.self.code.now (heap_of c.classes.self) (get_or c.classes.self.chains.numbers.items n 0) ≡ true
             → IsKeeper c.classes.self.code.now (heap_of c.classes.self) c.classes.self.chains.numbers.items n c.keeper-keeper.result) (sym c.classes.invariant.1) c.keeper-keeper.ensures)
             c.in_ok-push.ensures.items;
+        kept = seen.kept;
+        outers = seen.outers;
       },
       omega (arith, ap (λ ks. length ks) c.in_ok-push.ensures.items, one_longer c.classes.self.keepers.items c.keeper-keeper.result, c.classes.invariant.1),
       c.classes.invariant.2,

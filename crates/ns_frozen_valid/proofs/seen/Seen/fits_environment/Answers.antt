@@ -1,7 +1,7 @@
 use Rattle.std.proofs.Common.{ℕ, ◌≡◌, ◌-◌, ap, ◌∙◌, arith}
 use Rattle.ns_frozen.specs.Live.{fits_environment}
 use Rattle.ns_frozen_valid.specs.Seen.{heap_of}
-use Rattle.ns_frozen_valid.proofs.Outwards.{out_on, out_nowhere, out_all, out_end, out_past}
+use Rattle.ns_frozen_valid.proofs.Outwards.{out_on, out_known, out_nowhere, out_all, out_end, out_past}
 use Rattle.ns_frozen_valid.proofs.seen.Seen.fits_environment.Goals as goal
 
 pub bodies-init : goal.bodies-init
@@ -11,26 +11,31 @@ bodies-init c =
 
 pub bodies-preserved : goal.bodies-preserved
 bodies-preserved c =
-    out_on c.args.depth c.bodies._around c.args.self.now.code.now (heap_of c.args.self.now) c.bodies.body c.in-Some.number c.bodies.env
+    out_on c.args.depth c.bodies.done c.args.self.now.code.now (heap_of c.args.self.now) c.bodies.body c.in-Some.number c.bodies.env
     c.in-Some-around.parent c.in-Some-around.outer _ c.bodies-test.true c.in-Some.is c.in-Some-around.ensures c.bodies.invariant
 
 pub returns-in-None-around : goal.returns-in-None-around
 returns-in-None-around c =
-    out_nowhere c.args.depth c.bodies._around c.args.self.now.code.now (heap_of c.args.self.now) c.bodies.body c.in-Some.number c.bodies.env
+    out_nowhere c.args.depth c.bodies.done c.args.self.now.code.now (heap_of c.args.self.now) c.bodies.body c.in-Some.number c.bodies.env
     _ c.bodies-test.true c.in-Some.is c.in-None-around.ensures c.bodies.invariant
 
 pub returns-in-None : goal.returns-in-None
 returns-in-None c =
     c.is_nil.ensures
-    ∙ out_all (c.args.depth - c.bodies._around) c.args.self.now.code.now (heap_of c.args.self.now) c.bodies.body c.bodies.env _ c.in-None.is c.bodies.invariant
+    ∙ out_all (c.args.depth - c.bodies.done) c.args.self.now.code.now (heap_of c.args.self.now) c.bodies.body c.bodies.env _ c.in-None.is c.bodies.invariant
 
 pub returns-then-is_none : goal.returns-then-is_none
 returns-then-is_none c =
     c.is_nil-then-is_none.ensures
-    ∙ out_end (c.args.depth - c.bodies._around) c.args.self.now.code.now (heap_of c.args.self.now) c.bodies.body c.bodies.env _ c.if-is_none.ensures c.bodies.invariant
+    ∙ out_end (c.args.depth - c.bodies.done) c.args.self.now.code.now (heap_of c.args.self.now) c.bodies.body c.bodies.env _ c.if-is_none.ensures c.bodies.invariant
 
 pub returns-else-is_none : goal.returns-else-is_none
 returns-else-is_none c =
     c.if-is_none.false
-    ∙ out_past (c.args.depth - c.bodies._around) c.args.self.now.code.now (heap_of c.args.self.now) c.bodies.body c.bodies.env _
+    ∙ out_past (c.args.depth - c.bodies.done) c.args.self.now.code.now (heap_of c.args.self.now) c.bodies.body c.bodies.env _
     (omega (arith, c.bodies-test.false)) c.if-is_none.ensures c.bodies.invariant
+
+pub returns-then-is_known_within : goal.returns-then-is_known_within
+returns-then-is_known_within c =
+    out_known (c.args.depth - c.bodies.done) c.args.self.now.code.now (heap_of c.args.self.now) c.bodies.body c.in-Some.number c.bodies.env _ c.in-Some.is
+    (c.is_known_within.ensures c.if-is_known_within.true) c.bodies.invariant

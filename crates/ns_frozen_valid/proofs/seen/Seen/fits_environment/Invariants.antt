@@ -5,4 +5,4 @@ use Rattle.ns_frozen_valid.proofs.seen.Seen.fits_environment.Given as goal
 
 abbrev pub invariant-bodies : goal.invariant-bodies
 invariant-bodies l =
-    fits_environment (l.depth - l._around) l.self.code.now (heap_of l.self) l.body l.env ≡ fits_environment l.depth l.self.code.now (heap_of l.self) l.fn.body l.fn.env
+    fits_environment (l.depth - l.done) l.self.code.now (heap_of l.self) l.body l.env ≡ fits_environment l.depth l.self.code.now (heap_of l.self) l.fn.body l.fn.env

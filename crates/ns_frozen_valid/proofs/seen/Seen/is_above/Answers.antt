@@ -1,10 +1,10 @@
-use Rattle.std.proofs.Common.{refl, arith}
+use Rattle.std.proofs.Common.{arith}
 use Rattle.ns_frozen_valid.specs.Seen.{heap_of}
 use Rattle.ns_frozen_valid.proofs.Walked.{holder_on, holder_nowhere, holder_there}
 use Rattle.ns_frozen_valid.proofs.seen.Seen.is_above.Goals as goal
 
 pub links-init : goal.links-init
-links-init c = record { low = omega arith; chain = c.requires.chain; same = refl }
+links-init c = c.climbed-at.ensures
 
 pub returns-then-at-above : goal.returns-then-at-above
 returns-then-at-above c =

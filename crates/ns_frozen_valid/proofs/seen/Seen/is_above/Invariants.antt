@@ -1,5 +1,5 @@
 use Rattle.ns_frozen_valid.specs.Seen.{heap_of}
-use Rattle.ns_frozen_valid.proofs.Walked.{Walks, holds}
+use Rattle.ns_frozen_valid.specs.Climbs.{Walks, holds}
 use Rattle.ns_frozen_valid.proofs.seen.Seen.is_above.Given as goal
 
 abbrev pub invariant-links : goal.invariant-links
