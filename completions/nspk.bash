@@ -6,7 +6,7 @@ _nspk() {
   local limits='--steps= --cells= --depth= --out=' options= sources= before= joined= one
   COMPREPLY=()
   if [ "$COMP_CWORD" = 1 ]; then
-    COMPREPLY=($(compgen -W 'check show format run eval build exec list session actors audit test snap resume sample library help --version' -- "$word"))
+    COMPREPLY=($(compgen -W 'check show format run eval build exec list session actors audit test snap resume replay sample library help --version' -- "$word"))
     return
   fi
   # Behind `--` stand arguments of the program, which may be anything.
@@ -27,6 +27,7 @@ _nspk() {
     test) options="--lib $limits --reverse --only= --json" sources=yes ;;
     snap) options="--lib $limits --at=" ;;
     resume) ;;
+    replay) options="--lib $limits" sources=yes ;;
     *) return ;;
   esac
   # Bash cuts words at an equals sign. Before it stand grants, an option whose value is a file, or one whose value nobody can guess.

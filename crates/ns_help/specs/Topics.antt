@@ -2,7 +2,7 @@
 use Rattle.std.specs.Prelude.{ℕ, List, [], ◌∷◌, Option, Some, None, codes, if◌then◌else◌}
 use Rattle.std.specs.Option.{option_or}
 use Rattle.std.specs.Str.{bytes_eq}
-use Rattle.ns_help.specs.declared.commands.TheConstants.{CHECK, SHOW, FORMAT, RUN, EVAL, BUILD, EXEC, LIST, SESSION, SAMPLE, ACTORS, AUDIT, TEST, SNAP, RESUME, LIBRARY, HELP}
+use Rattle.ns_help.specs.declared.commands.TheConstants.{CHECK, SHOW, FORMAT, RUN, EVAL, BUILD, EXEC, LIST, SESSION, SAMPLE, ACTORS, AUDIT, TEST, SNAP, RESUME, REPLAY, LIBRARY, HELP}
 use Rattle.ns_help.specs.declared.sources.TheConstants.{MISSING, TOO_LONG, EXISTS, BAD_BYTE, BIG_NUMBER, UNCLOSED_COMMENT, UNCLOSED_STRING, TOO_DEEP, SYNTAX}
 use Rattle.ns_help.specs.declared.programs.TheConstants.{DUPLICATE_MEMBER, DUPLICATE_LOCAL, FIXED_LOCAL, BAD_RETURN, BARE_RECEIVER, NO_SUCH_OUTER, BAD_CASCADE, PLAIN_TOO_LARGE, TOO_MANY, TOP_SUPER, DUPLICATE_TOP, TOO_LARGE}
 use Rattle.ns_help.specs.declared.errors.TheConstants.{NOT_UNDERSTOOD, NOT_PUBLIC, OVERFLOW, ZERO_DIVIDE, WRONG_KIND, OUT_OF_RANGE, MUST_BE_BOOLEAN, DEAD_RETURN, WRONG_ARITY, NOT_A_CLASS, KERNEL_SUPER, INIT_MISMATCH, FIXED_SLOT, CHAIN_LIMIT}
@@ -32,6 +32,7 @@ commands =
     ∷ (codes "test", TEST.now)
     ∷ (codes "snap", SNAP.now)
     ∷ (codes "resume", RESUME.now)
+    ∷ (codes "replay", REPLAY.now)
     ∷ (codes "library", LIBRARY.now)
     ∷ (codes "help", HELP.now)
     ∷ []

@@ -94,6 +94,11 @@ pub const RESUME: &str = "nspk resume SNAP
 Runs a state that was stored by snap to its end.
 ";
 
+/// What `replay` does.
+pub const REPLAY: &str = "nspk replay [OPTION ..] FILE MOVE ..
+Goes to and fro in a run: +N so many steps on, -N back, =N to step N.
+";
+
 /// What `library` does.
 pub const LIBRARY: &str = "nspk library
 Writes the source of the library, which --lib adds as `lib:Collections`.
@@ -153,6 +158,9 @@ pub fn commands_text(word: &[u8]) -> Option<&'static str>
     }
     if word == b"resume".as_slice() {
         return Some(RESUME);
+    }
+    if word == b"replay".as_slice() {
+        return Some(REPLAY);
     }
     if word == b"library".as_slice() {
         return Some(LIBRARY);

@@ -28,6 +28,7 @@ usage:
   nspk snap [OPTION ..] --at=N SNAP FILE ..  stores as SNAP the run of the files,
                                              paused after N steps
   nspk resume SNAP                           runs on from SNAP
+  nspk replay [OPTION ..] FILE MOVE ..       goes to and fro in the run of FILE
   nspk sample N                              runs a program of N classes: 1 to 1000
   nspk library                               writes the source of the library
   nspk help [COMMAND | CAUSE]                tells this, or of COMMAND or CAUSE
@@ -35,6 +36,9 @@ usage:
 
 GRANTS are letters, in this order and each or not: c for the console, k for
 the kernel, m for mirrors, b for the board that applications share.
+
+A MOVE is +N, N steps on; -N, N steps back; or =N, to step N; N from 0 to
+1000000000000. There are 1 to 16.
 
 There are at most 16 files and 255 arguments. Options stand before the files,
 in any order, and each at most once but for --text and --deny:
@@ -51,7 +55,7 @@ in any order, and each at most once but for --text and --deny:
              session, actors, audit, test
   --quantum=N  with turns of N steps: 1 to 1000000, without it 1000; with
              session alone, where each application has at most 4000000 cells
-             and 10000 frames, as each of the actors has
+             and 10000 frames, as actors and the run of a replay have
   --deny=SELECTOR  one of at most 16 selectors, with audit alone, which wants one
   --at=N     paused after N steps: 0 to 1000000000000, with snap alone, which wants
              it

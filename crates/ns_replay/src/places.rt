@@ -2,14 +2,34 @@
 
 ghost use Rattle.std.specs.Prelude.{◌<◌, ◌≤◌, IfSome};
 
-/// The step at which the next state is kept on the way from a step to an end: a multiple of this number, an eighth of the end behind
-/// the last one that is kept. None comes before the end where that is not before it.
-pub fn place_behind(last: u64, from: u64, end: u64, every: u64) -> Option<u64>
+/// A way through a run: the step of the state that was kept last, the step where the way begins, and the one where it ends.
+#[derive(Clone, Copy)]
+pub struct Way {
+    pub last: u64,
+    pub from: u64,
+    pub end: u64,
+}
+
+/// At least so many steps are gone for each cell that is copied: then a run takes longer than its copies.
+const STEPS_A_CELL: u64 = 2;
+
+/// Whether a state at a step is worth its copy, where so many cells are used and another state was kept before it.
+pub fn is_due(last: u64, step: u64, cells: u64) -> bool {
+    worth(cells) <= step.saturating_sub(last)
+}
+
+/// The step at which the next state is kept on a way: a multiple of this number, behind the last one that is kept by more than an eighth
+/// of the end, so that what is left behind the seventh is less, and by what the copy of so many cells is worth and a quarter more, since
+/// some more may be used there. None comes before the end where that is not before it.
+pub fn place_behind(way: Way, every: u64, cells: u64) -> Option<u64>
     requires { 0 < every }
-    ensures { IfSome result (λ place. (from ≤ place) × (place ≤ end)) }
+    ensures { IfSome result (λ place. (way.from ≤ place) × (place ≤ way.end)) }
 {
+    let Way { last, from, end } = way;
+    let copy = worth(cells);
+    let apart = (end / 8 + 1).max(copy.saturating_add(copy / 4));
     let place = last
-        .saturating_add(spacing(end, every))
+        .saturating_add(rounded(apart, every))
         .max(rounded(from, every));
     if from <= place && place < end {
         Some(place)
@@ -18,11 +38,9 @@ pub fn place_behind(last: u64, from: u64, end: u64, every: u64) -> Option<u64>
     }
 }
 
-/// An eighth of a number, rounded up to a multiple of another one.
-fn spacing(end: u64, every: u64) -> u64
-    requires { 0 < every }
-{
-    rounded(end.div_ceil(8), every)
+/// How many steps the copy of so many cells is worth.
+fn worth(cells: u64) -> u64 {
+    cells.saturating_mul(STEPS_A_CELL)
 }
 
 /// A number rounded up to a multiple of another one.

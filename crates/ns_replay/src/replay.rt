@@ -7,7 +7,7 @@ ghost use Rattle.ns_replay.specs.Replay.{CanBegin, gone_to, reached, replay_of};
 
 use crate::kept::{Kept, MOST_KEPT, keep, latest};
 use crate::laws::positions_are_least;
-use crate::places::place_behind;
+use crate::places::{Way, is_due, place_behind};
 use crate::standing::stand_before;
 use ns_base::no_memory::NoMemory;
 use ns_frozen::frozen::Frozen;
@@ -124,17 +124,19 @@ impl Replay {
         self.asked = step;
     }
 
-    /// Keeps where the run stands, unless it has ended.
+    /// Keeps where the run stands, unless it has ended, or its cells are too many for so few steps behind the last state.
     fn keep(&mut self)
         ensures { self.new ≡ self.old }
     {
-        keep(
-            self.alloc,
-            &self.machine,
-            &self.start,
-            &mut self.kept,
-            self.asked,
-        );
+        if is_due(self.last_kept(), self.asked, self.cells()) {
+            keep(
+                self.alloc,
+                &self.machine,
+                &self.start,
+                &mut self.kept,
+                self.asked,
+            );
+        }
     }
 
     /// The step at which the next state is kept on the way to this one, if there is one and the run goes on.
@@ -145,9 +147,19 @@ impl Replay {
             Some(_) => None,
             None => {
                 let end = step.min(self.machine.world().limits().steps);
-                place_behind(self.last_kept(), self.asked, end, self.every)
+                let way = Way {
+                    last: self.last_kept(),
+                    from: self.asked,
+                    end,
+                };
+                place_behind(way, self.every, self.cells())
             }
         }
+    }
+
+    /// How many cells are used where the run stands: so many are copied where it is kept.
+    fn cells(&self) -> u64 {
+        self.machine.counters().cells
     }
 
     /// The step of the state that was kept last on the way to where the run stands.

@@ -4,7 +4,7 @@ use Rattle.std.proofs.lemmas.Bool.Decides.{nat_tests}
 use Rattle.std.specs.Option.{is_some}
 use Rattle.std.specs.Prelude.{IsSome}
 use Rattle.ns_run.specs.Letter.{HasLetter}
-use Rattle.ns_run.specs.Meaning.{behind_first, behind_letter, sources_of}
+use Rattle.ns_run.specs.Meaning.{behind_first, behind_letter, first_of, sources_of}
 use Rattle.ns_run_words.specs.Application.{AreApplications}
 use Rattle.ns_run_words.specs.Forms.{AreFiles, AreItems, AreNames, IsSpelledLine}
 use Rattle.ns_run_words.specs.Letter.{PostedLetter, letter_to}
@@ -17,7 +17,7 @@ use Rattle.ns_run_words.specs.declared.form.Item.{Item}
 use Rattle.ns_run_words.specs.declared.form.Verb.{Verb}
 use Rattle.ns_run_words.specs.declared.words.Given.{Given}
 use Rattle.ns_run_words.specs.laws.Image.{image_is_given}
-use Rattle.ns_run_words.specs.declared.form.Verb.TheVariants.{Check, Show, Format, Run, Eval, Build, Exec, Listing, Session, Sample, Actors, Audit, Test, Snap, Resume, Library, Help, Explain, Version}
+use Rattle.ns_run_words.specs.declared.form.Verb.TheVariants.{Check, Show, Format, Run, Eval, Build, Exec, Listing, Session, Sample, Actors, Audit, Test, Snap, Resume, Replay, Library, Help, Explain, Version}
 
 -- The command works on files.
 abbrev pub TakesFiles : Verb → Type 0
@@ -36,6 +36,7 @@ TakesFiles Audit = ⊥
 TakesFiles Test = Unit {0}
 TakesFiles Snap = ⊥
 TakesFiles Resume = Unit {0}
+TakesFiles Replay = ⊥
 TakesFiles Library = ⊥
 TakesFiles Help = ⊥
 TakesFiles Explain = ⊥
@@ -68,6 +69,7 @@ within given Audit t = absurd t
 within given Test t = (omega arith, omega arith, λ count. refl)
 within given Snap t = absurd t
 within given Resume t = (omega arith, omega arith, λ count. refl)
+within given Replay t = absurd t
 within given Library t = absurd t
 within given Help t = absurd t
 within given Explain t = absurd t
@@ -122,6 +124,15 @@ are_behind line e (words, f) =
     behind : (names : List (List ℕ)) → 2 ≤ length names → length names ≤ 17 → AreItems File names → AreFiles (behind_first names)
     behind [] l m a = absurd (omega (arith, l))
     behind (name ∷ names) l m a = (omega (arith, l), omega (arith, m), a.1)
+
+-- The program that is replayed is that of one file, the first name.
+pub is_replayed : (line : CommandLine) → line.verb ≡ Replay → IsSpelledLine line → AreFiles (first_of line.names)
+is_replayed line e (words, f) =
+    let s = sized Replay line e (words, f) in first line.names s.0 (subst (λ v. AreNames (form_of v) 0 line.names) e f.named)
+  where
+    first : (names : List (List ℕ)) → 2 ≤ length names → AreNames (form_of Replay) 0 names → AreFiles (first_of names)
+    first [] l a = absurd (omega (arith, l))
+    first (name ∷ names) l a = (omega arith, omega arith, (a.0, tt))
 
 -- The program of actors has 1 to 16 files: all names but the three of the letter.
 pub are_behind_letter : (line : CommandLine) → line.verb ≡ Actors → IsSpelledLine line → AreFiles (behind_letter line.names)

@@ -3,17 +3,19 @@ use Rattle.std.proofs.Common.{◌≡◌, ◌∙◌, ℕ, Bool, List, [], ◌∷�
 use Rattle.std.proofs.lemmas.List.{take_all}
 use Rattle.std.specs.Prelude.{get_or}
 use Rattle.ns_base.specs.Files.{Files}
+use Rattle.ns_base.specs.declared.limits.Limits.{Limits}
 use Rattle.ns_help.specs.Topics.{text_of}
-use Rattle.ns_run.specs.Meaning.{behind_first, files_of, files_read, meaning_of_texts, of_behind_first, of_line, of_reading, of_topic, text_told}
+use Rattle.ns_run.specs.Meaning.{behind_first, files_of, files_read, first_of, meaning_of_texts, of_behind_first, of_line, of_reading, of_replaying, of_topic, text_told}
 use Rattle.ns_run_files.specs.Programs.{of_texts}
-use Rattle.ns_run_files.specs.Task.{Task}
+use Rattle.ns_run_files.specs.Task.{Task, Replays}
 use Rattle.ns_run_outcome.specs.Outcome.{IsEnding}
 use Rattle.ns_run_outcome.specs.Stated.{Reports}
 use Rattle.ns_run_outcome.specs.declared.report.Report.{Report}
 use Rattle.ns_run_outcome.specs.declared.stop.Stop.{Stop}
 use Rattle.ns_run_words.specs.Forms.{AreFiles}
-use Rattle.ns_run_words.specs.Words.{CommandLine, LineReading, reading_of}
+use Rattle.ns_run_words.specs.Words.{CommandLine, LineReading, limits_of, move_of, reading_of}
 use Rattle.ns_run_words.specs.declared.form.Verb.{Verb}
+use Rattle.ns_run_words.specs.declared.words.Given.{Given}
 
 -- Of a command that was read, its words mean the report.
 pub reading_reports : {S : Type 0} (holds : S → Option Files) (misses faults store_faults : S → ℕ) (old new : S) (reading : LineReading) (words : List (List ℕ)) (result : Result Report Stop)
@@ -51,3 +53,16 @@ behind_reports holds misses faults store_faults old new task shown lib (x ∷ xs
     let all : take (length (x ∷ xs) - 1) xs ≡ xs = take_all (length (x ∷ xs) - 1) xs (omega arith) in
     subst (λ name. Reports holds misses faults store_faults old new (map shown xs) (of_texts (task name) (map shown xs) lib) result) is
     (subst (λ rest. Reports holds misses faults store_faults old new (map shown rest) (of_texts (task image) (map shown rest) lib) result) all h)
+
+-- What is reported of the program of the first file, which is gone through by the moves behind it, is reported of the line.
+pub replay_reports :
+    {S A : Type 0} (holds : S → Option Files) (misses faults store_faults : S → ℕ) (old new : S) (shown : A → List ℕ) (given : Given) (limits : Limits) (names file moves : List A) (result : Result Report Stop) →
+    AreFiles (first_of (map shown names)) → limits ≡ limits_of given → file ≡ take 1 names → moves ≡ drop 1 names →
+    Reports holds misses faults store_faults old new (map shown file) (of_texts (Replays limits (map move_of (map shown moves))) (map shown file) given.lib) result →
+    Reports holds misses faults store_faults old new (first_of (map shown names)) (of_replaying given (map shown names)) result
+replay_reports holds misses faults store_faults old new shown given limits [] file moves result files l f m h = absurd (omega (arith, files.0))
+replay_reports holds misses faults store_faults old new shown given limits (x ∷ xs) file moves result files l f m h =
+    let name = shown x ∷ [] in
+    subst (λ within. Reports holds misses faults store_faults old new name (of_texts (Replays within (map move_of (map shown xs))) name given.lib) result) l
+    (subst (λ words. Reports holds misses faults store_faults old new name (of_texts (Replays limits (map move_of (map shown words))) name given.lib) result) m
+    (subst (λ one. Reports holds misses faults store_faults old new (map shown one) (of_texts (Replays limits (map move_of (map shown moves))) (map shown one) given.lib) result) f h))

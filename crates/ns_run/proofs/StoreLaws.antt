@@ -37,12 +37,12 @@ use Rattle.ns_run_snap.specs.Resumed.{Resumed, resumed}
 use Rattle.ns_run_snap.specs.Resumed as resumes
 use Rattle.ns_snapshot.specs.declared.fault.SnapFault.{SnapFault}
 use Rattle.ns_snapshot.specs.declared.fault.SnapFault.TheVariants as snap
-use Rattle.ns_run.specs.Meaning.{of_acting, of_joint, of_audit, of_letter, of_line, of_reading, of_refusal, of_statements, of_topic, run_of_line, text_told}
+use Rattle.ns_run.specs.Meaning.{of_acting, of_joint, of_audit, of_letter, of_line, of_reading, of_refusal, of_replaying, of_statements, of_topic, run_of_line, text_told}
 use Rattle.ns_run_files.specs.Programs.{eval_source, name_of, of_cause, of_checks, of_fault, of_faultless, of_faults, of_format, of_layout, of_least, of_loading, of_sends, of_own_fault, of_run, of_sample, of_show, of_sized, of_source, of_tests, of_texts, of_units, meant_report, run_of_loading, run_of_texts, sample_run}
 use Rattle.ns_run.specs.Outcome.{OverTexts, StoresNoFile, StoresNothing}
-use Rattle.ns_run_files.specs.laws.Programs.{acts_store_none}
+use Rattle.ns_run_files.specs.laws.Programs.{acts_store_none, replay_stores_none}
 use Rattle.ns_run_files.specs.Tests.{tests_report}
-use Rattle.ns_run_files.specs.Task.{Task, Checks, Shows, Builds, Acts, Tests, Snaps}
+use Rattle.ns_run_files.specs.Task.{Task, Checks, Shows, Builds, Acts, Tests, Snaps, Replays}
 use Rattle.ns_test.specs.Source.{source_tested}
 use Rattle.ns_test.specs.Tests.{Tested, has_no_code, has_not_opened, has_tested, no_test, not_tests}
 use Rattle.ns_tree.specs.Plain as p
@@ -52,7 +52,7 @@ use Rattle.ns_verify.specs.declared.fault.Where.TheVariants as where_at
 use Rattle.ns_run_words.specs.Application.{asked_of}
 use Rattle.ns_run_words.specs.Letter.{PostedLetter, letter_in}
 use Rattle.ns_run_words.specs.Options.{denied_by, only_among}
-use Rattle.ns_run_words.specs.Words.{CommandLine, LineReading, says, bad, limits_of, quantum_of, reading_of, sample_number}
+use Rattle.ns_run_words.specs.Words.{CommandLine, LineReading, says, bad, limits_of, move_of, quantum_of, reading_of, sample_number}
 use Rattle.ns_run_words.specs.declared.form.Verb.{Verb}
 use Rattle.ns_run_words.specs.declared.form.Verb.TheVariants as verb
 use Rattle.ns_run_words.specs.declared.words.Given.{Given}
@@ -138,6 +138,7 @@ IsNoStoring (Builds name) = ⊥
 IsNoStoring (Acts limits count sel number) = Unit {0}
 IsNoStoring (Tests limits reversed only) = Unit {0}
 IsNoStoring (Snaps name limits at) = ⊥
+IsNoStoring (Replays limits moves) = Unit {0}
 
 units_keep : (t : Task) (names files : List (List ℕ)) (trees : List p.SourceUnit) (places : List (List Place)) → IsNoStoring t →
     KeepsNone (of_units t names files trees places)
@@ -150,6 +151,8 @@ units_keep (Acts limits count sel number) names files trees places i =
 units_keep (Tests limits reversed only) names files trees places i =
     tests_keep names limits reversed only files trees places (least (faults trees places))
 units_keep (Snaps name limits at) names files trees places i = absurd i
+units_keep (Replays limits moves) names files trees places i =
+    replay_stores_none names limits moves files trees places (least (faults trees places))
 
 cause_keeps : (file : List ℕ) (why : LoadCause) → KeepsNone (of_cause file why)
 cause_keeps file cause.Missing = refl
@@ -285,6 +288,11 @@ audit_keeps denied [] texts = refl
 audit_keeps denied (name ∷ []) texts = refl
 audit_keeps denied (name ∷ class ∷ names) texts = image_keeps (Audits denied class) (name ∷ []) texts
 
+replaying_keeps : (given : Given) (names : List (List ℕ)) (texts : List (Option (List ℕ))) → KeepsNone (of_replaying given names texts)
+replaying_keeps given [] texts = refl
+replaying_keeps given (name ∷ moves) texts =
+    texts_keep (Replays (limits_of given) (map move_of moves)) (name ∷ []) given.lib texts tt
+
 -- ---- sessions
 
 refusal_keeps : (why : Refusal) → KeepsNone (of_refusal why)
@@ -339,6 +347,7 @@ line_keeps verb.Test line texts i =
     texts_keep (Tests (limits_of line.given) line.given.reverse (only_among line.options)) line.names line.given.lib texts tt
 line_keeps verb.Snap line texts i = absurd i
 line_keeps verb.Resume line texts i = image_keeps Resumes line.names texts
+line_keeps verb.Replay line texts i = replaying_keeps line.given line.names texts
 line_keeps verb.Library line texts i = refl
 line_keeps verb.Help line texts i = refl
 line_keeps verb.Explain line texts i = topic_keeps line.names

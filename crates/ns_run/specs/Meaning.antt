@@ -8,7 +8,7 @@ use Rattle.ns_json.specs.declared.saying.Saying.TheVariants as said
 use Rattle.ns_lib.specs.Collections.{collections}
 use Rattle.ns_run_files.specs.Guard.{of_built_to}
 use Rattle.ns_run_files.specs.Programs.{of_check, of_eval, of_fault, of_format, of_sample, of_texts, run_of_texts}
-use Rattle.ns_run_files.specs.Task.{Task, Checks, Shows, Builds, Acts, Tests, Snaps}
+use Rattle.ns_run_files.specs.Task.{Task, Checks, Shows, Builds, Acts, Tests, Snaps, Replays}
 use Rattle.ns_run_image.specs.Image.{Lists, Audits, Resumes, of_exec, of_image}
 use Rattle.ns_run_input.specs.Input.{RunWork, in_parts}
 use Rattle.ns_run_outcome.specs.Report.{bad_word, told, too_large}
@@ -18,9 +18,9 @@ use Rattle.ns_run_outcome.specs.declared.run.Telling.{Telling}
 use Rattle.ns_run_words.specs.Letter.{PostedLetter, letter_in}
 use Rattle.ns_run_words.specs.Options.{denied_by, only_among, texts_among}
 use Rattle.ns_run_words.specs.Own.{image_among}
-use Rattle.ns_run_words.specs.Words.{CommandLine, LineReading, says, bad, at_of, limits_of, quantum_of, reading_of, sample_number}
+use Rattle.ns_run_words.specs.Words.{CommandLine, LineReading, says, bad, at_of, limits_of, move_of, quantum_of, reading_of, sample_number}
 use Rattle.ns_run_words.specs.declared.form.Verb.{Verb}
-use Rattle.ns_run_words.specs.declared.form.Verb.TheVariants.{Check, Show, Format, Run, Eval, Build, Exec, Listing, Session, Sample, Actors, Audit, Test, Snap, Resume, Library, Help, Explain, Version}
+use Rattle.ns_run_words.specs.declared.form.Verb.TheVariants.{Check, Show, Format, Run, Eval, Build, Exec, Listing, Session, Sample, Actors, Audit, Test, Snap, Resume, Replay, Library, Help, Explain, Version}
 use Rattle.ns_run_words.specs.declared.words.Given.{Given}
 use Rattle.ns_session_files.specs.Joint.{Joint, joint_of, has_run, stopped_for}
 use Rattle.ns_session_files.specs.Making.{Refusal, files_named, unchecked, unloaded}
@@ -116,6 +116,11 @@ of_testing given options names texts = of_texts (Tests (limits_of given) given.r
 abbrev pub of_snapping : Given → (names : List (List ℕ)) → List (Option (List ℕ)) → Report
 of_snapping given names = of_behind_first (λ name. Snaps name (limits_of given) (at_of given)) given.lib names
 
+-- the run of the program of the first of these files is gone through by the moves behind its name (there is always one)
+abbrev pub of_replaying : Given → (names : List (List ℕ)) → List (Option (List ℕ)) → Report
+of_replaying given [] texts = bad_word 1
+of_replaying given (name ∷ moves) texts = of_texts (Replays (limits_of given) (map move_of moves)) (name ∷ []) given.lib texts
+
 -- the run of the statements that are the first of these words (there is always one), over the texts of its inputs
 abbrev pub of_statements : RunWork → Bool → List (List ℕ) → List (Option (List ℕ)) → Report
 of_statements run lib [] texts = bad_word 1
@@ -153,6 +158,7 @@ of_line Audit line texts = of_audit (denied_by line.options) line.names texts
 of_line Test line texts = of_testing line.given line.options line.names texts
 of_line Snap line texts = of_snapping line.given line.names texts
 of_line Resume line texts = of_image Resumes line.names texts
+of_line Replay line texts = of_replaying line.given line.names texts
 of_line Library line texts = told collections
 of_line Help line texts = told HELP.now
 of_line Explain line texts = of_topic line.names
@@ -184,7 +190,7 @@ files_built None names = behind_first names
 files_built (Some image) names = image ∷ names
 
 -- the files that a command reads: those that it names, or that its applications name, but for the one that `build` stores
--- where the first name names it, or `snap` stores, and the class that `audit` names; behind those of a run, the texts that its options name
+-- where the first name names it, or `snap` stores, the class that `audit` names, and moves; behind those of a run, the texts that its options name
 abbrev pub files_of : Verb → (options names : List (List ℕ)) → List (List ℕ)
 files_of Check options names = names
 files_of Show options names = names
@@ -201,6 +207,7 @@ files_of Audit options names = first_of names
 files_of Test options names = names
 files_of Snap options names = behind_first names
 files_of Resume options names = names
+files_of Replay options names = first_of names
 files_of Library options names = []
 files_of Help options names = []
 files_of Explain options names = []

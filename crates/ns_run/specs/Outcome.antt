@@ -26,6 +26,7 @@ StoresNoFile verb.Audit = Unit {0}
 StoresNoFile verb.Test = Unit {0}
 StoresNoFile verb.Snap = ⊥
 StoresNoFile verb.Resume = Unit {0}
+StoresNoFile verb.Replay = Unit {0}
 StoresNoFile verb.Library = Unit {0}
 StoresNoFile verb.Help = Unit {0}
 StoresNoFile verb.Explain = Unit {0}

@@ -88,6 +88,7 @@ pub fn on_line<S: Shelf>(alloc: Global, line: Line<'_>, shelf: &mut S) -> Result
         Verb::Test => on_tests(alloc, given, options, names, shelf),
         Verb::Snap => on_snapping(alloc, given, names, shelf),
         Verb::Resume => on_first(alloc, ImageTask::Resume, names, shelf),
+        Verb::Replay => on_replaying(alloc, given, names, shelf),
         Verb::Library => or_stop(library(alloc)),
         Verb::Help => or_stop(told_text(alloc, HELP)),
         Verb::Explain => or_stop(on_topic(alloc, names)),
@@ -311,6 +312,29 @@ fn on_applications<S: Shelf>(
     let limits = given.limits();
     let quantum = given.quantum();
     on_session(alloc, json, lib, limits, quantum, names, shelf)
+}
+
+/// The report of the moves, which stand behind the first name, through the run of the program of that file.
+fn on_replaying<S: Shelf>(
+    alloc: Global,
+    given: Given,
+    names: &[String],
+    shelf: &mut S,
+) -> Result<Report, Stop>
+    requires file { AreFiles (spec.first_of (map string_bytes names.now)) }
+    requires range { InRange (limits_of given) }
+    ensures { Reports S.holds S.misses S.faults S.store_faults shelf.old shelf.new
+        (spec.first_of (map string_bytes names.now)) (spec.of_replaying given (map string_bytes names.now)) result }
+{
+    let limits = given.limits();
+    let (file, moves) = names.split_at(1);
+    on_files(
+        alloc,
+        Task::Replay { limits, moves },
+        given.lib,
+        file,
+        shelf,
+    )
 }
 
 /// The report of the image of a program, which an option names, or the first of the names.

@@ -34,13 +34,16 @@ use Rattle.ns_run_code.specs.Run.{meant_run}
 use Rattle.ns_run_input.specs.Input.{RunWork, parts_of, trace_of, traced_report, with_inputs}
 use Rattle.ns_run_snap.specs.Snapped.{Snapped, snapped_of, snapshot, snapshot_too_large}
 use Rattle.ns_run_snap.specs.Snapped as snapped
+use Rattle.ns_run_replay.specs.Replayed.{Replayed, lines, replayed_of}
+use Rattle.ns_run_replay.specs.Replayed as replayed
 use Rattle.ns_run_files.specs.Acts.{acts_report}
-use Rattle.ns_run_files.specs.Task.{Task, Checks, Shows, Builds, Acts, Tests, Snaps}
+use Rattle.ns_run_files.specs.Task.{Task, Checks, Shows, Builds, Acts, Tests, Snaps, Replays}
 use Rattle.ns_run_files.specs.Tests.{tests_report}
 use Rattle.ns_run_outcome.specs.Report.{bad_word, checked, never_told, refused, refused_file, refused_size, refused_text, spelling_name, static_name, stores, told, too_large}
 use Rattle.ns_run_outcome.specs.declared.report.Report.{Report}
 use Rattle.ns_run_outcome.specs.declared.run.Telling.{Telling}
 use Rattle.ns_run_words.specs.Words.{limits_of, nothing_given}
+use Rattle.ns_run_words.specs.declared.moves.Move.{Move}
 use Rattle.ns_sends.specs.Unanswered.{unanswered}
 use Rattle.ns_sends.specs.declared.sent.SentAt.{SentAt}
 use Rattle.ns_static_all.specs.InOrder.{in_order}
@@ -192,6 +195,16 @@ abbrev pub of_snap : List (List ℕ) → List ℕ → Limits → ℕ → List (L
 of_snap names name limits at files trees places None = of_snapped name (snapped_of (meant_of files trees places) limits at)
 of_snap names name limits at files trees places (Some fault) = of_check names (Some fault)
 
+-- The lines of moves are told.
+abbrev pub of_replayed : Replayed → Report
+of_replayed (lines bytes) = told bytes
+of_replayed (replayed.too_large kind) = too_large kind
+
+-- the moves through the run of units of files of these names, of which this is the least static fault
+abbrev pub of_replay : List (List ℕ) → Limits → List Move → List (List ℕ) → List p.SourceUnit → List (List Place) → Option Placed → Report
+of_replay names limits moves files trees places None = of_replayed (replayed_of (meant_of files trees places) limits moves)
+of_replay names limits moves files trees places (Some fault) = of_check names (Some fault)
+
 -- what is done with the units of files of these names, of which the first are those that the command names
 abbrev pub of_units : Task → List (List ℕ) → List (List ℕ) → List p.SourceUnit → List (List Place) → Report
 of_units (Checks all sends) names files trees places =
@@ -204,6 +217,8 @@ of_units (Tests limits reversed only) names files trees places =
     of_tests names limits reversed only files trees places (least (faults trees places))
 of_units (Snaps name limits at) names files trees places =
     of_snap names name limits at files trees places (least (faults trees places))
+of_units (Replays limits moves) names files trees places =
+    of_replay names limits moves files trees places (least (faults trees places))
 
 -- the refusal of a file (none that is told fails to be read)
 abbrev pub of_cause : List ℕ → LoadCause → Report

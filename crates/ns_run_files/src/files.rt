@@ -18,6 +18,7 @@ ghost use Rattle.ns_run_words.specs.Forms.{AreFiles};
 use crate::acting::on_acts;
 use crate::build::on_build;
 use crate::checks::on_checks;
+use crate::replay::on_replay;
 use crate::snap::on_snap;
 use crate::task::Task;
 use crate::testing::on_tests;
@@ -162,6 +163,7 @@ fn on_program(
             only,
         } => on_tests(alloc, names, limits, reversed, only, program),
         Task::Snap { name, limits, at } => on_snap(alloc, names, name, limits, at, program),
+        Task::Replay { limits, moves } => on_replay(alloc, names, limits, moves, program),
     }
 }
 

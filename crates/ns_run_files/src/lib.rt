@@ -11,6 +11,7 @@ pub mod files;
 pub mod guard;
 pub mod layout;
 mod parts;
+mod replay;
 pub mod run;
 mod sends;
 mod snap;

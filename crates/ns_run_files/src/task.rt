@@ -39,4 +39,9 @@ pub enum Task<'a> {
         limits: Limits,
         at: u64,
     },
+    /// Its run within these limits is gone through by these moves.
+    Replay {
+        limits: Limits,
+        moves: &'a [String],
+    },
 }

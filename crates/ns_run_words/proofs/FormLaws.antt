@@ -9,7 +9,7 @@ use Rattle.ns_run_words.specs.Own.{least_of}
 use Rattle.ns_run_words.specs.Table.{form_of, verb_of, words_of}
 use Rattle.ns_run_words.specs.Words.{CommandLine, Options, Names, Arguments, after_verb, bad, says, nothing_given, option_or, part_or, read_from, reading_of, with_name, with_option}
 use Rattle.ns_run_words.specs.declared.form.Verb.{Verb}
-use Rattle.ns_run_words.specs.declared.form.Verb.TheVariants.{Check, Show, Format, Run, Eval, Build, Exec, Listing, Session, Sample, Actors, Audit, Test, Snap, Resume, Library, Help, Explain, Version}
+use Rattle.ns_run_words.specs.declared.form.Verb.TheVariants.{Check, Show, Format, Run, Eval, Build, Exec, Listing, Session, Sample, Actors, Audit, Test, Snap, Resume, Replay, Library, Help, Explain, Version}
 use Rattle.ns_run_words.specs.declared.words.Given.{Given}
 
 -- The first word of a form names its command.
@@ -44,6 +44,8 @@ first_names Snap first (inl e) = ap verb_of e
 first_names Snap first (inr none) = absurd none
 first_names Resume first (inl e) = ap verb_of e
 first_names Resume first (inr none) = absurd none
+first_names Replay first (inl e) = ap verb_of e
+first_names Replay first (inr none) = absurd none
 first_names Library first (inl e) = ap verb_of e
 first_names Library first (inr none) = absurd none
 first_names Help first (inl e) = ap verb_of e

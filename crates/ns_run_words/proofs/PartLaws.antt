@@ -16,9 +16,9 @@ use Rattle.ns_run_words.specs.Table.{form_of, item_at}
 use Rattle.ns_run_words.specs.Words.{Options, Names, Arguments, at_given, at_where, bad, says, given_or, has_needed, is_item, limit_where, number_given, number_of, option_or, part_or, quantum_where, read_from, steps_of, with_at, with_cells, with_depth, with_limit, with_name, with_option, with_out, with_quantum, with_steps}
 use Rattle.ns_run_words.specs.declared.form.Form.{Form}
 use Rattle.ns_run_words.specs.declared.form.Item.{Item}
-use Rattle.ns_run_words.specs.declared.form.Item.TheVariants.{File, Number, Application, Text, Topic, Selector, Integer}
+use Rattle.ns_run_words.specs.declared.form.Item.TheVariants.{File, Number, Application, Text, Topic, Selector, Integer, Move}
 use Rattle.ns_run_words.specs.declared.form.Verb.{Verb}
-use Rattle.ns_run_words.specs.declared.form.Verb.TheVariants.{Check, Show, Format, Run, Eval, Build, Exec, Listing, Session, Sample, Actors, Audit, Test, Snap, Resume, Library, Help, Explain, Version}
+use Rattle.ns_run_words.specs.declared.form.Verb.TheVariants.{Check, Show, Format, Run, Eval, Build, Exec, Listing, Session, Sample, Actors, Audit, Test, Snap, Resume, Replay, Library, Help, Explain, Version}
 use Rattle.ns_run_words.specs.declared.words.Given.{Given}
 
 -- ---- words that are no options
@@ -166,7 +166,7 @@ no_dash_of_text b h =
       | false ↦ λ k. refl
     ] h
 
--- Names of that kind have none in front, and `--` is no such name: of all kinds but those that stand behind the count of a letter.
+-- Names of that kind have none in front, and `--` is no such name: of all kinds but those that stand behind the count of a letter, and moves.
 abbrev IsPlain : Item → Type 0
 IsPlain File = Unit {0}
 IsPlain (Number greatest) = Unit {0}
@@ -175,6 +175,7 @@ IsPlain Text = Unit {0}
 IsPlain Topic = Unit {0}
 IsPlain Selector = ⊥
 IsPlain Integer = ⊥
+IsPlain Move = ⊥
 
 no_dash_of_item : (item : Item) (b : ℕ) (bs : List ℕ) → IsPlain item → is_item item (b ∷ bs) ≡ true → nat_eq b 45 ≡ false
 no_dash_of_item File b bs p h = no_dash b bs h
@@ -184,6 +185,7 @@ no_dash_of_item Text b bs p h = no_dash_of_text b h
 no_dash_of_item Topic b bs p h = no_dash_of_topic b bs h
 no_dash_of_item Selector b bs p h = absurd p
 no_dash_of_item Integer b bs p h = absurd p
+no_dash_of_item Move b bs p h = absurd p
 
 dashes_are_no_item : (item : Item) → IsPlain item → is_item item (codes "--") ≡ false
 dashes_are_no_item File p = refl
@@ -193,6 +195,7 @@ dashes_are_no_item Text p = refl
 dashes_are_no_item Topic p = refl
 dashes_are_no_item Selector p = absurd p
 dashes_are_no_item Integer p = absurd p
+dashes_are_no_item Move p = absurd p
 
 -- So are the first names of all forms, and all names of a form that takes arguments.
 first_is_plain : (verb : Verb) → IsPlain (item_at (form_of verb) 0)
@@ -211,6 +214,7 @@ first_is_plain Audit = tt
 first_is_plain Test = tt
 first_is_plain Snap = tt
 first_is_plain Resume = tt
+first_is_plain Replay = tt
 first_is_plain Library = tt
 first_is_plain Help = tt
 first_is_plain Explain = tt
@@ -232,6 +236,7 @@ each_is_plain Audit given m count e = tt
 each_is_plain Test given m count e = tt
 each_is_plain Snap given m count e = tt
 each_is_plain Resume given m count e = tt
+each_is_plain Replay given m count e = absurd (cc (e))
 each_is_plain Library given m count e = tt
 each_is_plain Help given m count e = tt
 each_is_plain Explain given m count e = tt

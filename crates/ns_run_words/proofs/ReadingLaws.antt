@@ -16,9 +16,9 @@ use Rattle.ns_run_words.specs.Table.{form_of, item_at, verb_of, words_of}
 use Rattle.ns_run_words.specs.Words.{CommandLine, ReadSoFar, Options, Names, Arguments, LineReading, at_given, bad, bad_of, says, arguments_behind, first_bad, given_of, has_needed, has_room, is_item, limit_where, given_or, line_of, names_read, nothing_given, option_or, part_or, read_from, reading_of, with_argument, with_at, with_dashes, with_name, with_option, with_word}
 use Rattle.ns_run_words.specs.declared.form.Form.{Form}
 use Rattle.ns_run_words.specs.declared.form.Item.{Item}
-use Rattle.ns_run_words.specs.declared.form.Item.TheVariants.{File, Number, Application, Text, Topic, Selector, Integer}
+use Rattle.ns_run_words.specs.declared.form.Item.TheVariants.{File, Number, Application, Text, Topic, Selector, Integer, Move}
 use Rattle.ns_run_words.specs.declared.form.Verb.{Verb}
-use Rattle.ns_run_words.specs.declared.form.Verb.TheVariants.{Check, Show, Format, Run, Eval, Build, Exec, Listing, Session, Sample, Actors, Audit, Test, Snap, Resume, Library, Help, Explain, Version}
+use Rattle.ns_run_words.specs.declared.form.Verb.TheVariants.{Check, Show, Format, Run, Eval, Build, Exec, Listing, Session, Sample, Actors, Audit, Test, Snap, Resume, Replay, Library, Help, Explain, Version}
 use Rattle.ns_run_words.specs.declared.words.Given.{Given}
 
 -- ---- what was read so far
@@ -147,6 +147,7 @@ filler Text = codes "1"
 filler Topic = codes "run"
 filler Selector = codes "a:"
 filler Integer = codes "1"
+filler Move = codes "=1"
 
 -- so many names of a form, behind so many others
 abbrev pub fill : Form → ℕ → ℕ → List (List ℕ)
@@ -181,6 +182,11 @@ fill_item Audit count = refl
 fill_item Test count = refl
 fill_item Snap count = refl
 fill_item Resume count = refl
+fill_item Replay count = behind_a_file (count == 0)
+  where
+    behind_a_file : (first : Bool) → is_item (cond first File Move) (filler (cond first File Move)) ≡ true
+    behind_a_file true = refl
+    behind_a_file false = refl
 fill_item Library count = refl
 fill_item Help count = refl
 fill_item Explain count = refl
@@ -218,6 +224,7 @@ least_is_less Audit given = omega arith
 least_is_less Test given = omega arith
 least_is_less Snap given = omega arith
 least_is_less Resume given = omega arith
+least_is_less Replay given = omega arith
 least_is_less Library given = omega arith
 least_is_less Help given = omega arith
 least_is_less Explain given = omega arith
@@ -251,6 +258,7 @@ enough_needs verb given names (inl e) l = none verb (subst (λ x. least_of (form
     none Test m = refl
     none Snap m = absurd (omega (arith, m))
     none Resume m = refl
+    none Replay m = refl
     none Library m = refl
     none Help m = refl
     none Explain m = refl
@@ -310,6 +318,7 @@ denial_given Snap given h =
       | Some n ↦ λ k. absurd (cc (k))
     ] h
 denial_given Resume given h = absurd (cc (h))
+denial_given Replay given h = absurd (cc (h))
 denial_given Library given h = absurd (cc (h))
 denial_given Help given h = absurd (cc (h))
 denial_given Explain given h = absurd (cc (h))
@@ -331,6 +340,7 @@ denial_serves Audit given = grind (arith, nat_tests)
 denial_serves Test given = refl
 denial_serves Snap given = refl
 denial_serves Resume given = refl
+denial_serves Replay given = refl
 denial_serves Library given = refl
 denial_serves Help given = refl
 denial_serves Explain given = refl
@@ -501,13 +511,14 @@ by_verb w P some none =
     test (codes "test") _ _ (λ is. some Test (inl is)) λ k.
     test (codes "snap") _ _ (λ is. some Snap (inl is)) λ u.
     test (codes "resume") _ _ (λ is. some Resume (inl is)) λ v.
+    test (codes "replay") _ _ (λ is. some Replay (inl is)) λ x.
     test (codes "library") _ _ (λ is. some Library (inl is)) λ l.
     test (codes "--help") _ _ (λ is. some Help (inl is)) λ m.
     test (codes "-h") _ _ (λ is. some Help (inr (inl is))) λ n.
     test (codes "help") _ _ (λ is. some Explain (inl is)) λ q.
     test (codes "--version") _ _ (λ is. some Version (inl is)) λ r.
     test (codes "-V") _ _ (λ is. some Version (inr (inl is))) λ s.
-    none (all a b t c d e f g h i o j k u v l m n q r s)
+    none (all a b t c d e f g h i o j k u v x l m n q r s)
   where
     test : (text : List ℕ) (x y : Option Verb) → (w ≡ text → P x) → (bytes_eq w text ≡ false → P y) → P (cond (bytes_eq w text) x y)
     test text x y f g =
@@ -516,47 +527,49 @@ by_verb w P some none =
           | false ↦ g
         ] refl
 
-    all : bytes_eq w (codes "check") ≡ false → bytes_eq w (codes "show") ≡ false → bytes_eq w (codes "format") ≡ false → bytes_eq w (codes "run") ≡ false → bytes_eq w (codes "eval") ≡ false → bytes_eq w (codes "build") ≡ false → bytes_eq w (codes "exec") ≡ false → bytes_eq w (codes "list") ≡ false → bytes_eq w (codes "session") ≡ false → bytes_eq w (codes "sample") ≡ false → bytes_eq w (codes "actors") ≡ false → bytes_eq w (codes "audit") ≡ false → bytes_eq w (codes "test") ≡ false → bytes_eq w (codes "snap") ≡ false → bytes_eq w (codes "resume") ≡ false → bytes_eq w (codes "library") ≡ false → bytes_eq w (codes "--help") ≡ false → bytes_eq w (codes "-h") ≡ false → bytes_eq w (codes "help") ≡ false → bytes_eq w (codes "--version") ≡ false → bytes_eq w (codes "-V") ≡ false → (verb : Verb) → IsOneOf w (words_of verb) → ⊥
-    all a b t c d e f g h i o j k u v l m n q r s Check (inl is) = apart w (codes "check") a is
-    all a b t c d e f g h i o j k u v l m n q r s Check (inr void) = void
-    all a b t c d e f g h i o j k u v l m n q r s Show (inl is) = apart w (codes "show") b is
-    all a b t c d e f g h i o j k u v l m n q r s Show (inr void) = void
-    all a b t c d e f g h i o j k u v l m n q r s Format (inl is) = apart w (codes "format") t is
-    all a b t c d e f g h i o j k u v l m n q r s Format (inr void) = void
-    all a b t c d e f g h i o j k u v l m n q r s Run (inl is) = apart w (codes "run") c is
-    all a b t c d e f g h i o j k u v l m n q r s Run (inr void) = void
-    all a b t c d e f g h i o j k u v l m n q r s Eval (inl is) = apart w (codes "eval") d is
-    all a b t c d e f g h i o j k u v l m n q r s Eval (inr void) = void
-    all a b t c d e f g h i o j k u v l m n q r s Build (inl is) = apart w (codes "build") e is
-    all a b t c d e f g h i o j k u v l m n q r s Build (inr void) = void
-    all a b t c d e f g h i o j k u v l m n q r s Exec (inl is) = apart w (codes "exec") f is
-    all a b t c d e f g h i o j k u v l m n q r s Exec (inr void) = void
-    all a b t c d e f g h i o j k u v l m n q r s Listing (inl is) = apart w (codes "list") g is
-    all a b t c d e f g h i o j k u v l m n q r s Listing (inr void) = void
-    all a b t c d e f g h i o j k u v l m n q r s Session (inl is) = apart w (codes "session") h is
-    all a b t c d e f g h i o j k u v l m n q r s Session (inr void) = void
-    all a b t c d e f g h i o j k u v l m n q r s Sample (inl is) = apart w (codes "sample") i is
-    all a b t c d e f g h i o j k u v l m n q r s Sample (inr void) = void
-    all a b t c d e f g h i o j k u v l m n q r s Actors (inl is) = apart w (codes "actors") o is
-    all a b t c d e f g h i o j k u v l m n q r s Actors (inr void) = void
-    all a b t c d e f g h i o j k u v l m n q r s Audit (inl is) = apart w (codes "audit") j is
-    all a b t c d e f g h i o j k u v l m n q r s Audit (inr void) = void
-    all a b t c d e f g h i o j k u v l m n q r s Test (inl is) = apart w (codes "test") k is
-    all a b t c d e f g h i o j k u v l m n q r s Test (inr void) = void
-    all a b t c d e f g h i o j k u v l m n q r s Snap (inl is) = apart w (codes "snap") u is
-    all a b t c d e f g h i o j k u v l m n q r s Snap (inr void) = void
-    all a b t c d e f g h i o j k u v l m n q r s Resume (inl is) = apart w (codes "resume") v is
-    all a b t c d e f g h i o j k u v l m n q r s Resume (inr void) = void
-    all a b t c d e f g h i o j k u v l m n q r s Library (inl is) = apart w (codes "library") l is
-    all a b t c d e f g h i o j k u v l m n q r s Library (inr void) = void
-    all a b t c d e f g h i o j k u v l m n q r s Help (inl is) = apart w (codes "--help") m is
-    all a b t c d e f g h i o j k u v l m n q r s Help (inr (inl is)) = apart w (codes "-h") n is
-    all a b t c d e f g h i o j k u v l m n q r s Help (inr (inr void)) = void
-    all a b t c d e f g h i o j k u v l m n q r s Explain (inl is) = apart w (codes "help") q is
-    all a b t c d e f g h i o j k u v l m n q r s Explain (inr void) = void
-    all a b t c d e f g h i o j k u v l m n q r s Version (inl is) = apart w (codes "--version") r is
-    all a b t c d e f g h i o j k u v l m n q r s Version (inr (inl is)) = apart w (codes "-V") s is
-    all a b t c d e f g h i o j k u v l m n q r s Version (inr (inr void)) = void
+    all : bytes_eq w (codes "check") ≡ false → bytes_eq w (codes "show") ≡ false → bytes_eq w (codes "format") ≡ false → bytes_eq w (codes "run") ≡ false → bytes_eq w (codes "eval") ≡ false → bytes_eq w (codes "build") ≡ false → bytes_eq w (codes "exec") ≡ false → bytes_eq w (codes "list") ≡ false → bytes_eq w (codes "session") ≡ false → bytes_eq w (codes "sample") ≡ false → bytes_eq w (codes "actors") ≡ false → bytes_eq w (codes "audit") ≡ false → bytes_eq w (codes "test") ≡ false → bytes_eq w (codes "snap") ≡ false → bytes_eq w (codes "resume") ≡ false → bytes_eq w (codes "replay") ≡ false → bytes_eq w (codes "library") ≡ false → bytes_eq w (codes "--help") ≡ false → bytes_eq w (codes "-h") ≡ false → bytes_eq w (codes "help") ≡ false → bytes_eq w (codes "--version") ≡ false → bytes_eq w (codes "-V") ≡ false → (verb : Verb) → IsOneOf w (words_of verb) → ⊥
+    all a b t c d e f g h i o j k u v x l m n q r s Check (inl is) = apart w (codes "check") a is
+    all a b t c d e f g h i o j k u v x l m n q r s Check (inr void) = void
+    all a b t c d e f g h i o j k u v x l m n q r s Show (inl is) = apart w (codes "show") b is
+    all a b t c d e f g h i o j k u v x l m n q r s Show (inr void) = void
+    all a b t c d e f g h i o j k u v x l m n q r s Format (inl is) = apart w (codes "format") t is
+    all a b t c d e f g h i o j k u v x l m n q r s Format (inr void) = void
+    all a b t c d e f g h i o j k u v x l m n q r s Run (inl is) = apart w (codes "run") c is
+    all a b t c d e f g h i o j k u v x l m n q r s Run (inr void) = void
+    all a b t c d e f g h i o j k u v x l m n q r s Eval (inl is) = apart w (codes "eval") d is
+    all a b t c d e f g h i o j k u v x l m n q r s Eval (inr void) = void
+    all a b t c d e f g h i o j k u v x l m n q r s Build (inl is) = apart w (codes "build") e is
+    all a b t c d e f g h i o j k u v x l m n q r s Build (inr void) = void
+    all a b t c d e f g h i o j k u v x l m n q r s Exec (inl is) = apart w (codes "exec") f is
+    all a b t c d e f g h i o j k u v x l m n q r s Exec (inr void) = void
+    all a b t c d e f g h i o j k u v x l m n q r s Listing (inl is) = apart w (codes "list") g is
+    all a b t c d e f g h i o j k u v x l m n q r s Listing (inr void) = void
+    all a b t c d e f g h i o j k u v x l m n q r s Session (inl is) = apart w (codes "session") h is
+    all a b t c d e f g h i o j k u v x l m n q r s Session (inr void) = void
+    all a b t c d e f g h i o j k u v x l m n q r s Sample (inl is) = apart w (codes "sample") i is
+    all a b t c d e f g h i o j k u v x l m n q r s Sample (inr void) = void
+    all a b t c d e f g h i o j k u v x l m n q r s Actors (inl is) = apart w (codes "actors") o is
+    all a b t c d e f g h i o j k u v x l m n q r s Actors (inr void) = void
+    all a b t c d e f g h i o j k u v x l m n q r s Audit (inl is) = apart w (codes "audit") j is
+    all a b t c d e f g h i o j k u v x l m n q r s Audit (inr void) = void
+    all a b t c d e f g h i o j k u v x l m n q r s Test (inl is) = apart w (codes "test") k is
+    all a b t c d e f g h i o j k u v x l m n q r s Test (inr void) = void
+    all a b t c d e f g h i o j k u v x l m n q r s Snap (inl is) = apart w (codes "snap") u is
+    all a b t c d e f g h i o j k u v x l m n q r s Snap (inr void) = void
+    all a b t c d e f g h i o j k u v x l m n q r s Resume (inl is) = apart w (codes "resume") v is
+    all a b t c d e f g h i o j k u v x l m n q r s Resume (inr void) = void
+    all a b t c d e f g h i o j k u v x l m n q r s Replay (inl is) = apart w (codes "replay") x is
+    all a b t c d e f g h i o j k u v x l m n q r s Replay (inr void) = void
+    all a b t c d e f g h i o j k u v x l m n q r s Library (inl is) = apart w (codes "library") l is
+    all a b t c d e f g h i o j k u v x l m n q r s Library (inr void) = void
+    all a b t c d e f g h i o j k u v x l m n q r s Help (inl is) = apart w (codes "--help") m is
+    all a b t c d e f g h i o j k u v x l m n q r s Help (inr (inl is)) = apart w (codes "-h") n is
+    all a b t c d e f g h i o j k u v x l m n q r s Help (inr (inr void)) = void
+    all a b t c d e f g h i o j k u v x l m n q r s Explain (inl is) = apart w (codes "help") q is
+    all a b t c d e f g h i o j k u v x l m n q r s Explain (inr void) = void
+    all a b t c d e f g h i o j k u v x l m n q r s Version (inl is) = apart w (codes "--version") r is
+    all a b t c d e f g h i o j k u v x l m n q r s Version (inr (inl is)) = apart w (codes "-V") s is
+    all a b t c d e f g h i o j k u v x l m n q r s Version (inr (inr void)) = void
 
 pub begins_nothing : Begins []
 begins_nothing =

@@ -4,11 +4,11 @@ use Rattle.std.specs.Str.{bytes_eq}
 use Rattle.ns_base.specs.declared.limits.Limits.{Limits}
 use Rattle.ns_run_words.specs.declared.form.Form.{Form}
 use Rattle.ns_run_words.specs.declared.form.Item.{Item}
-use Rattle.ns_run_words.specs.declared.form.Item.TheVariants.{File, Number, Application, Text, Topic, Selector, Integer}
+use Rattle.ns_run_words.specs.declared.form.Item.TheVariants.{File, Number, Application, Text, Topic, Selector, Integer, Move}
 use Rattle.ns_run_words.specs.declared.form.Lead.{Lead}
-use Rattle.ns_run_words.specs.declared.form.Lead.TheVariants.{Nothing, Letter}
+use Rattle.ns_run_words.specs.declared.form.Lead.TheVariants.{Nothing, Letter, Source}
 use Rattle.ns_run_words.specs.declared.form.Verb.{Verb}
-use Rattle.ns_run_words.specs.declared.form.Verb.TheVariants.{Check, Show, Format, Run, Eval, Build, Exec, Listing, Session, Sample, Actors, Audit, Test, Snap, Resume, Library, Help, Explain, Version}
+use Rattle.ns_run_words.specs.declared.form.Verb.TheVariants.{Check, Show, Format, Run, Eval, Build, Exec, Listing, Session, Sample, Actors, Audit, Test, Snap, Resume, Replay, Library, Help, Explain, Version}
 
 -- the greatest limits of a run
 abbrev pub greatest : Limits
@@ -69,6 +69,7 @@ form_of Audit = record (names_alone 2 2) { denies = true; json = true }
 form_of Test = record of_program { greatest = Some greatest; tests = true; json = true }
 form_of Snap = record (names_alone 2 17) { greatest = Some greatest; lib = true; at = true }
 form_of Resume = names_alone 1 1
+form_of Replay = record (names_alone 2 17) { greatest = Some greatest_of_many; lib = true; lead = Source; item = Move }
 form_of Library = names_alone 0 0
 form_of Help = names_alone 0 0
 form_of Explain = record (names_alone 0 1) { item = Topic }
@@ -78,9 +79,14 @@ form_of Version = names_alone 0 0
 abbrev pub in_letter : Item → ℕ → Item
 in_letter item count = if count == 0 then Number 16 else (if count == 1 then Selector else (if count == 2 then Integer else item))
 
+-- what it is, where the file of a program stands in front of them
+abbrev pub behind_source : Item → ℕ → Item
+behind_source item count = if count == 0 then File else item
+
 abbrev pub item_behind : Lead → Item → ℕ → Item
 item_behind Nothing item count = item
 item_behind Letter item count = in_letter item count
+item_behind Source item count = behind_source item count
 
 -- what the name behind so many others is
 abbrev pub item_at : Form → ℕ → Item
@@ -103,6 +109,7 @@ words_of Audit = codes "audit" ∷ []
 words_of Test = codes "test" ∷ []
 words_of Snap = codes "snap" ∷ []
 words_of Resume = codes "resume" ∷ []
+words_of Replay = codes "replay" ∷ []
 words_of Library = codes "library" ∷ []
 words_of Help = codes "--help" ∷ codes "-h" ∷ []
 words_of Explain = codes "help" ∷ []
@@ -136,5 +143,6 @@ verb_of word =
     else (if bytes_eq word (codes "test") then Some Test
     else (if bytes_eq word (codes "snap") then Some Snap
     else (if bytes_eq word (codes "resume") then Some Resume
+    else (if bytes_eq word (codes "replay") then Some Replay
     else (if bytes_eq word (codes "library") then Some Library
-    else telling_verb_of word)))))))))))))))
+    else telling_verb_of word))))))))))))))))

@@ -1,5 +1,5 @@
 -- How the words of a command line are read, one after the other, over the form of its command (this profile).
-use Rattle.std.specs.Prelude.{ℕ, ℤ, pos, neg_ℤ, ◌+◌, ◌-◌, ◌*◌, ◌&&◌, ◌==◌, nat_le, nat_lt, List, [], ◌∷◌, ◌++◌, Bool, true, false, Option, Some, None, option_map, option_and_then, take, drop, length, codes, nat_eq, if◌then◌else◌}
+use Rattle.std.specs.Prelude.{ℕ, ℤ, pos, neg_ℤ, ◌+◌, ◌-◌, ◌*◌, ◌&&◌, ◌||◌, ◌==◌, nat_le, nat_lt, List, [], ◌∷◌, ◌++◌, Bool, true, false, Option, Some, None, option_map, option_and_then, take, drop, length, codes, nat_eq, if◌then◌else◌}
 use Rattle.std.specs.Option.{is_some, unwrap_or}
 use Rattle.std.specs.Str.{bytes_eq}
 use Rattle.ns_base.specs.Spelling.{is_digit, is_selector}
@@ -13,8 +13,10 @@ use Rattle.ns_run_words.specs.Own.{least_of, most_of, own_option}
 use Rattle.ns_run_words.specs.Table.{form_of, item_at, verb_of}
 use Rattle.ns_run_words.specs.declared.form.Form.{Form}
 use Rattle.ns_run_words.specs.declared.form.Item.{Item}
-use Rattle.ns_run_words.specs.declared.form.Item.TheVariants.{File, Number, Application, Text, Topic, Selector, Integer}
+use Rattle.ns_run_words.specs.declared.form.Item.TheVariants.{File, Number, Application, Text, Topic, Selector, Integer, Move}
 use Rattle.ns_run_words.specs.declared.form.Verb.{Verb}
+use Rattle.ns_run_words.specs.declared.moves.Move as moves
+use Rattle.ns_run_words.specs.declared.moves.Move.TheVariants.{Forward, Back, To}
 use Rattle.ns_run_words.specs.declared.words.Given.{Given}
 
 -- What a command line says: its command, what its options give, these options, the names and the arguments.
@@ -72,6 +74,32 @@ integer_of (d ∷ ds) =
 -- a selector of one argument
 abbrev pub takes_one : List ℕ → Bool
 takes_one text = is_selector text && text_arity text == 1
+
+-- ---- moves of a replay
+
+-- whether a byte is the sign of a move: `+`, `-` or `=`
+abbrev pub is_sign : ℕ → Bool
+is_sign b = nat_eq b 43 || nat_eq b 45 || nat_eq b 61
+
+-- whether a word is a move: a sign, and a number of steps
+abbrev pub is_move : List ℕ → Bool
+is_move [] = false
+is_move (b ∷ bs) = is_sign b && is_some (steps_of bs)
+
+-- the move of that sign and so many steps
+abbrev pub signed : ℕ → ℕ → moves.Move
+signed b steps = if nat_eq b 43 then Forward steps else (if nat_eq b 45 then Back steps else To steps)
+
+-- how many steps a move names
+abbrev pub steps_in : moves.Move → ℕ
+steps_in (Forward steps) = steps
+steps_in (Back steps) = steps
+steps_in (To step) = step
+
+-- the move that a word is
+abbrev pub move_of : List ℕ → moves.Move
+move_of [] = To 0
+move_of (b ∷ bs) = signed b (unwrap_or (steps_of bs) 0)
 
 -- ---- options
 
@@ -200,7 +228,7 @@ at_of given = unwrap_or given.at 0
 -- ---- one word
 
 -- a word that can be a name of a command: the name of a file, a number from 1 to the greatest, an application, any text without a
--- dash in front, what there is a text on, a selector of one argument, or an integer
+-- dash in front, what there is a text on, a selector of one argument, an integer, or a move
 abbrev pub is_item : Item → List ℕ → Bool
 is_item File word = is_file_name word
 is_item (Number greatest) word = is_some (number_of greatest word)
@@ -209,6 +237,7 @@ is_item Text word = is_text word
 is_item Topic word = is_some (text_of word)
 is_item Selector word = takes_one word
 is_item Integer word = is_some (integer_of word)
+is_item Move word = is_move word
 
 -- Behind so many arguments another one may stand.
 abbrev pub has_room : Option ℕ → ℕ → Bool

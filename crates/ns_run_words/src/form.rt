@@ -38,6 +38,8 @@ pub enum Verb {
     Snap,
     /// Runs on from a snapshot.
     Resume,
+    /// Goes through the run of a program forward and back.
+    Replay,
     /// Writes the source of the library.
     Library,
     /// Tells how the program is used.
@@ -65,6 +67,8 @@ pub enum Item {
     Selector,
     /// An integer of 64 bits.
     Integer,
+    /// A move of a replay.
+    Move,
 }
 
 /// What stands in front of the other names.
@@ -73,6 +77,8 @@ pub enum Lead {
     Nothing,
     /// How many actors there are, and the selector and the argument of the letter to the first of them.
     Letter,
+    /// The file of a program.
+    Source,
 }
 
 /// What may stand behind the first word: options, in any order and each at most once, but for denials and texts; then
@@ -161,6 +167,7 @@ pub fn form_of(verb: Verb) -> Form
         Verb::Test => tests(),
         Verb::Snap => snap(),
         Verb::Resume => names(1, 1),
+        Verb::Replay => replay(),
         Verb::Library => names(0, 0),
         Verb::Help => names(0, 0),
         Verb::Explain => Form {
@@ -256,6 +263,19 @@ fn snap() -> Form
     }
 }
 
+/// The form of a replay: the file, and 1 to 16 moves behind it.
+fn replay() -> Form
+    ensures { result ≡ spec.form_of Verb.Replay }
+{
+    Form {
+        greatest: Some(GREATEST_OF_MANY),
+        lib: true,
+        lead: Lead::Source,
+        item: Item::Move,
+        ..names(2, 17)
+    }
+}
+
 /// The form of names of files alone.
 fn names(least: u64, most: u64) -> Form
     ensures { result ≡ spec.names_alone least most }
@@ -287,6 +307,7 @@ pub fn item_at(form: Form, count: u64) -> Item
     match form.lead {
         Lead::Nothing => form.item,
         Lead::Letter => in_letter(form.item, count),
+        Lead::Source => behind_source(form.item, count),
     }
 }
 
@@ -304,6 +325,13 @@ fn in_letter(item: Item, count: u64) -> Item
         return Item::Integer;
     }
     item
+}
+
+/// What the name behind so many others is, where a file stands in front of names of that kind.
+fn behind_source(item: Item, count: u64) -> Item
+    ensures { result ≡ spec.behind_source item count }
+{
+    if count == 0 { Item::File } else { item }
 }
 
 /// The command that a first word names.
@@ -354,6 +382,9 @@ pub fn verb_of(word: &[u8]) -> Option<Verb>
     }
     if word == b"resume".as_slice() {
         return Some(Verb::Resume);
+    }
+    if word == b"replay".as_slice() {
+        return Some(Verb::Replay);
     }
     if word == b"library".as_slice() {
         return Some(Verb::Library);

@@ -7,6 +7,7 @@ pub mod application;
 pub mod form;
 pub mod laws;
 pub mod letter;
+pub mod moves;
 pub mod number;
 pub mod options;
 pub mod own;

@@ -12,6 +12,9 @@ const GREATEST: u64 = 9_223_372_036_854_775_807;
 
 const LEAST: u64 = 9_223_372_036_854_775_808;
 
+/// The most steps that a line names.
+const MOST_STEPS: u64 = 1_000_000_000_000;
+
 /// The decimal number without a leading zero, from 1 to the greatest.
 pub fn number(greatest: u64, text: &[u8]) -> Option<u64>
     requires { greatest ≤ 9223372036854775808 }
@@ -51,6 +54,18 @@ fn value(greatest: u64, text: &[u8]) -> Option<u64>
         Some(n)
     } else {
         None
+    }
+}
+
+/// The number of steps that a text is: 0, or one from 1 on.
+pub fn steps(text: &[u8]) -> Option<u64>
+    ensures is { result ≡ spec.steps_of text.now }
+    ensures few { IfSome result (λ n. n ≤ 1000000000000) }
+{
+    if text == b"0".as_slice() {
+        Some(0)
+    } else {
+        number(MOST_STEPS, text)
     }
 }
 

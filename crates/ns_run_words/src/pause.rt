@@ -3,12 +3,9 @@
 ghost use Rattle.std.specs.Prelude.{◌≡◌};
 ghost use Rattle.ns_run_words.specs.Words as spec;
 
-use crate::number::number;
+use crate::number::steps;
 use crate::options::value_behind;
 use crate::words::Given;
-
-/// The most steps that a line names.
-const MOST_STEPS: u64 = 1_000_000_000_000;
 
 /// What is given with a word more that is the option of a pause, where the form takes it.
 pub fn at_where(takes: bool, given: Given, word: &[u8]) -> Option<Given>
@@ -35,16 +32,5 @@ fn with_at(given: Given, at: Option<u64>) -> Option<Given>
             ..given
         }),
         None => None,
-    }
-}
-
-/// The number of steps that a text is: 0, or one from 1 on.
-fn steps(text: &[u8]) -> Option<u64>
-    ensures { result ≡ spec.steps_of text.now }
-{
-    if text == b"0".as_slice() {
-        Some(0)
-    } else {
-        number(MOST_STEPS, text)
     }
 }

@@ -12,6 +12,7 @@ ghost use Rattle.ns_run_words.specs.Words as spec;
 
 use crate::application::application_of;
 use crate::form::{Form, Item, Verb, form_of, item_at, verb_of};
+use crate::moves::is_move;
 use crate::number::{integer, number, takes_one};
 use crate::options::{arguments_of, denial_where, run_where, tests_where};
 use crate::own::{least_of, most_of, own_option};
@@ -315,6 +316,7 @@ fn is_item(item: Item, word: &str) -> bool
         Item::Topic => text_of(word.as_bytes()).is_some(),
         Item::Selector => takes_one(word.as_bytes()),
         Item::Integer => integer(word.as_bytes()).is_some(),
+        Item::Move => is_move(word.as_bytes()),
     }
 }
 

@@ -24,12 +24,15 @@ use Rattle.ns_resolved.specs.Classes.{meant_of}
 use Rattle.ns_resolved.specs.Program.{Meant}
 use Rattle.ns_run_code.specs.Build.{Built, built_of, image, image_too_large, too_large}
 use Rattle.ns_run_code.specs.Machine.{end_of, told_at}
-use Rattle.ns_run_files.specs.Programs.{fault_line, name_of, of_acts, of_build, of_built, of_check, of_checks, of_faultless, of_faults, of_least, of_sends, of_show, of_snap, of_snapped, of_tests, of_units, sends_report}
+use Rattle.ns_run_files.specs.Programs.{fault_line, name_of, of_acts, of_build, of_built, of_check, of_checks, of_faultless, of_faults, of_least, of_replay, of_replayed, of_sends, of_show, of_snap, of_snapped, of_tests, of_units, sends_report}
 use Rattle.ns_run_files.specs.Acts.{acts_report}
-use Rattle.ns_run_files.specs.Task.{Task, Checks, Shows, Builds, Acts, Tests, Snaps}
+use Rattle.ns_run_files.specs.Task.{Task, Checks, Shows, Builds, Acts, Tests, Snaps, Replays}
 use Rattle.ns_run_files.specs.Tests.{tests_report, tests_told}
 use Rattle.ns_run_snap.specs.Snapped.{Snapped, snapped_of, snapshot, snapshot_too_large}
 use Rattle.ns_run_snap.specs.Snapped as snapped
+use Rattle.ns_run_replay.specs.Replayed.{Replayed, lines, replayed_of}
+use Rattle.ns_run_replay.specs.Replayed as replayed
+use Rattle.ns_run_words.specs.declared.moves.Move.{Move}
 use Rattle.ns_run_outcome.specs.Outcome.{missing_line}
 use Rattle.ns_run_outcome.specs.Report.{size_name, static_name}
 use Rattle.ns_run_outcome.specs.declared.report.Report.{Report}
@@ -209,6 +212,27 @@ pub snap_plain :
 snap_plain names name limits at files trees places None = snapped_plain name (snapped_of (meant_of files trees places) limits at)
 snap_plain names name limits at files trees places (Some fault) = check_plain names (Some fault)
 
+pub replayed_plain : (made : Replayed) → IsPlain (of_replayed made)
+replayed_plain (lines bytes) = told_plain bytes
+replayed_plain (replayed.too_large kind) = size_plain (size_name kind) (size_ends kind)
+
+pub replay_plain :
+    (names : List (List ℕ)) (limits : Limits) (moves : List Move) (files : List (List ℕ)) (trees : List p.SourceUnit) (places : List (List Place)) (least : Option Placed) →
+    IsPlain (of_replay names limits moves files trees places least)
+replay_plain names limits moves files trees places None = replayed_plain (replayed_of (meant_of files trees places) limits moves)
+replay_plain names limits moves files trees places (Some fault) = check_plain names (Some fault)
+
+-- It stores nothing.
+pub replay_stores_none :
+    (names : List (List ℕ)) (limits : Limits) (moves : List Move) (files : List (List ℕ)) (trees : List p.SourceUnit) (places : List (List Place)) (least : Option Placed) →
+    (of_replay names limits moves files trees places least).stored ≡ None
+replay_stores_none names limits moves files trees places None = none_stored (replayed_of (meant_of files trees places) limits moves)
+  where
+    none_stored : (made : Replayed) → (of_replayed made).stored ≡ None
+    none_stored (lines bytes) = refl
+    none_stored (replayed.too_large kind) = refl
+replay_stores_none names limits moves files trees places (Some fault) = refl
+
 -- The report of units is plain.
 pub units_plain : (t : Task) (names files : List (List ℕ)) (trees : List p.SourceUnit) (places : List (List Place)) →
     IsPlain (of_units t names files trees places)
@@ -218,3 +242,4 @@ units_plain (Builds name) names files trees places = build_plain names name file
 units_plain (Acts limits count sel number) names files trees places = acts_plain names limits count sel number files trees places _
 units_plain (Tests limits reversed only) names files trees places = tests_plain names limits reversed only files trees places _
 units_plain (Snaps name limits at) names files trees places = snap_plain names name limits at files trees places _
+units_plain (Replays limits moves) names files trees places = replay_plain names limits moves files trees places _

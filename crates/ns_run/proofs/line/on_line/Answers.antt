@@ -1,7 +1,7 @@
 use Rattle.std.proofs.Common.{◌++◌}
 use Rattle.ns_help.specs.declared.usage.TheConstants.{HELP, VERSION}
 use Rattle.ns_lib.specs.Collections.{collections}
-use Rattle.ns_run.proofs.LineLaws.{are_applications, are_behind, are_behind_letter, are_files, are_sources, has_letter}
+use Rattle.ns_run.proofs.LineLaws.{are_applications, are_behind, are_behind_letter, are_files, are_sources, has_letter, is_replayed}
 use Rattle.ns_run.proofs.PartLaws.{topic_ends, verb_reports}
 use Rattle.ns_run.proofs.line.on_line.Goals as goal
 use Rattle.ns_run.specs.Meaning.{of_executing, of_running, of_statements, of_topic, run_of_line}
@@ -66,6 +66,9 @@ returns-in-Snap g c = verb_reports _ _ _ _ _ _ (line_seen c.args.line) verb.Snap
 pub returns-in-Resume : goal.returns-in-Resume
 returns-in-Resume g c = verb_reports _ _ _ _ _ _ (line_seen c.args.line) verb.Resume _ c.in-Resume.is c.on_first.ensures
 
+pub returns-in-Replay : goal.returns-in-Replay
+returns-in-Replay g c = verb_reports _ _ _ _ _ _ (line_seen c.args.line) verb.Replay _ c.in-Replay.is c.on_replaying.ensures
+
 pub returns-in-Library : goal.returns-in-Library
 returns-in-Library g c =
     verb_reports _ _ _ _ _ _ (line_seen c.args.line) verb.Library _ c.in-Library.is
@@ -111,6 +114,9 @@ on_actors-requires-clause-files g c = are_behind_letter (line_seen c.args.line) 
 
 pub on_snapping-requires-clause-behind : goal.on_snapping-requires-clause-behind
 on_snapping-requires-clause-behind g c = are_behind (line_seen c.args.line) c.in-Snap.is c.requires.form
+
+pub on_replaying-requires-clause-file : goal.on_replaying-requires-clause-file
+on_replaying-requires-clause-file g c = is_replayed (line_seen c.args.line) c.in-Replay.is c.requires.form
 
 pub on_build_line-requires : goal.on_build_line-requires
 on_build_line-requires g c = are_sources (line_seen c.args.line) c.in-Build.is c.requires.form

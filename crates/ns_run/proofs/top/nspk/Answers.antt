@@ -1,4 +1,4 @@
-use Rattle.std.proofs.Common.{◌≡◌, Err, IfOk, ap, map, subst, sym}
+use Rattle.std.proofs.Common.{◌≡◌, ◌⊎◌, Err, IfOk, ap, map, subst, sym}
 use Rattle.std.specs.Prelude.{string_bytes}
 use Rattle.ns_base.specs.Count.{Rose}
 use Rattle.ns_run.proofs.KeepLaws.{finished, no_memory, not_read, only_read_twice}
@@ -58,3 +58,10 @@ returns-in-Err-ReadFault-clause-read_fault_there g c = λ files holds e.
 
 pub returns-in-Err-Memory-clause-only_read : goal.returns-in-Err-Memory-clause-only_read
 returns-in-Err-Memory-clause-only_read g c = λ none. c.work.ensures.only_read
+
+-- nothing is stored before the report is there
+pub returns-in-Ok-clause-write_fault : goal.returns-in-Ok-clause-write_fault
+returns-in-Ok-clause-write_fault g c = λ fault.
+    subst (λ before. Rose before (g.S.Shelf.store_faults c.finish.new.shelf)
+    ⊎ (Rose (g.O.Sink.faults c.args.out.now) (g.O.Sink.faults c.finish.new.out)
+    ⊎ Rose (g.E.Sink.faults c.args.err.now) (g.E.Sink.faults c.finish.new.err))) c.work.ensures.only_read.1 (c.finish.ensures.write_fault fault)
