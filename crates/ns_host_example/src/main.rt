@@ -1,17 +1,19 @@
 //! A host of plug-ins that it doesn't trust, as an example: it compiles their texts, runs each within limits, and sends to it.
 //! What a host may send is said in `crates/ns_machine/specs/Asking.antt`.
-//! Stands on machine and session, as a program of its own.
+//! Stands on machine, session and actors, as a program of its own.
 #![tactic(auto)]
 
 ghost use Rattle.ns_machine_moves.specs.State.{world_of};
 ghost use Rattle.ns_machine_report.specs.Ending.{IsLiveEnding};
 
+mod pair;
 mod plugin;
 
 use ns_base::no_memory::NoMemory;
 use ns_machine::machine::Machine;
 use ns_world::ending::Ending;
 use ns_world::value::Value;
+use pair::trade;
 use plugin::machine_of;
 use std::io;
 use std::io::Write;
@@ -44,7 +46,8 @@ fn main(rt: HostRuntime) -> Result<(), io::Error> {
     host(&rt, "adder", ADDER)?;
     host(&rt, "spinner", SPINNER)?;
     host(&rt, "snoop", SNOOP)?;
-    host(&rt, "nonsense", NONSENSE)
+    host(&rt, "nonsense", NONSENSE)?;
+    trade(&rt)
 }
 
 /// Makes a machine for a plug-in, lets its run begin, and asks what that answered.

@@ -10,7 +10,7 @@ use ns_verify::verify::Verified;
 use std::alloc::Global;
 
 /// What a run may use. The machine takes its memory for all of this when it is made.
-const LIMITS: Limits = Limits {
+pub const LIMITS: Limits = Limits {
     steps: 10_000,
     cells: 10_000,
     depth: 100,
@@ -18,7 +18,7 @@ const LIMITS: Limits = Limits {
 };
 
 /// A plug-in is granted nothing: it can compute and answer.
-const GRANTS: Grants = Grants {
+pub const GRANTS: Grants = Grants {
     console: false,
     kernel: false,
     mirrors: false,
@@ -35,7 +35,7 @@ pub fn machine_of(alloc: Global, source: &str) -> Option<Machine> {
 }
 
 /// The code of a text, which is the one file of its program.
-fn code(alloc: Global, source: &str) -> Option<Verified> {
+pub fn code(alloc: Global, source: &str) -> Option<Verified> {
     let mut shelf = MemShelf::new(alloc, Vec::new(alloc));
     shelf.store("Plugin.ns", source.as_bytes()).ok()?;
     code_of_files(alloc, "Plugin.ns", false, &mut shelf).ok()

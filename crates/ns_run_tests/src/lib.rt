@@ -5,6 +5,8 @@
 #![tactic(auto)]
 
 #[cfg(test)]
+mod actor_tests;
+#[cfg(test)]
 mod adapter_tests;
 #[cfg(test)]
 mod broken_system;
@@ -16,6 +18,8 @@ mod command_tests;
 mod image_tests;
 #[cfg(test)]
 mod limit_tests;
+#[cfg(test)]
+mod replay_tests;
 #[cfg(test)]
 mod run_tests;
 #[cfg(test)]

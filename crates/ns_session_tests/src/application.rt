@@ -35,8 +35,8 @@ pub fn add(alloc: Global, session: &mut Session, source: &str) -> Option<Result<
     }
 }
 
-/// The code of a source.
-fn code(alloc: Global, source: &str) -> Option<Verified> {
+/// The code of a source, which is that of an application.
+pub fn code(alloc: Global, source: &str) -> Option<Verified> {
     match (application_of("c=T.ns"), shelf(alloc, source)) {
         (Some(asked), Ok(mut shelf)) => code_of(alloc, asked, false, &mut shelf).ok(),
         _ => None,

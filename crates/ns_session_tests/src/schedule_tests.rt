@@ -1,6 +1,7 @@
 //! Random schedules: whatever turns the others have, an application without the board prints and reports what it does alone.
 
 use crate::application::add;
+use crate::random::next;
 use ns_base::no_memory::NoMemory;
 use ns_session::session::Session;
 use std::alloc::Global;
@@ -82,13 +83,6 @@ fn play(session: &mut Session, seed: u64, alone: &[Outcome]) -> bool {
         }
     }
     true
-}
-
-/// The next of the random numbers, by a linear congruence.
-fn next(random: u64) -> u64 {
-    random
-        .wrapping_mul(6_364_136_223_846_793_005)
-        .wrapping_add(1_442_695_040_888_963_407)
 }
 
 fn are_begun(session: &Session, alone: &[Outcome]) -> bool {

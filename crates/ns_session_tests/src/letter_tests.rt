@@ -1,0 +1,126 @@
+//! Random schedules of letters and turns: each letter comes once and in order, and each actor stands where it stands alone.
+
+use crate::alone::stands_alone;
+use crate::random::next;
+use crate::troupe::{COUNT, codes, troupe};
+use ns_actors::letter::{HOST, Letter};
+use ns_actors_calls::actors::Actors;
+use ns_facets::board::Plain;
+use ns_verify::verify::Verified;
+use std::alloc::Global;
+
+#[test]
+fn schedules_keep_to_letters(rt: HostRuntime) {
+    assert!(rt; all_keep_to_letters(rt.alloc()));
+}
+
+/// Whether actors keep to their letters under each of 300 random schedules.
+fn all_keep_to_letters(alloc: Global) -> bool {
+    match codes(alloc) {
+        Some(codes) => (0..300).all(|seed| keep_to_letters(alloc, seed, codes.as_slice())),
+        None => false,
+    }
+}
+
+/// Whether actors keep to their letters after a random schedule, and again when all have come to rest.
+fn keep_to_letters(alloc: Global, seed: u64, codes: &[Verified]) -> bool {
+    match troupe(alloc, codes) {
+        Some(mut actors) => {
+            play(&mut actors, seed);
+            let midway = agree(alloc, &actors, codes);
+            come_to_rest(&mut actors);
+            midway && actors.at_rest() && agree(alloc, &actors, codes)
+        }
+        None => false,
+    }
+}
+
+/// Sixty random calls: a letter of the host to one of the actors, or a turn of one, of up to 63 steps.
+fn play(actors: &mut Actors, seed: u64) {
+    let mut random = seed;
+    for _ in 0..60 {
+        random = next(random);
+        let number = (random >> 60) as u32 % COUNT;
+        if random >> 40 & 3 == 0 {
+            post(actors, number, random >> 50 & 3 == 0);
+        } else {
+            let _turn = actors.turn(number, random >> 32 & 63);
+        }
+    }
+}
+
+/// The host posts a letter, numbered as those of the actors are.
+fn post(actors: &mut Actors, to: u32, bumps: bool) {
+    let sel: &str = if bumps { "bump:" } else { "hit:" };
+    let before = match actors.posted(HOST) {
+        Some(letters) => letters.len() as i64,
+        None => 0,
+    };
+    let _posted = actors.post(to, sel.as_bytes(), Plain::Int(before.wrapping_add(1)));
+}
+
+/// All have turns until they rest.
+fn come_to_rest(actors: &mut Actors) {
+    for _ in 0..400 {
+        if actors.at_rest() {
+            return;
+        }
+        for number in 0..COUNT {
+            let _turn = actors.turn(number, 100);
+        }
+    }
+}
+
+/// Whether all letters have come as they were posted, and each actor stands where it stands alone.
+fn agree(alloc: Global, actors: &Actors, codes: &[Verified]) -> bool {
+    comes_to_all(alloc, actors, HOST)
+        && (0..).zip(codes).all(|(number, code)| {
+            comes_to_all(alloc, actors, number) && stands_alone(alloc, actors, number, code)
+        })
+}
+
+/// Whether the letters that one has posted are numbered from 1, and have come to each other in that order.
+fn comes_to_all(alloc: Global, actors: &Actors, from: u32) -> bool {
+    match actors.posted(from) {
+        Some(posted) => {
+            are_numbered(posted) && (0..COUNT).all(|to| has_come(alloc, actors, posted, from, to))
+        }
+        None => false,
+    }
+}
+
+fn are_numbered(letters: &[Letter]) -> bool {
+    (1..)
+        .zip(letters)
+        .all(|(number, letter)| letter.arg == Plain::Int(number))
+}
+
+/// Whether the letters from one to another are in its box as they were posted.
+fn has_come(alloc: Global, actors: &Actors, posted: &[Letter], from: u32, to: u32) -> bool {
+    match actors.letters(to) {
+        Some(letters) => {
+            let sent = told(alloc, posted, from, to);
+            sent.is_some() && sent == told(alloc, letters, from, to)
+        }
+        None => false,
+    }
+}
+
+/// The selectors and the numbers of the letters from one to another, one letter behind the other.
+fn told(alloc: Global, letters: &[Letter], from: u32, to: u32) -> Option<Vec<u8>> {
+    let mut told = Vec::new(alloc);
+    for letter in letters {
+        if letter.from == from && letter.to == to {
+            told.extend_from_slice(letter.sel.bytes()).ok()?;
+            told.push(number_of(letter.arg)).ok()?;
+        }
+    }
+    Some(told)
+}
+
+fn number_of(argument: Plain) -> u8 {
+    match argument {
+        Plain::Int(number) => u8::try_from(number).unwrap_or(0),
+        _ => 0,
+    }
+}
